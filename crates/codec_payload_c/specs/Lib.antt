@@ -8,6 +8,7 @@ pub mod Media
 pub mod RedCoding
 pub mod RedPlaces
 pub mod Reds
+pub mod Refusals
 pub mod RtpFields
 pub mod Senders
 pub mod StreamReceivers

@@ -1,9 +1,10 @@
 -- What the calls on a sender of datagrams do.
-use Rattle.std.specs.Prelude.{◌≡◌, ◌≢◌, ℕ, nat_le, if◌then◌else◌, Bool, List, Option, Some, None, IfSome, length}
+use Rattle.std.specs.Prelude.{◌≡◌, ◌≢◌, ℕ, ◌&&◌, nat_le, if◌then◌else◌, Bool, List, Option, Some, None, IfSome, length}
 use Rattle.codec_payload_base.specs.declared.error.PacketError.{PacketError}
 use Rattle.codec_payload_base.specs.declared.wire.extension.ExtensionValues.{ExtensionValues}
 use Rattle.codec_payload_core.specs.Faults.{fault_number}
 use Rattle.codec_payload_core.specs.Packetizers.{PacketizerState}
+use Rattle.codec_payload_rtp.specs.ExtensionWriting.{ids_fit}
 use Rattle.codec_payload_sender.specs.Datagrams.{Sample}
 use Rattle.codec_payload_sender.specs.Senders.{Sends, Refuses as RefusesSample, sender_by}
 use Rattle.codec_payload_sender.specs.declared.sender.SenderSettings.{SenderSettings as Settings}
@@ -29,6 +30,10 @@ settings_for s = record {
   tailroom = 0;
   extension_ids = ids_given s.extension_ids;
 }
+
+-- the payload type and the ids of header extensions are in range
+abbrev pub is_in_range : SenderSettings → Bool
+is_in_range s = nat_le s.payload_type 127 && ids_fit (ids_given s.extension_ids)
 
 -- a new sender by these settings
 abbrev pub IsStreamSenderOf : SenderSettings → Option PacketizerState → Object → Type 0

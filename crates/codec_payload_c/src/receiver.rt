@@ -1,11 +1,12 @@
 //! The datagrams of one stream go in, and units come out.
 
-ghost use Rattle.std.specs.Prelude.{◌≡◌, ◌≢◌, ◌&&◌, is_some, Bool, IfErr, IfOk, Option};
+ghost use Rattle.std.specs.Prelude.{◌≡◌, ◌≢◌, ◌&&◌, is_some, nat_le, nat_lt, if◌then◌else◌, Bool, IfErr, IfOk, IfSome, Option};
 ghost use Rattle.codec_payload_core.specs.Depacketizers.{depacketizer_state_of};
 ghost use Rattle.codec_payload_jitter.specs.Receiving.{deadline_of};
 ghost use Rattle.codec_payload_stream.specs.Reports.{report_of, reported};
 ghost use Rattle.codec_payload_stream.specs.Sessions.{Finishes, restarted};
-ghost use Rattle.codec_payload_c.specs.StreamReceivers.{AreSettings, IsNewStream, IsStreamReceiverOf, PopsUnit, Takes, Tells, TellsCounts, TellsMissing, TellsNumber, TellsReport, TellsJudged, TellsTaken, bound_given, from_keyframe_numbered, is_in_range, outcome_number, red_in_range, red_set, rtx_in_range, rtx_set, restarted_as, wait_limits_given, waiting_by};
+ghost use Rattle.codec_payload_c.specs.Refusals.{RefusesSettings};
+ghost use Rattle.codec_payload_c.specs.StreamReceivers.{AreSettings, IsNewStream, IsStreamReceiverOf, PopsUnit, Takes, Tells, TellsCounts, TellsMissing, TellsNumber, TellsReport, TellsJudged, TellsTaken, bound_given, from_keyframe_numbered, is_in_range, outcome_number, red_set, rtx_set, restarted_as, wait_limits_given, waiting_by};
 ghost use Rattle.codec_payload_handle.specs.Kinds.{Makes, OnStreamReceiver, Refuses, is_stream_receiver};
 ghost use Rattle.codec_payload_handle.specs.Settings.{depacketizer_set};
 
@@ -135,40 +136,6 @@ pub struct ReportInfo {
     pub fraction_lost: u8,
 }
 
-/// Whether RED is in range, if there is any.
-fn red_in_range(settings: &ReceiverSettings) -> bool
-    ensures { result ≡ red_in_range settings.now }
-{
-    !settings.has_red
-        || settings.red_payload_type <= 127
-            && settings.red_payload_type != settings.payload_type
-            && 1 <= settings.red_step
-            && settings.red_step <= 16_383
-}
-
-/// Whether packets that are sent again are in range, if there are any.
-fn rtx_in_range(settings: &ReceiverSettings) -> bool
-    ensures { result ≡ rtx_in_range settings.now }
-{
-    !settings.has_rtx || settings.rtx_payload_type <= 127
-}
-
-/// Whether the payload types, the limit, the windows and the rates are in range.
-fn is_in_range(settings: &ReceiverSettings) -> bool
-    ensures { result ≡ is_in_range settings.now }
-{
-    settings.payload_type <= 127
-        && 1 <= settings.limit
-        && settings.limit <= 65_536
-        && 0 < settings.forward
-        && settings.forward <= 32_768
-        && settings.backward < settings.forward
-        && 0 < settings.tick_rate
-        && settings.from_keyframe <= 2
-        && red_in_range(settings)
-        && rtx_in_range(settings)
-}
-
 /// How the stream is sent in RED.
 fn red_of(settings: &ReceiverSettings) -> Option<RedSettings>
     ensures { result ≡ red_set settings.now }
@@ -195,14 +162,15 @@ fn retransmission_of(settings: &ReceiverSettings) -> Option<Retransmission>
     })
 }
 
-/// What happens to units that a decoder cannot show.
-fn from_keyframe_of(number: u8) -> FromKeyframe
-    ensures { result ≡ from_keyframe_numbered number }
+/// What happens to units that a decoder cannot show, if the number says it.
+fn from_keyframe_of(number: u8) -> Option<FromKeyframe>
+    ensures { result ≡ if nat_le number 2 then Option.Some (from_keyframe_numbered number) else Option.None }
 {
     match number {
-        0 => FromKeyframe::Off,
-        1 => FromKeyframe::Mark,
-        _ => FromKeyframe::Drop,
+        0 => Some(FromKeyframe::Off),
+        1 => Some(FromKeyframe::Mark),
+        2 => Some(FromKeyframe::Drop),
+        _ => None,
     }
 }
 
@@ -232,18 +200,17 @@ fn waiting_for(wait_limits: WaitLimits) -> Waiting
     }
 }
 
-/// The settings as the receiver has them.
+/// The settings as the receiver has them, if the clock has a rate and the number says what happens to units.
 fn settings_of(
     settings: &ReceiverSettings,
     clock_rate: Frequency,
-    tick_rate: Frequency,
     no_media: Vec<u8>,
-) -> Settings
+) -> Option<Settings>
     requires clock { clock_rate ≡ settings.now.spec.rate }
-    requires ticks { tick_rate ≡ settings.now.tick_rate }
-    ensures { AreSettings settings.now no_media.items result }
+    ensures made { is_some result ≡ (nat_lt 0 settings.now.tick_rate && nat_le settings.now.from_keyframe 2) }
+    ensures settings { IfSome result (AreSettings settings.now no_media.items) }
 {
-    Settings {
+    Some(Settings {
         payload_type: settings.payload_type,
         no_media,
         ssrc: if settings.has_ssrc {
@@ -255,7 +222,7 @@ fn settings_of(
         retransmission: retransmission_of(settings),
         extension_ids: ids_of(settings.extension_ids),
         clock_rate,
-        tick_rate,
+        tick_rate: Frequency::make(settings.tick_rate)?,
         wait_limits: waiting_for(WaitLimits {
             max_wait: settings.max_wait,
             hold_back: settings.hold_back,
@@ -265,8 +232,8 @@ fn settings_of(
         limit: settings.limit,
         forward: settings.forward,
         backward: settings.backward,
-        from_keyframe: from_keyframe_of(settings.from_keyframe),
-    }
+        from_keyframe: from_keyframe_of(settings.from_keyframe)?,
+    })
 }
 
 /// The number of an outcome.
@@ -396,7 +363,17 @@ fn missing_into(stream: &StreamReceiver, numbers: &mut [u64]) -> usize
     count
 }
 
-/// A receiver by settings that are in range.
+/// A copy of the payload types and true; or none of them and false, if memory runs out.
+fn copied(alloc: Global, types: &[u8]) -> (Vec<u8>, bool)
+    ensures { result.1 ≡ Bool.true → result.0.items ≡ types.now }
+{
+    match Vec::from_slice(alloc, types) {
+        Ok(types) => (types, true),
+        Err(_) => (Vec::new(alloc), false),
+    }
+}
+
+/// A receiver by these settings. Settings out of range are refused before memory that has run out.
 fn stream_by(
     alloc: Global,
     settings: &ReceiverSettings,
@@ -405,26 +382,24 @@ fn stream_by(
     no_media: &[u8],
 ) -> Result<StreamReceiver, u32>
     requires rate { clock_rate ≡ settings.now.spec.rate }
-    requires range { is_in_range settings.now ≡ Bool.true }
-    ensures ok { IfOk result (λ r. IsNewStream settings.now no_media.now (Option.Some (depacketizer_state_of depacketizer)) r) }
-    ensures err { IfErr result (λ status. status ≡ 17) }
+    ensures ok { IfOk result (λ r. IsNewStream settings.now no_media.now (Option.Some (depacketizer_state_of depacketizer)) r × (is_in_range settings.now ≡ Bool.true)) }
+    ensures err { IfErr result (λ status. RefusesSettings (is_in_range settings.now) status) }
 {
-    let Ok(no_media) = Vec::from_slice(alloc, no_media) else {
-        return Err(status::OUT_OF_MEMORY);
+    let (no_media, has_memory) = copied(alloc, no_media);
+    let Some(settings) = settings_of(settings, clock_rate, no_media) else {
+        return Err(status::INVALID);
     };
-    let Some(tick_rate) = Frequency::make(settings.tick_rate) else {
-        return Err(status::OUT_OF_MEMORY);
+    let Ok(receiver) = Receiver::new(alloc, depacketizer, settings) else {
+        return Err(status::INVALID);
     };
-    let settings = settings_of(settings, clock_rate, tick_rate, no_media);
-    match Receiver::new(alloc, depacketizer, settings) {
-        Ok(receiver) => Ok(StreamReceiver {
-            receiver,
-            waiting: None,
-            taken: None,
-        }),
-        // Settings in range are never refused.
-        Err(_) => Err(status::OUT_OF_MEMORY),
+    if !has_memory {
+        return Err(status::OUT_OF_MEMORY);
     }
+    Ok(StreamReceiver {
+        receiver,
+        waiting: None,
+        taken: None,
+    })
 }
 
 /// A receiver by these settings, with these payload types without media, in an empty handle.
@@ -448,9 +423,6 @@ pub extern "C" fn cpay_receiver_new(
     ) else {
         return status::INVALID;
     };
-    if !is_in_range(settings) {
-        return status::INVALID;
-    }
     let stream = match stream_by(alloc, settings, depacketizer, rate, no_media) {
         Ok(stream) => stream,
         Err(status) => return status,

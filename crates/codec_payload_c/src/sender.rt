@@ -1,15 +1,19 @@
 //! Frames go in, and the datagrams of one stream come out.
 
-ghost use Rattle.std.specs.Prelude.{◌≡◌, ◌≢◌, ◌&&◌, is_some, nat_le, slice_get};
+ghost use Rattle.std.specs.Prelude.{◌≡◌, ◌≢◌, ◌&&◌, is_some, nat_le, slice_get, Bool, IfErr, IfOk};
+ghost use Rattle.codec_payload_core.specs.Packetizers.{packetizer_state_of};
 ghost use Rattle.codec_payload_core.specs.Extensions.{no_values};
 ghost use Rattle.codec_payload_rtp.specs.ExtensionWriting.{ids_fit};
 ghost use Rattle.codec_payload_sender.specs.Datagrams.{sample_of};
+ghost use Rattle.codec_payload_sender.specs.Senders.{sender_by};
 ghost use Rattle.codec_payload_c.specs.Ids.{ids_given};
-ghost use Rattle.codec_payload_c.specs.StreamSenders.{GivesDatagram, IsStreamSenderOf, SendsFrame, TellsCounts, sample_given, sample_with, settings_for};
+ghost use Rattle.codec_payload_c.specs.Refusals.{RefusesSettings};
+ghost use Rattle.codec_payload_c.specs.StreamSenders.{GivesDatagram, IsStreamSenderOf, SendsFrame, TellsCounts, is_in_range, sample_given, sample_with, settings_for};
 ghost use Rattle.codec_payload_handle.specs.Kinds.{Makes, OnStreamSender, Refuses, is_stream_sender};
 ghost use Rattle.codec_payload_handle.specs.Settings.{packetizer_set};
 
 use crate::extension::{ExtensionIds, ids_of};
+use codec_payload_core::codec::CodecPacketizer;
 use codec_payload_core::wire::{ExtensionValues as Values, Frequency, MediaTime};
 use codec_payload_handle::bytes::fill;
 use codec_payload_handle::extension_values::{ExtensionValues, values_from};
@@ -17,7 +21,9 @@ use codec_payload_handle::handle::Handle;
 use codec_payload_handle::object::{Object, StreamSender};
 use codec_payload_handle::settings::{Spec, packetizer_of};
 use codec_payload_handle::status;
-use codec_payload_sender::sender::{Sample as TimedFrame, Sender, SenderSettings as Settings};
+use codec_payload_sender::sender::{
+    Sample as TimedFrame, Sender, SenderError, SenderSettings as Settings,
+};
 use std::alloc::Global;
 
 /// What a sender is made of.
@@ -153,6 +159,24 @@ fn counts_of(stream: &StreamSender) -> SenderCountsInfo
     }
 }
 
+/// A sender by these settings.
+fn stream_by(
+    alloc: Global,
+    settings: &SenderSettings,
+    packetizer: CodecPacketizer,
+    rate: Frequency,
+) -> Result<StreamSender, u32>
+    requires { rate ≡ settings.now.spec.rate }
+    ensures ok { IfOk result (λ r. (r.sender ≡ sender_by (settings_for settings.now) (packetizer_state_of packetizer)) × (r.rate ≡ rate) × (is_in_range settings.now ≡ Bool.true)) }
+    ensures err { IfErr result (λ status. RefusesSettings (is_in_range settings.now) status) }
+{
+    match Sender::new(alloc, packetizer, settings_of(settings, rate)) {
+        Ok(sender) => Ok(StreamSender { sender, rate }),
+        Err(SenderError::OutOfMemory) => Err(status::OUT_OF_MEMORY),
+        Err(_) => Err(status::INVALID),
+    }
+}
+
 /// A sender by these settings, in an empty handle.
 #[unsafe(no_mangle)]
 pub extern "C" fn cpay_sender_new(
@@ -173,13 +197,11 @@ pub extern "C" fn cpay_sender_new(
     ) else {
         return status::INVALID;
     };
-    if settings.payload_type > 127 || !ids_of(settings.extension_ids).fit() {
-        return status::INVALID;
-    }
-    let Ok(sender) = Sender::new(alloc, packetizer, settings_of(settings, rate)) else {
-        return status::OUT_OF_MEMORY;
+    let stream = match stream_by(alloc, settings, packetizer, rate) {
+        Ok(stream) => stream,
+        Err(status) => return status,
     };
-    match Box::new(alloc, Object::StreamSender(StreamSender { sender, rate })) {
+    match Box::new(alloc, Object::StreamSender(stream)) {
         Ok(object) => {
             handle.put(object);
             status::OK
