@@ -157,9 +157,28 @@ cpay_status cpay_sender_datagram(cpay_sender *sender, size_t place, uint8_t *byt
     return proved_cpay_sender_datagram(&sender->handle, place, bytes ? bytes : (uint8_t *)nothing, bytes_len, size);
 }
 
+cpay_status proved_cpay_sender_datagram_with_tail(cpay_handle *sender, size_t place, size_t tail, uint8_t *bytes,
+                                                  size_t bytes_len, size_t *size);
+cpay_status cpay_sender_datagram_with_tail(cpay_sender *sender, size_t place, size_t tail, uint8_t *bytes, size_t bytes_len,
+                                           size_t *size) {
+    if (!bytes && bytes_len) return CPAY_INVALID;
+    return proved_cpay_sender_datagram_with_tail(&sender->handle, place, tail, bytes ? bytes : (uint8_t *)nothing, bytes_len,
+                                                 size);
+}
+
+cpay_status proved_cpay_sender_set_format(cpay_handle *sender, const cpay_spec *spec, uint8_t payload_type);
+cpay_status cpay_sender_set_format(cpay_sender *sender, const cpay_spec *spec, uint8_t payload_type) {
+    return proved_cpay_sender_set_format(&sender->handle, spec, payload_type);
+}
+
 cpay_status proved_cpay_sender_counts(cpay_handle *sender, cpay_sender_counts_info *counts);
 cpay_status cpay_sender_counts(cpay_sender *sender, cpay_sender_counts_info *counts) {
     return proved_cpay_sender_counts(&sender->handle, counts);
+}
+
+cpay_status proved_cpay_sender_report(cpay_handle *sender, uint64_t now, cpay_sender_report_info *report);
+cpay_status cpay_sender_report(cpay_sender *sender, uint64_t now, cpay_sender_report_info *report) {
+    return proved_cpay_sender_report(&sender->handle, now, report);
 }
 
 cpay_status proved_cpay_receiver_new(cpay_handle *receiver, const cpay_receiver_settings *settings, const uint8_t *no_media,

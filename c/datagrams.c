@@ -114,6 +114,7 @@ static void settings(void) {
     cpay_sender_settings sends = {.spec = opus(), .mtu = 100, .payload_type = TYPE};
     cpay_receiver_counts_info counts = {.held = 7};
     cpay_sender_counts_info sent = {.packets = 7};
+    cpay_sender_report_info sender_report = {.packets = 7};
     cpay_report_info report = {.highest = 7};
     cpay_wait_limits wait_limits = {.hold_back = 1};
     cpay_unit unit = {.first = 7};
@@ -168,11 +169,14 @@ static void settings(void) {
         if (kind == 1) CHECK(cpay_receiver_new(&it.receiver, &right, NULL, 0) == CPAY_OK);
         CHECK(cpay_sender_send(&it.sender, 0, false, bytes, 4, &count) == status);
         CHECK(cpay_sender_datagram(&it.sender, 0, bytes, 4, &count) == status);
+        CHECK(cpay_sender_datagram_with_tail(&it.sender, 0, 0, bytes, 4, &count) == status);
+        CHECK(cpay_sender_set_format(&it.sender, &sends.spec, TYPE) == status);
         CHECK(cpay_sender_counts(&it.sender, &sent) == status);
+        CHECK(cpay_sender_report(&it.sender, 0, &sender_report) == status);
     }
     CHECK(cpay_sender_new(&it.sender, &sends) == CPAY_FULL);
     CHECK(same(bytes, "\7\7\7\7", 4) && outcome == 7 && at == 7 && count == 7 && unit.first == 7);
-    CHECK(counts.held == 7 && sent.packets == 7 && report.highest == 7);
+    CHECK(counts.held == 7 && sent.packets == 7 && report.highest == 7 && sender_report.packets == 7);
     cpay_receiver_free(&it.receiver);
 }
 
@@ -198,6 +202,70 @@ static void sending(void) {
     CHECK(counts.packets == 2 && counts.octets == 7 && counts.has_rtp_time && counts.rtp_time == 5 && counts.next_number == 1);
     CHECK(cpay_sender_send(&sender, 6, false, NULL, 0, &count) == CPAY_OK && count == 0);
     CHECK(cpay_sender_datagram(&sender, 0, bytes, sizeof bytes, &size) == CPAY_NONE);
+    cpay_sender_free(&sender);
+}
+
+/* A datagram of 16 bytes with room for the tag of SRTP after it: 10 bytes by default (RFC 3711, section 5.2). */
+static void tails(void) {
+    cpay_sender sender = CPAY_INIT;
+    cpay_sender_settings settings = {.spec = opus(), .mtu = 100, .ssrc = SSRC, .first_number = 0x1234, .payload_type = TYPE};
+    static const uint8_t wanted[] = {0x80, 0x80 | TYPE, 0x12, 0x34, 0, 0, 0, 5, 1, 2, 3, 4, 'o', 'p', 'u', 's'};
+    uint8_t bytes[64], before[64];
+    size_t count = 0, size = 7;
+    memset(bytes, 9, sizeof bytes);
+    memset(before, 9, sizeof before);
+    CHECK(cpay_sender_new(&sender, &settings) == CPAY_OK);
+    CHECK(cpay_sender_datagram_with_tail(&sender, 0, 10, bytes, sizeof bytes, &size) == CPAY_NONE && size == 7);
+    CHECK(cpay_sender_send(&sender, 5, true, (const uint8_t *)"opus", 4, &count) == CPAY_OK && count == 1);
+    CHECK(cpay_sender_datagram_with_tail(&sender, 0, 10, NULL, 1, &size) == CPAY_INVALID && size == 7);
+    CHECK(cpay_sender_datagram_with_tail(&sender, 1, 10, bytes, sizeof bytes, &size) == CPAY_NONE && size == 7);
+    CHECK(cpay_sender_datagram_with_tail(&sender, 0, 10, NULL, 0, &size) == CPAY_TOO_SMALL && size == 26);
+    CHECK(cpay_sender_datagram_with_tail(&sender, 0, 10, bytes, 25, &size) == CPAY_TOO_SMALL && size == 26);
+    CHECK(cpay_sender_datagram_with_tail(&sender, 0, SIZE_MAX, bytes, sizeof bytes, &size) == CPAY_TOO_SMALL && size == SIZE_MAX);
+    CHECK(cpay_sender_datagram_with_tail(&sender, 0, SIZE_MAX - 16, bytes, 64, &size) == CPAY_TOO_SMALL && size == SIZE_MAX);
+    CHECK(cpay_sender_datagram_with_tail(&sender, 0, SIZE_MAX - 17, bytes, 64, &size) == CPAY_TOO_SMALL && size == SIZE_MAX - 1);
+    CHECK(memcmp(bytes, before, sizeof bytes) == 0);
+    CHECK(cpay_sender_datagram_with_tail(&sender, 0, 10, bytes, 26, &size) == CPAY_OK && size == 16);
+    CHECK(memcmp(bytes, wanted, 16) == 0 && memcmp(bytes + 16, before, 48) == 0);
+    CHECK(cpay_sender_datagram_with_tail(&sender, 0, 0, bytes, 16, &size) == CPAY_OK && size == 16);
+    cpay_sender_free(&sender);
+}
+
+/* A call changes from Opus to PCMU: numbers, SSRC and counts go on, and the payload type is the new one (RFC 3551). */
+static void another_format(void) {
+    cpay_sender sender = CPAY_INIT;
+    cpay_sender_settings settings = {.spec = opus(), .mtu = 100, .ssrc = SSRC, .first_number = 0xffff, .payload_type = TYPE};
+    cpay_spec pcmu = {.codec = CPAY_PCMU, .rate = 8000}, missing = {.codec = 6, .rate = 8000}, silent = {.codec = CPAY_PCMU};
+    cpay_sender_counts_info counts = {0};
+    uint8_t bytes[64];
+    size_t count = 0, size = 0;
+    CHECK(cpay_sender_new(&sender, &settings) == CPAY_OK);
+    CHECK(cpay_sender_send(&sender, 960, false, (const uint8_t *)"opus", 4, &count) == CPAY_OK && count == 1);
+    CHECK(cpay_sender_set_format(&sender, &pcmu, 128) == CPAY_INVALID);
+    CHECK(cpay_sender_set_format(&sender, &missing, 0) == CPAY_INVALID);
+    CHECK(cpay_sender_set_format(&sender, &silent, 0) == CPAY_INVALID);
+    CHECK(cpay_sender_set_format(&sender, &pcmu, 0) == CPAY_OK);
+    CHECK(cpay_sender_datagram(&sender, 0, bytes, sizeof bytes, &size) == CPAY_OK && size == 16);
+    CHECK(same(bytes, "\x80\x6f\xff\xff\0\0\3\xc0\1\2\3\4opus", 16));
+    CHECK(cpay_sender_send(&sender, 320, true, (const uint8_t *)"u", 1, &count) == CPAY_OK && count == 1);
+    CHECK(cpay_sender_datagram(&sender, 0, bytes, sizeof bytes, &size) == CPAY_OK && size == 13);
+    CHECK(same(bytes, "\x80\x80\0\0\0\0\1\x40\1\2\3\4u", 13));
+    CHECK(cpay_sender_counts(&sender, &counts) == CPAY_OK && counts.packets == 2 && counts.octets == 5 && counts.next_number == 1);
+    cpay_sender_free(&sender);
+}
+
+/* A sender report of a moment 480 ticks after the latest frame (RFC 3550, section 6.4.1): the RTP time has 32 bits. */
+static void sender_reports(void) {
+    cpay_sender sender = CPAY_INIT;
+    cpay_sender_settings settings = {.spec = opus(), .mtu = 100, .ssrc = SSRC, .payload_type = TYPE};
+    cpay_sender_report_info report = {0};
+    size_t count = 0;
+    CHECK(cpay_sender_new(&sender, &settings) == CPAY_OK);
+    CHECK(cpay_sender_report(&sender, 5, &report) == CPAY_OK);
+    CHECK(report.ssrc == SSRC && report.rtp_time == 5 && report.packets == 0 && report.octets == 0);
+    CHECK(cpay_sender_send(&sender, 0xffffff00, false, (const uint8_t *)"opus", 4, &count) == CPAY_OK);
+    CHECK(cpay_sender_report(&sender, 0xffffff00u + UINT64_C(480), &report) == CPAY_OK);
+    CHECK(report.ssrc == SSRC && report.rtp_time == 480 - 256 && report.packets == 1 && report.octets == 4);
     cpay_sender_free(&sender);
 }
 
@@ -628,6 +696,9 @@ int main(void) {
     packets();
     settings();
     sending();
+    tails();
+    another_format();
+    sender_reports();
     first_numbers_swapped();
     restarts();
     without_media();

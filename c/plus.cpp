@@ -50,6 +50,13 @@ void over_datagrams() {
         CHECK(to.receive(0, datagram, outcome) == CPAY_OK && outcome == CPAY_HELD);
     }
     CHECK(from.datagram(count, datagram) == CPAY_NONE && datagram.empty());
+    std::array<std::uint8_t, 1500> room = {};
+    std::size_t size = 0;
+    CHECK(from.datagram_with_tail(0, 1500, room, size) == CPAY_TOO_SMALL && size > 1500);
+    CHECK(from.datagram_with_tail(0, 16, room, size) == CPAY_OK && size <= 1484);
+    cpay_sender_report_info sender_report = {};
+    CHECK(from.report(0x100000003, sender_report) == CPAY_OK && sender_report.rtp_time == 3 && sender_report.packets == 3);
+    CHECK(from.set_format(VP8, 97) == CPAY_OK && from.set_format(VP8, 128) == CPAY_INVALID);
     cpay::receiver moved = std::move(to);
     cpay_unit unit = {};
     CHECK(to.pop(100, unit, found) == CPAY_EMPTY);

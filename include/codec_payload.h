@@ -500,6 +500,18 @@ CPAY_CHECKED cpay_status cpay_sender_send_sample(cpay_sender *sender, const cpay
  * again until the next frame is sent. */
 CPAY_CHECKED cpay_status cpay_sender_datagram(cpay_sender *sender, size_t place, uint8_t *bytes, size_t bytes_len, size_t *size);
 
+/** Does the same if the output buffer also has room for `tail` bytes after the datagram, which stay as they are: SRTP encrypts the
+ * datagram in place and writes its tag there (RFC 3711, section 3.1). CPAY_TOO_SMALL: *size is that of datagram and tail, at most
+ * SIZE_MAX. With CPAY_OK it is that of the datagram. */
+CPAY_CHECKED cpay_status cpay_sender_datagram_with_tail(cpay_sender *sender, size_t place, size_t tail, uint8_t *bytes,
+                                                        size_t bytes_len, size_t *size);
+
+/** Continues the stream in another format: with the packetizer and the rate of `spec`, and this payload type. Sequence numbers,
+ * SSRC, counts, MTU and extension ids go on, and the datagrams of the last frame stay. RTP times are in ticks of the new rate. With
+ * another rate receivers lose the clock of the stream, so RFC 7160, section 4.1, wants another SSRC: create another sender.
+ * CPAY_INVALID: as for cpay_packetizer_new, or `payload_type` above 127; the sender is unchanged. Does not allocate. */
+CPAY_CHECKED cpay_status cpay_sender_set_format(cpay_sender *sender, const cpay_spec *spec, uint8_t payload_type);
+
 /** The fields for sender reports (RFC 3550, section 6.4.1). */
 typedef struct {
     uint32_t packets;     /**< packets sent, modulo 2^32 */
@@ -510,6 +522,18 @@ typedef struct {
 } cpay_sender_counts_info;
 
 CPAY_CHECKED cpay_status cpay_sender_counts(cpay_sender *sender, cpay_sender_counts_info *counts);
+
+/** The fields of a sender report (RFC 3550, section 6.4.1), except its NTP time, which your clock has. */
+typedef struct {
+    uint32_t ssrc;
+    uint32_t rtp_time; /**< RTP time of the moment of the report */
+    uint32_t packets;  /**< packets sent, modulo 2^32 */
+    uint32_t octets;   /**< payload bytes sent, modulo 2^32 */
+} cpay_sender_report_info;
+
+/** Reports for the moment `now`: in ticks of the RTP clock, on the time line of the frames. The NTP time of the report must be of the
+ * same moment. It may lie before or after the last frame. Does not allocate. */
+CPAY_CHECKED cpay_status cpay_sender_report(cpay_sender *sender, uint64_t now, cpay_sender_report_info *report);
 
 /* ---- A receiver: datagrams of a socket in, whole units of one stream out in order ---- */
 

@@ -101,7 +101,17 @@ public:
         std::size_t size = 0;
         return into(to, size, [&](room it) { return datagram(place, it, size); });
     }
+    /** A datagram and room for `tail` bytes after it, as a tag of SRTP needs. */
+    [[nodiscard]] cpay_status datagram_with_tail(std::size_t place, std::size_t tail, room datagram, std::size_t &size) noexcept {
+        return cpay_sender_datagram_with_tail(get(), place, tail, datagram.data(), datagram.size(), &size);
+    }
+    [[nodiscard]] cpay_status set_format(const cpay_spec &spec, std::uint8_t payload_type) noexcept {
+        return cpay_sender_set_format(get(), &spec, payload_type);
+    }
     [[nodiscard]] cpay_status counts(cpay_sender_counts_info &counts) noexcept { return cpay_sender_counts(get(), &counts); }
+    [[nodiscard]] cpay_status report(std::uint64_t now, cpay_sender_report_info &report) noexcept {
+        return cpay_sender_report(get(), now, &report);
+    }
 };
 
 /** Datagrams of a socket in, whole units of one stream out in order. */

@@ -1,22 +1,24 @@
 -- What the calls on a sender of datagrams do.
-use Rattle.std.specs.Prelude.{◌≡◌, ◌≢◌, ℕ, ◌&&◌, nat_le, if◌then◌else◌, Bool, List, Option, Some, None, IfSome, length}
+use Rattle.std.specs.Prelude.{◌≡◌, ◌≢◌, ℕ, ◌+◌, ◌-◌, ◌^◌, ◌&&◌, ◌++◌, nat_le, min, if◌then◌else◌, Bool, List, Option, Some, None, IfSome, is_some, length, drop}
 use Rattle.codec_payload_base.specs.declared.error.PacketError.{PacketError}
 use Rattle.codec_payload_base.specs.declared.wire.extension.ExtensionValues.{ExtensionValues}
 use Rattle.codec_payload_core.specs.Faults.{fault_number}
 use Rattle.codec_payload_core.specs.Packetizers.{PacketizerState}
 use Rattle.codec_payload_rtp.specs.ExtensionWriting.{ids_fit}
 use Rattle.codec_payload_sender.specs.Datagrams.{Sample}
-use Rattle.codec_payload_sender.specs.Senders.{Sends, Refuses as RefusesSample, sender_by}
+use Rattle.codec_payload_sender.specs.Senders.{Sends, Refuses as RefusesSample, report_of, sender_by, with_format}
 use Rattle.codec_payload_sender.specs.declared.sender.SenderSettings.{SenderSettings as Settings}
 use Rattle.codec_payload_handle.specs.Bytes.{filled}
 use Rattle.codec_payload_handle.specs.HeaderValues.{values_given}
 use Rattle.codec_payload_handle.specs.declared.object.Object.{Object}
 use Rattle.codec_payload_handle.specs.declared.object.Object.TheVariants as objects
 use Rattle.codec_payload_handle.specs.declared.object.StreamSender.{StreamSender}
+use Rattle.codec_payload_handle.specs.declared.settings.Spec.{Spec}
 use Rattle.codec_payload_c.specs.Inspect.{given_if}
 use Rattle.codec_payload_c.specs.Ids.{ids_given}
 use Rattle.codec_payload_c.specs.declared.sender.Sample.{Sample as CSample}
 use Rattle.codec_payload_c.specs.declared.sender.SenderCountsInfo.{SenderCountsInfo}
+use Rattle.codec_payload_c.specs.declared.sender.SenderReportInfo.{SenderReportInfo}
 use Rattle.codec_payload_c.specs.declared.sender.SenderSettings.{SenderSettings}
 
 -- the settings of a sender, as C gave them
@@ -68,3 +70,24 @@ pub record TellsCounts (r : StreamSender) (c : SenderCountsInfo) : Type 0 where
   pub octets : c.octets ≡ r.sender.counts.octets
   pub rtp_time : r.sender.counts.rtp_time ≡ given_if c.has_rtp_time c.rtp_time
   pub next_number : c.next_number ≡ r.sender.stream.number
+
+-- A datagram into the caller's bytes, and room for a tail of that size after it: 33 where the bytes are too few for both, and the
+-- size is then that of both, at most 2^64 - 1
+abbrev pub GivesWithTail : ℕ → Option (List ℕ) → ℕ → (before bytes : List ℕ) → (size_before size : ℕ) → Type 0
+GivesWithTail tail None status before bytes size_before size = (status ≡ 32) × (bytes ≡ before) × (size ≡ size_before)
+GivesWithTail tail (Some d) status before bytes size_before size =
+    (status ≡ (if nat_le (length d + tail) (length before) then 0 else 33))
+    × (bytes ≡ (if nat_le (length d + tail) (length before) then d ++ drop (length d) before else before))
+    × (size ≡ (if nat_le (length d + tail) (length before) then length d else min (length d + tail) (2 ^ 64 - 1)))
+
+-- Another format: with status 0 the stream goes on with this packetizer, payload type and rate, and all else stays. Without a
+-- packetizer, or with a payload type above 127, the status is 37, and nothing changes
+pub record SetsFormat (packetizer : Option PacketizerState) (spec : Spec) (payload_type : ℕ) (r : StreamSender) (status : ℕ) (s : StreamSender) : Type 0 where
+  pub status : status ≡ (if is_some packetizer && nat_le payload_type 127 then 0 else 37)
+  pub ok : status ≡ 0 → IfSome packetizer (λ p. s ≡ record { sender = with_format r.sender p payload_type spec.rate; rate = spec.rate })
+  pub unchanged : status ≢ 0 → s ≡ r
+
+-- the fields of a sender report for that time, in ticks of the RTP clock
+abbrev pub reported_at : StreamSender → ℕ → SenderReportInfo
+reported_at r now = let report = report_of r.sender (record { numer = now; rate = r.rate }) in
+    record { ssrc = report.ssrc; rtp_time = report.rtp_time; packets = report.packets; octets = report.octets }

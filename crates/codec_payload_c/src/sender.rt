@@ -8,7 +8,7 @@ ghost use Rattle.codec_payload_sender.specs.Datagrams.{sample_of};
 ghost use Rattle.codec_payload_sender.specs.Senders.{sender_by};
 ghost use Rattle.codec_payload_c.specs.Ids.{ids_given};
 ghost use Rattle.codec_payload_c.specs.Refusals.{RefusesSettings};
-ghost use Rattle.codec_payload_c.specs.StreamSenders.{GivesDatagram, IsStreamSenderOf, SendsFrame, TellsCounts, is_in_range, sample_given, sample_with, settings_for};
+ghost use Rattle.codec_payload_c.specs.StreamSenders.{GivesDatagram, GivesWithTail, IsStreamSenderOf, SendsFrame, SetsFormat, TellsCounts, is_in_range, reported_at, sample_given, sample_with, settings_for};
 ghost use Rattle.codec_payload_handle.specs.Kinds.{Makes, OnStreamSender, Refuses, is_stream_sender};
 ghost use Rattle.codec_payload_handle.specs.Settings.{packetizer_set};
 
@@ -67,6 +67,19 @@ pub struct SenderCountsInfo {
     pub next_number: u16,
     /// Whether a frame was sent.
     pub has_rtp_time: bool,
+}
+
+/// The fields of a sender report (RFC 3550, section 6.4.1), except its NTP time.
+#[repr(C)]
+#[derive(Drop)]
+pub struct SenderReportInfo {
+    pub ssrc: u32,
+    /// The RTP time of the moment that was given.
+    pub rtp_time: u32,
+    /// How many packets were sent, modulo 2^32.
+    pub packets: u32,
+    /// How many bytes of payload, modulo 2^32.
+    pub octets: u32,
 }
 
 /// The settings as the sender has them.
@@ -142,6 +155,59 @@ fn datagram(stream: &StreamSender, place: usize, bytes: &mut [u8], size: &mut us
         status::OK
     } else {
         status::TOO_SMALL
+    }
+}
+
+/// The datagram at a place, into the caller's bytes, if these also have room for `tail` bytes after the datagram.
+fn datagram_with_tail(
+    stream: &StreamSender,
+    place: usize,
+    tail: usize,
+    bytes: &mut [u8],
+    size: &mut usize,
+) -> u32
+    ensures { GivesWithTail tail (slice_get stream.now.sender.datagrams place) result bytes.old bytes.new size.old size.new }
+{
+    if place >= stream.sender.len() {
+        return status::NONE;
+    }
+    let datagram = stream.sender.datagram(place);
+    let room = datagram.len().saturating_add(tail);
+    if bytes.len() < room {
+        *size = room;
+        return status::TOO_SMALL;
+    }
+    *size = datagram.len();
+    fill(bytes, datagram);
+    status::OK
+}
+
+/// The stream goes on in another format, if there is a packetizer for it.
+fn set_format(stream: &mut StreamSender, spec: &Spec, payload_type: u8) -> u32
+    ensures { SetsFormat (packetizer_set spec.now) spec.now payload_type stream.old result stream.new }
+{
+    let (Some(packetizer), Some(rate)) = (packetizer_of(spec), Frequency::make(spec.rate)) else {
+        return status::INVALID;
+    };
+    match stream.sender.set_format(packetizer, payload_type, rate) {
+        Ok(()) => {
+            stream.rate = rate;
+            status::OK
+        }
+        Err(_) => status::INVALID,
+    }
+}
+
+/// The fields of a sender report for the moment `now`, in ticks of the RTP clock.
+fn report_of(stream: &StreamSender, now: u64) -> SenderReportInfo
+    ensures { result ≡ reported_at stream.now now }
+{
+    let report = stream.sender.report(MediaTime::new(now, stream.rate));
+    SenderReportInfo {
+        ssrc: report.ssrc,
+        rtp_time: report.rtp_time,
+        packets: report.packets,
+        octets: report.octets,
     }
 }
 
@@ -309,6 +375,80 @@ pub extern "C" fn cpay_sender_counts(
     let answer = match &mut *object {
         Object::StreamSender(stream) => {
             *counts = counts_of(stream);
+            status::OK
+        }
+        _ => status::OTHER_KIND,
+    };
+    handle.put(object);
+    answer
+}
+
+/// The datagram at a place, as [`cpay_sender_datagram`] gives it, into bytes that have room for `tail` bytes after the datagram.
+#[unsafe(no_mangle)]
+pub extern "C" fn cpay_sender_datagram_with_tail(
+    alloc: Global,
+    handle: &mut Handle,
+    place: usize,
+    tail: usize,
+    bytes: &mut [u8],
+    size: &mut usize,
+) -> u32
+    ensures gives { OnStreamSender handle.old.place.value (λ r s. (s ≡ r) × GivesWithTail tail (slice_get r.sender.datagrams place) result bytes.old bytes.new size.old size.new) handle.new.place.value }
+    ensures refused { Refuses is_stream_sender handle.old.place.value result handle.new.place.value }
+    ensures untouched { result ≢ 0 → bytes.new ≡ bytes.old }
+    ensures unchanged { result ≢ 0 → result ≢ 33 → size.new ≡ size.old }
+{
+    let Some(mut object) = handle.take(alloc) else {
+        return status::EMPTY;
+    };
+    let answer = match &mut *object {
+        Object::StreamSender(stream) => datagram_with_tail(stream, place, tail, bytes, size),
+        _ => status::OTHER_KIND,
+    };
+    handle.put(object);
+    answer
+}
+
+/// The stream goes on in another format.
+#[unsafe(no_mangle)]
+pub extern "C" fn cpay_sender_set_format(
+    alloc: Global,
+    handle: &mut Handle,
+    spec: &Spec,
+    payload_type: u8,
+) -> u32
+    ensures sets { OnStreamSender handle.old.place.value (λ r s. SetsFormat (packetizer_set spec.now) spec.now payload_type r result s) handle.new.place.value }
+    ensures refused { Refuses is_stream_sender handle.old.place.value result handle.new.place.value }
+{
+    let Some(mut object) = handle.take(alloc) else {
+        return status::EMPTY;
+    };
+    let answer = match &mut *object {
+        Object::StreamSender(stream) => set_format(stream, spec, payload_type),
+        _ => status::OTHER_KIND,
+    };
+    handle.put(object);
+    answer
+}
+
+/// The fields of a sender report for the moment `now`, in ticks of the RTP clock.
+#[unsafe(no_mangle)]
+pub extern "C" fn cpay_sender_report(
+    alloc: Global,
+    handle: &mut Handle,
+    now: u64,
+    report: &mut SenderReportInfo,
+) -> u32
+    ensures tells { OnStreamSender handle.old.place.value (λ r s. (result ≡ 0) × (s ≡ r) × (report.new ≡ reported_at r now)) handle.new.place.value }
+    ensures refused { Refuses is_stream_sender handle.old.place.value result handle.new.place.value }
+    ensures unchanged { result ≢ 0 → report.new ≡ report.old }
+{
+    let Some(mut object) = handle.take(alloc) else {
+        return status::EMPTY;
+    };
+    let answer = match &mut *object {
+        Object::StreamSender(stream) => {
+            *report = report_of(stream, now);
             status::OK
         }
         _ => status::OTHER_KIND,
