@@ -15,7 +15,7 @@ packets_in r = map (λ p. p.items) r.packets.items
 
 -- a sender with that packetizer and no packets
 abbrev pub IsFrameSenderOf : Option PacketizerState → Object → Type 0
-IsFrameSenderOf packetizer (objects.FrameSender s) = (Some (packetizer_state_of s.packetizer) ≡ packetizer) × (packets_in s ≡ []) × (s.taken ≡ 0)
+IsFrameSenderOf packetizer (objects.FrameSender s) = (Some (packetizer_state_of s.value.packetizer) ≡ packetizer) × (packets_in s.value ≡ []) × (s.value.taken ≡ 0)
 IsFrameSenderOf packetizer _ = ⊥
 
 -- A frame is cut: its packets are there to take, from the first, and those of the frame before are given up. A fault leaves

@@ -96,7 +96,7 @@ pub record IsNewStream (s : ReceiverSettings) (no_media : List ℕ) (depacketize
   pub taken : r.taken ≡ None
 
 abbrev pub IsStreamReceiverOf : ReceiverSettings → List ℕ → Option DepacketizerState → Object → Type 0
-IsStreamReceiverOf s no_media depacketizer (objects.StreamReceiver r) = IsNewStream s no_media depacketizer r
+IsStreamReceiverOf s no_media depacketizer (objects.StreamReceiver r) = IsNewStream s no_media depacketizer r.value
 IsStreamReceiverOf s no_media depacketizer _ = ⊥
 
 -- the numbers of outcomes

@@ -146,6 +146,9 @@ pub extern "C" fn cpay_buffer_new(
         waiting: None,
         rate,
     };
+    let Ok(receiver) = Box::new(alloc, receiver) else {
+        return status::OUT_OF_MEMORY;
+    };
     match Box::new(alloc, Object::FrameReceiver(receiver)) {
         Ok(object) => {
             handle.put(object);

@@ -58,6 +58,9 @@ pub extern "C" fn cpay_depacketizer_new(alloc: Global, handle: &mut Handle, spec
         bytes: Vec::new(alloc),
         extra: CodecExtra::None,
     };
+    let Ok(assembler) = Box::new(alloc, assembler) else {
+        return status::OUT_OF_MEMORY;
+    };
     match Box::new(alloc, Object::Assembler(assembler)) {
         Ok(object) => {
             handle.put(object);

@@ -52,13 +52,13 @@ pub struct StreamReceiver {
     pub taken: Option<Depacketized>,
 }
 
-/// A value behind a handle.
+/// A value behind a handle. Each has a box of its own, so that none takes the memory of the largest.
 #[derive(Drop)]
 pub enum Object {
-    FrameSender(FrameSender),
-    Assembler(Assembler),
-    FrameReceiver(FrameReceiver),
-    RedSender(RedSender),
-    StreamSender(StreamSender),
-    StreamReceiver(StreamReceiver),
+    FrameSender(Box<FrameSender>),
+    Assembler(Box<Assembler>),
+    FrameReceiver(Box<FrameReceiver>),
+    RedSender(Box<RedSender>),
+    StreamSender(Box<StreamSender>),
+    StreamReceiver(Box<StreamReceiver>),
 }
