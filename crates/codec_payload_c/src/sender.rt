@@ -171,14 +171,14 @@ fn datagram_with_tail(
     if place >= stream.sender.len() {
         return status::NONE;
     }
-    let datagram = stream.sender.datagram(place);
-    let room = datagram.len().saturating_add(tail);
+    let packet = stream.sender.datagram(place);
+    let room = packet.len().saturating_add(tail);
     if bytes.len() < room {
         *size = room;
         return status::TOO_SMALL;
     }
-    *size = datagram.len();
-    fill(bytes, datagram);
+    *size = packet.len();
+    fill(bytes, packet);
     status::OK
 }
 
