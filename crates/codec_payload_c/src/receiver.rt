@@ -210,6 +210,8 @@ fn settings_of(
     ensures made { is_some result ≡ (nat_lt 0 settings.now.tick_rate && nat_le settings.now.from_keyframe 2) }
     ensures settings { IfSome result (AreSettings settings.now no_media.items) }
 {
+    let tick_rate = Frequency::make(settings.tick_rate)?;
+    let from_keyframe = from_keyframe_of(settings.from_keyframe)?;
     Some(Settings {
         payload_type: settings.payload_type,
         no_media,
@@ -222,7 +224,7 @@ fn settings_of(
         retransmission: retransmission_of(settings),
         extension_ids: ids_of(settings.extension_ids),
         clock_rate,
-        tick_rate: Frequency::make(settings.tick_rate)?,
+        tick_rate,
         wait_limits: waiting_for(WaitLimits {
             max_wait: settings.max_wait,
             hold_back: settings.hold_back,
@@ -232,7 +234,7 @@ fn settings_of(
         limit: settings.limit,
         forward: settings.forward,
         backward: settings.backward,
-        from_keyframe: from_keyframe_of(settings.from_keyframe)?,
+        from_keyframe,
     })
 }
 
