@@ -1,5 +1,5 @@
 use Rattle.std.proofs.Common.{◌∙◌, ap}
-use Rattle.codec_payload_jitter.specs.Receiving.{meta_for, outcome_of}
+use Rattle.codec_payload_jitter.specs.Receiving.{outcome_of}
 use Rattle.codec_payload_jitter.proofs.OwnLemmas.{stores_pushed}
 use Rattle.codec_payload_jitter.proofs.ReceivingLemmas.{placed_outcome}
 use Rattle.codec_payload_jitter.proofs.jitter.store.Goals as goal
