@@ -13,7 +13,7 @@ no_gaps = record { places = replicate 64 None; next = 0 }
 abbrev pub gap_with : Gap → Followed → Followed
 gap_with gap f = record { places = slice_set f.places f.next (Some gap); next = (f.next + 1) % 64 }
 
--- a packet counts as lost once it is missing for so many ticks
+-- a packet counts as lost once it is missing for this number of ticks
 abbrev pub is_lost : ℕ → ℕ → Gap → Bool
 is_lost now lost_after gap = nat_le lost_after (now - gap.since)
 

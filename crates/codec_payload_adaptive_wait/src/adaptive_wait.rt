@@ -18,8 +18,8 @@ pub struct AdaptiveWaitSettings {
     pub longest: u64,
     /// The lowest limit while fewer than 8 missing packets arrived or were lost. 200 by default.
     pub first: u64,
-    /// A packet that is missing for so many ticks is lost. 1,000 by default. It then counts as one that arrived at once, since
-    /// waiting longer would not have helped.
+    /// A packet that is missing for this number of ticks is lost. 1,000 by default. It then counts as a packet that arrived at
+    /// once, since waiting longer would not have helped.
     pub lost_after: u64,
 }
 

@@ -41,7 +41,7 @@ pub over_stored : (s : State) (p : Held) (hs mid left : List Held) (n : ℕ) (c 
 over_stored s p hs mid left n c limit at late fresh put many takes =
     sym (pushed_over s p mid left n (ap (λ (x : Option ℕ). is_at_most x (number_of p)) at.1 ∙ late) (ap (has_number (number_of p)) at.0 ∙ fresh) (put ∙ ap (placed p) (sym at.0)) (omega (arith, many, at.2)) takes)
 
--- what becomes of it
+-- the result for the packet
 
 pub late_at : (s : State) (n : ℕ) (hs : List Held) (c : Option ℕ) (limit : ℕ) → IsAt s hs c limit → is_at_most c n ≡ true → places.Late ≡ placed_at s n
 late_at s n hs c limit at late = rw (ap (λ (x : Option ℕ). is_at_most x n) at.1 ∙ late) refl

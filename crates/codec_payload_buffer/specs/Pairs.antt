@@ -6,7 +6,7 @@ use Rattle.codec_payload_buffer.specs.Steps.{State, IsArrived, placed_at, pushed
 use Rattle.codec_payload_buffer.specs.declared.buffer.pair.Incoming.{Incoming}
 use Rattle.codec_payload_buffer.specs.declared.buffer.placed.Placed.{Placed}
 
--- one packet is stored, and then the other; and this became of each
+-- one packet is stored, and then the other, with the result of each
 abbrev pub StoresTwo : State → Incoming → Incoming → Placed × Placed → State → Type 0
 StoresTwo s first second places t =
     (p : Held) × (q : Held) × IsArrived s.depacketizer first.meta first.payload.items p × IsArrived s.depacketizer second.meta second.payload.items q

@@ -41,11 +41,10 @@ pub struct ReceiverSettings {
     pub start: usize,
     /// The largest number of held packets, 1 to 65,536.
     pub limit: usize,
-    /// The longest time that a complete frame waits behind a gap, in ticks of the caller's clock.
+    /// The longest time that a complete frame waits behind a gap, in ticks of your clock.
     pub max_wait: u64,
     pub ssrc: u32,
-    /// Ticks per second of the caller's clock: for the jitter of reports, and for the 2 s after which another stream can be
-    /// chosen.
+    /// Ticks per second of your clock: for the jitter of reports, and for the 2 s after which another stream can be chosen.
     pub tick_rate: u32,
     /// The RTP timestamp difference between successive RED packets, 1 to 16,383.
     pub red_step: u32,
@@ -79,7 +78,7 @@ pub struct ReceiverSettings {
 #[repr(C)]
 #[derive(Clone, Copy)]
 pub struct WaitLimits {
-    /// The longest time that a complete frame waits behind a gap, in ticks of the caller's clock.
+    /// The longest time that a complete frame waits behind a gap, in ticks of your clock.
     pub max_wait: u64,
     /// A complete frame behind a gap waits until more than this many complete frames are held. `usize::MAX`: no bound.
     pub hold_back: usize,

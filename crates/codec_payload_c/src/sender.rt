@@ -211,7 +211,7 @@ fn report_of(stream: &StreamSender, now: u64) -> SenderReportInfo
     }
 }
 
-/// What sender reports tell.
+/// Returns the fields of sender reports.
 fn counts_of(stream: &StreamSender) -> SenderCountsInfo
     ensures { TellsCounts stream.now result }
 {

@@ -165,7 +165,7 @@ fn offset_of(time: Option<AbsCaptureTime>) -> Option<i64>
     }
 }
 
-/// Converts the values for C, with this capture time and this layers allocation instead of their own.
+/// Converts the values for C, with this capture time and this layers allocation in place of those of the values.
 fn values_with(
     time: Option<AbsCaptureTime>,
     layers: &Option<VideoLayersAllocation>,

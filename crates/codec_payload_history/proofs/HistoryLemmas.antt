@@ -65,7 +65,7 @@ number_nowhere h number place a b e numbered past few = λ i p there has.
     let same : i ≡ place = place_is h.newest number place i a b (omega arith) e here in
     omega (arith, same, within, past)
 
--- the newest packet goes in front
+-- the newest packet comes first
 numbered_more : (newest number count : ℕ) (packets : List Sent) (p : Sent) → newest < 65536 → number_in p.bytes ≡ Some number → AreNumbered newest packets
     → number ≡ (newest + 1) % 65536 → AreNumbered number (take count (p ∷ packets))
 numbered_more newest number count packets p small is h follows =

@@ -148,7 +148,7 @@ accepts a n r t o accepted =
           ∙ evicts_none s n r.counters (is_at_most s.cutoff n) (has_number n s.held) (nat_lt (length s.held) s.limit) refl refl refl (omega (arith, fits));
     })
 
--- the suspect packet goes in, which was kept
+-- the suspect packet is stored
 goes_in_again : (a : Arrival) (n : ℕ) (r t : Receiving) → r.kept ≡ Some a → GoesInAgain a n (restarted r) t → Stores 0 r t
 goes_in_again a n r t kept goes =
     let s : State = r.buffer in

@@ -21,7 +21,7 @@ use Rattle.codec_payload_jitter.specs.declared.outcome.Outcome.{Outcome}
 use Rattle.codec_payload_jitter.specs.declared.outcome.Outcome.TheVariants as outcomes
 use Rattle.codec_payload_jitter.specs.declared.outcome.PacketCounters.{PacketCounters}
 
--- a packet that goes in leaves the suspect one
+-- a packet that is stored leaves the suspect packet alone
 goes_on_kept : (n : ℕ) (a : Arrival) (r t : Receiving) (o : Outcome) → GoesOn n a r o t → t.kept ≡ r.kept
 goes_on_kept n a r t o goes = ap (λ (x : Receiving). x.kept) goes.2 ∙ ap (λ (x : Receiving). x.kept) goes.1.3
 

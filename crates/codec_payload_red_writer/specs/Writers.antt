@@ -53,7 +53,7 @@ pub record IsInRed (w : Writer) (packet : Packet) (out : List ℕ) (w' : Writer)
   pub bounded : length packet.payload < w.budget → length (output w.red packet.payload packet.header.timestamp w.budget) ≤ w.budget
   pub remembered : w' ≡ remembering w packet
 
--- a packet of the media goes out in RED, any other as it is
+-- a packet of the media is sent in RED, any other packet as it is
 abbrev pub WritesPacket : Bool → Writer → Packet → List ℕ → List ℕ → Writer → Type 0
 WritesPacket true w packet datagram out w' = IsInRed w packet out w'
 WritesPacket false w packet datagram out w' = (out ≡ datagram) × (w' ≡ w)

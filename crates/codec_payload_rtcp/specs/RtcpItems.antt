@@ -49,7 +49,7 @@ entry_bytes e = to_be_bytes w32 e.ssrc ++ to_be_bytes w32 (e.sequence_number * 1
 
 -- ---- lengths in bytes of what a packet can have, as tests
 
--- whole items of that size, at least so many bytes and at most so many
+-- whole items of that size, within these two numbers of bytes
 abbrev pub are_items : ℕ → ℕ → ℕ → ℕ → Bool
 are_items size least most n = (n % size == 0) && (nat_le least n && nat_le n most)
 

@@ -311,8 +311,8 @@ impl<'a> Goodbye<'a> {
     }
 }
 
-/// Whether [`write_padded`] can add so many bytes of padding to a packet: `padding` is 4 to 252, a multiple of 4, the packet has
-/// none yet (P is clear), and at most 65,536 words result.
+/// Returns whether [`write_padded`] can add `padding` bytes to a packet: `padding` is 4 to 252, a multiple of 4, the packet has no
+/// padding yet (P is clear), and at most 65,536 words result.
 pub fn padding_fits(packet: &[u8], padding: u8) -> bool
     ensures { result ≡ padding_fits padding packet.now }
 {
@@ -323,8 +323,8 @@ pub fn padding_fits(packet: &[u8], padding: u8) -> bool
         && packet.len() + usize::from(padding) <= 262_144
 }
 
-/// Appends a written packet with so many bytes of padding: zeros, and their number last (RFC 3550, section 6.4.1). Only the last
-/// packet of a datagram may have padding: write that packet into memory of its own first.
+/// Appends a written packet with `padding` bytes of padding: zeros, and their number last (RFC 3550, section 6.4.1). Only the last
+/// packet of a datagram may have padding: write that packet into a separate vector first.
 pub fn write_padded(packet: &[u8], padding: u8, out: &mut Vec<u8>) -> Result<(), AllocError>
     requires { IsTrue (padding_fits padding packet.now) }
     ensures { OnOk result (AppendsPadded padding out.old.items out.new.items packet.now) }

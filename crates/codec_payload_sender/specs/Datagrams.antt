@@ -41,7 +41,7 @@ header_with stream fields values = record {
 abbrev pub fields_at : Stream → Sample → ℕ → Bool → Fields
 fields_at stream sample place marker = record { marker = marker; number = (stream.number + place) % 2 ^ 16; time = time_of stream sample }
 
--- its header, of so many packets of the sample
+-- its header, with this number of packets of the sample
 abbrev pub header_at : Stream → Sample → ℕ → ℕ → Bool → Header
 header_at stream sample place count marker = header_with stream (fields_at stream sample place marker) (stripped sample.ext_vals place count)
 

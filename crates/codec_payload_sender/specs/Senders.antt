@@ -69,7 +69,7 @@ pub record Sends (s : Sending) (sample : Sample) (t : Sending) : Type 0 where
     datagrams = t.datagrams;
   }
 
--- nothing was sent: the packetizer answered with the fault, or it gave payloads and memory was wanting for them or their headers
+-- nothing was sent: the packetizer answered with the fault, or memory ran out for its payloads or their headers
 pub record Refuses (s : Sending) (sample : Sample) (fault : PacketError) (t : Sending) : Type 0 where
   pub packetized : is_built_in s.packetizer ≡ true → (answer : Result (List (List ℕ)) PacketError) × PacketizerStep s.packetizer s.mtu sample.bytes answer t.packetizer × Lands answer (Err fault) []
   pub left : t ≡ record s { packetizer = t.packetizer; datagrams = [] }

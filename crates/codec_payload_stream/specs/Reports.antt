@@ -36,7 +36,7 @@ no_reception numbering tick_rate rate = record {
 
 -- Packets arrive
 
--- a time of the caller's clock, converted to the RTP clock
+-- a time of your clock, converted to the RTP clock
 abbrev pub arrival_of : Reception → ℕ → ℕ
 arrival_of r now = (rebased (record { numer = now; rate = r.tick_rate }) r.rate).numer % 2 ^ 32
 

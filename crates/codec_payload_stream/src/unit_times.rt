@@ -1,4 +1,4 @@
-//! What a receiver learns from each pop of the RTP times of units.
+//! The RTP times of released units.
 
 ghost use Rattle.std.specs.Prelude.{◌≡◌, ℕ, List};
 ghost use Rattle.codec_payload_buffer.specs.Steps.{popped_into};
@@ -9,7 +9,7 @@ use codec_payload_base::error::PacketError;
 use codec_payload_buffer::buffer::{Depacketized, UnitInfo};
 use codec_payload_rtp::times::RtpTimes;
 
-/// Extends the RTP time of a unit that came out.
+/// Extends the RTP time of a released unit.
 pub(crate) fn extend_with(times: &mut RtpTimes, answer: &Option<Result<Depacketized, PacketError>>)
     ensures { times.new ≡ time_with times.old answer.now }
 {
@@ -18,7 +18,7 @@ pub(crate) fn extend_with(times: &mut RtpTimes, answer: &Option<Result<Depacketi
     }
 }
 
-/// The same of one that came out into memory of the caller's.
+/// Does the same for a unit that was released into memory from the caller.
 pub(crate) fn extend_into(times: &mut RtpTimes, answer: &Option<Result<UnitInfo, PacketError>>)
     ensures { (bytes : List ℕ) (metas : List RtpMeta) → times.new ≡ time_with times.old (popped_into answer.now bytes metas) }
 {

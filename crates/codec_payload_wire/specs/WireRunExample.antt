@@ -1,4 +1,4 @@
--- A run over datagrams that meets the premises: three frames of Opus, whose datagrams come out of order, and one of them twice.
+-- A run over datagrams that meets the premises: three frames of Opus, whose datagrams arrive in another order, and one of them twice.
 use Rattle.std.specs.Global.{Vec}
 use Rattle.std.specs.Prelude.{◌≡◌, ℕ, List, [], ◌∷◌, Some, None, false}
 use Rattle.codec_payload_base.specs.Extensions.{no_values}
@@ -18,7 +18,7 @@ use Rattle.codec_payload_wire.specs.declared.run.DatagramStep.{DatagramStep}
 use Rattle.codec_payload_wire.specs.declared.run.DatagramStep.TheVariants as steps
 use Rattle.codec_payload_wire.specs.declared.run.SentSample.{SentSample}
 
--- the frame at so many ticks of 48 kHz
+-- the frame at this number of ticks of 48 kHz
 abbrev pub frame_at : ℕ → List ℕ → Sample
 frame_at ticks bytes = record { pt = 111; wallclock = 0; rtp_time = record { numer = ticks; rate = 48000 }; bytes = bytes; start_of_talk_spurt = false; ext_vals = no_values }
 

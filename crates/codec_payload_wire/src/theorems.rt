@@ -2,8 +2,8 @@
 
 ghost use Rattle.codec_payload_wire.specs.WireRunExample.{CanBeMet};
 
-/// The premises of a run over datagrams can be met: datagrams of Opus that come out of order, one of them twice, come within the
-/// windows, and all come before the stream ends.
+/// The premises of a run over datagrams can be met: datagrams of Opus that arrive in another order, one of them twice, are
+/// within the windows, and all arrive before the stream ends.
 pub fn premises_can_be_met()
     ensures { CanBeMet }
 {}

@@ -146,7 +146,7 @@ fn samples(alloc: Global) -> Result<Vec<ToPayload>, Fail> {
     Ok(samples)
 }
 
-/// Ends the test unless each sample gave so many datagrams, each datagram that receipt (held, duplicate, or another), and each
+/// Ends the test unless each sample gave that number of datagrams, each datagram that receipt (held, duplicate, or another), and each
 /// pop that unit.
 fn assert_run(rt: &impl Abort, run: &DatagramRun, row: &Row) {
     assert_eq!(rt; run.sends.len(), row.sent.len(), "in {}", row.name);

@@ -27,7 +27,7 @@ pub(super) struct Known {
     voice_activity: Option<bool>,
 }
 
-/// Rare values. A layers allocation, which is larger than all other values together, has a memory block of its own.
+/// Rare values. A layers allocation, which is larger than all other values together, has a separate memory block.
 #[derive(Debug)]
 struct Rare {
     abs_capture_time: Option<AbsCaptureTime>,

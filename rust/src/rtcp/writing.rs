@@ -253,8 +253,8 @@ impl<'a> Goodbye<'a> {
     }
 }
 
-/// Whether [`write_padded`] can add so many bytes of padding to a packet: `padding` is 4 to 252, a multiple of 4, the packet has
-/// none yet (P is clear), and at most 65,536 words result.
+/// Returns whether [`write_padded`] can add `padding` bytes to a packet: `padding` is 4 to 252, a multiple of 4, the packet has no
+/// padding yet (P is clear), and at most 65,536 words result.
 pub fn padding_fits(packet: &[u8], padding: u8) -> bool {
     4 <= packet.len()
         && packet[0] <= 159
@@ -263,8 +263,8 @@ pub fn padding_fits(packet: &[u8], padding: u8) -> bool {
         && packet.len() + usize::from(padding) <= 262_144
 }
 
-/// Appends a written packet with so many bytes of padding: zeros, and their number last (RFC 3550, section 6.4.1). Only the last
-/// packet of a datagram may have padding: write that packet into memory of its own first.
+/// Appends a written packet with `padding` bytes of padding: zeros, and their number last (RFC 3550, section 6.4.1). Only the last
+/// packet of a datagram may have padding: write that packet into a separate vector first.
 ///
 /// # Panics
 ///

@@ -15,7 +15,7 @@ pub(crate) struct LatestAges {
     places: [u64; MOST],
     /// The index of the next one.
     next: usize,
-    /// How many were noted; 8 stands for all higher counts.
+    /// How many were noted; 8 also if more were.
     known: usize,
 }
 

@@ -38,7 +38,7 @@ pub(super) struct Packet {
 const _: () = prove!(size_of::<Packet>() <= 128);
 
 impl Packet {
-    /// Makes a packet that is a row of its own. Allocates only for rare values.
+    /// Makes a packet that is a row by itself. Allocates only for rare values.
     pub(super) fn of(
         alloc: Global,
         meta: RtpMeta,

@@ -1,6 +1,4 @@
-//! The rows of held packets, as their packets tell them: the first packet of a row and the last say where the other is.
-//!
-//! So no list of rows is kept. A push, an eviction and a pop write to the ends of the rows that they change.
+//! A frozen part of the buffer in its earlier form, for ../main.rs.
 
 use super::frames::{CompleteFrame, frame_of};
 use super::held_packet::{HeldPacket, Packet};
@@ -8,7 +6,6 @@ use super::packets::take_lowest;
 use super::rows::{Row, frame_of_left, join, meets, shorten};
 use std::collections::VecDeque;
 
-/// The row from a number to the packet at a place, its last.
 fn row_to(packets: &VecDeque<HeldPacket>, first: u64, place: usize) -> Row {
     let last = &packets[place];
     Row {
@@ -20,12 +17,10 @@ fn row_to(packets: &VecDeque<HeldPacket>, first: u64, place: usize) -> Row {
     }
 }
 
-/// Whether a number is the one after another.
 fn is_next(earlier: u64, later: u64) -> bool {
     earlier < later && later - earlier == 1
 }
 
-/// A row with the row that begins at a place, where they meet.
 fn join_next(packets: &VecDeque<HeldPacket>, place: usize, row: Row) -> Row {
     if place == packets.len() {
         return row;
@@ -43,7 +38,6 @@ fn join_next(packets: &VecDeque<HeldPacket>, place: usize, row: Row) -> Row {
     }
 }
 
-/// A row with the row that ends before a place, where they meet.
 fn join_previous(packets: &VecDeque<HeldPacket>, place: usize, row: Row) -> Row {
     if place == 0 {
         return row;
@@ -60,19 +54,16 @@ fn join_previous(packets: &VecDeque<HeldPacket>, place: usize, row: Row) -> Row 
     }
 }
 
-/// The row that a packet is in once it stands at its place: `row` is the packet alone.
 pub(super) fn row_with(packets: &VecDeque<HeldPacket>, place: usize, row: Row) -> Row {
     let row = join_next(packets, place, row);
     join_previous(packets, place, row)
 }
 
-/// What a packet says of its row.
 fn mark(entry: &mut HeldPacket, other_end: u64, row_head: Option<u64>) {
     entry.packet.other_end = other_end;
     entry.packet.row_head = row_head;
 }
 
-/// What the packet at a place says of its row.
 fn set_mark(
     packets: &mut VecDeque<HeldPacket>,
     place: usize,
@@ -82,14 +73,11 @@ fn set_mark(
     mark(&mut packets[place], other_end, row_head);
 }
 
-/// The packets at two places are the ends of a row from now on.
 fn set_ends(packets: &mut VecDeque<HeldPacket>, from: usize, to: usize, row: Row) {
     set_mark(packets, from, row.last, None);
     set_mark(packets, to, row.first, row.head);
 }
 
-/// Puts a packet at its place; `row` is the row that it is in then. The room was found before. Nothing moves where it is
-/// the last.
 pub(super) fn place_at(
     packets: &mut VecDeque<HeldPacket>,
     place: usize,
@@ -103,14 +91,12 @@ pub(super) fn place_at(
     set_ends(packets, from, to, row);
 }
 
-/// The lowest row.
 fn lowest_row(packets: &VecDeque<HeldPacket>) -> Row {
     let entry = &packets[0];
     let after = (entry.packet.other_end - entry.number) as usize;
     row_to(packets, entry.number, after)
 }
 
-/// The packets of what is left of the lowest row tell it from now on.
 fn set_lowest_ends(packets: &mut VecDeque<HeldPacket>, rest: &Option<Row>) {
     match rest {
         Some(row) => set_ends(packets, 0, (row.last - row.first) as usize, *row),
@@ -118,7 +104,6 @@ fn set_lowest_ends(packets: &mut VecDeque<HeldPacket>, rest: &Option<Row>) {
     }
 }
 
-/// The lowest packet leaves. Says its number, and which frame its row had before and which it has after.
 pub(super) fn evict(
     packets: &mut VecDeque<HeldPacket>,
     spare: &mut Vec<Box<Packet>>,

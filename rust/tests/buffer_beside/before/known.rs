@@ -1,4 +1,4 @@
-//! What is known of a packet that is held.
+//! A frozen part of the buffer in its earlier form, for ../main.rs.
 
 use super::unit::RtpMeta;
 use codec_payload::memory::AllocError;
@@ -7,7 +7,6 @@ use codec_payload::wire::{
     VideoLayersAllocation, VideoTiming,
 };
 
-/// What is known of a packet. What few packets have stands apart.
 #[derive(Debug)]
 pub(super) struct Known {
     received: Ticks,
@@ -25,7 +24,6 @@ pub(super) struct Known {
     voice_activity: Option<bool>,
 }
 
-/// What few packets have. A layers allocation, which takes more than all the rest, stands apart again.
 #[derive(Debug)]
 struct Rare {
     abs_capture_time: Option<AbsCaptureTime>,
@@ -35,7 +33,6 @@ struct Rare {
 }
 
 impl Rare {
-    /// What few packets have, where this one has any of it.
     fn of(meta: &RtpMeta) -> Result<Option<Box<Rare>>, AllocError> {
         let values = &meta.header.ext_vals;
         if values.abs_capture_time.is_none()
@@ -58,7 +55,6 @@ impl Rare {
         Ok(Some(Box::new(rare)))
     }
 
-    /// The layers allocation, if there is one.
     fn layers(&self) -> Option<VideoLayersAllocation> {
         match &self.layers_allocation {
             Some(layers) => Some(**layers),
@@ -68,7 +64,6 @@ impl Rare {
 }
 
 impl Known {
-    /// What is known of a packet, as it is kept. Takes memory for what few packets have alone.
     pub(super) fn of(meta: RtpMeta) -> Result<Self, AllocError> {
         let rare = Rare::of(&meta)?;
         let header = &meta.header;
@@ -90,27 +85,22 @@ impl Known {
         })
     }
 
-    /// The sequence number.
     pub(super) fn number(&self) -> u64 {
         self.seq_no.0
     }
 
-    /// The RTP time.
     pub(super) fn time(&self) -> MediaTime {
         self.time
     }
 
-    /// Gives back the memory of what few packets have.
     pub(super) fn drop_rare(&mut self) {
         self.rare = None;
     }
 
-    /// When the packet was received.
     pub(super) fn received(&self) -> Ticks {
         self.received
     }
 
-    /// What is known of the packet, as users are told it.
     pub(super) fn meta(&self) -> RtpMeta {
         RtpMeta {
             received: self.received,
@@ -131,7 +121,6 @@ impl Known {
         }
     }
 
-    /// The values of its header extensions.
     fn values(&self) -> ExtensionValues {
         let plain = ExtensionValues {
             abs_capture_time: None,

@@ -1,4 +1,4 @@
-//! The packets that a buffer holds, in rising order of sequence number.
+//! A frozen part of the buffer in its earlier form, for ../main.rs.
 
 use super::frames::CompleteFrame;
 use super::held_packet::{HeldPacket, Packet, Tells};
@@ -11,10 +11,8 @@ use codec_payload::memory::{AllocError, TryQueue, TryVec};
 use codec_payload::wire::Ticks;
 use std::collections::VecDeque;
 
-/// How many memory blocks of packets that have left are kept for packets to come.
 const KEPT_BLOCKS: usize = 16;
 
-/// A packet in a memory block, one that is kept for it if there is one.
 fn in_block(spare: &mut Vec<Box<Packet>>, packet: Packet) -> Result<Box<Packet>, AllocError> {
     if let Some(mut block) = spare.pop() {
         *block = packet;
@@ -26,7 +24,6 @@ fn in_block(spare: &mut Vec<Box<Packet>>, packet: Packet) -> Result<Box<Packet>,
     Ok(Box::new(packet))
 }
 
-/// Keeps the memory block of a packet that has left, without what the packet had elsewhere. Takes no memory.
 fn keep(spare: &mut Vec<Box<Packet>>, block: Box<Packet>) {
     if spare.len() < KEPT_BLOCKS && spare.len() < spare.capacity() {
         let mut block = block;
@@ -36,7 +33,6 @@ fn keep(spare: &mut Vec<Box<Packet>>, block: Box<Packet>) {
     }
 }
 
-/// A packet as it is held. Takes memory for what is known of it.
 pub(super) fn hold(spare: &mut Vec<Box<Packet>>, packet: Packet) -> Result<HeldPacket, AllocError> {
     let number = packet.known.number();
     Ok(HeldPacket {
@@ -45,12 +41,10 @@ pub(super) fn hold(spare: &mut Vec<Box<Packet>>, packet: Packet) -> Result<HeldP
     })
 }
 
-/// Whether the number is at or below the cutoff.
 pub(super) fn is_too_late(cutoff: Option<u64>, number: u64) -> bool {
     cutoff.is_some_and(|c| number <= c)
 }
 
-/// Whether the number is the one after the cutoff, or there is no cutoff.
 pub(super) fn starts_next(cutoff: Option<u64>, first: u64) -> bool {
     match cutoff {
         Some(c) => c < first && first - c == 1,
@@ -58,17 +52,14 @@ pub(super) fn starts_next(cutoff: Option<u64>, first: u64) -> bool {
     }
 }
 
-/// Where the first packet of at least that number stands or would stand.
 pub(super) fn find_place(packets: &VecDeque<HeldPacket>, number: u64) -> usize {
     place_of_number(packets, number)
 }
 
-/// Whether a packet of that number stands at its place.
 pub(super) fn is_at(packets: &VecDeque<HeldPacket>, place: usize, number: u64) -> bool {
     place < packets.len() && packets[place].number == number
 }
 
-/// When the packet of that number was received, if it is held.
 pub(super) fn received_at(packets: &VecDeque<HeldPacket>, number: u64) -> Option<Ticks> {
     let place = find_place(packets, number);
     if place >= packets.len() {
@@ -82,7 +73,6 @@ pub(super) fn received_at(packets: &VecDeque<HeldPacket>, number: u64) -> Option
     }
 }
 
-/// Takes the lowest packet out, and says its number.
 pub(super) fn take_lowest(packets: &mut VecDeque<HeldPacket>, spare: &mut Vec<Box<Packet>>) -> u64 {
     let lowest = packets.pop_front().unwrap();
     let number = lowest.number;
@@ -90,19 +80,16 @@ pub(super) fn take_lowest(packets: &mut VecDeque<HeldPacket>, spare: &mut Vec<Bo
     number
 }
 
-/// Where the packets of a frame begin and end. Their numbers follow one another, so how many there are need not be searched.
 pub(super) fn frame_range(packets: &VecDeque<HeldPacket>, frame: CompleteFrame) -> (usize, usize) {
     let from = find_place(packets, frame.first);
     (from, from + (frame.last - frame.first) as usize + 1)
 }
 
-/// Appends what an item tells.
 fn push_told<T, I: Tells<T>>(all: &mut Vec<T>, item: &I) -> Result<(), AllocError> {
     all.try_push(item.tell())?;
     Ok(())
 }
 
-/// Writes what is known of the packets from one place to another, in the stead of what is there.
 pub(super) fn copy_metas(
     metas: &mut Vec<RtpMeta>,
     packets: &VecDeque<HeldPacket>,
@@ -117,7 +104,6 @@ pub(super) fn copy_metas(
     Ok(())
 }
 
-/// How many bytes these packets carry, at most the greatest `usize`.
 fn payload_size(packets: &VecDeque<HeldPacket>, from: usize, to: usize) -> usize {
     let mut size = 0usize;
     for packet in packets.range(from..to) {
@@ -126,7 +112,6 @@ fn payload_size(packets: &VecDeque<HeldPacket>, from: usize, to: usize) -> usize
     size
 }
 
-/// Begins the bytes of a unit anew, with room for what these packets carry, as the depacketizer expects it.
 pub(super) fn make_room<B: Depacketizer>(
     bytes: &mut Vec<u8>,
     depacketizer: &CodecDepacketizer<B>,
@@ -141,7 +126,6 @@ pub(super) fn make_room<B: Depacketizer>(
     }
 }
 
-/// The payloads of these packets to the depacketizer, in order, up to the first that it refuses.
 pub(super) fn unpack<B: Depacketizer>(
     depacketizer: &mut CodecDepacketizer<B>,
     packets: &VecDeque<HeldPacket>,
@@ -159,18 +143,14 @@ pub(super) fn unpack<B: Depacketizer>(
     Ok(())
 }
 
-/// The least entries for which a queue keeps memory.
 const KEPT_ENTRIES: usize = 64;
 
-/// Gives back memory of a queue that is at most a quarter full, but for 64 entries, and keeps twice what it needs. So a call
-/// that moves entries comes after at least as many that left. Where no smaller memory is found, the queue keeps its own.
 pub(super) fn give_back<T>(queue: &mut VecDeque<T>) {
     if queue.capacity() > KEPT_ENTRIES && queue.len() <= queue.capacity() / 4 {
         queue.shrink_if_possible((2 * queue.len()).max(KEPT_ENTRIES));
     }
 }
 
-/// The first `count` packets leave.
 pub(super) fn drop_front(
     packets: &mut VecDeque<HeldPacket>,
     spare: &mut Vec<Box<Packet>>,

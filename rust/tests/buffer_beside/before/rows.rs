@@ -1,23 +1,19 @@
-//! The rows of held packets: where packets stand together, and from where a frame can begin.
+//! A frozen part of the buffer in its earlier form, for ../main.rs.
 
 use super::frames::{CompleteFrame, frame_of};
 use super::held_packet::HeldPacket;
 use codec_payload::wire::MediaTime;
 use std::collections::VecDeque;
 
-/// Packets of consecutive numbers and one time, with no tail but the last: as many of them as stand together.
 #[derive(Clone, Copy, Debug)]
 pub(super) struct Row {
     pub(super) first: u64,
     pub(super) last: u64,
     pub(super) time: MediaTime,
-    /// The lowest number of a packet in it that begins a unit.
     pub(super) head: Option<u64>,
-    /// Whether the last packet ends a unit.
     pub(super) tail: bool,
 }
 
-/// One packet as a row.
 pub(super) fn row_of_packet(packet: &HeldPacket) -> Row {
     let number = packet.number;
     Row {
@@ -33,7 +29,6 @@ pub(super) fn row_of_packet(packet: &HeldPacket) -> Row {
     }
 }
 
-/// Whether the later row goes on where the earlier ends: the next number, the same time, and no tail before.
 pub(super) fn meets(earlier: &Row, later: &Row) -> bool {
     earlier.last < later.first
         && later.first - earlier.last == 1
@@ -41,7 +36,6 @@ pub(super) fn meets(earlier: &Row, later: &Row) -> bool {
         && !earlier.tail
 }
 
-/// Two rows that meet, as one.
 pub(super) fn join(earlier: Row, later: Row) -> Row {
     Row {
         first: earlier.first,
@@ -52,7 +46,6 @@ pub(super) fn join(earlier: Row, later: Row) -> Row {
     }
 }
 
-/// The lowest number, up to `last`, of a packet that begins a unit.
 fn find_head(packets: &VecDeque<HeldPacket>, last: u64) -> Option<u64> {
     for packet in packets {
         if packet.number > last {
@@ -65,8 +58,6 @@ fn find_head(packets: &VecDeque<HeldPacket>, last: u64) -> Option<u64> {
     None
 }
 
-/// What is left of a row once its first packet has left; `packets` are those that are left. Looks for the next packet
-/// that begins a unit only where the one that has left did.
 pub(super) fn shorten(row: &Row, packets: &VecDeque<HeldPacket>) -> Option<Row> {
     if row.first == row.last {
         return None;
@@ -85,7 +76,6 @@ pub(super) fn shorten(row: &Row, packets: &VecDeque<HeldPacket>) -> Option<Row> 
     })
 }
 
-/// The frame of what is left of a row.
 pub(super) fn frame_of_left(rest: &Option<Row>) -> Option<CompleteFrame> {
     match rest {
         Some(row) => frame_of(row),
