@@ -1,5 +1,6 @@
 -- The missing packets of a stream, and since when each is missing.
 use Rattle.std.specs.Prelude.{ℕ, ◌+◌, ◌-◌, ◌%◌, ◌==◌, nat_le, if◌then◌else◌, Bool, false, List, [], ◌∷◌, map, Option, Some, None, replicate, slice_index_or, slice_set}
+use Rattle.std.specs.List.{position}
 use Rattle.codec_payload_adaptive_wait.specs.declared.gaps.Gap.{Gap}
 
 -- the latest 64 missing packets, and the index of the next one
@@ -37,11 +38,6 @@ abbrev pub is_at : ℕ → Option Gap → Bool
 is_at number None = false
 is_at number (Some gap) = gap.number % 65536 == number
 
--- the first place of a packet with these 16 bits, counted from an index
-abbrev pub place_of : ℕ → ℕ → List (Option Gap) → Option ℕ
-place_of number index [] = None
-place_of number index (place ∷ places) = if is_at number place then Some index else place_of number (index + 1) places
-
 abbrev pub since_at : Option Gap → Option ℕ
 since_at None = None
 since_at (Some gap) = Some gap.since
@@ -52,7 +48,7 @@ since_from places (Some index) = since_at (slice_index_or places index None)
 
 -- since when the first followed packet with these 16 bits is missing
 abbrev pub since_of : ℕ → List (Option Gap) → Option ℕ
-since_of number places = since_from places (place_of number 0 places)
+since_of number places = since_from places (position (is_at number) places)
 
 abbrev pub emptied : List (Option Gap) → Option ℕ → List (Option Gap)
 emptied places None = places
@@ -60,4 +56,4 @@ emptied places (Some index) = slice_set places index None
 
 -- the places without that packet
 abbrev pub without_place : ℕ → List (Option Gap) → List (Option Gap)
-without_place number places = emptied places (place_of number 0 places)
+without_place number places = emptied places (position (is_at number) places)

@@ -1,7 +1,8 @@
 //! The missing packets of a stream, and since when each is missing.
 
 ghost use Rattle.std.specs.Prelude.{◌≡◌, ◌<◌, IfSome, length};
-ghost use Rattle.codec_payload_adaptive_wait.specs.Gaps.{gap_with, is_at, is_lost, is_lost_at, lost_in, no_gaps, place_of, since_at, since_of, unless_lost, without_lost, without_place};
+ghost use Rattle.std.specs.List.{position};
+ghost use Rattle.codec_payload_adaptive_wait.specs.Gaps.{gap_with, is_at, is_lost, is_lost_at, lost_in, no_gaps, since_at, since_of, unless_lost, without_lost, without_place};
 
 use std::marker::Model;
 
@@ -151,15 +152,8 @@ fn is_at(place: &Option<Gap>, number: u16) -> bool
 
 /// Returns the first place of a packet with these 16 bits.
 fn place_of(places: &[Option<Gap>], number: u16) -> Option<usize>
-    ensures value { result ≡ place_of number 0 places.now }
+    ensures value { result ≡ position (is_at number) places.now }
     ensures within { IfSome result (λ index. index < length places.now) }
 {
-    let mut index = 0;
-    for place in places {
-        if is_at(place, number) {
-            return Some(index);
-        }
-        index += 1;
-    }
-    None
+    places.iter().position(|place| is_at(place, number))
 }

@@ -111,12 +111,5 @@ fn is_at(place: &Option<Gap>, number: u16) -> bool {
 
 /// Returns the first place of a packet with these 16 bits.
 fn place_of(places: &[Option<Gap>], number: u16) -> Option<usize> {
-    let mut index = 0;
-    for place in places {
-        if is_at(place, number) {
-            return Some(index);
-        }
-        index += 1;
-    }
-    None
+    places.iter().position(|place| is_at(place, number))
 }
