@@ -3,6 +3,8 @@ use Rattle.std.specs.Prelude.{◌≡◌, ℕ, ◌==◌, if◌then◌else◌, Boo
 use Rattle.codec_payload_base.specs.declared.wire.Codec.{Codec}
 use Rattle.codec_payload_base.specs.declared.wire.Codec.TheVariants as codecs
 use Rattle.codec_payload_jitter.specs.declared.waiting.WaitLimits.{WaitLimits}
+use Rattle.codec_payload_jitter.specs.Waiting.{waits_for}
+use Rattle.codec_payload_keyframes.specs.declared.unit_gate.FromKeyframe.TheVariants as gates
 use Rattle.codec_payload_stream.specs.Kinds.{is_among}
 use Rattle.codec_payload_stream.specs.declared.receiver.RedSettings.{RedSettings}
 use Rattle.codec_payload_stream.specs.declared.receiver.Retransmission.{Retransmission}
@@ -106,3 +108,18 @@ pub record HasSettings (s : SessionSettings) (ssrc : ℕ) (f : Format) (r : Sett
   pub limit : r.limit ≡ s.limit
   pub forward : r.forward ≡ forward_for (is_video f.spec.codec)
   pub backward : r.backward ≡ backward_for (is_video f.spec.codec)
+
+-- the settings of a new session for live streams: no formats, and the stated numbers of streams, packets and milliseconds
+pub record IsLive (s : SessionSettings) : Type 0 where
+  pub formats : s.formats.items ≡ []
+  pub no_media : s.no_media.items ≡ []
+  pub pairs : s.pairs.items ≡ []
+  pub audio : s.audio ≡ waits_for 1 100
+  pub video : s.video ≡ waits_for 2 200
+  pub from_keyframe : s.from_keyframe ≡ gates.Mark
+  pub limit : s.limit ≡ 4096
+  pub max_streams : s.max_streams ≡ 64
+  pub probation : s.probation ≡ 2
+  pub idle_timeout : s.idle_timeout ≡ 30000
+  pub bye_wait : s.bye_wait ≡ 200
+  pub tick_rate : s.tick_rate ≡ 1000

@@ -1,7 +1,7 @@
 //! The payload types of a port, and the settings of its streams.
 
 ghost use Rattle.std.specs.Prelude.{◌≡◌, IfOk};
-ghost use Rattle.codec_payload_session.specs.Formats.{HasSettings, has_type, is_video, resends, retransmission_for, retransmission_of, role_by, role_of, stream_of};
+ghost use Rattle.codec_payload_session.specs.Formats.{HasSettings, IsLive, has_type, is_video, resends, retransmission_for, retransmission_of, role_by, role_of, stream_of};
 ghost use Rattle.codec_payload_stream.specs.Kinds.{is_among};
 
 use codec_payload_base::wire::{Codec, CodecSpec, Frequency};
@@ -92,7 +92,9 @@ impl SessionSettings {
     /// Returns settings without formats, for live streams and a clock in milliseconds. Frames of audio wait for at most 100 ms,
     /// and frames of video for at most 200 ms. A session has at most 64 streams of 4,096 packets. A stream is announced with
     /// its second datagram, ends after 30 s without a datagram, and takes packets for 200 ms after its BYE. Does not allocate.
-    pub fn live(alloc: Global) -> SessionSettings {
+    pub fn live(alloc: Global) -> SessionSettings
+        ensures { IsLive result }
+    {
         SessionSettings {
             formats: Vec::new(alloc),
             no_media: Vec::new(alloc),
