@@ -34,6 +34,7 @@ import tempfile
 import textwrap
 
 import datagram_vectors
+import mutants
 import pictures as drawn
 import program_vectors
 
@@ -65,6 +66,7 @@ RUN_ELSEWHERE = {
     "scripts/allocations.sh": ("scripts/test.sh", "runs scripts/allocations.sh"),
     "scripts/instructions.sh": ("scripts/test.sh", "runs scripts/instructions.sh"),
     "scripts/mutants.py": ("scripts/test.sh", "runs scripts/mutants.py --stale"),
+    "scripts/mutants.py --missing": ("scripts/documents.py", "mutant_results"),
     "scripts/bench.sh": ("scripts/allocations.sh", "tools/bench/bench.c"),
     "scripts/examples.py": ("scripts/test.sh", "runs scripts/examples.py"),
     "cc -Iinclude examples/": ("scripts/examples.py", "examples/{name}.c"),
@@ -285,6 +287,16 @@ def lemmas():
                 yield f"docs/VERIFICATION.md: RunLogs.antt does not prove {field} by {lemma}"
 
 
+def mutant_results():
+    """mutants/RESULTS.txt has one line for a crate, at most, with counts that add up. Old lines are no fault."""
+    lines = [it.split() for it in read("mutants/RESULTS.txt").splitlines() if not it.startswith("#")]
+    for line in lines:
+        if line[0] not in mutants.crates() or [it[0] for it in lines].count(line[0]) != 1:
+            yield f"mutants/RESULTS.txt: {line[0]} is not one crate with one line"
+        elif int(line[1]) != sum(int(it) for it in line[2:5]):
+            yield f"mutants/RESULTS.txt: the counts of {line[0]} do not add up"
+
+
 def counted_lines():
     """docs/VERIFICATION.md has the numbers that scripts/count_lines.sh prints, to a fifth."""
     page = read("docs/VERIFICATION.md")
@@ -490,7 +502,7 @@ def main(words):
     pages = files(".md")
     wrong = [
         *links(pages), *named_pages(), *lines(pages), *crate_table(), *versions(), *toolchain(), *additions(), *figures(),
-        *pictures(pages), *glossary(), *lemmas(), *counted_lines(), *blocks(pages, quick),
+        *pictures(pages), *glossary(), *lemmas(), *counted_lines(), *mutant_results(), *blocks(pages, quick),
     ]
     if not quick:
         wrong += [*begun_crate(), *commands(pages)]

@@ -6,6 +6,8 @@
   scripts/mutants.py CRATE FILE.edit..   edits from anywhere, applied to that crate
   scripts/mutants.py --high-impact [CRATE]   the edits of mutants/high_impact.txt, the most harmful ones
   scripts/mutants.py --stale             the edits of all crates that cannot be applied, without the prover
+  scripts/mutants.py --record [CRATE..]  all edits of these crates or of all, into mutants/RESULTS.txt; without a change nothing runs
+  scripts/mutants.py --missing           the crates whose line in mutants/RESULTS.txt is missing or old, without the prover
 
 An edit is a file with a line 'file: src/x.rt' and pairs of lines 'old: TEXT' and 'new: TEXT'; each old text occurs once in
 that file. It is applied to a scratch copy of the crate, over the results of `rt check`. The function with its first old text is
@@ -15,9 +17,16 @@ checked, with the functions that it calls. One line is printed for each edit, an
   PROVED      the mutant meets the contract: the contract is too weak
   BAD EDIT    it cannot be applied, or the edited text does not compile, so no contract was tried
 
-The status is 0 if all were refused. Needs rt, and takes 5 to 20 seconds per edit, after the check of each crate.
+A line of mutants/RESULTS.txt is old if its checksum differs. The checksum has the edits of the crate, its src, specs and proofs,
+src and specs of all crates below it, without comments and layout, and the logic in toolchain.txt. Proofs below are not in it: they
+make no false clause true.
+--record goes on where an earlier run ended: out/mutants.txt of a crate keeps each answer, by a checksum of the sources and edit.
+
+The status is 0 if all were refused, with --missing if no line is. Needs rt, and takes 5 to 20 seconds per edit on a free machine,
+after the check of each crate.
 """
 import glob
+import hashlib
 import os
 import re
 import shutil
@@ -25,20 +34,33 @@ import subprocess
 import sys
 import tempfile
 
+import assembly
+
 ROOT = os.path.dirname(os.path.dirname(os.path.realpath(__file__)))
 SOURCES = ("src", "specs", "proofs")
 PROVED = ("out",)
+RESULTS = f"{ROOT}/mutants/RESULTS.txt"
+HEAD = "# Written by scripts/mutants.py --record: crate, mutants, refused, PROVED, not tried, checksum, and the names of those not refused.\n"
+COMMENTS = {".rt": (assembly.COMMENT, r"\1"), ".antt": (re.compile(r"(?m)(?:^|(?<=\s))--(?:[ \t].*)?$"), "")}
 NAMES_ONLY = re.compile(r"(\./)?proofs/.*(has no field|is not in scope|has no `|was not admitted)")
+
+
+def read(path):
+    with open(path, encoding="utf-8") as it:
+        return it.read()
+
+
+def name_of(edit):
+    return os.path.basename(edit).removesuffix(".edit")
 
 
 def crates():
     """Each crate of the repository with the crates that it names in crates.txt."""
     found = {}
-    with open(f"{ROOT}/crates.txt", encoding="utf-8") as lines:
-        for line in lines:
-            if line.strip() and not line.startswith("#"):
-                name, _, uses = line.partition(":")
-                found[name.split()[0]] = uses.split()
+    for line in read(f"{ROOT}/crates.txt").splitlines():
+        if line.strip() and not line.startswith("#"):
+            name, _, uses = line.partition(":")
+            found[name.split()[0]] = uses.split()
     return {name: [it for it in uses if it in found] for name, uses in found.items()}
 
 
@@ -48,21 +70,20 @@ def with_those_below(crate):
 
 def edits_of(crate):
     found = glob.glob(f"{ROOT}/crates/{crate}/must-fail/*.edit") + glob.glob(f"{ROOT}/mutants/{crate}/*.edit")
-    return sorted(found, key=os.path.basename)
+    return sorted(found, key=name_of)
 
 
 def read_edit(path):
     """The edit's steps: file, old text, new text."""
     steps, file, old = [], None, None
-    with open(path, encoding="utf-8") as lines:
-        for line in lines.read().split("\n"):
-            if line.startswith("file: "):
-                file = line[6:].strip()
-            elif line.startswith("old: "):
-                old = line[5:]
-            elif line.startswith("new:") and file and old:
-                steps.append((file, old, line[4:].removeprefix(" ")))
-                old = None
+    for line in read(path).split("\n"):
+        if line.startswith("file: "):
+            file = line[6:].strip()
+        elif line.startswith("old: "):
+            old = line[5:]
+        elif line.startswith("new:") and file and old:
+            steps.append((file, old, line[4:].removeprefix(" ")))
+            old = None
     return steps
 
 
@@ -95,8 +116,7 @@ def apply(steps, folder):
     for file, old, new in steps:
         if file not in texts:
             try:
-                with open(f"{folder}/{file}", encoding="utf-8") as it:
-                    texts[file] = it.read()
+                texts[file] = read(f"{folder}/{file}")
             except OSError:
                 return None, f"there is no file {file}"
         found = texts[file].count(old)
@@ -141,13 +161,12 @@ def copy_crate(crate, room, parts):
             shutil.copytree(f"{ROOT}/crates/{crate}/{part}", f"{room}/crates/{crate}/{part}", symlinks=True)
 
 
-def try_crate(crate, edits):
-    """Tries the edits on one scratch copy of the crate, and counts the answers."""
+def tried(crate, edits):
+    """Tries the edits on one scratch copy of the crate: each edit with its answer, one at a time."""
     folder = f"{ROOT}/crates/{crate}"
     status, said = check(folder, "")
     if status:
         sys.exit(f"{crate} is not proved:\n{said[-2000:]}")
-    counts = {}
     with tempfile.TemporaryDirectory(prefix="mutants-") as room:
         for name in ("crates.txt", "HANDLES"):
             shutil.copy(f"{ROOT}/{name}", room)
@@ -166,16 +185,118 @@ def try_crate(crate, edits):
                 word, why = judge(copy, function)
                 for file in texts:
                     shutil.copy2(f"{folder}/{file}", f"{copy}/{file}")
-            counts[word] = counts.get(word, 0) + 1
-            name = os.path.basename(edit).removesuffix(".edit")
-            print(f"{crate}/{name}: {word}{': ' + why[:160] if why else ''}", flush=True)
+            print(f"{crate}/{name_of(edit)}: {word}{': ' + why[:160] if why else ''}", flush=True)
+            yield edit, word
+
+
+def try_crate(crate, edits):
+    """Tries the edits, and counts the answers."""
+    counts = {}
+    for _, word in tried(crate, edits):
+        counts[word] = counts.get(word, 0) + 1
     return counts
+
+
+def bare(file, text):
+    """A source without comments and layout."""
+    comment, instead = COMMENTS[os.path.splitext(file)[1]]
+    return " ".join(comment.sub(instead, text).split())
+
+
+def checksum(*texts):
+    return hashlib.sha256("\0".join(texts).encode()).hexdigest()[:16]
+
+
+def sum_of_sources(crate):
+    """A checksum of what the answers about a crate depend on, except for its edits."""
+    texts = sorted(set(re.findall(r"logic \w+", read(f"{ROOT}/toolchain.txt"))))
+    for one in sorted(set(with_those_below(crate))):
+        for part in SOURCES if one == crate else SOURCES[:2]:
+            found = glob.glob(f"{ROOT}/crates/{one}/{part}/**/*", recursive=True)
+            for path in sorted(it for it in found if it.endswith((".rt", ".antt"))):
+                texts += [os.path.relpath(path, ROOT), bare(path, read(path))]
+    return checksum(*texts)
+
+
+def sum_of(crate):
+    """A checksum of all that the answers about a crate depend on."""
+    return checksum(sum_of_sources(crate), *(f"{name_of(it)}\n{read(it)}" for it in edits_of(crate)))
+
+
+def recorded():
+    """The lines of mutants/RESULTS.txt by crate, as lists of words."""
+    lines = read(RESULTS).splitlines() if os.path.exists(RESULTS) else []
+    return {line.split()[0]: line.split() for line in lines if line.strip() and not line.startswith("#")}
+
+
+def is_recorded(crate, lines):
+    """Whether the line of a crate is about today's sources and edits, and all edits were tried."""
+    line = lines.get(crate)
+    return line is not None and line[4] == "0" and line[5] == sum_of(crate)
+
+
+def row_of(crate, total, answers):
+    """The line of a crate from its checksum and the answers about its edits, by name."""
+    counts = [sum(it == word for it in answers.values()) for word in ("refused", "PROVED", "BAD EDIT")]
+    others = sorted(name for name, word in answers.items() if word != "refused")
+    return [crate, *map(str, [len(answers), *counts]), total, *others]
+
+
+def kept_answers(path):
+    """The answers of earlier runs, by checksum."""
+    return dict(line.split(" ", 1) for line in read(path).splitlines()) if os.path.exists(path) else {}
+
+
+def answers_of(crate):
+    """The answers about all edits of a crate, by name; those that an earlier run kept are not tried again."""
+    path = f"{ROOT}/crates/{crate}/out/mutants.txt"
+    sources, kept = sum_of_sources(crate), kept_answers(path)
+    sums = {edit: checksum(sources, read(edit)) for edit in edits_of(crate)}
+    answers = {name_of(edit): kept[it] for edit, it in sums.items() if it in kept}
+    rest = [edit for edit, it in sums.items() if it not in kept]
+    for edit, word in tried(crate, rest) if rest else ():
+        answers[name_of(edit)] = word
+        if word != "BAD EDIT":
+            with open(path, "a", encoding="utf-8") as it:
+                it.write(f"{sums[edit]} {word}\n")
+    return answers
+
+
+def write_line(crate, row):
+    """Puts the line of a crate in its place, in the order of crates.txt."""
+    lines = {**recorded(), crate: row}
+    with open(RESULTS, "w", encoding="utf-8") as it:
+        it.writelines([HEAD, *(f"{' '.join(lines[one])}\n" for one in crates() if one in lines)])
+
+
+def record(named):
+    """Tries the edits of these crates, or of all, the crates with few edits first, and writes their lines. The status."""
+    unknown = [it for it in named if it not in crates()]
+    if unknown:
+        sys.exit(f"crates.txt has no crate {' '.join(unknown)}")
+    chosen = sorted((it for it in named or crates() if edits_of(it)), key=lambda it: len(edits_of(it)))
+    for crate in chosen:
+        is_old = not is_recorded(crate, recorded())
+        if is_old:
+            write_line(crate, row_of(crate, sum_of(crate), answers_of(crate)))
+        print(f"{'recorded' if is_old else 'as recorded'}: {' '.join(recorded()[crate])}", flush=True)
+    lines = recorded()
+    return 0 if all(lines[it][1] == lines[it][2] for it in chosen) else 1
+
+
+def print_missing():
+    """Prints the crates whose line is missing or old, and counts them."""
+    lines = recorded()
+    missing = [it for it in crates() if edits_of(it) and not is_recorded(it, lines)]
+    for crate in missing:
+        print(f"{crate}: {len(edits_of(crate))} mutants, {'an old line' if crate in lines else 'no line'}")
+    print(f"{len(missing)} missing")
+    return 1 if missing else 0
 
 
 def telling(crate):
     """The names of the edits of a crate that would hurt most."""
-    with open(f"{ROOT}/mutants/high_impact.txt", encoding="utf-8") as lines:
-        named = [line.strip().split("/") for line in lines if not line.startswith("#")]
+    named = [line.strip().split("/") for line in read(f"{ROOT}/mutants/high_impact.txt").splitlines() if not line.startswith("#")]
     return [name for of, name in named if of == crate]
 
 
@@ -183,7 +304,7 @@ def print_stale():
     """Prints the edits that cannot be applied, and counts them."""
     count = 0
     for crate in crates():
-        missing = set(telling(crate)) - {os.path.basename(it).removesuffix(".edit") for it in edits_of(crate)}
+        missing = set(telling(crate)) - {name_of(it) for it in edits_of(crate)}
         for name in sorted(missing):
             count += 1
             print(f"mutants/high_impact.txt: {crate}/{name} does not exist")
@@ -199,6 +320,10 @@ def print_stale():
 def main(words):
     if words == ["--stale"]:
         return print_stale()
+    if words == ["--missing"]:
+        return print_missing()
+    if words[:1] == ["--record"]:
+        return record(words[1:])
     is_telling = words[:1] == ["--high-impact"]
     words = words[is_telling:]
     if words and words[0] not in crates():
@@ -208,9 +333,9 @@ def main(words):
     for crate in chosen:
         edits = edits_of(crate)
         if is_telling:
-            edits = [it for it in edits if os.path.basename(it).removesuffix(".edit") in telling(crate)]
+            edits = [it for it in edits if name_of(it) in telling(crate)]
         elif words[1:]:
-            by_name = {os.path.basename(it).removesuffix(".edit"): it for it in edits}
+            by_name = {name_of(it): it for it in edits}
             edits = [it if os.path.isfile(it) else by_name.get(it.removesuffix(".edit")) or sys.exit(f"no edit {it}") for it in words[1:]]
         for word, count in (try_crate(crate, edits) if edits else {}).items():
             counts[word] = counts.get(word, 0) + count
