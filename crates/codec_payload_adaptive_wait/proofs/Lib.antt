@@ -1,2 +1,1 @@
 mod AgeLemmas
-mod GapLemmas
