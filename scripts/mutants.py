@@ -139,8 +139,9 @@ def check(folder, function):
 def judge(folder, function):
     """The outcome of a check of the edited crate: one of the three words, and the first message."""
     status, said = check(folder, function)
-    if function and re.search(r"fits (nothing|no function|several)|has no function", said):
-        status, said = check(folder, "")
+    while function and re.search(r"fits (nothing|no function|several)|has no function", said):
+        function = function.partition("::")[2]  # an impl may stand in another module than its type; without a name, all is checked
+        status, said = check(folder, function)
     lines = said.rstrip("\n").split("\n")
     told = [it for it in lines if re.match(r"(note: )?\S+:\d+:\d+:", it) and (": error" in it or it.startswith("note: "))]
     counts = re.search(r"^only=(\d+) proved=(\d+)|^logic=(proved|not-proved)", said, re.M)

@@ -1,5 +1,5 @@
 -- A table of requests that rises, and its merge with the missing numbers.
-use Rattle.std.proofs.Common.{◌≡◌, ℕ, zero, suc, ◌+◌, ◌-◌, ◌<◌, ◌≤◌, ◌==◌, ◌&&◌, List, [], ◌∷◌, ◌++◌, map, take, drop, length, get_or, set, Bool, true, false, cond, Option, Some, None, refl, sym, ap, ◌∙◌, arith, nat_le, nat_lt, unwrap_or, add-one, append_assoc, length-append}
+use Rattle.std.proofs.Common.{◌≡◌, ℕ, zero, suc, ◌+◌, ◌-◌, ◌<◌, ◌≤◌, ◌==◌, ◌&&◌, List, [], ◌∷◌, ◌++◌, take, drop, length, get_or, Bool, true, false, cond, Option, Some, None, refl, sym, ap, ◌∙◌, arith, unwrap_or, add-one, append_assoc, length-append}
 use Rattle.std.proofs.lemmas.Bool.Decides.{nat_tests}
 use Rattle.codec_payload_requests.specs.declared.nack.NackSettings.{NackSettings}
 use Rattle.codec_payload_requests.specs.declared.nack.PendingRequest.{PendingRequest}
@@ -81,28 +81,6 @@ refreshed_rises settings now missing rs = ap are_rising (numbers_refreshed setti
 
 pub tried_rises : (tries retry now : ℕ) (rs : List PendingRequest) → are_rising (numbers_of rs) ≡ true → are_rising (numbers_of (tried_in tries retry now rs)) ≡ true
 tried_rises tries retry now rs rising = ap are_rising (numbers_tried tries retry now rs) ∙ rising
-
--- ---- a table that is changed in place
-
-pub get_mapped : (f : PendingRequest → PendingRequest) (xs : List PendingRequest) (i : ℕ) (d : PendingRequest) → i < length xs
-    → get_or (map f (take i xs) ++ drop i xs) i d ≡ get_or xs i d
-get_mapped f [] i d within = absurd (omega (arith, within))
-get_mapped f (x ∷ xs) zero d within = refl
-get_mapped f (x ∷ xs) (suc i) d within = get_mapped f xs i d (omega (arith, within))
-
-pub set_mapped : (f : PendingRequest → PendingRequest) (xs : List PendingRequest) (i : ℕ) (d : PendingRequest) → i < length xs
-    → set (map f (take i xs) ++ drop i xs) i (f (get_or xs i d)) ≡ map f (take (i + 1) xs) ++ drop (i + 1) xs
-set_mapped f [] i d within = absurd (omega (arith, within))
-set_mapped f (x ∷ xs) zero d within = refl
-set_mapped f (x ∷ xs) (suc i) d within = rw add-one (step (rw add-one at (set_mapped f xs i d (omega (arith, within)))))
-  where
-    step : set (map f (take i xs) ++ drop i xs) i (f (get_or xs i d)) ≡ map f (take (suc i) xs) ++ drop (suc i) xs
-        → f x ∷ set (map f (take i xs) ++ drop i xs) i (f (get_or xs i d)) ≡ f x ∷ (map f (take (suc i) xs) ++ drop (suc i) xs)
-    step e = cc
-
-pub preserved : (f : PendingRequest → PendingRequest) (xs ys : List PendingRequest) (i : ℕ) (d r : PendingRequest) → i < length xs
-    → ys ≡ map f (take i xs) ++ drop i xs → r ≡ f (get_or ys i d) → set ys i r ≡ map f (take (i + 1) xs) ++ drop (i + 1) xs
-preserved f xs ys i d r within is made = rw (made, is, get_mapped f xs i d within) (set_mapped f xs i d within)
 
 -- ---- the missing numbers, one after another
 
