@@ -18,7 +18,7 @@ use codec_payload_base::error::PacketError;
 use codec_payload_base::wire::{MediaTime, Pt, Ticks, ToPayload};
 use codec_payload_buffer::buffer::{DepacketizingBuffer, RtpMeta};
 use codec_payload_codec::codec::{Depacketizer, Packetizer};
-use codec_payload_red::red::{Recovered, RedReceiver, RedSender};
+use codec_payload_red::red::{Recovered, RedReceiver};
 use codec_payload_send::memory_sink::MemorySink;
 use codec_payload_send::payloader::Payloader;
 use codec_payload_send::red_sink::RedSink;
@@ -210,31 +210,4 @@ pub fn run_in_red<P: Packetizer, D: Depacketizer>(
         do_red_step(payloader, buffer, sink, red, &turn, &mut run)?;
     }
     Ok(run)
-}
-
-/// Does the work of [`run_in_red`], with the three parts of a [`RedRun`] as arguments.
-pub(crate) fn run_with_sender<P: Packetizer, D: Depacketizer>(
-    alloc: Global,
-    payloader: &mut Payloader<P>,
-    buffer: &mut DepacketizingBuffer<D>,
-    sink: &mut MemorySink,
-    sender: &mut RedSender,
-    budget: usize,
-    receiver: &RedReceiver,
-    samples: &[ToPayload],
-    steps: &[Step],
-) -> Result<Run, PacketError>
-    ensures promises { IfOk result (λ run. (sent : List Packet) × KeepsRedPromises (ran_in_red (record { budget = budget; receiver = receiver.now }) samples.now steps.now
-        (red_state payloader.old buffer.old sink.old sink.old.packets sender.old) run (red_state payloader.new buffer.new sink.new sent sender.new))) }
-    ensures limit { buffer.new.limit ≡ buffer.old.limit }
-    ensures fault { IfErr result (λ fault. fault ≡ OutOfMemory) }
-    ensures stops { OnErr result ((sent : List Packet) × StopsInRed (record { budget = budget; receiver = receiver.now }) (map sample_of samples.now) 0 steps.now
-        (red_state payloader.old buffer.old sink.old sink.old.packets sender.old) (red_state payloader.new buffer.new sink.new sent sender.new)) }
-{
-    let mut red = RedRun {
-        sender,
-        budget,
-        receiver,
-    };
-    run_in_red(alloc, payloader, buffer, sink, &mut red, samples, steps)
 }

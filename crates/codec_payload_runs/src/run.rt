@@ -16,7 +16,7 @@ ghost use Rattle.codec_payload_runs.specs.RunStream.{RunsStream};
 ghost use Rattle.codec_payload_runs.specs.Schedule.{run_state, Stops, Answer};
 
 use crate::plain::run_plain;
-use crate::red::run_with_sender;
+use crate::red::run_in_red;
 use codec_payload_base::error::PacketError;
 use codec_payload_base::wire::{CodecSpec, ToPayload};
 use codec_payload_buffer::buffer::{Depacketized, DepacketizingBuffer, RtpMeta};
@@ -126,12 +126,16 @@ pub fn run_schedule<P: Packetizer, D: Depacketizer>(
 {
     match red {
         None => run_plain(alloc, payloader, buffer, sink, samples, steps),
-        Some(red) => {
-            let budget = red.budget;
-            let receiver = red.receiver;
-            run_with_sender(
-                alloc, payloader, buffer, sink, red.sender, budget, receiver, samples, steps,
-            )
+        // The prover cannot lend a struct that a parameter holds, so a new `RedRun` has its parts.
+        Some(lent) => {
+            let budget = lent.budget;
+            let receiver = lent.receiver;
+            let mut red = RedRun {
+                sender: lent.sender,
+                budget,
+                receiver,
+            };
+            run_in_red(alloc, payloader, buffer, sink, &mut red, samples, steps)
         }
     }
 }

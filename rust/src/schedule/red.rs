@@ -9,7 +9,7 @@ use crate::memory::TryVec;
 use crate::payload::memory_sink::MemorySink;
 use crate::payload::payloader::Payloader;
 use crate::payload::red_sink::RedSink;
-use crate::red::{Recovered, RedReceiver, RedSender};
+use crate::red::{Recovered, RedReceiver};
 use crate::schedule::plain::{Pushing, Sending, Turn};
 use crate::schedule::run::{RedRun, Run, Sent, Step, pop_step, push_copy, refusal};
 use crate::wire::{MediaTime, Pt, Ticks, ToPayload};
@@ -144,23 +144,4 @@ pub fn run_in_red<P: Packetizer, D: Depacketizer>(
         do_red_step(payloader, buffer, sink, red, &turn, &mut run)?;
     }
     Ok(run)
-}
-
-/// Does the work of [`run_in_red`], with the three parts of a [`RedRun`] as arguments.
-pub(crate) fn run_with_sender<P: Packetizer, D: Depacketizer>(
-    payloader: &mut Payloader<P>,
-    buffer: &mut DepacketizingBuffer<D>,
-    sink: &mut MemorySink,
-    sender: &mut RedSender,
-    budget: usize,
-    receiver: &RedReceiver,
-    samples: &[ToPayload],
-    steps: &[Step],
-) -> Result<Run, PacketError> {
-    let mut red = RedRun {
-        sender,
-        budget,
-        receiver,
-    };
-    run_in_red(payloader, buffer, sink, &mut red, samples, steps)
 }

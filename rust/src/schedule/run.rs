@@ -10,7 +10,7 @@ use crate::payload::memory_sink::MemorySink;
 use crate::payload::payloader::Payloader;
 use crate::red::{RedReceiver, RedSender};
 use crate::schedule::plain::run_plain;
-use crate::schedule::red::run_with_sender;
+use crate::schedule::red::run_in_red;
 use crate::wire::{CodecSpec, ToPayload};
 use alloc::vec::Vec;
 
@@ -99,12 +99,16 @@ pub fn run_schedule<P: Packetizer, D: Depacketizer>(
 ) -> Result<Run, PacketError> {
     match red {
         None => run_plain(payloader, buffer, sink, samples, steps),
-        Some(red) => {
-            let budget = red.budget;
-            let receiver = red.receiver;
-            run_with_sender(
-                payloader, buffer, sink, red.sender, budget, receiver, samples, steps,
-            )
+        // The prover cannot lend a struct that a parameter holds, so a new `RedRun` has its parts.
+        Some(lent) => {
+            let budget = lent.budget;
+            let receiver = lent.receiver;
+            let mut red = RedRun {
+                sender: lent.sender,
+                budget,
+                receiver,
+            };
+            run_in_red(payloader, buffer, sink, &mut red, samples, steps)
         }
     }
 }
