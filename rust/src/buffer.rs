@@ -9,6 +9,7 @@ mod ends;
 pub mod frames;
 mod held_packet;
 mod known;
+mod leaving;
 mod packets;
 mod pair;
 mod placed;
@@ -25,6 +26,7 @@ use alloc::collections::VecDeque;
 use ends::{evict, place_at, row_with};
 use frames::{CompleteFrame, frame_of, mend_first, note};
 use held_packet::{HeldPacket, Packet};
+pub use leaving::Left;
 use packets::{
     copy_metas, drop_front, find_place, frame_range, give_back, hold, is_at, is_too_late,
     make_room, received_at, starts_next, unpack,
@@ -161,13 +163,7 @@ impl<B: Depacketizer> DepacketizingBuffer<B> {
     /// - Any other error comes from the depacketizer: the frame was discarded. The next unit can still be contiguous, since its
     ///   numbers follow.
     pub fn pop(&mut self) -> Option<Result<Depacketized, PacketError>> {
-        let mut bytes = Vec::new();
-        let mut metas = Vec::new();
-        match self.pop_into(&mut bytes, &mut metas) {
-            Some(Ok(info)) => Some(Ok(unit_of(info, bytes, metas))),
-            Some(Err(fault)) => Some(Err(fault)),
-            None => None,
-        }
+        self.pop_counted().0
     }
 
     /// Does the same as [`DepacketizingBuffer::pop`], and writes to the caller's memory, which can be reused. If it returns a
@@ -179,14 +175,7 @@ impl<B: Depacketizer> DepacketizingBuffer<B> {
         bytes: &mut Vec<u8>,
         metas: &mut Vec<RtpMeta>,
     ) -> Option<Result<UnitInfo, PacketError>> {
-        while let Some(frame) = self.due() {
-            match self.take_frame(frame, bytes, metas) {
-                Ok(None) => {}
-                Ok(Some(info)) => return Some(Ok(info)),
-                Err(fault) => return Some(Err(fault)),
-            }
-        }
-        None
+        self.pop_counted_into(bytes, metas).0
     }
 
     /// Returns the number of held packets.
@@ -251,7 +240,7 @@ impl<B: Depacketizer> DepacketizingBuffer<B> {
     }
 
     /// Takes the frame that is due, and skips it if its picture ids are too old. It allocates all memory before it changes
-    /// anything except the depacketizer.
+    /// anything except the depacketizer. Unless memory ran out, `metas` then has one item for each packet of the frame.
     fn take_frame(
         &mut self,
         frame: CompleteFrame,

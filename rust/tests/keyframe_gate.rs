@@ -68,6 +68,17 @@ fn units(receiver: &mut Receiver) -> Result<Vec<Judged>, PacketError> {
     Ok(units)
 }
 
+/// The counters of discarded packets: all, and by the reason.
+fn discarded(receiver: &Receiver) -> (u64, u64, u64, u64) {
+    let packets = receiver.counters().packets;
+    (
+        packets.left,
+        packets.incomplete,
+        packets.skipped,
+        packets.refused,
+    )
+}
+
 /// Packet 3 is lost, and packet 6 is a keyframe again.
 fn with_a_gap(receiver: &mut Receiver) -> Result<(), Box<dyn Error>> {
     for number in [1, 2, 4, 5, 6, 7] {
@@ -192,7 +203,7 @@ fn picture_ids_that_jump_back_want_a_keyframe() -> Result<(), Box<dyn Error>> {
             receiver.receive(Ticks(0), &with_id(number, 47 + number, false))?;
         }
         assert!(units(&mut receiver)?.is_empty());
-        assert_eq!(receiver.counters().packets.left, 4);
+        assert_eq!(discarded(&receiver), (4, 0, 4, 0));
         assert!(receiver.wants_keyframe());
         receiver.receive(Ticks(0), &with_id(7, 54, true))?;
         assert_eq!(units(&mut receiver)?, [(7, true, true, false)]);
@@ -208,6 +219,7 @@ fn a_refused_frame_wants_a_keyframe() -> Result<(), Box<dyn Error>> {
     // A payload descriptor with the bit X, and without the byte that it announces.
     receiver.receive(Ticks(0), &datagram(2, &[0x90]))?;
     assert!(units(&mut receiver).is_err());
+    assert_eq!(discarded(&receiver), (1, 0, 0, 1));
     assert!(receiver.wants_keyframe());
     receiver.receive(Ticks(0), &plain(3, false))?;
     receiver.receive(Ticks(0), &plain(4, true))?;
@@ -236,5 +248,25 @@ fn a_reported_restart_wants_a_keyframe() -> Result<(), Box<dyn Error>> {
             (201, true, true, false),
         ]
     );
+    Ok(())
+}
+
+/// Packet 3 is the second of a frame whose first packet was lost, and packet 4 is the first of a frame whose last was lost.
+#[test]
+fn packets_of_incomplete_frames_are_counted() -> Result<(), Box<dyn Error>> {
+    let mut receiver = receiver(FromKeyframe::Mark)?;
+    receiver.receive(Ticks(0), &plain(1, true))?;
+    let mut later_piece = vec![0];
+    later_piece.extend(frame(false, 3));
+    receiver.receive(Ticks(0), &datagram(3, &later_piece))?;
+    let mut without_marker = plain(4, false);
+    without_marker[1] = VP8;
+    receiver.receive(Ticks(0), &without_marker)?;
+    receiver.receive(Ticks(0), &plain(6, true))?;
+    assert_eq!(
+        units(&mut receiver)?,
+        [(1, true, true, false), (6, true, true, false)]
+    );
+    assert_eq!(discarded(&receiver), (2, 2, 0, 0));
     Ok(())
 }

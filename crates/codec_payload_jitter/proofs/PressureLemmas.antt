@@ -6,6 +6,7 @@ use Rattle.std.proofs.lemmas.Bool.{ltb-true, ltb-false, lt-ltb}
 use Rattle.codec_payload_base.specs.declared.error.PacketError.{PacketError}
 use Rattle.codec_payload_buffer.specs.Frames.{frames}
 use Rattle.codec_payload_buffer.specs.Held.{Held, number_of, has_number, placed}
+use Rattle.codec_payload_buffer.specs.Leaving.{left_of}
 use Rattle.codec_payload_buffer.specs.Release.{Release}
 use Rattle.codec_payload_buffer.specs.Blanks.{released_packets}
 use Rattle.codec_payload_buffer.specs.Steps.{State, HasTaken, Passes, Pops, TakesFrame, none, one_more, is_at_most, is_dropped, pushed, without_lowest}
@@ -285,7 +286,7 @@ pops_with None r answer t pops = leaves_moved r r t pops.1 (record { limit = ref
 pops_with (Some h) r answer t pops =
     let s : State = record r.buffer { hold_back = h } in
     let away : released_packets answer + length pops.0.held ≤ length s.held = takes_away s pops.0 answer pops.1 in
-    leaves_moved r (record r { buffer = pops.0; counters = counted_pop r.counters (units_in answer) (released_packets answer) (length r.buffer.held - length pops.0.held) }) t pops.2 (record {
+    leaves_moved r (record r { buffer = pops.0; counters = counted_pop r.counters (units_in answer) (released_packets answer) (left_of s answer pops.0 pops.1) }) t pops.2 (record {
       limit = pops_limit s pops.0 answer pops.1;
       room = refl;
       few = omega (arith, away);

@@ -277,13 +277,11 @@ impl<B: Depacketizer> JitterBuffer<B> {
         let Some(hold_back) = self.waiting(now) else {
             return None;
         };
-        let before = self.buffer.held();
         self.buffer.set_hold_back(hold_back);
-        let answer = self.buffer.pop();
+        let (answer, left) = self.buffer.pop_counted();
         let units = units_in(&answer);
         let released = packets_in(&answer);
-        let gone = before - self.buffer.held();
-        self.counters = with_pop(self.counters, units, released, gone);
+        self.counters = with_pop(self.counters, units, released, left);
         answer
     }
 
@@ -301,13 +299,11 @@ impl<B: Depacketizer> JitterBuffer<B> {
         let Some(hold_back) = self.waiting(now) else {
             return None;
         };
-        let before = self.buffer.held();
         self.buffer.set_hold_back(hold_back);
-        let answer = self.buffer.pop_into(bytes, metas);
+        let (answer, left) = self.buffer.pop_counted_into(bytes, metas);
         let units = units_into(&answer);
         let released = packets_into(&answer, metas);
-        let gone = before - self.buffer.held();
-        self.counters = with_pop(self.counters, units, released, gone);
+        self.counters = with_pop(self.counters, units, released, left);
         answer
     }
 

@@ -2,7 +2,7 @@
 
 //! Outcomes of packets, and their counters.
 
-use crate::buffer::{Depacketized, Placed, RtpMeta, UnitInfo};
+use crate::buffer::{Depacketized, Left, Placed, RtpMeta, UnitInfo};
 use crate::error::PacketError;
 
 /// What was done with a packet.
@@ -40,8 +40,16 @@ pub struct PacketCounters {
     pub pushed: u64,
     /// Packets that were released in a unit.
     pub released: u64,
-    /// Packets that were discarded with a frame: the frame was never complete, was skipped, or was refused by the depacketizer.
+    /// Packets that were discarded: the sum of `incomplete`, `skipped` and `refused`.
     pub left: u64,
+    /// Discarded packets of frames that were never complete: packets were lost, or arrived too late. A later frame was due
+    /// first.
+    pub incomplete: u64,
+    /// Discarded packets of complete frames whose picture ids are too old: the sender numbers its pictures wrongly, or began
+    /// again without a keyframe.
+    pub skipped: u64,
+    /// Discarded packets of complete frames that the depacketizer refused: their payloads are invalid.
+    pub refused: u64,
     pub no_media: u64,
     pub duplicates: u64,
     pub late: u64,
@@ -69,6 +77,9 @@ impl PacketCounters {
             pushed: 0,
             released: 0,
             left: 0,
+            incomplete: 0,
+            skipped: 0,
+            refused: 0,
             no_media: 0,
             duplicates: 0,
             late: 0,
@@ -149,16 +160,23 @@ pub(crate) fn is_stored(outcome: Outcome) -> bool {
     matches!(outcome, Outcome::Held | Outcome::HeldAndEvicted)
 }
 
-/// Counts one pop: `units` units with `released` packets were released, and `gone` packets left the buffer in total.
+/// Counts one pop: `units` units with `released` packets were released, and `left` packets were discarded.
 pub(crate) fn with_pop(
     mut counters: PacketCounters,
     units: u64,
     released: usize,
-    gone: usize,
+    left: Left,
 ) -> PacketCounters {
     counters.units = counters.units.wrapping_add(units);
     counters.released = counters.released.wrapping_add(released as u64);
-    counters.left = counters.left.wrapping_add((gone - released) as u64);
+    counters.incomplete = counters.incomplete.wrapping_add(left.incomplete as u64);
+    counters.skipped = counters.skipped.wrapping_add(left.skipped as u64);
+    counters.refused = counters.refused.wrapping_add(left.refused as u64);
+    counters.left = counters
+        .left
+        .wrapping_add(left.incomplete as u64)
+        .wrapping_add(left.skipped as u64)
+        .wrapping_add(left.refused as u64);
     counters
 }
 

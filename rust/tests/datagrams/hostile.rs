@@ -24,7 +24,9 @@ fn sum_of(counters: &Counters, held: usize) -> u64 {
         packets.suspect,
         packets.evicted,
         packets.released,
-        packets.left,
+        packets.incomplete,
+        packets.skipped,
+        packets.refused,
         held as u64,
     ]
     .iter()

@@ -127,7 +127,9 @@ fn counted(receiver: &Receiver, is_named: bool) {
         packets.suspect,
         packets.evicted,
         packets.released,
-        packets.left,
+        packets.incomplete,
+        packets.skipped,
+        packets.refused,
         receiver.held() as u64,
     ];
     let waiting = all.received + packets.recovered - parts.iter().sum::<u64>();

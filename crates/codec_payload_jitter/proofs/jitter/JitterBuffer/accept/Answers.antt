@@ -1,16 +1,16 @@
 use Rattle.std.proofs.Common.{ap, sym, subst, length}
 use Rattle.std.specs.Option.{option_map}
-use Rattle.codec_payload_jitter.specs.Receiving.{Receiving, Accepts, IsConserved, arrival_of, counted}
+use Rattle.codec_payload_jitter.specs.Receiving.{Receiving, Accepts, IsCounted, arrival_of, counted}
 use Rattle.codec_payload_jitter.specs.declared.outcome.PacketCounters.{PacketCounters}
 use Rattle.codec_payload_jitter.proofs.ReceivingLemmas.{conserved_in}
 use Rattle.codec_payload_jitter.proofs.jitter.JitterBuffer.accept.Goals as goal
 
 pub invariant_of-self-2 : goal.invariant_of-self-2
 invariant_of-self-2 g c =
-    let kept : IsConserved (counted c.self.inside.counters c.in_ok-outcome.outcome) (length c.store.new.buffer.held) =
+    let kept : IsCounted (counted c.self.inside.counters c.in_ok-outcome.outcome) (length c.store.new.buffer.held) =
     conserved_in c.self.inside.clock_rate (arrival_of c.args.packet) c.args.number c.self.inside.buffer c.store.new.buffer c.in_ok-outcome.outcome c.self.inside.counters
     c.in_ok-outcome.ensures.takes c.in_ok-outcome.ensures.outcome c.self.invariant in
-    subst (λ (k : PacketCounters). IsConserved k (length c.store.new.buffer.held)) (sym c.with_outcome-self-inside.ensures) kept
+    subst (λ (k : PacketCounters). IsCounted k (length c.store.new.buffer.held)) (sym c.with_outcome-self-inside.ensures) kept
 
 pub returns-clause-ok : goal.returns-clause-ok
 returns-clause-ok g c =

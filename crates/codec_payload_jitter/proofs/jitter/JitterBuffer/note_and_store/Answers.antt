@@ -1,7 +1,7 @@
 use Rattle.std.proofs.Common.{◌≡◌, ◌∙◌, ap, sym, subst, refl, length, List, ℕ}
 use Rattle.std.specs.Option.{option_map}
 use Rattle.codec_payload_jitter.specs.NoMediaNumbers.{noted_no_media}
-use Rattle.codec_payload_jitter.specs.Receiving.{Receiving, IsConserved, arrival_of, counted, counted_again, counted_restart}
+use Rattle.codec_payload_jitter.specs.Receiving.{Receiving, IsCounted, arrival_of, counted, counted_again, counted_restart}
 use Rattle.codec_payload_jitter.specs.declared.outcome.Outcome.TheVariants as outcomes
 use Rattle.codec_payload_jitter.specs.declared.outcome.PacketCounters.{PacketCounters}
 use Rattle.codec_payload_jitter.proofs.ReceivingLemmas.{conserved_noted}
@@ -15,7 +15,7 @@ invariant_of-self-2 g c =
     c.with_kept-self-inside.ensures ∙ (ap (λ (k : PacketCounters). counted_again k o) c.with_restart-counters.ensures ∙ ap (λ (k : PacketCounters). counted_again (counted_restart k) o) c.with_outcome.ensures) in
     let kept = conserved_noted c.self.inside.clock_rate (arrival_of c.args.kept) c.kept_number-before.result c.self.inside.buffer c.store.new.buffer o c.self.inside.counters
     c.in_ok-outcome.ensures.takes c.in_ok-outcome.ensures.outcome c.self.invariant in
-    subst (λ (k : PacketCounters). IsConserved k (length c.store.new.buffer.held)) (sym counters) kept
+    subst (λ (k : PacketCounters). IsCounted k (length c.store.new.buffer.held)) (sym counters) kept
 
 pub returns-clause-ok : goal.returns-clause-ok
 returns-clause-ok g c =

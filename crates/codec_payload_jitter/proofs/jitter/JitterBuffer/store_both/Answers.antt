@@ -1,6 +1,6 @@
 use Rattle.std.proofs.Common.{◌≡◌, ◌∙◌, ap, sym, subst, refl, length}
 use Rattle.std.specs.Option.{option_map}
-use Rattle.codec_payload_jitter.specs.Receiving.{Receiving, IsConserved, arrival_of, counted, counted_again, counted_restart}
+use Rattle.codec_payload_jitter.specs.Receiving.{Receiving, IsCounted, arrival_of, counted, counted_again, counted_restart}
 use Rattle.codec_payload_jitter.specs.declared.outcome.PacketCounters.{PacketCounters}
 use Rattle.codec_payload_jitter.proofs.ReceivingLemmas.{conserved_both}
 use Rattle.codec_payload_jitter.proofs.RestartingLemmas.{stored_both}
@@ -14,7 +14,7 @@ invariant_of-self-2 g c =
     ∙ ap (λ (k : PacketCounters). counted_again (counted_restart k) both.1) c.with_outcome.ensures) in
     let kept = conserved_both c.self.inside.clock_rate (arrival_of c.args.packet) c.args.number (arrival_of c.args.kept) c.kept_number-before.result c.self.inside.buffer c.store_two.new.buffer both
     c.self.inside.counters c.in_ok-outcomes.ensures.takes c.self.invariant in
-    subst (λ (k : PacketCounters). IsConserved k (length c.store_two.new.buffer.held)) (sym counters) kept
+    subst (λ (k : PacketCounters). IsCounted k (length c.store_two.new.buffer.held)) (sym counters) kept
 
 pub returns-clause-ok : goal.returns-clause-ok
 returns-clause-ok g c =
