@@ -10,8 +10,8 @@
 //! - Wait for at least four round trips: `Session::set_wait_limits`.
 
 use codec_payload::history::{History, HistorySettings, Request, read_requests};
-use codec_payload::rtcp::CompoundRule;
 use codec_payload::requests::NackSettings;
+use codec_payload::rtcp::CompoundRule;
 use codec_payload::sender::{Sample, Sender, SenderSettings};
 use codec_payload::session::{Event, FeedbackSettings, Format, Session, SessionSettings};
 use codec_payload::{

@@ -491,16 +491,18 @@ fn requests_of_a_session() {
         while session.poll(Ticks(0)).is_some() {}
         session
     };
-    let mut refused = refuse_each("a poll with a request", missing_one, |session| {
-        match session.poll(Ticks(10)) {
+    let mut refused = refuse_each(
+        "a poll with a request",
+        missing_one,
+        |session| match session.poll(Ticks(10)) {
             Some(Event::Feedback { packet: Ok(_), .. }) => End::Done,
             Some(Event::Feedback {
                 packet: Err(AllocError),
                 ..
             }) => End::OutOfMemory,
             _ => End::OtherFault,
-        }
-    });
+        },
+    );
     refused += refuse_each(
         "a poll that finds a number missing",
         || {

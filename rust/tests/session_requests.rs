@@ -320,10 +320,7 @@ fn packets_carry_a_report_and_a_name() -> Result<(), Fail> {
     let packet = packet?;
     // An empty receiver report (type 201), then a description (202) of 66 words with one chunk: SSRC, CNAME (1), length, name.
     assert_eq!(packet[..8], [0x80, 201, 0, 1, 1, 2, 3, 4]);
-    assert_eq!(
-        packet[8..19],
-        [0x81, 202, 0, 66, 1, 2, 3, 4, 1, 255, b'n']
-    );
+    assert_eq!(packet[8..19], [0x81, 202, 0, 66, 1, 2, 3, 4, 1, 255, b'n']);
     assert_eq!(read(&packet), (7, vec![3], 0));
     Ok(())
 }
