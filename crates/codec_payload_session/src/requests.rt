@@ -138,7 +138,7 @@ pub(crate) fn round_trip(feedback: &Option<Feedback>) -> Option<u64>
 fn source_for(alloc: Global, settings: &FeedbackSettings) -> Result<FeedbackSource, AllocError>
     ensures { IfOk result (λ source. source ≡ source_for settings.now) }
 {
-    let len = settings.cname.len().min(LONGEST_NAME);
+    let len = LONGEST_NAME.min(settings.cname.len());
     let cname = Vec::from_slice(alloc, &settings.cname[..len])?;
     Ok(FeedbackSource::new(alloc, settings.ssrc, cname, settings.has_report).unwrap())
 }
