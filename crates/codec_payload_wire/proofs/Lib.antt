@@ -6,4 +6,5 @@ pub mod ReceivingLemmas
 pub mod ReleaseLemmas
 pub mod SendingLemmas
 pub mod StepLemmas
+pub mod ValueLemmas
 pub mod WireRunExamples
