@@ -1,24 +1,25 @@
 -- The units that a run over datagrams releases, from three parts: what it sends, what it receives, and the theorem of the
 -- buffer.
-use Rattle.std.proofs.Common.{◌≡◌, ◌∙◌, refl, sym, ap, subst, ℕ, ◌+◌, ◌-◌, ◌*◌, ◌/◌, ◌%◌, ◌^◌, ◌<◌, max, List, [], ◌∷◌, map, true, false, Bool, Some, length, arith}
+use Rattle.std.proofs.Common.{◌≡◌, ◌∙◌, refl, sym, ap, subst, ℕ, ◌+◌, ◌-◌, ◌*◌, ◌/◌, ◌%◌, ◌^◌, ◌<◌, max, List, [], ◌∷◌, map, false, Bool, None, Some, length, arith}
 use Rattle.std.proofs.lemmas.Option.{same_Some, slice_get_within}
 use Rattle.codec_payload_buffer.proofs.MemberLemmas.{contains_in, in_contains}
 use Rattle.codec_payload_buffer.specs.ContiguityTable.{contiguity_for}
 use Rattle.codec_payload_codec.specs.Depacketizers.{DepacketizerKind, is_built_in_depacketizer, is_codec, kind_of_depacketizer, tail_in}
 use Rattle.codec_payload_codec.proofs.CodecLemmas.{codec_payloads}
-use Rattle.codec_payload_codec.specs.Packetizers.{is_built_in, payloads_by, may_split}
+use Rattle.codec_payload_codec.specs.Packetizers.{payloads_by, may_split}
 use Rattle.codec_payload_buffer.specs.declared.buffer.unit.RtpMeta.{RtpMeta}
 use Rattle.codec_payload_runs.proofs.ArrivalLemmas.{AllKnown, met_all, met_in_order}
 use Rattle.codec_payload_runs.proofs.BuiltInRuns.{plainly, unused_exactly}
-use Rattle.codec_payload_runs.proofs.RunSettings.{empty, fresh, may_go, setting}
+use Rattle.codec_payload_runs.proofs.RunSettings.{empty, fresh, may_go, ready, setting, tracked}
 use Rattle.codec_payload_runs.proofs.SafetyLemmas.{SendsAll, all_end, sends_all}
 use Rattle.codec_payload_runs.proofs.StreamLemmas.{Streams, streams}
-use Rattle.codec_payload_runs.proofs.TurnLemmas.{Setting}
+use Rattle.codec_payload_runs.proofs.TurnLemmas.{IsReady, Setting}
 use Rattle.codec_payload_runs.proofs.UnitRows.{IsFaithful}
 use Rattle.codec_payload_runs.specs.Arrivals.{AllArriveFirst, Event, Meets}
 use Rattle.codec_payload_runs.specs.Exact.{AnswersAll}
 use Rattle.codec_payload_runs.specs.Headline.{IsUnused}
 use Rattle.codec_payload_runs.specs.LawfulUnits.{AllLawful}
+use Rattle.codec_payload_runs.specs.Log as runs
 use Rattle.codec_payload_runs.specs.RunValues.{values_of_run}
 use Rattle.codec_payload_runs.specs.SentStream.{SentUnit, packets_of}
 use Rattle.codec_payload_runs.specs.declared.run.Step.{Step}
@@ -37,6 +38,7 @@ use Rattle.codec_payload_stream.specs.RedOnce.{HasNoBlock}
 use Rattle.codec_payload_stream.proofs.BlockTimeLemmas.{new_has_no_block}
 use Rattle.codec_payload_wire.proofs.DeliveredLemmas.{AllIn, delivered_before}
 use Rattle.codec_payload_wire.proofs.EventLemmas.{Brings, IsMet, delivery_of, met, split_at_end, times_from}
+use Rattle.codec_payload_wire.proofs.LogLemmas.{Chained, HasLog, all_follow, chained, log_of, none_is_lost, none_passed, stretches}
 use Rattle.codec_payload_wire.proofs.NewReceivers.{IsBegun, new_is_begun}
 use Rattle.codec_payload_wire.proofs.ReceivingLemmas.{AllNumbered, IsListening}
 use Rattle.codec_payload_wire.proofs.SendingLemmas.{SendsRun, running, same_count, sends_run}
@@ -44,6 +46,7 @@ use Rattle.codec_payload_wire.proofs.StepLemmas.{ComesTo, Takes, comes_to}
 use Rattle.codec_payload_wire.proofs.ValueLemmas.{has_values}
 use Rattle.codec_payload_wire.specs.Releases.{is_sent_again_by, AllComeFirst, AreDatagrams, ComeWithin, HasValuesOf, StayWithin, IsDelivery}
 use Rattle.codec_payload_wire.specs.Releases.{IsWithinWindows, ReleaseOverDatagrams, ReleasesUnits, delivered, received_steps, sending_steps}
+use Rattle.codec_payload_wire.specs.WireLogs.{KeepsPromises, PromisesOverDatagrams, WireLog}
 use Rattle.codec_payload_wire.specs.WireRuns.{Runs, Wire, begins}
 use Rattle.codec_payload_wire.specs.declared.run.DatagramStep.{DatagramStep}
 use Rattle.codec_payload_wire.specs.declared.run.DatagramStep.TheVariants as steps
@@ -287,7 +290,7 @@ module _ (samples : List Sample) (all_steps : List DatagramStep) (sender : Sendi
       (λ k l. first_all.each k (subst (λ (ps : List Packet). k < length ps) (sym whole.whole) l))
       (subst (λ (es : List Event). Meets rate (packets_of units) es receiver.packets.buffer t.pops t.session.packets.buffer) first_all.whole meets)
 
-  pub releases_units : ReleasesUnits samples all_steps (begins sender receiver) t
+  abbrev releases_units : ReleasesUnits samples all_steps (begins sender receiver) t
   releases_units = record {
     units = units;
     canonical = units_sent.canonical;
@@ -301,6 +304,33 @@ module _ (samples : List Sample) (all_steps : List DatagramStep) (sender : Sendi
     extension_values = λ video ids place r is. has_values receiver.stream.ids sender.stream received kind splits units (values_of_run sender.packetizer samples sends)
         (all_end kind splits units lawful) (units_sent.values video) ids.same ids.fit place r is;
   }
+
+  -- Pop by pop
+
+  abbrev readies : IsReady here 0 receiver.packets.buffer
+  readies = ready samples sends start after units_sent unused within.readable Known faithful units lawful (sym whole.whole)
+
+  log : HasLog Known (packets_of units) received (runs.begun receiver.packets.buffer) t.pops t.session.packets.buffer
+  log = log_of here receiver.packets.ended received come.events (runs.begun receiver.packets.buffer) t.session.packets.buffer t.pops come.brings known meets
+
+  chain : (l : WireLog samples all_steps (begins sender receiver) t units) → Chained here receiver.packets.buffer l.turns l.end
+  chain l = chained here received 0 (runs.begun receiver.packets.buffer) l.turns l.end readies (record { sent = tt; now = refl }) l.is_log
+
+  pub keeps_promises : KeepsPromises samples all_steps (begins sender receiver) t
+  keeps_promises = record {
+    released = releases_units;
+    first = first;
+    numbered = whole.numbered;
+    logged = record { turns = log.turns; end = log.end; is_log = log.is_log; answers = log.answers_are; left = log.left };
+    order = λ l. stretches here 0 receiver.packets.buffer l.turns l.end readies (chain l);
+    contiguous = λ plain l. all_follow here 0 None false receiver.packets.buffer l.turns l.end plain readies
+        (tracked samples sends start after units_sent unused within.readable Known faithful units lawful (sym whole.whole)) (chain l);
+    no_silent_loss = λ l. none_is_lost here 0 receiver.packets.buffer l.turns l.end readies (chain l);
+    none_skipped = λ plain l. none_passed here 0 receiver.packets.buffer l.turns l.end plain readies (chain l);
+  }
+
+pub promises_over_datagrams : PromisesOverDatagrams
+promises_over_datagrams samples all_steps sender receiver t run within = keeps_promises samples all_steps sender receiver t run within
 
 pub release_over_datagrams : ReleaseOverDatagrams
 release_over_datagrams samples all_steps sender receiver t run within = releases_units samples all_steps sender receiver t run within
