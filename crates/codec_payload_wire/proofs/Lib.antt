@@ -1,5 +1,6 @@
 pub mod DeliveredLemmas
 pub mod EventLemmas
+pub mod GapLemmas
 pub mod LogLemmas
 pub mod NewReceivers
 pub mod ReadingLemmas

@@ -91,7 +91,7 @@ module _ (c : Setting) where
   Chained s [] end = (end.left ≡ s) × IsSpan c end
   Chained s (turn ∷ turns) end = (turn.stretch.left ≡ s) × IsSpan c turn.stretch × IsTurn turn.stretch.now turn.after turn.passed turn.answer × Chained turn.after turns end
 
-  turn_ready : (from : ℕ) (s t : State) (passed : List CompleteFrame) (a : Answer) → IsReady c from s → IsTurn s t passed a → (next : ℕ) × IsReady c next t
+  pub turn_ready : (from : ℕ) (s t : State) (passed : List CompleteFrame) (a : Answer) → IsReady c from s → IsTurn s t passed a → (next : ℕ) × IsReady c next t
   turn_ready from s t passed a ready (inl is) = (from, subst (IsReady c from) (sym is.2) ready)
   turn_ready from s t passed a ready (inr is) = ready_pops c from (record s { hold_back = is.0 }) t passed a (ready_with c from is.0 s ready) is.1
 

@@ -10,7 +10,7 @@ use Rattle.codec_payload_codec.specs.Packetizers.{payloads_by, may_split}
 use Rattle.codec_payload_buffer.specs.declared.buffer.unit.RtpMeta.{RtpMeta}
 use Rattle.codec_payload_runs.proofs.ArrivalLemmas.{AllKnown, met_all, met_in_order}
 use Rattle.codec_payload_runs.proofs.BuiltInRuns.{plainly, unused_exactly}
-use Rattle.codec_payload_runs.proofs.RunSettings.{empty, fresh, may_go, ready, setting, tracked}
+use Rattle.codec_payload_runs.proofs.RunSettings.{empty, fresh, may_go, nothing, ready, setting, tracked}
 use Rattle.codec_payload_runs.proofs.SafetyLemmas.{SendsAll, all_end, sends_all}
 use Rattle.codec_payload_runs.proofs.StreamLemmas.{Streams, streams}
 use Rattle.codec_payload_runs.proofs.TurnLemmas.{IsReady, Setting}
@@ -38,6 +38,7 @@ use Rattle.codec_payload_stream.specs.RedOnce.{HasNoBlock}
 use Rattle.codec_payload_stream.proofs.BlockTimeLemmas.{new_has_no_block}
 use Rattle.codec_payload_wire.proofs.DeliveredLemmas.{AllIn, delivered_before}
 use Rattle.codec_payload_wire.proofs.EventLemmas.{Brings, IsMet, delivery_of, met, split_at_end, times_from}
+use Rattle.codec_payload_wire.proofs.GapLemmas.{only_past_gap}
 use Rattle.codec_payload_wire.proofs.LogLemmas.{Chained, HasLog, all_follow, chained, log_of, none_is_lost, none_passed, stretches}
 use Rattle.codec_payload_wire.proofs.NewReceivers.{IsBegun, new_is_begun}
 use Rattle.codec_payload_wire.proofs.ReceivingLemmas.{AllNumbered, IsListening}
@@ -327,6 +328,8 @@ module _ (samples : List Sample) (all_steps : List DatagramStep) (sender : Sendi
         (tracked samples sends start after units_sent unused within.readable Known faithful units lawful (sym whole.whole)) (chain l);
     no_silent_loss = λ l. none_is_lost here 0 receiver.packets.buffer l.turns l.end readies (chain l);
     none_skipped = λ plain l. none_passed here 0 receiver.packets.buffer l.turns l.end plain readies (chain l);
+    skipped_past_gap = λ l. only_past_gap here receiver.packets.buffer l.turns l.end readies
+        (nothing samples sends start after units_sent unused within.readable Known faithful units lawful (sym whole.whole)) (chain l);
   }
 
 pub promises_over_datagrams : PromisesOverDatagrams

@@ -1,5 +1,5 @@
 -- A run over datagrams, pop by pop: the buffer of the receiver before each pop, and the units that it held.
-use Rattle.std.specs.Prelude.{◌≡◌, ◌≢◌, ℕ, false, List, [], ◌∷◌, Option, Some, None, Err, length, map, slice_get}
+use Rattle.std.specs.Prelude.{◌≡◌, ◌≢◌, ◌⊎◌, ℕ, false, List, [], ◌∷◌, Option, Some, None, Err, length, map, slice_get}
 use Rattle.codec_payload_base.specs.declared.error.PacketError.TheVariants as faults
 use Rattle.codec_payload_buffer.specs.Steps.{PopsOver, State, arrived}
 use Rattle.codec_payload_buffer.specs.declared.buffer.frames.CompleteFrame.{CompleteFrame}
@@ -8,7 +8,7 @@ use Rattle.codec_payload_codec.specs.Packetizers.{may_split}
 use Rattle.codec_payload_runs.specs.Log.{Stretch, Turn, begun, with_pushes}
 use Rattle.codec_payload_runs.specs.ReportedIds.{next_id}
 use Rattle.codec_payload_runs.specs.RunOrder.{AllFollowAsSaid, AreStretches}
-use Rattle.codec_payload_runs.specs.RunUnits.{NoneIsLost, NonePassedOver}
+use Rattle.codec_payload_runs.specs.RunUnits.{IsGap, NoneIsLost, NonePassedOver}
 use Rattle.codec_payload_runs.specs.Schedule.{Answer}
 use Rattle.codec_payload_runs.specs.SentStream.{SentUnit, packets_of}
 use Rattle.codec_payload_send.specs.Packets.{AreNumbered, Packet}
@@ -75,6 +75,8 @@ pub record KeepsPromises (samples : List Sample) (all_steps : List DatagramStep)
   pub no_silent_loss : OfEachLog samples all_steps s t released.units (NoneIsLost (IsKnownOf samples all_steps s t released.units) first (may_split s.sending.packetizer) released.units)
   -- If picture id and TL0PICIDX are not both sent, no pop skips a unit.
   pub none_skipped : next_id s.sending.packetizer ≡ None → OfEachLog samples all_steps s t released.units (λ turns end. NonePassedOver turns)
+  -- If both are sent, a unit is skipped only after 16,384 units in a row that no pop returned.
+  pub skipped_past_gap : OfEachLog samples all_steps s t released.units (λ turns end. NonePassedOver turns ⊎ IsGap first released.units turns)
 
 -- this applies to a run whose samples can be read, and whose datagrams arrive within the windows
 abbrev pub KeepsPromisesWithinWindows : List Sample → List DatagramStep → Wire → Wire → Type 0
