@@ -191,13 +191,13 @@ tracked_released last evicted s t r rises beyond out =
     (λ h. cutoff ∙ ap Some (sym numbers.last), λ set. absurd (cc))
 
 module _ (c : Setting) where
-  tracked_span : (from : ℕ) (last : Option ℕ) (evicted : Bool) (w : Stretch) → IsReady c from w.left → IsSpan c w → IsTracked last evicted w.left
+  pub tracked_span : (from : ℕ) (last : Option ℕ) (evicted : Bool) (w : Stretch) → IsReady c from w.left → IsSpan c w → IsTracked last evicted w.left
       → IsTracked last (has_evicted c.first (count c) evicted w) w.now
   tracked_span from last evicted w ready is known =
       tracked_left last evicted w.left w.now (numbers_in c.first (count c) w) (range_rises (counts w.left w.pushes) c.first (count c))
       (over_cutoff w.left w.pushes c.first (count c) ready.beyond.beyond w.left.cutoff refl) (span_left c from w ready is) known
 
-  at_pop : (from : ℕ) (last : Option ℕ) (evicted : Bool) (s t : State) (over : List CompleteFrame) (a : Answer) → IsPlain c → Beyond c from s → IsTracked last evicted s → IsPop c s t over a
+  pub at_pop : (from : ℕ) (last : Option ℕ) (evicted : Bool) (s t : State) (over : List CompleteFrame) (a : Answer) → IsPlain c → Beyond c from s → IsTracked last evicted s → IsPop c s t over a
       → FollowsAsSaid last evicted a × IsTracked (last_released last a) evicted t
   at_pop from last evicted s t over None plain beyond known (waits passes nothing) = (tt, subst (IsTracked last evicted) (sym (stays_plain c from s t over beyond plain passes).0) known)
   at_pop from last evicted s t over (Some (Ok r)) plain beyond known (releases mid passes out) =

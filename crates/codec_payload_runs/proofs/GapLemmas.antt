@@ -27,13 +27,13 @@ not_passed : (may : Bool) → may ≡ true → may ≡ false → ⊥
 not_passed may go stay = cc
 
 module _ (c : Setting) where
-  abbrev start_of : ℕ → ℕ
+  abbrev pub start_of : ℕ → ℕ
   start_of n = c.first + packets_before n c.units
 
-  abbrev Outside : ℕ → ℕ → Type 0
+  abbrev pub Outside : ℕ → ℕ → Type 0
   Outside n e = EndsOutside c.first c.units n e
 
-  abbrev Taken : ℕ → State → Type 0
+  abbrev pub Taken : ℕ → State → Type 0
   Taken n s = Follows c n s.depacketizer s.contiguity
 
   start_more : (a b : ℕ) → a ≤ b → start_of a ≤ start_of b
@@ -107,18 +107,18 @@ module _ (c : Setting) where
   ]
 
   -- the units that pops release or skip from there on, once a gap is passed
-  record IsPastIn (g : ℕ) (turns : List Turn) : Type 0 where
-    ends : AllTakenEnd (Outside g) turns
-    starts : AllPassedFrom (start_of (g + 16384)) turns
+  pub record IsPastIn (g : ℕ) (turns : List Turn) : Type 0 where
+    pub ends : AllTakenEnd (Outside g) turns
+    pub starts : AllPassedFrom (start_of (g + 16384)) turns
 
   -- a pop past the gap
-  record PopsPast (g : ℕ) (over : List CompleteFrame) (a : Answer) (t : State) : Type 0 where
-    next : ℕ
-    far : g + 16384 ≤ next
-    beyond : Beyond c next t
-    ends : AllEnd (Outside g) over
-    starts : AllStartFrom (start_of (g + 16384)) over
-    answer : AnswerEnds (Outside g) a
+  pub record PopsPast (g : ℕ) (over : List CompleteFrame) (a : Answer) (t : State) : Type 0 where
+    pub next : ℕ
+    pub far : g + 16384 ≤ next
+    pub beyond : Beyond c next t
+    pub ends : AllEnd (Outside g) over
+    pub starts : AllStartFrom (start_of (g + 16384)) over
+    pub answer : AnswerEnds (Outside g) a
 
   release_past : (g n : ℕ) (s t : State) (r : Release) (over : List CompleteFrame) (beyond : Beyond c n s) → AllEnd (Outside g) over
       → AllStartFrom (start_of (g + 16384)) over → (out : Releases s r t) → g + 16384 ≤ (frame_due c n s out.frame beyond out.is_due).place → PopsPast g over (Some (Ok r)) t
@@ -138,7 +138,7 @@ module _ (c : Setting) where
       let frame = frame_due c is.next s out.frame is.beyond out.is_due in
       release_past g is.next s t r over is.beyond is.ends is.starts out (omega (arith, is.far, frame.not_before))
 
-  pop_past : (g n : ℕ) (s t : State) (over : List CompleteFrame) (a : Answer) → Beyond c n s → g + 16384 ≤ n → IsPop c s t over a → PopsPast g over a t
+  pub pop_past : (g n : ℕ) (s t : State) (over : List CompleteFrame) (a : Answer) → Beyond c n s → g + 16384 ≤ n → IsPop c s t over a → PopsPast g over a t
   pop_past g n s t over None beyond far (waits passes nothing) =
       let is = past_passes g n s t over beyond far passes in
       record { next = is.next; far = is.far; beyond = is.beyond; ends = is.ends; starts = is.starts; answer = tt }
@@ -154,13 +154,13 @@ module _ (c : Setting) where
       record { ends = (pop.ends, pop.answer, rest.ends); starts = (pop.starts, rest.starts) }
 
   -- a pop that takes the next unit, or none
-  record PopsNear (n : ℕ) (over : List CompleteFrame) (a : Answer) (t : State) : Type 0 where
-    nothing : over ≡ []
-    next : ℕ
-    not_before : n ≤ next
-    beyond : Beyond c next t
-    taken : Taken next t
-    answer : AnswerEnds (λ e. e < start_of next) a
+  pub record PopsNear (n : ℕ) (over : List CompleteFrame) (a : Answer) (t : State) : Type 0 where
+    pub nothing : over ≡ []
+    pub next : ℕ
+    pub not_before : n ≤ next
+    pub beyond : Beyond c next t
+    pub taken : Taken next t
+    pub answer : AnswerEnds (λ e. e < start_of next) a
 
   release_near : (n : ℕ) (s t : State) (r : Release) (over : List CompleteFrame) → over ≡ [] → (beyond : Beyond c n s) → Taken n s → (out : Releases s r t)
       → (frame_due c n s out.frame beyond out.is_due).place < n + 16384 → PopsNear n over (Some (Ok r)) t
@@ -176,7 +176,7 @@ module _ (c : Setting) where
         answer = release_ends n s t r beyond out (λ e. e < start_of (frame.place + 1)) (frame_ends n (frame.place + 1) s out.frame beyond out.is_due (omega arith));
       }
 
-  pop_far : (n : ℕ) (s t : State) (over : List CompleteFrame) (a : Answer) → Beyond c n s → Taken n s → IsPop c s t over a → PopsNear n over a t ⊎ PopsPast n over a t
+  pub pop_far : (n : ℕ) (s t : State) (over : List CompleteFrame) (a : Answer) → Beyond c n s → Taken n s → IsPop c s t over a → PopsNear n over a t ⊎ PopsPast n over a t
   pop_far n s t over None beyond taken (waits passes nothing) = elim (passes_far n s t over beyond taken passes) [
     | inl same ↦ inl (record { nothing = same.1; next = n; not_before = omega arith; beyond = subst (Beyond c n) (sym same.0) beyond; taken = subst (Taken n) (sym same.0) taken; answer = tt })
     | inr is ↦ inr (record { next = is.next; far = is.far; beyond = is.beyond; ends = is.ends; starts = is.starts; answer = tt })
@@ -193,17 +193,17 @@ module _ (c : Setting) where
   ]
   pop_far n s t over (Some (Err fault)) beyond taken pop = elim pop [ ]
 
-  span_taken : (n : ℕ) (s : State) (w : Stretch) → w.left ≡ s → IsReady c n w.left → IsSpan c w → Taken n s → Taken n w.now
+  pub span_taken : (n : ℕ) (s : State) (w : Stretch) → w.left ≡ s → IsReady c n w.left → IsSpan c w → Taken n s → Taken n w.now
   span_taken n s w at ready is taken =
       let left = span_left c n w ready is in
       subst (λ (d : DepacketizerState). Follows c n d w.now.contiguity) (sym left.depacketizer) (subst (Follows c n w.left.depacketizer) (sym left.contiguity) (subst (Taken n) (sym at) taken))
 
   -- the gap is not before place n
-  record IsGapFrom (n : ℕ) (turns : List Turn) : Type 0 where
-    gap : IsGap c.first c.units turns
-    from : n ≤ gap.place
+  pub record IsGapFrom (n : ℕ) (turns : List Turn) : Type 0 where
+    pub gap : IsGap c.first c.units turns
+    pub from : n ≤ gap.place
 
-  outside_more : (n g : ℕ) (a : Answer) → n ≤ g → AnswerEnds (λ e. e < start_of n) a → AnswerEnds (Outside g) a
+  pub outside_more : (n g : ℕ) (a : Answer) → n ≤ g → AnswerEnds (λ e. e < start_of n) a → AnswerEnds (Outside g) a
   outside_more n g None l is = tt
   outside_more n g (Some (Err fault)) l is = tt
   outside_more n g (Some (Ok r)) l is = inl (omega (arith, is, start_more n g l))

@@ -132,7 +132,7 @@ module _ (c : Setting) where
   ]
 
   -- a pop
-  at_pop : (from : ℕ) (s t : State) (over : List CompleteFrame) (a : Answer) (place : ℕ) (u : SentUnit) → Beyond c from s → IsPop c s t over a → slice_get c.units place ≡ Some u → Whole place s
+  pub at_pop : (from : ℕ) (s t : State) (over : List CompleteFrame) (a : Answer) (place : ℕ) (u : SentUnit) → Beyond c from s → IsPop c s t over a → slice_get c.units place ≡ Some u → Whole place s
       → ReleasesWhole c.known c.splits c.units place a ⊎ (IsAmong c.first c.units place over ⊎ Whole place t)
   at_pop from s t over None place u beyond (waits passes nothing) at whole = inr (pass_keeps from s t over place u beyond passes at whole)
   at_pop from s t over (Some (Err fault)) place u beyond pop at whole = elim pop [ ]
@@ -159,7 +159,7 @@ module _ (c : Setting) where
         | inr still ↦ inr (in_number n w.now.held (subst (IsIn n) (sym (span_left c from w ready is).held) still))
       ]
 
-  at_span : (from : ℕ) (w : Stretch) (place : ℕ) → IsReady c from w.left → IsSpan c w → Whole place w.left
+  pub at_span : (from : ℕ) (w : Stretch) (place : ℕ) → IsReady c from w.left → IsSpan c w → Whole place w.left
       → Whole place w.now ⊎ ((n : ℕ) × IsNumberIn c.first c.units place n × Contains (evicted_in c.first (count c) w) n)
   at_span from w place ready is whole =
       elim (all_or_some (λ n. Contains (evicted_in c.first (count c) w) n) (λ n. has_number n w.now.held ≡ true) (c.first + packets_before place c.units) (c.first + packets_before (place + 1) c.units)
@@ -172,13 +172,13 @@ module _ (c : Setting) where
   abbrev FateIn : ℕ → List Turn → List Turn → Stretch → Type 0
   FateIn place turns later end = Fate c.known c.first c.splits c.units place turns later end
 
-  more : (place : ℕ) (turn : Turn) (turns : List Turn) (end : Stretch) → FateIn place turns turns end → FateIn place (turn ∷ turns) turns end
+  pub more : (place : ℕ) (turn : Turn) (turns : List Turn) (end : Stretch) → FateIn place turns turns end → FateIn place (turn ∷ turns) turns end
   more place turn turns end (released is) = released (inr is)
   more place turn turns end (skipped_over is) = skipped_over (inr is)
   more place turn turns end (held is) = held is
   more place turn turns end (evicted is) = evicted is
 
-  later_too : (place : ℕ) (turn : Turn) (turns : List Turn) (end : Stretch) → FateIn place (turn ∷ turns) turns end → FateIn place (turn ∷ turns) (turn ∷ turns) end
+  pub later_too : (place : ℕ) (turn : Turn) (turns : List Turn) (end : Stretch) → FateIn place (turn ∷ turns) turns end → FateIn place (turn ∷ turns) (turn ∷ turns) end
   later_too place turn turns end (released is) = released is
   later_too place turn turns end (skipped_over is) = skipped_over is
   later_too place turn turns end (held is) = held is

@@ -1,13 +1,12 @@
 -- A pop of a run over datagrams releases packets that were delivered before it.
-use Rattle.std.proofs.Common.{◌≡◌, ◌≢◌, ◌∙◌, sym, ap, subst, refl, ℕ, List, [], ◌∷◌, Bool, true, Option, Some, None, Ok, Err, inl, inr, cond, ltb, length}
+use Rattle.std.proofs.Common.{◌≢◌, sym, ap, subst, ℕ, List, [], ◌∷◌, Bool, true, Option, Some, None, Ok, Err, inl, inr, cond, ltb, length}
 use Rattle.codec_payload_base.specs.declared.error.PacketError.TheVariants as faults
 use Rattle.codec_payload_base.specs.declared.wire.Ticks.{Ticks}
 use Rattle.codec_payload_codec.proofs.CaseLemmas.{by_test}
 use Rattle.codec_payload_buffer.specs.Held.{Held, number_of, placed, between, above}
 use Rattle.codec_payload_buffer.specs.Steps.{State, arrived, is_dropped, kept_to_limit, without_lowest, pushed, metas_of, packets_of_frame, Passes, none, one_more, PopsOver}
 use Rattle.codec_payload_buffer.specs.declared.buffer.frames.CompleteFrame.{CompleteFrame}
-use Rattle.codec_payload_buffer.specs.declared.buffer.unit.RtpMeta.{RtpMeta}
-use Rattle.codec_payload_runs.specs.Arrivals.{Arrives, Asked, Event, Meets, PopsWaiting}
+use Rattle.codec_payload_runs.specs.Arrivals.{Event, Meets, PopsWaiting}
 use Rattle.codec_payload_runs.specs.Schedule.{Answer}
 use Rattle.codec_payload_send.specs.Packets.{Packet}
 use Rattle.codec_payload_wire.proofs.EventLemmas.{Brings}

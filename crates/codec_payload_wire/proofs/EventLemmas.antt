@@ -1,24 +1,23 @@
 -- The steps of a receiver, as events of its buffer.
-use Rattle.std.proofs.Common.{◌≡◌, ◌∙◌, refl, sym, ap, subst, ℕ, zero, suc, ◌+◌, ◌-◌, ◌%◌, ◌^◌, ◌<◌, ◌⊎◌, inl, inr, List, [], ◌∷◌, ◌++◌, Bool, true, Option, Some, None, Ok, Err, length, arith}
+use Rattle.std.proofs.Common.{◌≡◌, ◌∙◌, refl, sym, ap, subst, ℕ, zero, suc, ◌+◌, ◌-◌, ◌%◌, ◌^◌, ◌<◌, ◌⊎◌, inl, inr, List, [], ◌∷◌, ◌++◌, Bool, true, Option, Some, arith}
 use Rattle.std.specs.Prelude.{slice_get}
 use Rattle.std.proofs.lemmas.Option.{same_Some}
 use Rattle.codec_payload_buffer.proofs.MemberLemmas.{IsIn}
 use Rattle.codec_payload_buffer.specs.Steps.{State}
 use Rattle.codec_payload_buffer.specs.declared.buffer.unit.RtpMeta.{RtpMeta}
 use Rattle.codec_payload_runs.specs.Arrivals.{AllAreMade, Arrives, Asked, Event, HasArrival, Meets, OnlyArrive}
-use Rattle.codec_payload_runs.specs.Exact.{AnswersAll}
-use Rattle.codec_payload_runs.specs.Headline.{ArePushesBy, InOrder}
+use Rattle.codec_payload_rtp.specs.declared.values.ExtensionIds.{ExtensionIds}
 use Rattle.codec_payload_send.specs.Packets.{Packet, AreNumbered}
 use Rattle.codec_payload_runs.specs.Schedule.{Answer}
-use Rattle.codec_payload_runs.specs.SentStream.{SentUnit}
 use Rattle.codec_payload_jitter.specs.NotedTimes.{AreTimesOf}
 use Rattle.codec_payload_jitter.specs.Numbers.{Numbering, answer_for, numbering_after}
 use Rattle.codec_payload_jitter.specs.declared.numbers.Extended.TheVariants as extended
 use Rattle.codec_payload_sender.specs.declared.sender.Stream.{Stream}
+use Rattle.codec_payload_stream.specs.Kinds.{Kinds}
 use Rattle.codec_payload_stream.specs.Sessions.{Session, ended}
 use Rattle.codec_payload_wire.proofs.ReceivingLemmas.{AllNumbered, IsListening, finishes_as, pops_as, pushes}
 use Rattle.codec_payload_wire.proofs.StepLemmas.{Takes}
-use Rattle.codec_payload_wire.specs.Releases.{AreDatagrams, HaveNoPops, ReadsAs, delivered}
+use Rattle.codec_payload_wire.specs.Releases.{AreDatagrams, HasValuesOf, HaveNoPops, ReadsAs, delivered}
 use Rattle.codec_payload_wire.specs.declared.run.DatagramStep.{DatagramStep}
 use Rattle.codec_payload_wire.specs.declared.run.DatagramStep.TheVariants as steps
 
@@ -56,21 +55,40 @@ time_at [] k q there = absurd (cc)
 time_at (p ∷ packets) zero q there = ap (λ (x : Packet). x.rtp_time) (sym (same_Some p q there))
 time_at (p ∷ packets) (suc k) q there = time_at packets k q there
 
+-- each push has the values of its packet
+abbrev pub AllHaveValues : ExtensionIds → Stream → List Packet → List Event → Type 0
+AllHaveValues ids stream packets events = (k : ℕ) (meta : RtpMeta) → IsIn (Arrives k meta) events → HasValuesOf ids stream packets k meta
+
+values_with : (ids : ExtensionIds) (stream : Stream) (packets : List Packet) (events : List Event) (k : ℕ) (meta : RtpMeta) → HasValuesOf ids stream packets k meta
+    → AllHaveValues ids stream packets events → AllHaveValues ids stream packets (Arrives k meta ∷ events)
+values_with ids stream packets events k meta one rest j m is = elim is [
+  | inl here ↦
+      let index : j ≡ k = cc in
+      let same : m ≡ meta = cc in
+      (one.0, ap (slice_get packets) index ∙ one.1, ap (λ (x : RtpMeta). x.header.ext_vals) same ∙ one.2)
+  | inr later ↦ rest j m later
+]
+
+values_asked : (ids : ExtensionIds) (stream : Stream) (packets : List Packet) (events : List Event) (wait : Option ℕ)
+    → AllHaveValues ids stream packets events → AllHaveValues ids stream packets (Asked wait ∷ events)
+values_asked ids stream packets events wait rest j m is = elim is [ inl here ↦ absurd (cc) | inr later ↦ rest j m later ]
+
 -- the events of the buffer for these steps
-pub record IsMet (clock_rate : ℕ) (packets : List Packet) (all_steps : List DatagramStep) (s : Session) (answers : List Answer) (t : Session) : Type 0 where
+pub record IsMet (stream : Stream) (packets : List Packet) (all_steps : List DatagramStep) (s : Session) (answers : List Answer) (t : Session) : Type 0 where
   pub events : List Event
-  pub meets : Meets clock_rate packets events s.packets.buffer answers t.packets.buffer
+  pub meets : Meets stream.clock_rate packets events s.packets.buffer answers t.packets.buffer
   pub brings : Brings s.packets.ended all_steps events
+  pub values : AllHaveValues s.stream.ids stream packets events
 
 module _ (stream : Stream) (types : (stream.payload_type < 64) ⊎ (95 < stream.payload_type)) (first : ℕ) (packets : List Packet) (datagrams : List (List ℕ))
     (are : AreDatagrams stream packets datagrams) (numbered : AreNumbered first packets) where
   pub met : (all_steps : List DatagramStep) (s t : Session) (answers : List Answer) → IsListening stream s
       → AllNumbered first s.packets.numbering (delivered all_steps) → AreTimesOf (times_from first packets) s.packets.noted → Takes all_steps datagrams s answers t
-      → IsMet stream.clock_rate packets all_steps s answers t
-  met [] s t answers listening numbers times takes = record { events = []; meets = (takes.0, ap (λ (x : Session). x.packets.buffer) takes.1); brings = refl }
+      → IsMet stream packets all_steps s answers t
+  met [] s t answers listening numbers times takes = record { events = []; meets = (takes.0, ap (λ (x : Session). x.packets.buffer) takes.1); brings = refl; values = λ k m is. absurd is }
   met (steps.Send i ∷ later) s t answers listening numbers times takes =
       let rest = met later s t answers listening numbers times takes in
-      record { events = rest.events; meets = rest.meets; brings = rest.brings }
+      record { events = rest.events; meets = rest.meets; brings = rest.brings; values = rest.values }
   met (steps.Deliver k now ∷ later) s t answers listening numbers times takes =
       let mid : Session = takes.3 in
       let p = packet_at_index stream first packets datagrams k takes.0 are numbered takes.1 in
@@ -86,6 +104,8 @@ module _ (stream : Stream) (types : (stream.payload_type < 64) ⊎ (95 < stream.
         events = Arrives k one.meta ∷ rest.events;
         meets = (q, p.1, one.tells, subst (λ (b : State). Meets stream.clock_rate packets rest.events b answers t.packets.buffer) one.buffer rest.meets);
         brings = (one.meta, rest.events, refl, one.received, subst (λ (b : Bool). Brings b later rest.events) one.ended rest.brings);
+        values = values_with s.stream.ids stream packets rest.events k one.meta (q, p.1, one.values)
+            (subst (λ (x : Kinds). AllHaveValues x.ids stream packets rest.events) one.kinds rest.values);
       }
   met (steps.Pop now ∷ later) s t answers listening numbers times takes =
       let mid : Session = takes.2 in
@@ -95,6 +115,7 @@ module _ (stream : Stream) (types : (stream.payload_type < 64) ⊎ (95 < stream.
         events = Asked one.wait ∷ rest.events;
         meets = (takes.0, takes.1, mid.packets.buffer, takes.3, one.pops, rest.meets);
         brings = (one.wait, rest.events, refl, one.at_end, subst (λ (b : Bool). Brings b later rest.events) one.ended rest.brings);
+        values = values_asked s.stream.ids stream packets rest.events one.wait (subst (λ (x : Kinds). AllHaveValues x.ids stream packets rest.events) one.kinds rest.values);
       }
   met (steps.Finish ∷ later) s t answers listening numbers times takes =
       let at_end : takes.0 ≡ ended s = finishes_as stream s takes.0 listening takes.1 in
@@ -110,7 +131,7 @@ module _ (stream : Stream) (types : (stream.payload_type < 64) ⊎ (95 < stream.
         no_block_seen = listening.no_block_seen;
         drops_none = listening.drops_none;
       }) numbers times (subst (λ (x : Session). Takes later datagrams x answers t) at_end takes.2) in
-      record { events = rest.events; meets = rest.meets; brings = rest.brings }
+      record { events = rest.events; meets = rest.meets; brings = rest.brings; values = rest.values }
 
 -- If all datagrams are delivered first
 
@@ -172,37 +193,3 @@ delivery_of at_end (steps.Pop now ∷ later) events k meta brings is =
       | inr rest ↦ inr (delivery_of at_end later brings.1 k meta brings.4 rest)
     ]
 delivery_of at_end (steps.Finish ∷ later) events k meta brings is = inr (delivery_of true later events k meta brings is)
-
--- the metadata can be stated in other words
-module _ (known told : ℕ → Packet → RtpMeta → Type 0) (tells : (k : ℕ) (q : Packet) (m : RtpMeta) → known k q m → told k q m) where
-  pushes_told : (k : ℕ) (packets : List Packet) (metas : List RtpMeta) → ArePushesBy known k packets metas → ArePushesBy told k packets metas
-  pushes_told k [] [] are = tt
-  pushes_told k [] (m ∷ metas) are = absurd are
-  pushes_told k (q ∷ packets) [] are = absurd are
-  pushes_told k (q ∷ packets) (m ∷ metas) are = (tells k q m are.0, pushes_told (k + 1) packets metas are.1)
-
-  pub order_told : (splits : Bool) (units : List SentUnit) (from : ℕ) (answers : List Answer) → InOrder known splits units from answers → InOrder told splits units from answers
-  order_told splits units from [] order = tt
-  order_told splits units from (None ∷ answers) order = order_told splits units from answers order
-  order_told splits units from (Some (Err fault) ∷ answers) order = absurd order
-  order_told splits units from (Some (Ok r) ∷ answers) order =
-      let at = order.2 in (
-        order.0,
-        order.1,
-        record {
-          sent = at.sent;
-          at_place = at.at_place;
-          missing = at.missing;
-          rest = at.rest;
-          whole = at.whole;
-          bytes = at.bytes;
-          metas = pushes_told _ at.rest r.metas at.metas;
-        },
-        order_told splits units (order.0 + 1) answers order.3,
-      )
-
-  pub all_told : (k : ℕ) (units : List SentUnit) (answers : List Answer) → AnswersAll known k units answers → AnswersAll told k units answers
-  all_told k units [] all = tt
-  all_told k [] (answer ∷ answers) all = (all.0, all_told k [] answers all.1)
-  all_told k (u ∷ units) (answer ∷ answers) all =
-      (all.0, all.1, record { bytes = all.2.bytes; metas = pushes_told k u.packets all.0.metas all.2.metas }, all_told (k + length u.packets) units answers all.3)

@@ -1,9 +1,12 @@
 pub mod DeliveredLemmas
 pub mod EventLemmas
+pub mod GapLemmas
+pub mod LogLemmas
 pub mod NewReceivers
 pub mod ReadingLemmas
 pub mod ReceivingLemmas
 pub mod ReleaseLemmas
 pub mod SendingLemmas
 pub mod StepLemmas
+pub mod ValueLemmas
 pub mod WireRunExamples

@@ -33,7 +33,7 @@ use Rattle.codec_payload_stream.proofs.PopLemmas.{drops_stay, pops_at_once}
 use Rattle.codec_payload_stream.specs.RedOnce.{HasNoBlock}
 use Rattle.codec_payload_stream.proofs.BlockTimeLemmas.{and_false, packet_has_no_block}
 use Rattle.codec_payload_wire.proofs.ReadingLemmas.{datagram_is, packet_at}
-use Rattle.codec_payload_wire.specs.Releases.{ReadsAs, is_sent_again_by}
+use Rattle.codec_payload_wire.specs.Releases.{ReadsAs, is_sent_again_by, values_read}
 use Rattle.codec_payload_wire.specs.WireRuns.{Delivers, PopsUnit, Receipt}
 
 -- each datagram with one of these indices gets the number of the first sent datagram, plus its index
@@ -134,10 +134,12 @@ pub record IsPushed (time_of : ℕ → ℕ) (stream : Stream) (now : Ticks) (q :
   pub times : AreTimesOf time_of t.packets.noted
   pub meta : RtpMeta
   pub tells : Tells stream.clock_rate q meta
+  pub values : meta.header.ext_vals ≡ values_read s.stream.ids stream q.ext_vals
   pub received : meta.received ≡ now
   pub buffer : t.packets.buffer ≡ pushed s.packets.buffer (arrived s.packets.buffer.depacketizer meta q.payload)
   pub numbering : t.packets.numbering ≡ numbering_after s.packets.numbering (q.number % 2 ^ 16)
   pub listening : IsListening stream t
+  pub kinds : t.stream ≡ s.stream
   pub ended : t.packets.ended ≡ s.packets.ended
 
 pub pushes : (time_of : ℕ → ℕ) (stream : Stream) (now : Ticks) (q : Packet) (bytes : List ℕ) (s t : Session) (receipt : Receipt) → (stream.payload_type < 64)
@@ -167,6 +169,7 @@ pushes time_of stream now q bytes s t receipt types listening reads numbered tim
         time = ap (λ (r : ℕ). record { numer = q.rtp_time; rate = r }) listening.rate;
         marker = refl;
       };
+      values = refl;
       received = refl;
       buffer = buffer;
       numbering = ap (λ (x : Receiving). x.numbering) packets ∙ one.numbering;
@@ -183,6 +186,7 @@ pushes time_of stream now q bytes s t receipt types listening reads numbered tim
         no_block_seen = subst HasNoBlock (sym seen) (packet_has_no_block (is_some s.stream.red) hears.outcome a.header.timestamp s.seen listening.no_block_seen);
         drops_none = ap (λ (x : Session). x.gates.drops) hears.left ∙ listening.drops_none;
       };
+      kinds = ap (λ (x : Session). x.stream) hears.left;
       ended = ap (λ (x : Receiving). x.ended) packets ∙ one.ended;
     }
 
@@ -207,6 +211,7 @@ pub record IsPopped (stream : Stream) (now : Ticks) (answer : Answer) (s t : Ses
   pub noted : t.packets.noted ≡ s.packets.noted
   pub numbering : t.packets.numbering ≡ s.packets.numbering
   pub listening : IsListening stream t
+  pub kinds : t.stream ≡ s.stream
   pub ended : t.packets.ended ≡ s.packets.ended
 
 -- which parts of the jitter buffer a pop leaves unchanged, and what it does to the buffer
@@ -276,5 +281,6 @@ pops_as stream now answer s t listening not_memory gated =
         no_block_seen = subst HasNoBlock (sym (ap (λ (x : Session). x.seen) popped.2)) listening.no_block_seen;
         drops_none = ap (λ (x : Session). x.gates.drops) popped.2 ∙ (drops_stay s.gates _ answer ∙ listening.drops_none);
       };
+      kinds = ap (λ (x : Session). x.stream) popped.2;
       ended = ap (λ (x : Receiving). x.ended) packets ∙ turn.ended;
     }

@@ -1,17 +1,28 @@
 -- The units that a run over datagrams releases, from three parts: what it sends, what it receives, and the theorem of the
 -- buffer.
-use Rattle.std.proofs.Common.{◌≡◌, ◌∙◌, refl, sym, ap, subst, ℕ, ◌+◌, ◌-◌, ◌*◌, ◌/◌, ◌%◌, ◌^◌, ◌<◌, max, List, [], ◌∷◌, map, true, false, Some, length, arith}
+use Rattle.std.proofs.Common.{◌≡◌, ◌∙◌, refl, sym, ap, subst, ℕ, ◌+◌, ◌-◌, ◌*◌, ◌/◌, ◌%◌, ◌^◌, ◌<◌, max, List, [], ◌∷◌, map, false, Bool, None, Some, length, arith}
 use Rattle.std.proofs.lemmas.Option.{same_Some, slice_get_within}
 use Rattle.codec_payload_buffer.proofs.MemberLemmas.{contains_in, in_contains}
 use Rattle.codec_payload_buffer.specs.ContiguityTable.{contiguity_for}
-use Rattle.codec_payload_codec.specs.Depacketizers.{is_built_in_depacketizer, is_codec, kind_of_depacketizer}
+use Rattle.codec_payload_codec.specs.Depacketizers.{DepacketizerKind, is_built_in_depacketizer, is_codec, kind_of_depacketizer, tail_in}
 use Rattle.codec_payload_codec.proofs.CodecLemmas.{codec_payloads}
-use Rattle.codec_payload_codec.specs.Packetizers.{is_built_in, payloads_by, may_split}
+use Rattle.codec_payload_codec.specs.Packetizers.{payloads_by, may_split}
 use Rattle.codec_payload_buffer.specs.declared.buffer.unit.RtpMeta.{RtpMeta}
-use Rattle.codec_payload_runs.proofs.ArrivalLemmas.{release_in_order}
-use Rattle.codec_payload_runs.specs.Arrivals.{AllArriveFirst, Arrives, Meets, ReleasesArrivals, Tells}
-use Rattle.codec_payload_runs.specs.Arrivals as core
+use Rattle.codec_payload_runs.proofs.ArrivalLemmas.{AllKnown, met_all, met_in_order}
+use Rattle.codec_payload_runs.proofs.BuiltInRuns.{plainly, unused_exactly}
+use Rattle.codec_payload_runs.proofs.RunSettings.{empty, fresh, may_go, nothing, ready, setting, tracked}
+use Rattle.codec_payload_runs.proofs.SafetyLemmas.{SendsAll, all_end, sends_all}
+use Rattle.codec_payload_runs.proofs.StreamLemmas.{Streams, streams}
+use Rattle.codec_payload_runs.proofs.TurnLemmas.{IsReady, Setting}
+use Rattle.codec_payload_runs.proofs.UnitRows.{IsFaithful}
+use Rattle.codec_payload_runs.specs.Arrivals.{AllArriveFirst, Event, Meets}
+use Rattle.codec_payload_runs.specs.Exact.{AnswersAll}
 use Rattle.codec_payload_runs.specs.Headline.{IsUnused}
+use Rattle.codec_payload_runs.specs.LawfulUnits.{AllLawful}
+use Rattle.codec_payload_runs.specs.Log as runs
+use Rattle.codec_payload_runs.specs.RunValues.{values_of_run}
+use Rattle.codec_payload_runs.specs.SentStream.{SentUnit, packets_of}
+use Rattle.codec_payload_runs.specs.declared.run.Step.{Step}
 use Rattle.codec_payload_send.specs.Packets.{Packet}
 use Rattle.codec_payload_runs.specs.Schedule.{Answer, RunState}
 use Rattle.codec_payload_send.specs.Sending.{Sample}
@@ -26,13 +37,17 @@ use Rattle.codec_payload_stream.specs.Sessions.{Session}
 use Rattle.codec_payload_stream.specs.RedOnce.{HasNoBlock}
 use Rattle.codec_payload_stream.proofs.BlockTimeLemmas.{new_has_no_block}
 use Rattle.codec_payload_wire.proofs.DeliveredLemmas.{AllIn, delivered_before}
-use Rattle.codec_payload_wire.proofs.EventLemmas.{Brings, IsMet, all_told, delivery_of, met, order_told, split_at_end, times_from}
+use Rattle.codec_payload_wire.proofs.EventLemmas.{Brings, IsMet, delivery_of, met, split_at_end, times_from}
+use Rattle.codec_payload_wire.proofs.GapLemmas.{only_past_gap}
+use Rattle.codec_payload_wire.proofs.LogLemmas.{Chained, HasLog, all_follow, chained, log_of, none_is_lost, none_passed, stretches}
 use Rattle.codec_payload_wire.proofs.NewReceivers.{IsBegun, new_is_begun}
 use Rattle.codec_payload_wire.proofs.ReceivingLemmas.{AllNumbered, IsListening}
 use Rattle.codec_payload_wire.proofs.SendingLemmas.{SendsRun, running, same_count, sends_run}
 use Rattle.codec_payload_wire.proofs.StepLemmas.{ComesTo, Takes, comes_to}
-use Rattle.codec_payload_wire.specs.Releases.{is_sent_again_by, AllComeFirst, AreDatagrams, ComeWithin, StayWithin, IsDelivery}
+use Rattle.codec_payload_wire.proofs.ValueLemmas.{has_values}
+use Rattle.codec_payload_wire.specs.Releases.{is_sent_again_by, AllComeFirst, AreDatagrams, ComeWithin, HasValuesOf, StayWithin, IsDelivery}
 use Rattle.codec_payload_wire.specs.Releases.{IsWithinWindows, ReleaseOverDatagrams, ReleasesUnits, delivered, received_steps, sending_steps}
+use Rattle.codec_payload_wire.specs.WireLogs.{KeepsPromises, PromisesOverDatagrams, WireLog}
 use Rattle.codec_payload_wire.specs.WireRuns.{Runs, Wire, begins}
 use Rattle.codec_payload_wire.specs.declared.run.DatagramStep.{DatagramStep}
 use Rattle.codec_payload_wire.specs.declared.run.DatagramStep.TheVariants as steps
@@ -184,7 +199,7 @@ module _ (samples : List Sample) (all_steps : List DatagramStep) (sender : Sendi
   nothing_noted : AreTimesOf (times_from first sent.all) receiver.packets.noted
   nothing_noted = subst (λ (x : Session). AreTimesOf (times_from first sent.all) x.packets.noted) (sym begun.is) (λ k d below. absurd (omega (arith, below)))
 
-  come : IsMet rate sent.all received receiver t.pops t.session
+  come : IsMet sender.stream sent.all received receiver t.pops t.session
   come = met sender.stream within.one_stream.not_rtcp first sent.all t.datagrams sent.at.reads sent.at.numbered received receiver t.session t.pops listening numbers nothing_noted takes
 
   abbrev start : RunState
@@ -202,16 +217,55 @@ module _ (samples : List Sample) (all_steps : List DatagramStep) (sender : Sendi
     nothing_kept = ap (λ (x : Session). x.packets.buffer.contiguity) begun.is ∙ sym (ap (λ (x : Session). contiguity_for (kind_of_depacketizer x.packets.buffer.depacketizer)) begun.is);
   }
 
-  releases : ReleasesArrivals samples (sending_steps sender.mtu all_steps) start (running receiver.packets.buffer first rate t.sending sent.all) come.events t.pops
-  releases = release_in_order samples (sending_steps sender.mtu all_steps) start (running receiver.packets.buffer first rate t.sending sent.all) sent.entries [] sent.runs unused within.readable
-      come.events t.pops t.session.packets.buffer come.meets
+  -- the units of the samples
 
-  told : (k : ℕ) (q : Packet) (m : RtpMeta) → core.IsMet rate come.events k q m → IsDelivery rate received k q m
-  told k q m known = (
-    contains_in (steps.Deliver k m.received) received
-        (delivery_of receiver.packets.ended received come.events k m come.brings (in_contains (Arrives k m) come.events known.0)),
-    known.1,
+  abbrev after : RunState
+  after = running receiver.packets.buffer first rate t.sending sent.all
+
+  abbrev sends : List Step
+  sends = sending_steps sender.mtu all_steps
+
+  units_sent : Streams samples sends start after
+  units_sent = streams plainly samples 0 sends start after sent.entries [] (unused_exactly samples sends start sent.entries [] after unused sent.runs)
+
+  whole : SendsAll start after units_sent.units
+  whole = sends_all samples sends start after unused units_sent
+
+  abbrev units : List SentUnit
+  units = units_sent.units
+
+  abbrev kind : DepacketizerKind
+  kind = payloads_by sender.packetizer
+
+  abbrev splits : Bool
+  splits = may_split sender.packetizer
+
+  lawful : AllLawful kind splits units
+  lawful = units_sent.lawful within.readable
+
+  abbrev Known : ℕ → Packet → RtpMeta → Type 0
+  Known = IsDelivery receiver.stream.ids sender.stream (packets_of units) received
+
+  faithful : IsFaithful Known rate kind
+  faithful = record {
+    number = λ k q m known. known.1.number;
+    time = λ k q m known. known.1.time;
+    tail = λ k q m known. ap (λ b. tail_in kind b q.payload) known.1.marker;
+  }
+
+  -- the buffer's part of the run
+  abbrev here : Setting
+  here = setting samples sends start after units_sent unused within.readable Known faithful units lawful (sym whole.whole)
+
+  known : AllKnown here come.events
+  known k meta is q tells = (
+    contains_in (steps.Deliver k meta.received) received (delivery_of receiver.packets.ended received come.events k meta come.brings is),
+    tells,
+    subst (λ (ps : List Packet). HasValuesOf receiver.stream.ids sender.stream ps k meta) whole.whole (come.values k meta is),
   )
+
+  meets : Meets rate (packets_of units) come.events receiver.packets.buffer t.pops t.session.packets.buffer
+  meets = subst (λ (ps : List Packet). Meets rate ps come.events receiver.packets.buffer t.pops t.session.packets.buffer) whole.whole come.meets
 
   all_come : AllComeFirst receiver.packets.buffer.limit (length t.datagrams) received → AllArriveFirst receiver.packets.buffer.limit sent.all come.events
   all_come come_first =
@@ -228,17 +282,58 @@ module _ (samples : List Sample) (all_steps : List DatagramStep) (sender : Sendi
         made = split.made;
       }
 
-  releases_units : ReleasesUnits samples all_steps (begins sender receiver) t
+  answers_all : AllComeFirst receiver.packets.buffer.limit (length t.datagrams) received → AnswersAll Known 0 units t.pops
+  answers_all come_first =
+      let first_all = all_come come_first in
+      met_all here first_all.before first_all.after receiver.packets.buffer t.session.packets.buffer t.pops (subst (AllKnown here) first_all.whole known) first_all.no_pops first_all.made
+      (empty samples sends start after units_sent unused within.readable Known faithful units lawful (sym whole.whole) first_all.few)
+      (may_go samples sends start after units_sent unused within.readable Known faithful)
+      (λ k l. first_all.each k (subst (λ (ps : List Packet). k < length ps) (sym whole.whole) l))
+      (subst (λ (es : List Event). Meets rate (packets_of units) es receiver.packets.buffer t.pops t.session.packets.buffer) first_all.whole meets)
+
+  abbrev releases_units : ReleasesUnits samples all_steps (begins sender receiver) t
   releases_units = record {
-    units = releases.units;
-    canonical = releases.canonical;
-    datagrams = subst (λ (ps : List Packet). AreDatagrams sender.stream ps t.datagrams) (sym releases.packets) sent.at.reads;
-    ends = releases.ends;
-    in_order = order_told (core.IsMet rate come.events) (IsDelivery rate received) told (may_split sender.packetizer) releases.units 0 t.pops releases.in_order;
+    units = units;
+    canonical = units_sent.canonical;
+    datagrams = subst (λ (ps : List Packet). AreDatagrams sender.stream ps t.datagrams) whole.whole sent.at.reads;
+    ends = all_end kind splits units lawful;
+    in_order = met_in_order here 0 come.events receiver.packets.buffer t.session.packets.buffer t.pops known
+        (fresh samples sends start after units_sent unused within.readable Known faithful units lawful (sym whole.whole)) meets;
     before_pops = delivered_before rate sent.all receiver.packets.ended received [] come.events receiver.packets.buffer t.session.packets.buffer t.pops come.brings come.meets
         (subst (λ (x : Session). AllIn [] x.packets.buffer.held) (sym begun.is) tt);
-    exactly = λ come_first. all_told (core.IsMet rate come.events) (IsDelivery rate received) told 0 releases.units t.pops (releases.exactly (all_come come_first));
+    exactly = answers_all;
+    extension_values = λ video ids place r is. has_values receiver.stream.ids sender.stream received kind splits units (values_of_run sender.packetizer samples sends)
+        (all_end kind splits units lawful) (units_sent.values video) ids.same ids.fit place r is;
   }
+
+  -- Pop by pop
+
+  abbrev readies : IsReady here 0 receiver.packets.buffer
+  readies = ready samples sends start after units_sent unused within.readable Known faithful units lawful (sym whole.whole)
+
+  log : HasLog Known (packets_of units) received (runs.begun receiver.packets.buffer) t.pops t.session.packets.buffer
+  log = log_of here receiver.packets.ended received come.events (runs.begun receiver.packets.buffer) t.session.packets.buffer t.pops come.brings known meets
+
+  chain : (l : WireLog samples all_steps (begins sender receiver) t units) → Chained here receiver.packets.buffer l.turns l.end
+  chain l = chained here received 0 (runs.begun receiver.packets.buffer) l.turns l.end readies (record { sent = tt; now = refl }) l.is_log
+
+  pub keeps_promises : KeepsPromises samples all_steps (begins sender receiver) t
+  keeps_promises = record {
+    released = releases_units;
+    first = first;
+    numbered = whole.numbered;
+    logged = record { turns = log.turns; end = log.end; is_log = log.is_log; answers = log.answers_are; left = log.left };
+    order = λ l. stretches here 0 receiver.packets.buffer l.turns l.end readies (chain l);
+    contiguous = λ plain l. all_follow here 0 None false receiver.packets.buffer l.turns l.end plain readies
+        (tracked samples sends start after units_sent unused within.readable Known faithful units lawful (sym whole.whole)) (chain l);
+    no_silent_loss = λ l. none_is_lost here 0 receiver.packets.buffer l.turns l.end readies (chain l);
+    none_skipped = λ plain l. none_passed here 0 receiver.packets.buffer l.turns l.end plain readies (chain l);
+    skipped_past_gap = λ l. only_past_gap here receiver.packets.buffer l.turns l.end readies
+        (nothing samples sends start after units_sent unused within.readable Known faithful units lawful (sym whole.whole)) (chain l);
+  }
+
+pub promises_over_datagrams : PromisesOverDatagrams
+promises_over_datagrams samples all_steps sender receiver t run within = keeps_promises samples all_steps sender receiver t run within
 
 pub release_over_datagrams : ReleaseOverDatagrams
 release_over_datagrams samples all_steps sender receiver t run within = releases_units samples all_steps sender receiver t run within

@@ -2,9 +2,10 @@
 use Rattle.std.specs.Global.{Vec}
 use Rattle.std.proofs.Common.{refl, ℕ, zero, suc, ◌<◌, List, [], ◌∷◌, inr, arith, lit<, lit≤}
 use Rattle.std.specs.Prelude.{Contains}
-use Rattle.codec_payload_codec.specs.Depacketizers.{OpusDepacketizing}
+use Rattle.codec_payload_codec.specs.Depacketizers.{Av1Depacketizing, OpusDepacketizing}
 use Rattle.codec_payload_wire.specs.Releases.{IsWithinWindows, delivered}
-use Rattle.codec_payload_wire.specs.WireRunExample.{CanBeMet, at, frames_sent, one_each, opus_receiver, opus_sender, opus_settings, swapped_steps}
+use Rattle.codec_payload_wire.specs.WireRunExample.{CanBeMet, at, frames_sent, one_each, one_sent, opus_receiver, opus_sender, opus_settings, oriented, swapped_steps}
+use Rattle.codec_payload_wire.specs.WireRunExample.{video_receiver, video_sender, video_settings, video_steps}
 use Rattle.codec_payload_wire.specs.declared.run.DatagramStep.{DatagramStep}
 use Rattle.codec_payload_wire.specs.declared.run.DatagramStep.TheVariants as steps
 
@@ -28,6 +29,26 @@ is_within no_media = record {
   within = (lit< tt, (lit< tt, lit≤ tt, (lit< tt, lit≤ tt, (lit< tt, lit≤ tt, tt))));
 }
 
+video_is_within : (no_media : Vec ℕ) → IsWithinWindows (oriented ∷ []) video_steps video_sender (video_receiver no_media) one_sent
+video_is_within no_media = record {
+  settings = video_settings no_media;
+  depacketizer = Av1Depacketizing [];
+  new = refl;
+  one_stream = record {
+    built_in = refl;
+    alike = refl;
+    nothing_read = refl;
+    clock_rate = refl;
+    payload_type = refl;
+    not_rtcp = inr (lit< tt);
+    ssrc = refl;
+    not_again = refl;
+    drops_none = refl;
+  };
+  readable = (refl, tt);
+  within = (lit< tt, tt);
+}
+
 abbrev before_end : List DatagramStep
 before_end = steps.Deliver 1 (at 25) ∷ steps.Deliver 0 (at 27) ∷ steps.Deliver 2 (at 40) ∷ steps.Deliver 1 (at 41) ∷ []
 
@@ -48,5 +69,9 @@ can_be_met = record {
     no_pops = tt;
     each = each_comes;
   };
+  video = refl;
+  video_within = video_is_within;
+  ids = λ no_media. record { same = refl; fit = refl };
+  values = record { capture = tt; timing = tt; layers = tt };
   are_delivered = refl;
 }

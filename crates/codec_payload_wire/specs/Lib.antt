@@ -1,3 +1,4 @@
 pub mod WireRuns
 pub mod Releases
+pub mod WireLogs
 pub mod WireRunExample

@@ -3,12 +3,16 @@ use Rattle.std.specs.Prelude.{◌≡◌, ℕ, ◌+◌, ◌%◌, ◌^◌, ◌<◌
 use Rattle.std.specs.Prelude.{false, List, [], ◌∷◌, ◌++◌, Option, Some, None, Ok, Err, Contains, length, map, slice_get, refl}
 use Rattle.std.proofs.Common.{lit<, lit≤}
 use Rattle.codec_payload_base.specs.declared.wire.Ticks.{Ticks}
+use Rattle.codec_payload_base.specs.declared.wire.extension.ExtensionValues.{ExtensionValues}
 use Rattle.codec_payload_codec.specs.Depacketizers.{DepacketizerState, kind_of_depacketizer}
-use Rattle.codec_payload_codec.specs.Packetizers.{is_built_in, payloads_by, may_split}
+use Rattle.codec_payload_codec.specs.Packetizers.{is_built_in, is_video, payloads_by, may_split}
+use Rattle.codec_payload_buffer.specs.Release.{AreValues, Release}
 use Rattle.codec_payload_buffer.specs.declared.buffer.unit.RtpMeta.{RtpMeta}
 use Rattle.codec_payload_runs.specs.Arrivals.{Tells}
 use Rattle.codec_payload_runs.specs.Exact.{AnswersAll}
 use Rattle.codec_payload_runs.specs.Headline.{InOrder}
+use Rattle.codec_payload_runs.specs.RunUnits.{IsWholeAt}
+use Rattle.codec_payload_runs.specs.RunValues.{values_of_run}
 use Rattle.codec_payload_runs.specs.Schedule.{Answer}
 use Rattle.codec_payload_send.specs.Packets.{Packet}
 use Rattle.codec_payload_send.specs.Sending.{Sample}
@@ -16,7 +20,10 @@ use Rattle.codec_payload_runs.specs.SentStream.{AllEndWithTail, AreReadable, Sen
 use Rattle.codec_payload_runs.specs.ReportedIds.{read_by}
 use Rattle.codec_payload_runs.specs.declared.run.Step.{Step}
 use Rattle.codec_payload_runs.specs.declared.run.Step.TheVariants as run_steps
+use Rattle.codec_payload_rtp.specs.ExtensionFormats.{elements_of, values_in}
+use Rattle.codec_payload_rtp.specs.ExtensionWriting.{FitsValues, elements_for, extension_for, ids_fit, values_told}
 use Rattle.codec_payload_rtp.specs.RtpReading.{rtp_at}
+use Rattle.codec_payload_rtp.specs.declared.values.ExtensionIds.{ExtensionIds}
 use Rattle.codec_payload_sender.specs.Datagrams.{header_with}
 use Rattle.codec_payload_sender.specs.Senders.{Sending}
 use Rattle.codec_payload_sender.specs.declared.sender.Stream.{Stream}
@@ -82,9 +89,18 @@ delivered (steps.Deliver k now ∷ later) = k ∷ delivered later
 delivered (steps.Pop now ∷ later) = delivered later
 delivered (steps.Finish ∷ later) = delivered later
 
--- the metadata of a packet: its datagram was delivered at its time of arrival
-abbrev pub IsDelivery : ℕ → List DatagramStep → ℕ → Packet → RtpMeta → Type 0
-IsDelivery clock_rate all_steps k q meta = Contains all_steps (steps.Deliver k meta.received) × Tells clock_rate q meta
+-- the extension values that a receiver with these ids reads in a packet of the stream that was sent with `values`
+abbrev pub values_read : ExtensionIds → Stream → ExtensionValues → ExtensionValues
+values_read ids stream values = values_in ids (elements_of (extension_for (elements_for stream.ids values)))
+
+-- the metadata has the extension values of the packet with this index, as a receiver with these ids reads them
+abbrev pub HasValuesOf : ExtensionIds → Stream → List Packet → ℕ → RtpMeta → Type 0
+HasValuesOf ids stream packets k meta = (q : Packet) × (slice_get packets k ≡ Some q) × (meta.header.ext_vals ≡ values_read ids stream q.ext_vals)
+
+-- the metadata of a packet: its datagram was delivered at its time of arrival, and has its number, time, marker and values
+abbrev pub IsDelivery : ExtensionIds → Stream → List Packet → List DatagramStep → ℕ → Packet → RtpMeta → Type 0
+IsDelivery ids stream packets all_steps k q meta =
+    Contains all_steps (steps.Deliver k meta.received) × Tells stream.clock_rate q meta × HasValuesOf ids stream packets k meta
 
 -- the step is in the list
 abbrev pub IsAmong : DatagramStep → List DatagramStep → Type 0
@@ -175,18 +191,36 @@ pub record AllComeFirst (limit count : ℕ) (received : List DatagramStep) : Typ
   pub no_pops : HaveNoPops before
   pub each : (k : ℕ) → k < count → Contains (delivered before) k
 
+-- what is known of the metadata of a packet of these units, by its index
+abbrev pub IsKnownOf : List Sample → List DatagramStep → Wire → Wire → List SentUnit → ℕ → Packet → RtpMeta → Type 0
+IsKnownOf samples all_steps s t units = IsDelivery s.session.stream.ids s.sending.stream (packets_of units) (received_steps samples 0 all_steps t.sends)
+
+-- sender and receiver have the same ids of header extensions, which can be written
+pub record ShareIds (s : Wire) : Type 0 where
+  pub same : s.session.stream.ids ≡ s.sending.stream.ids
+  pub fit : ids_fit s.sending.stream.ids ≡ true
+
+-- each release that is a whole unit of video has the extension values of that unit's sample: those that have an id. The numbers
+-- of the values have their width
+abbrev pub HaveValuesOfSamples : List Sample → List DatagramStep → Wire → Wire → List SentUnit → Type 0
+HaveValuesOfSamples samples all_steps s t units =
+    is_video s.sending.packetizer ≡ true → ShareIds s → (place : ℕ) (r : Release) → IsWholeAt (IsKnownOf samples all_steps s t units) (may_split s.sending.packetizer) units place r
+    → (values : ExtensionValues) × (slice_get (values_of_run s.sending.packetizer samples (sending_steps s.sending.mtu all_steps)) place ≡ Some values)
+    × (FitsValues values → AreValues r.metas (values_told s.sending.stream.ids values))
+
 -- The sent datagrams read as the packets of canonical units. The units are popped in order, each at most once and complete,
 -- from packets that were delivered before the pop. If all datagrams arrive before the stream ends, and all pops come after
--- that, all units are popped.
+-- that, all units are popped. A complete unit of video has the extension values of its sample.
 pub record ReleasesUnits (samples : List Sample) (all_steps : List DatagramStep) (s t : Wire) : Type 0 where
   pub units : List SentUnit
   pub canonical : map (λ (u : SentUnit). u.parts) units ≡ units_of_run s.sending.packetizer samples (sending_steps s.sending.mtu all_steps)
   pub datagrams : AreDatagrams s.sending.stream (packets_of units) t.datagrams
   pub ends : AllEndWithTail (payloads_by s.sending.packetizer) units
-  pub in_order : InOrder (IsDelivery s.sending.stream.clock_rate (received_steps samples 0 all_steps t.sends)) (may_split s.sending.packetizer) units 0 t.pops
+  pub in_order : InOrder (IsKnownOf samples all_steps s t units) (may_split s.sending.packetizer) units 0 t.pops
   pub before_pops : AreDeliveredBefore [] (received_steps samples 0 all_steps t.sends) t.pops
   pub exactly : AllComeFirst s.session.packets.buffer.limit (length t.datagrams) (received_steps samples 0 all_steps t.sends)
-      → AnswersAll (IsDelivery s.sending.stream.clock_rate (received_steps samples 0 all_steps t.sends)) 0 units t.pops
+      → AnswersAll (IsKnownOf samples all_steps s t units) 0 units t.pops
+  pub extension_values : HaveValuesOfSamples samples all_steps s t units
 
 -- this applies to a run whose samples can be read, and whose datagrams arrive within the windows
 abbrev pub ReleasesWithinWindows : List Sample → List DatagramStep → Wire → Wire → Type 0

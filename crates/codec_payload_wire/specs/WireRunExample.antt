@@ -1,19 +1,22 @@
 -- A run over datagrams that meets the premises: three frames of Opus, whose datagrams arrive in another order, and one of them twice.
 use Rattle.std.specs.Global.{Vec}
-use Rattle.std.specs.Prelude.{◌≡◌, ℕ, List, [], ◌∷◌, Some, None, false}
+use Rattle.std.specs.Prelude.{◌≡◌, ℕ, List, [], ◌∷◌, Some, None, true, false}
 use Rattle.codec_payload_base.specs.Extensions.{no_values}
 use Rattle.codec_payload_base.specs.declared.wire.Ticks.{Ticks}
-use Rattle.codec_payload_codec.specs.Depacketizers.{OpusDepacketizing}
-use Rattle.codec_payload_codec.specs.Packetizers.{OpusPacketizing}
+use Rattle.codec_payload_codec.specs.Depacketizers.{Av1Depacketizing, OpusDepacketizing}
+use Rattle.codec_payload_codec.specs.Packetizers.{Av1Packetizing, OpusPacketizing, is_video}
 use Rattle.codec_payload_jitter.specs.Numbers.{no_numbers}
 use Rattle.codec_payload_jitter.specs.Waiting.{waits_for}
 use Rattle.codec_payload_keyframes.specs.declared.unit_gate.FromKeyframe.TheVariants as modes
+use Rattle.codec_payload_rtp.specs.ExtensionWriting.{FitsValues}
+use Rattle.codec_payload_rtp.specs.declared.values.ExtensionIds.{ExtensionIds}
 use Rattle.codec_payload_send.specs.Sending.{Sample}
 use Rattle.codec_payload_sender.specs.Senders.{Sending, nothing_sent}
 use Rattle.codec_payload_stream.specs.Defaults.{no_ids}
 use Rattle.codec_payload_stream.specs.Sessions.{Session, session_with}
 use Rattle.codec_payload_stream.specs.declared.receiver.Settings.{Settings}
-use Rattle.codec_payload_wire.specs.Releases.{AllComeFirst, IsWithinWindows, delivered, received_steps}
+use Rattle.codec_payload_wire.specs.Releases.{AllComeFirst, IsWithinWindows, ShareIds, delivered, received_steps}
+use Rattle.codec_payload_wire.specs.WireRuns.{begins}
 use Rattle.codec_payload_wire.specs.declared.run.DatagramStep.{DatagramStep}
 use Rattle.codec_payload_wire.specs.declared.run.DatagramStep.TheVariants as steps
 use Rattle.codec_payload_wire.specs.declared.run.SentSample.{SentSample}
@@ -68,9 +71,37 @@ swapped_steps =
 abbrev pub one_each : List SentSample
 one_each = record { count = 1; fault = None } ∷ record { count = 1; fault = None } ∷ record { count = 1; fault = None } ∷ []
 
--- the premises of a run can be met, those of the promise that all units are popped too
+-- A frame of AV1 with an orientation, whose element has the id 3
+
+abbrev pub oriented : Sample
+oriented = record (frame_at 960 (0x32 ∷ 0x01 ∷ 0x00 ∷ [])) { ext_vals = record no_values { video_orientation = Some 1 } }
+
+abbrev pub some_ids : ExtensionIds
+some_ids = record no_ids { video_orientation = Some 3 }
+
+abbrev pub video_sender : Sending
+video_sender = record opus_sender { packetizer = Av1Packetizing; stream = record opus_sender.stream { ids = some_ids } }
+
+abbrev pub video_settings : Vec ℕ → Settings
+video_settings no_media = record (opus_settings no_media) { extension_ids = some_ids }
+
+abbrev pub video_receiver : Vec ℕ → Session
+video_receiver no_media = session_with (video_settings no_media) (Av1Depacketizing []) None (no_numbers 3000 1000)
+
+abbrev pub video_steps : List DatagramStep
+video_steps = steps.Send 0 ∷ steps.Deliver 0 (at 25) ∷ steps.Pop (at 26) ∷ []
+
+abbrev pub one_sent : List SentSample
+one_sent = record { count = 1; fault = None } ∷ []
+
+-- the premises of a run can be met, those of the promise that all units are popped too, and those of the promise on extension
+-- values
 pub record CanBeMet : Type 0 where
   pub within : (no_media : Vec ℕ) → IsWithinWindows frames_sent swapped_steps opus_sender (opus_receiver no_media) one_each
   pub all_come : AllComeFirst 4096 3 (received_steps frames_sent 0 swapped_steps one_each)
+  pub video : is_video video_sender.packetizer ≡ true
+  pub video_within : (no_media : Vec ℕ) → IsWithinWindows (oriented ∷ []) video_steps video_sender (video_receiver no_media) one_sent
+  pub ids : (no_media : Vec ℕ) → ShareIds (begins video_sender (video_receiver no_media))
+  pub values : FitsValues oriented.ext_vals
   -- the datagrams that it delivers
   pub are_delivered : delivered (received_steps frames_sent 0 swapped_steps one_each) ≡ 1 ∷ 0 ∷ 2 ∷ 1 ∷ []

@@ -11,6 +11,7 @@ ghost use Rattle.codec_payload_stream.specs.declared.receiver.ReceiveError.TheVa
 ghost use Rattle.codec_payload_runs.specs.Schedule.{Answer};
 ghost use Rattle.codec_payload_stream.specs.Sessions.{ReceivesBytes};
 ghost use Rattle.codec_payload_wire.specs.Releases.{ReleasesWithinWindows};
+ghost use Rattle.codec_payload_wire.specs.WireLogs.{KeepsPromisesWithinWindows};
 ghost use Rattle.codec_payload_wire.specs.WireRuns.{DoesStep, PopsUnit, Runs, SendsIt, SendsOrRefuses, Stops, StopsAt, StopsSending, begins, bytes_in, sent_sample, wire_of};
 ghost use Rattle.codec_payload_wire.specs.declared.run.SentSample.{SentSample as Entry};
 
@@ -79,6 +80,8 @@ pub fn run_datagrams<P: Packetizer, D: Depacketizer>(
     ensures runs { IfOk result (λ run. Runs (map sample_of samples.now) steps.now (begins sender.old receiver.old) (wire_of sender.new receiver.new run)) }
     // The popped units, if the delivered datagrams arrive within the windows of the receiver.
     ensures units { IfOk result (λ run. ReleasesWithinWindows (map sample_of samples.now) steps.now (begins sender.old receiver.old) (wire_of sender.new receiver.new run)) }
+    // Pop by pop: what the receiver holds, which units are contiguous, and that none is lost silently.
+    ensures promises { IfOk result (λ run. KeepsPromisesWithinWindows (map sample_of samples.now) steps.now (begins sender.old receiver.old) (wire_of sender.new receiver.new run)) }
     ensures stops { OnErr result (Stops (map sample_of samples.now) steps.now (begins sender.old receiver.old) sender.new receiver.new) }
     ensures fault { IfErr result (λ fault. fault ≡ OutOfMemory) }
 {

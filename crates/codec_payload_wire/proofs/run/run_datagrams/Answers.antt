@@ -1,9 +1,8 @@
 use Rattle.std.proofs.Common.{inl, inr, refl, sym, subst, map, List}
 use Rattle.std.proofs.lemmas.List.{drop_all, drop_more}
-use Rattle.std.proofs.lemmas.Result.{err_from_is_err_and}
 use Rattle.codec_payload_codec.proofs.AnswerLemmas.{on_err}
 use Rattle.codec_payload_send.specs.Sending.{sample_of}
-use Rattle.codec_payload_wire.proofs.ReleaseLemmas.{release_over_datagrams}
+use Rattle.codec_payload_wire.proofs.ReleaseLemmas.{promises_over_datagrams, release_over_datagrams}
 use Rattle.codec_payload_wire.specs.WireRuns.{Runs, Stops, Wire, wire_of}
 use Rattle.codec_payload_wire.specs.declared.run.DatagramStep.{DatagramStep}
 use Rattle.codec_payload_wire.proofs.run.run_datagrams.Goals as goal
@@ -35,5 +34,12 @@ pub returns-clause-units : goal.returns-clause-units
 returns-clause-units g c =
     let end : Wire = wire_of c.loop-step.sender c.loop-step.receiver c.loop-step.run in
     release_over_datagrams (map sample_of c.args.samples.now) c.args.steps.now c.args.sender.now c.args.receiver.now end
+    (c.loop-step.invariant.runs end
+    (subst (λ (xs : List DatagramStep). Runs (map sample_of c.args.samples.now) xs end end) (sym (drop_all c.loop-step.step-index c.args.steps.now c.loop-step-test.false)) refl))
+
+pub returns-clause-promises : goal.returns-clause-promises
+returns-clause-promises g c =
+    let end : Wire = wire_of c.loop-step.sender c.loop-step.receiver c.loop-step.run in
+    promises_over_datagrams (map sample_of c.args.samples.now) c.args.steps.now c.args.sender.now c.args.receiver.now end
     (c.loop-step.invariant.runs end
     (subst (λ (xs : List DatagramStep). Runs (map sample_of c.args.samples.now) xs end end) (sym (drop_all c.loop-step.step-index c.args.steps.now c.loop-step-test.false)) refl))
