@@ -5,17 +5,19 @@
     scripts/chromium_peer.py vp9 restart      these calls
     scripts/chromium_peer.py --loss 20 --round-trip 150 --seconds 20 vp8
 
-For each call a headless Chromium without encryption sends its fake camera and microphone to rust/examples/port_peer.rs on 127.0.0.1
-(scripts/chromium_peer.html). scripts/peer_relay.py is the network between them, and answers for ICE. The program requests missing
-packets and keyframes, which Chromium answers. A call fails unless
+For each call a headless Chromium without encryption sends its fake camera and microphone (scripts/chromium_peer.html) to
+rust/examples/port_peer.rs on 127.0.0.1. scripts/peer_relay.py is the network between them, and answers for ICE. The program requests
+missing packets and keyframes, which Chromium answers. A call fails unless
 
 - each released unit is the encoder's frame of its SSRC and RTP time, byte for byte; AV1 without temporal delimiters, and with sizes;
-- no frame is released twice, and the frames of each sender are in the encoder's order;
-- `keyframe` is what the encoder says, and `decodable` is only said behind a keyframe without a gap;
-- 99 % of the frames that arrived, by themselves or again, are released, and 99 % of those without a gap are decodable.
+- no frame is released twice, and the frames of each stream are in the encoder's order;
+- `keyframe` is what the encoder says, and a unit is only `decodable` if no frame since a keyframe is missing;
+- at least 99 % of the frames whose packets arrived in time, at first or again, are released; and 99 % of the frames that follow a
+  keyframe without a gap are decodable;
+- Chromium reads the receiver reports: it has the relay's round trip, and no more losses than the relay made.
 
-It prints a row for each sender. Needs Chromium and cargo, and no network. The seed fixes the relay's chances; Chromium's times differ
-from run to run.
+It prints a row for each sender. Needs Chromium of a distribution (Chrome's stable builds encrypt always) and cargo, and no network.
+The seed fixes the relay's chances; Chromium's times differ from run to run.
 """
 
 import argparse
@@ -24,9 +26,11 @@ import contextlib
 import dataclasses
 import http.server
 import json
+import math
 import os
 import pathlib
 import re
+import shutil
 import signal
 import subprocess
 import sys
@@ -61,8 +65,8 @@ CALLS = {
 RESTARTS = {"restart": {"numbers": 20_000, "times": 1_000_000_000}, "swap": {"ssrc_change": 0x10}}
 TIME_LIMIT = 60
 SHARE_WANTED = 0.99
-# A missing packet is noticed with the next frame, which then waits for at least 200 ms (rust/examples/port_peer.rs).
-FRAME_INTERVAL, SHORTEST_WAIT = 1 / 15, 0.2
+# How long a complete frame waits for missing packets at least (rust/examples/port_peer.rs), less what a busy machine takes.
+VIDEO_WAIT, AUDIO_WAIT = 0.18, 0.08
 
 
 @dataclasses.dataclass
@@ -244,12 +248,19 @@ class Comparison:
         self.units = [unit_of(line) for line in call.lines if line.startswith("unit ")]
         self.by_frame = {self.sent_as(unit): unit for unit in self.units}
         self.packets = collections.defaultdict(list)
-        self.recovered = set()
-        for packet in call.relay.journal.packets.values() if call.relay else ():
-            if packet.payload:
-                self.packets[packet.ssrc, packet.timestamp].append(packet)
-            if packet.arrived and packet.payload and self.codecs[packet.payload_type] == "red":
-                self.recovered |= {(packet.ssrc, packet.timestamp - offset) for offset in offsets_of(packet.payload)}
+        self.recovered = {}  # when RED repeated a frame
+        for sent in call.relay.journal.packets.values() if call.relay else ():
+            self.add(sent)
+
+    def add(self, sent):
+        """Keeps a packet with its frame, and notes which frames it repeats."""
+        packet = sent.packet
+        if not packet.payload:
+            return
+        self.packets[packet.ssrc, packet.timestamp].append(sent)
+        if sent.arrived and self.codecs[packet.payload_type] == "red":
+            for offset in offsets_of(packet.payload):
+                self.recovered.setdefault((packet.ssrc, packet.timestamp - offset & 0xFFFFFFFF), sent.arrived)
 
     def fault(self, what):
         self.faults.append(f"{self.call.name}: {what}")
@@ -268,12 +279,20 @@ class Comparison:
             return primary_of(frame.data)
         return without_delimiters(frame.data) if self.codec(frame) == "av1" else frame.data
 
-    def arrived(self, frame):
-        """Whether all packets of the frame came through in time, or RED that repeats it."""
+    def complete_at(self, frame):
+        """When all packets of the frame had come through, or RED that repeats it."""
         key = frame.ssrc, frame.time
-        allowed = self.call.settings.network.delay / 1000 + FRAME_INTERVAL + SHORTEST_WAIT
-        in_time = all(packet.arrived and packet.arrived < packet.sent + allowed for packet in self.packets[key])
-        return in_time or key in self.recovered
+        times = [sent.arrived or math.inf for sent in self.packets[key]]
+        return min(max(times), self.recovered.get(key, math.inf))
+
+    def arrivals(self, frames):
+        """For each frame whether it was complete before a later frame of its sender had waited for long enough."""
+        wait = VIDEO_WAIT if frames[0].kind in ("key", "delta") else AUDIO_WAIT
+        times, latest, found = [self.complete_at(frame) for frame in frames], math.inf, []
+        for time_complete in reversed(times):
+            found.append(time_complete < latest + wait)
+            latest = min(latest, time_complete)
+        return found[::-1]
 
     def rows(self):
         """The figures of each sender that sent something. Faults are kept."""
@@ -301,7 +320,7 @@ class Comparison:
         latest = {}
         for unit in self.units:
             at = f"unit of SSRC {unit.ssrc} at {unit.time}"
-            ssrc, _ = sent_as = self.sent_as(unit)
+            sent_as, stream = self.sent_as(unit), (unit.ssrc, unit.payload_type)
             if sent_as not in places:
                 self.fault(f"{at}: the encoder made no such frame")
                 continue
@@ -310,9 +329,11 @@ class Comparison:
                 self.fault(f"{at}: {len(unit.data)} bytes differ from the encoder's {len(frame.data)}")
             if frame.kind in ("key", "delta") and unit.keyframe != (frame.kind == "key"):
                 self.fault(f"{at}: keyframe is {unit.keyframe}, and the encoder says {frame.kind}")
-            if latest.get(ssrc, -1) >= places[sent_as]:
+            if latest.get(stream, -1) >= places[sent_as]:
                 self.fault(f"{at}: released twice, or too late")
-            latest[ssrc] = places[sent_as]
+            latest[stream] = places[sent_as]
+        if len(self.by_frame) < len(self.units):
+            self.fault("a frame is released twice")
 
     def check_counts(self):
         """The program knows each datagram, and pops have no faults."""
@@ -326,7 +347,7 @@ class Comparison:
 
     def check_reports(self):
         """Chromium understands the receiver reports: it has the relay's round trip, and no more losses than the relay."""
-        lost = collections.Counter(packet.ssrc for packet in self.call.relay.journal.packets.values() if packet.lost)
+        lost = collections.Counter(sent.packet.ssrc for sent in self.call.relay.journal.packets.values() if sent.lost)
         for report in self.call.statistics:
             if report["type"] != "remote-inbound-rtp":
                 continue
@@ -341,16 +362,16 @@ class Comparison:
         arrive, or where the sender began again."""
         counts, chained, shown = collections.Counter(frames=len(frames)), False, False
         restart = self.call.relay.restart
-        for frame in frames:
+        for frame, arrived in zip(frames, self.arrivals(frames)):
             packets, unit = self.packets[frame.ssrc, frame.time], self.by_frame.get((frame.ssrc, frame.time))
-            begins = frame.kind not in ("key", "delta") or frame.kind == "key"
+            begins = frame.kind != "delta"
             goes_on = not (restart and restart.first_time == frame.time)
             if unit and unit.decodable and not (begins or shown and goes_on):
                 self.fault(f"frame of SSRC {frame.ssrc} at {frame.time}: decodable behind a gap")
-            arrived, shown = self.arrived(frame), unit is not None and unit.decodable
+            shown = unit is not None and unit.decodable
             chained = arrived and (begins or chained and goes_on)
             counts += collections.Counter({
-                "packets": len(packets), "lost": sum(packet.lost for packet in packets), "arrived": arrived, "chained": chained,
+                "packets": len(packets), "lost": sum(sent.lost for sent in packets), "arrived": arrived, "chained": chained,
                 "released": unit is not None, "decodable": shown, "arrived, released": arrived and unit is not None,
                 "chained, decodable": chained and shown})
         return counts
@@ -380,7 +401,6 @@ def settings_of(words):
     parser.add_argument("--round-trip", type=float, default=80, help="milliseconds; 80 by default")
     parser.add_argument("--seconds", type=int, default=10, help="how long each call sends; 10 by default")
     parser.add_argument("--seed", type=int, default=1)
-    parser.add_argument("--keep")
     settings = parser.parse_args(words)
     settings.network = Network(settings.loss, settings.round_trip / 2, seed=settings.seed)
     if unknown := set(settings.calls) - set(CALLS):
@@ -396,16 +416,11 @@ def built(folder):
     return f"{target}/debug/examples/port_peer"
 
 
-def keep(comparison, settings):
-    import pickle
-    call = comparison.call
-    with open(settings.keep + call.name, "wb") as file:
-        r = call.relay.restart
-        pickle.dump((call.frames, comparison.units, call.relay.journal.packets, call.statistics, call.lines[-1:], comparison.codecs, r and vars(r)), file)
-
-
 def main(words):
     settings = settings_of(words)
+    if not shutil.which("chromium"):
+        print("chromium_peer: skipped, there is no chromium")
+        return 0
     faults, compared, names = [], 0, settings.calls or list(CALLS)
     print(f"| call: codec | {' | '.join(COLUMNS)} |\n{'|---' * (len(COLUMNS) + 1)}|")
     with tempfile.TemporaryDirectory() as folder:
@@ -416,7 +431,6 @@ def main(words):
                 print(printed(row), flush=True)
             compared += len(comparison.units)
             faults += comparison.faults
-            if settings.keep: keep(comparison, settings)
     print("\n".join([*faults, f"chromium_peer: {len(names)} calls, {compared} units compared, {len(faults)} faults"]))
     return 1 if faults else 0
 

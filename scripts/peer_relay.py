@@ -156,15 +156,10 @@ class Network:
 
 @dataclasses.dataclass
 class Sent:
-    """A packet of media that the browser sent, and when it, or a retransmission, came through."""
+    """A packet of media that the browser sent, whether it was lost, and when it, or a retransmission of it, was delivered."""
 
-    ssrc: int
-    number: int
-    timestamp: int
-    payload_type: int
-    payload: bytes
+    packet: Packet
     lost: bool
-    sent: float
     arrived: float | None = None
 
 
@@ -178,26 +173,16 @@ class Journal:
         # by SSRC and payload type
         self.requests, self.keyframe_requests = collections.Counter(), collections.Counter()
 
-    def media(self, packet, now, arrival):
-        """A packet from the browser; `arrival` is None if it is lost."""
+    def media(self, packet, lost):
+        """Takes a packet from the browser, and returns the packet of media that it is or repeats."""
         if packet.ssrc in self.retransmissions:
-            self.resent(packet, arrival)
-            return
-        key = packet.ssrc, packet.number
-        if key in self.packets:  # a retransmission under the SSRC of the stream
-            self.packets[key].arrived = self.packets[key].arrived or arrival
-            return
+            if len(packet.payload) < 2:
+                return None  # padding that probes the network
+            number = struct.unpack_from(">H", packet.payload)[0]
+            return self.packets.get((self.retransmissions[packet.ssrc], number))
         self.latest[packet.ssrc] = packet.payload_type
-        fields = packet.ssrc, packet.number, packet.timestamp, packet.payload_type, packet.payload
-        self.packets[key] = Sent(*fields, arrival is None, now, arrival)
-
-    def resent(self, packet, arrival):
-        """A packet of RFC 4588; without media it is padding that probes the network."""
-        if len(packet.payload) < 2:
-            return
-        key = self.retransmissions[packet.ssrc], struct.unpack_from(">H", packet.payload)[0]
-        if key in self.packets and self.packets[key].arrived is None:
-            self.packets[key].arrived = arrival
+        # A retransmission can be under the SSRC of the stream.
+        return self.packets.setdefault((packet.ssrc, packet.number), Sent(packet, lost))
 
     def feedback(self, data):
         """Feedback from the program."""
@@ -210,7 +195,7 @@ class Journal:
                 continue
             for number in nack_numbers(packet):
                 sent = self.packets.get((ssrc, number))
-                self.requests[ssrc, sent and sent.payload_type] += 1
+                self.requests[ssrc, sent and sent.packet.payload_type] += 1
 
 
 class Restart:
@@ -317,13 +302,13 @@ class Relay(threading.Thread):
                 self.browser = address
                 self.outside.sendto(answer, address)
             return
-        now = time.monotonic()
+        now, sent = time.monotonic(), None
         arrival = self.arrival(0, now)
         if not is_rtcp(data):
             packet = rtp_packet(data)
-            self.journal.media(packet, now, arrival)
+            sent = self.journal.media(packet, arrival is None)
             data = self.restart.forth(packet, now) if self.restart else data
-        self.later(arrival, self.inside, data, (LOOPBACK, self.program))
+        self.later(arrival, self.inside, data, (LOOPBACK, self.program), sent)
 
     def from_program(self, data):
         data = self.restart.back(data) if self.restart else data
@@ -336,11 +321,13 @@ class Relay(threading.Thread):
         lost, more = chance.uniform(0, 100) < network.loss, chance.uniform(0, network.jitter)
         return None if lost else now + (network.delay + more) / 1000
 
-    def later(self, arrival, through, data, address):
+    def later(self, arrival, through, data, address, sent=None):
         if arrival is not None and address is not None:
-            heapq.heappush(self.pending, (arrival, next(self.order), through, data, address))
+            heapq.heappush(self.pending, (arrival, next(self.order), through, data, address, sent))
 
     def deliver(self):
         while self.pending and self.pending[0][0] <= time.monotonic():
-            _, _, through, data, address = heapq.heappop(self.pending)
+            *_, through, data, address, sent = heapq.heappop(self.pending)
             through.sendto(data, address)
+            if sent and sent.arrived is None:
+                sent.arrived = time.monotonic()

@@ -161,6 +161,8 @@ struct Peer {
     source: FeedbackSource,
     /// The requests of each stream of video, by SSRC and payload type.
     requests: BTreeMap<(u32, u8), StreamRequests>,
+    /// The payload type of the latest stream of each SSRC.
+    latest: BTreeMap<u32, u8>,
     reports: Reports,
     missing: Vec<u64>,
 }
@@ -178,6 +180,7 @@ impl Peer {
             pairs,
             source: FeedbackSource::new(OWN_SSRC, Vec::new(), false).ok_or("no name is short")?,
             requests: BTreeMap::new(),
+            latest: BTreeMap::new(),
             reports: Reports {
                 by_ssrc: BTreeMap::new(),
                 next: REPORT_INTERVAL,
@@ -211,8 +214,11 @@ impl Peer {
             }
             return;
         }
-        let number = header.sequence_number;
-        self.answered(now, (header.ssrc, header.payload_type), number);
+        // Of a stream with an SSRC for retransmissions, a packet that comes late is no answer.
+        if !self.pairs.iter().any(|it| it.ssrc == header.ssrc) {
+            let stream = (header.ssrc, header.payload_type);
+            self.answered(now, stream, header.sequence_number);
+        }
         let is_of = |it: &&Format| {
             let red = it.red.map(|red| red.payload_type);
             it.payload_type == header.payload_type || red == Some(header.payload_type)
@@ -234,6 +240,7 @@ impl Peer {
             match event {
                 Event::Begun { ssrc, payload_type } => {
                     writeln!(out, "begun {ssrc} {payload_type}")?;
+                    self.latest.insert(ssrc, payload_type);
                     if self.is_video(payload_type) {
                         let requests =
                             StreamRequests::new(ssrc, NackSettings::live(), KEYFRAME_INTERVAL);
@@ -284,7 +291,10 @@ impl Peer {
             };
             self.missing.clear();
             self.missing.extend(receiver.missing(MOST_MISSING));
-            requests.update(now, &self.missing, receiver.wants_keyframe())?;
+            // After a change of codec the old stream stays until its idle timeout. Keyframes would be of the new codec.
+            let is_latest = self.latest.get(&ssrc) == Some(&payload_type);
+            let wants_keyframe = receiver.wants_keyframe() && is_latest;
+            requests.update(now, &self.missing, wants_keyframe)?;
             due.extend(requests.take_due(now, &self.source)?);
             let mut limits = receiver.wait_limits();
             let wait = 4 * requests.round_trip().unwrap_or(0);
@@ -306,6 +316,26 @@ impl Peer {
     }
 }
 
+/// Receives all datagrams that the socket has, and waits for the first one. Returns whether to go on: an empty datagram is the end.
+///
+/// Poll behind the last one: if the program was held up, a missing packet may be among them.
+fn receive_all(peer: &mut Peer, socket: &UdpSocket, clock: &Clock) -> Result<bool, Failure> {
+    let mut datagram = [0; 2_048];
+    socket.set_nonblocking(false)?;
+    socket.set_read_timeout(Some(peer.sleep(clock)))?;
+    loop {
+        match socket.recv(&mut datagram) {
+            Ok(0) => return Ok(false),
+            Ok(size) => peer.receive(clock.now(), &datagram[..size])?,
+            Err(why) if matches!(why.kind(), ErrorKind::WouldBlock | ErrorKind::TimedOut) => {
+                return Ok(true);
+            }
+            Err(why) => return Err(why.into()),
+        }
+        socket.set_nonblocking(true)?;
+    }
+}
+
 /// Receives until an empty datagram arrives.
 fn run(offer: &str, address: &str) -> Result<(), Failure> {
     let socket = UdpSocket::bind((Ipv4Addr::LOCALHOST, 0))?;
@@ -314,15 +344,7 @@ fn run(offer: &str, address: &str) -> Result<(), Failure> {
     out.flush()?;
     let clock = Clock::new();
     let mut peer = Peer::new(offer)?;
-    let mut datagram = [0; 2_048];
-    loop {
-        socket.set_read_timeout(Some(peer.sleep(&clock)))?;
-        match socket.recv(&mut datagram) {
-            Ok(0) => break,
-            Ok(size) => peer.receive(clock.now(), &datagram[..size])?,
-            Err(why) if matches!(why.kind(), ErrorKind::WouldBlock | ErrorKind::TimedOut) => {}
-            Err(why) => return Err(why.into()),
-        }
+    while receive_all(&mut peer, &socket, &clock)? {
         peer.poll(clock.now(), &mut out)?;
         for feedback in peer.feedback(clock.now())? {
             socket.send_to(&feedback, address)?;
