@@ -146,9 +146,11 @@ class Call:
 
     def finish(self):
         """Ends the program and the relay."""
-        if self.relay is None:
+        if self.relay:
+            self.relay.stop()
+        if self.reader is None:
+            self.failure = self.failure or "the program does not start"
             return
-        self.relay.stop()
         with contextlib.suppress(subprocess.TimeoutExpired):
             self.process.wait(5)
         self.process.kill()
@@ -286,13 +288,20 @@ class Comparison:
         return min(max(times), self.recovered.get(key, math.inf))
 
     def arrivals(self, frames):
-        """For each frame whether it was complete before a later frame of its sender had waited for long enough."""
+        """For each frame whether it was complete before a later frame of its sender had waited for long enough. Nothing waits for
+        frames from before a restart."""
         wait = VIDEO_WAIT if frames[0].kind in ("key", "delta") else AUDIO_WAIT
-        times, latest, found = [self.complete_at(frame) for frame in frames], math.inf, []
-        for time_complete in reversed(times):
-            found.append(time_complete < latest + wait)
-            latest = min(latest, time_complete)
+        until, found = math.inf, []
+        for frame in reversed(frames):
+            complete = self.complete_at(frame)
+            found.append(complete < until)
+            until = min(until, complete + (0 if self.restarts(frame) else wait))
         return found[::-1]
+
+    def restarts(self, frame):
+        """Whether the relay lets the sender begin again with this frame."""
+        restart = self.call.relay.restart
+        return restart is not None and restart.first_time == frame.time
 
     def rows(self):
         """The figures of each sender that sent something. Faults are kept."""
@@ -361,11 +370,10 @@ class Comparison:
         """Counts of frames and packets of one sender. A chain of video begins with a keyframe, and ends at a frame that did not
         arrive, or where the sender began again."""
         counts, chained, shown = collections.Counter(frames=len(frames)), False, False
-        restart = self.call.relay.restart
         for frame, arrived in zip(frames, self.arrivals(frames)):
             packets, unit = self.packets[frame.ssrc, frame.time], self.by_frame.get((frame.ssrc, frame.time))
             begins = frame.kind != "delta"
-            goes_on = not (restart and restart.first_time == frame.time)
+            goes_on = not self.restarts(frame)
             if unit and unit.decodable and not (begins or shown and goes_on):
                 self.fault(f"frame of SSRC {frame.ssrc} at {frame.time}: decodable behind a gap")
             shown = unit is not None and unit.decodable

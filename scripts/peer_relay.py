@@ -290,9 +290,11 @@ class Relay(threading.Thread):
             self.deliver()
 
     def stop(self):
+        """Ends the relay, and tells the program that nothing more comes."""
         self.running = False
-        self.join()
-        self.inside.sendto(b"", (LOOPBACK, self.program))
+        if self.is_alive():
+            self.join()
+            self.inside.sendto(b"", (LOOPBACK, self.program))
         self.outside.close()
         self.inside.close()
 

@@ -11,13 +11,14 @@
 
 use codec_payload::feedback::{FeedbackSource, StreamRequests};
 use codec_payload::jitter::SequenceNumbers;
+use codec_payload::keyframes::is_video;
 use codec_payload::requests::NackSettings;
 use codec_payload::rtcp::{CompoundRule, ReceiverReport, ReportBlock, RtcpPacket, read_compound};
 use codec_payload::rtp::{RtpPacket, is_rtcp};
 use codec_payload::sdp::{self, Media, Role};
 use codec_payload::session::{Event, Format, Session, SessionSettings, SsrcPair};
 use codec_payload::stream::ReceptionStatistics;
-use codec_payload::{Clock, Codec, Frequency, Ticks};
+use codec_payload::{Clock, Frequency, Ticks};
 use std::collections::BTreeMap;
 use std::error::Error;
 use std::io::{self, ErrorKind, Write};
@@ -240,12 +241,7 @@ impl Peer {
             match event {
                 Event::Begun { ssrc, payload_type } => {
                     writeln!(out, "begun {ssrc} {payload_type}")?;
-                    self.latest.insert(ssrc, payload_type);
-                    if self.is_video(payload_type) {
-                        let requests =
-                            StreamRequests::new(ssrc, NackSettings::live(), KEYFRAME_INTERVAL);
-                        self.requests.insert((ssrc, payload_type), requests);
-                    }
+                    self.begin(ssrc, payload_type);
                 }
                 Event::Unit {
                     ssrc,
@@ -275,11 +271,15 @@ impl Peer {
         Ok(())
     }
 
-    fn is_video(&self, payload_type: u8) -> bool {
+    /// Begins the requests of a stream, if it is video.
+    fn begin(&mut self, ssrc: u32, payload_type: u8) {
+        self.latest.insert(ssrc, payload_type);
         let mut formats = self.formats.iter();
-        formats
-            .find(|it| it.payload_type == payload_type)
-            .is_some_and(|it| matches!(it.spec.codec, Codec::Vp8 | Codec::Vp9 | Codec::Av1))
+        let format = formats.find(|it| it.payload_type == payload_type);
+        if format.is_some_and(|it| is_video(it.spec.codec)) {
+            let requests = StreamRequests::new(ssrc, NackSettings::live(), KEYFRAME_INTERVAL);
+            self.requests.insert((ssrc, payload_type), requests);
+        }
     }
 
     /// The feedback that is due.
@@ -291,7 +291,7 @@ impl Peer {
             };
             self.missing.clear();
             self.missing.extend(receiver.missing(MOST_MISSING));
-            // After a change of codec the old stream stays until its idle timeout. Keyframes would be of the new codec.
+            // After a change of codec the old stream stays until its idle timeout. It may want a keyframe all the time.
             let is_latest = self.latest.get(&ssrc) == Some(&payload_type);
             let wants_keyframe = receiver.wants_keyframe() && is_latest;
             requests.update(now, &self.missing, wants_keyframe)?;
