@@ -14,6 +14,7 @@ missing packets and keyframes, which Chromium answers. A call fails unless
 - `keyframe` is what the encoder says, and a unit is only `decodable` if no frame since a keyframe is missing;
 - at least 99 % of the frames whose packets arrived in time, at first or again, are released; and 99 % of the frames that follow a
   keyframe without a gap are decodable;
+- at least half of the lost packets of video arrive again, and a keyframe is requested if a gap stays;
 - Chromium reads the receiver reports: it has the relay's round trip, and no more losses than the relay made.
 
 It prints a row for each sender. Needs Chromium of a distribution (Chrome's stable builds encrypt always) and cargo, and no network.
@@ -65,6 +66,7 @@ CALLS = {
 RESTARTS = {"restart": {"numbers": 20_000, "times": 1_000_000_000}, "swap": {"ssrc_change": 0x10}}
 TIME_LIMIT = 60
 SHARE_WANTED = 0.99
+AGAIN_WANTED = 0.5
 # How long a complete frame waits for missing packets at least (rust/examples/port_peer.rs), less what a busy machine takes.
 VIDEO_WAIT, AUDIO_WAIT = 0.18, 0.08
 
@@ -321,6 +323,8 @@ class Comparison:
             row.counts["requested"] = journal.requests[ssrc, payload_type]
             row.counts["keyframes requested"] = journal.keyframe_requests[ssrc, payload_type]
             self.check_shares(row)
+            if frames[0].kind in ("key", "delta"):
+                self.check_requests(row)
             yield row
 
     def check_units(self):
@@ -380,6 +384,7 @@ class Comparison:
             chained = arrived and (begins or chained and goes_on)
             counts += collections.Counter({
                 "packets": len(packets), "lost": sum(sent.lost for sent in packets), "arrived": arrived, "chained": chained,
+                "again": sum(sent.lost and sent.arrived is not None for sent in packets),
                 "released": unit is not None, "decodable": shown, "arrived, released": arrived and unit is not None,
                 "chained, decodable": chained and shown})
         return counts
@@ -389,9 +394,18 @@ class Comparison:
             if row.counts[part] < SHARE_WANTED * row.counts[of]:
                 self.fault(f"{row.codec}: {row.counts[part]} of {row.counts[of]} frames: {part}")
 
+    def check_requests(self, row):
+        """Most lost packets of video are sent again, and gaps that stay end with a keyframe."""
+        counts = row.counts
+        if counts["again"] < AGAIN_WANTED * counts["lost"]:
+            self.fault(f"{row.codec}: {counts['again']} of {counts['lost']} lost packets arrived again")
+        # At the end of a stream a keyframe would come too late.
+        if counts["decodable"] < 0.9 * counts["released"] and not counts["keyframes requested"]:
+            self.fault(f"{row.codec}: {counts['decodable']} of {counts['released']} units are decodable, and no keyframe is requested")
+
 
 # The columns of the table.
-COLUMNS = ["frames", "packets", "lost", "requested", "keyframes requested", "arrived", "released", "decodable"]
+COLUMNS = ["frames", "packets", "lost", "requested", "again", "keyframes requested", "arrived", "released", "decodable"]
 
 
 def printed(row):
