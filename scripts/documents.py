@@ -69,6 +69,7 @@ RUN_ELSEWHERE = {
     "scripts/mutants.py --missing": ("scripts/documents.py", "mutant_results"),
     "scripts/bench.sh": ("scripts/allocations.sh", "tools/bench/bench.c"),
     "scripts/examples.py": ("scripts/test.sh", "runs scripts/examples.py"),
+    "scripts/chromium_peer.py": ("scripts/test.sh", "runs scripts/chromium_peer.py"),
     "cc -Iinclude examples/": ("scripts/examples.py", "examples/{name}.c"),
     "c/out/gateway": ("scripts/examples.py", '[programs[name, language]]'),
     "c/out/nack": ("scripts/examples.py", '[programs[name, language]]'),

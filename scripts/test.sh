@@ -9,8 +9,8 @@
 # without them no Debian packages and manual pages are made. Without gcc-aarch64-linux-gnu and qemu-user the library for C is
 # only tested natively; without abigail-tools its ABI is not compared; without libpcap, libavformat and ffmpeg the recorder is
 # not tested. Without ffmpeg the headers of frames are not compared with other readers; without Debian's packages of crates and
-# the runtime of libFuzzer, rust-extras and tools/fuzz are not tested. The last line is `N passed, N failed`; the status is 0 if
-# nothing failed.
+# the runtime of libFuzzer, rust-extras and tools/fuzz are not tested. Chromium is never installed; without it no browser sends
+# to a session. The last line is `N passed, N failed`; the status is 0 if nothing failed.
 set -u
 
 root=$(cd "$(dirname "$0")/.." && pwd)
@@ -117,6 +117,11 @@ if command -v ffmpeg >/dev/null; then
     runs scripts/media_peers.py
 else
     echo "skipped scripts/media_peers.py: there is no ffmpeg"
+fi
+if command -v chromium >/dev/null; then
+    runs scripts/chromium_peer.py
+else
+    echo "skipped scripts/chromium_peer.py: there is no chromium"
 fi
 if pkg-config --exists libpcap libavformat libavcodec libavutil && command -v ffmpeg >/dev/null; then
     runs tools/rtp_record/test.sh
