@@ -8,7 +8,7 @@ use Rattle.codec_payload_codec.specs.Depacketizers.{is_built_in_depacketizer, is
 use Rattle.codec_payload_codec.proofs.CodecLemmas.{codec_payloads}
 use Rattle.codec_payload_codec.specs.Packetizers.{is_built_in, payloads_by, may_split}
 use Rattle.codec_payload_buffer.specs.declared.buffer.unit.RtpMeta.{RtpMeta}
-use Rattle.codec_payload_runs.proofs.ArrivalLemmas.{release_in_order}
+use Rattle.codec_payload_runs.proofs.order.ArrivalLemmas.{release_in_order}
 use Rattle.codec_payload_runs.specs.Arrivals.{AllArriveFirst, Arrives, Meets, ReleasesArrivals, Tells}
 use Rattle.codec_payload_runs.specs.Arrivals as core
 use Rattle.codec_payload_runs.specs.Headline.{IsUnused}
