@@ -276,7 +276,7 @@ def lemmas():
     """docs/VERIFICATION.md has each field of KeepsPromises with its lemma, and the files exist."""
     crate = "crates/codec_payload_runs"
     fields = re.search(r"record KeepsPromisesIf .*?\n\n", read(f"{crate}/specs/RunPromises.antt"), re.S)[0]
-    proof, page = read(f"{crate}/proofs/RunLogs.antt"), read("docs/VERIFICATION.md")
+    proof, page = read(f"{crate}/proofs/order/RunLogs.antt"), read("docs/VERIFICATION.md")
     for field in re.findall(r"^  pub (\w+) :", fields, re.M):
         row = re.search(rf"^\| `{field}` \| (.*) \| `(.*)` \|$", page, re.M)
         if not row:
@@ -285,7 +285,7 @@ def lemmas():
             yield f"docs/VERIFICATION.md: {row[2]} does not exist"
         for lemma in re.findall(r"`(\w+)`", row[1] if row else ""):
             if lemma != "run_schedule" and not re.search(rf"^      {field} = .*\b{lemma}\b", proof, re.M):
-                yield f"docs/VERIFICATION.md: RunLogs.antt does not prove {field} by {lemma}"
+                yield f"docs/VERIFICATION.md: order/RunLogs.antt does not prove {field} by {lemma}"
 
 
 def mutant_results():

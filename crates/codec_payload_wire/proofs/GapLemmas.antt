@@ -2,9 +2,9 @@
 use Rattle.std.proofs.Common.{◌≡◌, refl, sym, ap, ℕ, subst, List, [], ◌∷◌, None, ◌+◌, ◌<◌, ◌≤◌, ◌⊎◌, inl, inr, arith}
 use Rattle.codec_payload_buffer.specs.Steps.{State}
 use Rattle.codec_payload_buffer.specs.declared.buffer.frames.CompleteFrame.{CompleteFrame}
-use Rattle.codec_payload_runs.proofs.GapLemmas.{IsGapFrom, IsPastIn, Outside, PopsNear, PopsPast, Taken, outside_more, pop_far, pop_past, span_taken, start_of}
-use Rattle.codec_payload_runs.proofs.HoldBackLemmas.{beyond_with}
-use Rattle.codec_payload_runs.proofs.TurnLemmas.{Beyond, IsReady, Setting, left_ready, span_ready}
+use Rattle.codec_payload_runs.proofs.order.GapLemmas.{IsGapFrom, IsPastIn, Outside, PopsNear, PopsPast, Taken, outside_more, pop_far, pop_past, span_taken, start_of}
+use Rattle.codec_payload_runs.proofs.order.HoldBackLemmas.{beyond_with}
+use Rattle.codec_payload_runs.proofs.order.TurnLemmas.{Beyond, IsReady, Setting, left_ready, span_ready}
 use Rattle.codec_payload_runs.specs.Log.{Stretch, Turn}
 use Rattle.codec_payload_runs.specs.RunUnits.{AllEnd, AllStartFrom, AnswerEnds, IsGap, NonePassedOver}
 use Rattle.codec_payload_runs.specs.Schedule.{Answer}

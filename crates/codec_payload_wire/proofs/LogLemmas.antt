@@ -8,15 +8,15 @@ use Rattle.codec_payload_buffer.specs.Stretches.{after_pushes}
 use Rattle.codec_payload_buffer.specs.declared.buffer.frames.CompleteFrame.{CompleteFrame}
 use Rattle.codec_payload_buffer.specs.declared.buffer.unit.RtpMeta.{RtpMeta}
 use Rattle.codec_payload_codec.specs.Depacketizers.{DepacketizerKind}
-use Rattle.codec_payload_runs.proofs.ArrivalLemmas.{AllKnown}
-use Rattle.codec_payload_runs.proofs.ContiguousLemmas as contiguous
-use Rattle.codec_payload_runs.proofs.ContiguousLemmas.{IsTracked, tracked_span}
-use Rattle.codec_payload_runs.proofs.HoldBackLemmas.{ready_with}
-use Rattle.codec_payload_runs.proofs.LossLemmas as loss
-use Rattle.codec_payload_runs.proofs.LossLemmas.{Whole, at_span, later_too, more}
-use Rattle.codec_payload_runs.proofs.TakenLemmas.{IsPlain, none_is_passed}
-use Rattle.codec_payload_runs.proofs.TurnLemmas.{ArePushes, IsPop, IsPush, IsReady, IsSpan, Setting, are_stretches, count, left_ready, pop_is, ready_pops, span_ready}
-use Rattle.codec_payload_runs.proofs.UnitRows.{held_as}
+use Rattle.codec_payload_runs.proofs.order.ArrivalLemmas.{AllKnown}
+use Rattle.codec_payload_runs.proofs.order.ContiguousLemmas as contiguous
+use Rattle.codec_payload_runs.proofs.order.ContiguousLemmas.{IsTracked, tracked_span}
+use Rattle.codec_payload_runs.proofs.order.HoldBackLemmas.{ready_with}
+use Rattle.codec_payload_runs.proofs.order.LossLemmas as loss
+use Rattle.codec_payload_runs.proofs.order.LossLemmas.{Whole, at_span, later_too, more}
+use Rattle.codec_payload_runs.proofs.order.TakenLemmas.{IsPlain, none_is_passed}
+use Rattle.codec_payload_runs.proofs.order.TurnLemmas.{ArePushes, IsPop, IsPush, IsReady, IsSpan, Setting, are_stretches, count, left_ready, pop_is, ready_pops, span_ready}
+use Rattle.codec_payload_runs.proofs.units.UnitRows.{held_as}
 use Rattle.codec_payload_runs.specs.Arrivals.{Arrives, Event, Meets, PopsWaiting}
 use Rattle.codec_payload_runs.specs.Log.{Stretch, Turn, begun, with_pushes}
 use Rattle.codec_payload_runs.specs.RunOrder.{AllFollowAsSaid, AreStretches, FollowsAsSaid, has_evicted, last_released}

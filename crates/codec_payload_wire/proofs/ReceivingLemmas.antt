@@ -8,7 +8,7 @@ use Rattle.codec_payload_codec.specs.Depacketizers.{is_built_in_depacketizer}
 use Rattle.codec_payload_codec.specs.Packetizers.{NullPacketizing}
 use Rattle.codec_payload_buffer.specs.Steps.{State, arrived, pushed, Pops}
 use Rattle.codec_payload_buffer.specs.declared.buffer.unit.RtpMeta.{RtpMeta}
-use Rattle.codec_payload_runs.proofs.BuiltInRuns.{pop_exactly, push_keeps}
+use Rattle.codec_payload_runs.proofs.units.BuiltInRuns.{pop_exactly, push_keeps}
 use Rattle.codec_payload_runs.specs.Arrivals.{PopsWaiting, Tells}
 use Rattle.codec_payload_send.specs.Packets.{Packet}
 use Rattle.codec_payload_runs.specs.Schedule.{Answer, RunState, run_state}

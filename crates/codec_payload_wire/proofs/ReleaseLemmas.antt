@@ -8,13 +8,13 @@ use Rattle.codec_payload_codec.specs.Depacketizers.{DepacketizerKind, is_built_i
 use Rattle.codec_payload_codec.proofs.CodecLemmas.{codec_payloads}
 use Rattle.codec_payload_codec.specs.Packetizers.{payloads_by, may_split}
 use Rattle.codec_payload_buffer.specs.declared.buffer.unit.RtpMeta.{RtpMeta}
-use Rattle.codec_payload_runs.proofs.ArrivalLemmas.{AllKnown, met_all, met_in_order}
-use Rattle.codec_payload_runs.proofs.BuiltInRuns.{plainly, unused_exactly}
-use Rattle.codec_payload_runs.proofs.RunSettings.{empty, fresh, may_go, nothing, ready, setting, tracked}
-use Rattle.codec_payload_runs.proofs.SafetyLemmas.{SendsAll, all_end, sends_all}
-use Rattle.codec_payload_runs.proofs.StreamLemmas.{Streams, streams}
-use Rattle.codec_payload_runs.proofs.TurnLemmas.{IsReady, Setting}
-use Rattle.codec_payload_runs.proofs.UnitRows.{IsFaithful}
+use Rattle.codec_payload_runs.proofs.order.ArrivalLemmas.{AllKnown, met_all, met_in_order}
+use Rattle.codec_payload_runs.proofs.units.BuiltInRuns.{plainly, unused_exactly}
+use Rattle.codec_payload_runs.proofs.order.RunSettings.{empty, fresh, may_go, nothing, ready, setting, tracked}
+use Rattle.codec_payload_runs.proofs.order.SafetyLemmas.{SendsAll, all_end, sends_all}
+use Rattle.codec_payload_runs.proofs.units.StreamLemmas.{Streams, streams}
+use Rattle.codec_payload_runs.proofs.order.TurnLemmas.{IsReady, Setting}
+use Rattle.codec_payload_runs.proofs.units.UnitRows.{IsFaithful}
 use Rattle.codec_payload_runs.specs.Arrivals.{AllArriveFirst, Event, Meets}
 use Rattle.codec_payload_runs.specs.Exact.{AnswersAll}
 use Rattle.codec_payload_runs.specs.Headline.{IsUnused}

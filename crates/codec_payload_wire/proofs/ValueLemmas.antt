@@ -12,9 +12,9 @@ use Rattle.codec_payload_rtp.proofs.ValueLemmas.{values_again}
 use Rattle.codec_payload_rtp.specs.ExtensionFormats.{elements_of, values_in}
 use Rattle.codec_payload_rtp.specs.ExtensionWriting.{FitsValues, elements_for, extension_for, ids_fit, kept_by, values_told}
 use Rattle.codec_payload_rtp.specs.declared.values.ExtensionIds.{ExtensionIds}
-use Rattle.codec_payload_runs.proofs.UnitRows.{drop_next}
-use Rattle.codec_payload_runs.proofs.UnitValues.{AllCarry, AreStripped, carried_at}
-use Rattle.codec_payload_runs.proofs.WholeLemmas.{unit_at}
+use Rattle.codec_payload_runs.proofs.units.UnitRows.{drop_next}
+use Rattle.codec_payload_runs.proofs.units.UnitValues.{AllCarry, AreStripped, carried_at}
+use Rattle.codec_payload_runs.proofs.order.WholeLemmas.{unit_at}
 use Rattle.codec_payload_runs.specs.Headline.{ArePushesBy, packets_before}
 use Rattle.codec_payload_runs.specs.RunUnits.{IsWholeAt}
 use Rattle.codec_payload_runs.specs.SentStream.{AllEndWithTail, EndsWithTail, SentUnit, packets_of}

@@ -1,6 +1,6 @@
 use Rattle.std.proofs.Common.{rules, ◌≤◌, [], length, refl}
 use Rattle.std.proofs.lemmas.List.{append-nil, drop_all}
-use Rattle.codec_payload_runs.proofs.RunLogs.{promises}
+use Rattle.codec_payload_runs.proofs.order.RunLogs.{promises}
 use Rattle.codec_payload_runs.specs.RunPromises.{RunsAsSteps, ran}
 use Rattle.codec_payload_runs.specs.Schedule.{run_state}
 use Rattle.codec_payload_runs.proofs.plain.run_plain.Goals as goal

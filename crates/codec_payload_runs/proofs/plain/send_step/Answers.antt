@@ -1,7 +1,7 @@
 use Rattle.std.proofs.Common.{◌≡◌, ◌∙◌, ap, sym, length}
 use Rattle.std.proofs.lemmas.List.{length-map}
 use Rattle.codec_payload_codec.proofs.AnswerLemmas.{on_err}
-use Rattle.codec_payload_runs.proofs.ScheduleLemmas.{noted_it, stopped_it}
+use Rattle.codec_payload_runs.proofs.order.ScheduleLemmas.{noted_it, stopped_it}
 use Rattle.codec_payload_send.specs.Sending.{sample_of}
 use Rattle.codec_payload_runs.proofs.plain.send_step.Goals as goal
 

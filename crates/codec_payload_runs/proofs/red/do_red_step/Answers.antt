@@ -2,7 +2,7 @@ use Rattle.std.proofs.Common.{rules, subst, ◌∙◌, sym, ap, refl, ℕ, [], �
 use Rattle.std.specs.Prelude.{slice_get}
 use Rattle.std.proofs.lemmas.List.{append-nil}
 use Rattle.std.proofs.lemmas.Option.{slice_get-map, slice_get_past, slice_get_read}
-use Rattle.codec_payload_runs.proofs.RedSendLemmas.{sends_nothing}
+use Rattle.codec_payload_runs.proofs.in_red.RedSendLemmas.{sends_nothing}
 use Rattle.codec_payload_codec.proofs.AnswerLemmas.{from_err, on_err, on_ok}
 use Rattle.codec_payload_buffer.specs.Steps.{State}
 use Rattle.codec_payload_send.specs.Packets.{packet_of}

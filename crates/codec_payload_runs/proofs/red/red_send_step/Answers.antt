@@ -3,7 +3,7 @@ use Rattle.std.proofs.lemmas.List.{length-map}
 use Rattle.codec_payload_send.specs.Packets.{SentPackets}
 use Rattle.codec_payload_send.specs.RedPackets.{stream_of}
 use Rattle.codec_payload_send.specs.Sending.{sample_of}
-use Rattle.codec_payload_runs.proofs.RedSendLemmas.{noted_in_red, stopped_in_red, sent_as, stopped_as}
+use Rattle.codec_payload_runs.proofs.in_red.RedSendLemmas.{noted_in_red, stopped_in_red, sent_as, stopped_as}
 use Rattle.codec_payload_codec.proofs.AnswerLemmas.{on_err}
 use Rattle.codec_payload_runs.proofs.red.red_send_step.Goals as goal
 

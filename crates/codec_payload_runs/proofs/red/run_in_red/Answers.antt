@@ -1,6 +1,6 @@
 use Rattle.std.proofs.Common.{rules, ◌<◌, ◌≤◌, ◌∙◌, [], ◌++◌, length, refl, append_assoc, inl, inr}
 use Rattle.std.proofs.lemmas.List.{append-nil, drop_all, drop_more}
-use Rattle.codec_payload_runs.proofs.RedLogs.{red_promises}
+use Rattle.codec_payload_runs.proofs.in_red.RedLogs.{red_promises}
 use Rattle.codec_payload_codec.proofs.AnswerLemmas.{on_err}
 use Rattle.codec_payload_runs.specs.RedPromises.{RunsAsRedSteps, ran_in_red, protection_of}
 use Rattle.codec_payload_runs.specs.RedSchedule.{red_state}

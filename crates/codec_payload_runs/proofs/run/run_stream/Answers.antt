@@ -1,6 +1,6 @@
 use Rattle.std.proofs.Common.{◌∙◌, refl, sym, ap, option_map}
 use Rattle.codec_payload_codec.specs.Depacketizers.{depacketizer_state_of}
-use Rattle.codec_payload_runs.proofs.StreamStart.{runs_stream}
+use Rattle.codec_payload_runs.proofs.units.StreamStart.{runs_stream}
 use Rattle.codec_payload_buffer.specs.Steps.{empty_buffer}
 use Rattle.codec_payload_runs.specs.Schedule.{run_state}
 use Rattle.codec_payload_runs.proofs.run.run_stream.Goals as goal

@@ -1,4 +1,4 @@
-use Rattle.codec_payload_runs.proofs.RunLogs.{only_sets_count}
+use Rattle.codec_payload_runs.proofs.order.RunLogs.{only_sets_count}
 use Rattle.codec_payload_runs.proofs.theorems.order_of_runs.Goals as goal
 
 pub returns : goal.returns

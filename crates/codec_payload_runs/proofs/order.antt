@@ -1,0 +1,26 @@
+-- Runs without RED: pushes, pops, and which units come when.
+pub mod AlikeLemmas
+pub mod ArrivalLemmas
+pub mod BareLemmas
+pub mod BeginLemmas
+pub mod ChainLemmas
+pub mod ContiguousLemmas
+pub mod CountLemmas
+pub mod EarlierLemmas
+pub mod EntryLemmas
+pub mod ExactLemmas
+pub mod FillLemmas
+pub mod FollowsLemmas
+pub mod FullLemmas
+pub mod GapLemmas
+pub mod HoldBackLemmas
+pub mod LogLemmas
+pub mod LossLemmas
+pub mod RunLogs
+pub mod RunSettings
+pub mod SafetyLemmas
+pub mod ScheduleLemmas
+pub mod TakenLemmas
+pub mod ReportLemmas
+pub mod TurnLemmas
+pub mod WholeLemmas
