@@ -3,6 +3,7 @@
 //! The layer between datagrams and the buffer: it selects the datagrams of one stream, extends 16-bit sequence numbers, and
 //! releases units by count and by time. Users depend on `codec_payload_core` for the rest.
 
+mod answers;
 mod blocks;
 mod choice;
 mod datagram;

@@ -1,7 +1,8 @@
 -- Pops of a receiver: the parts of the keyframe gate that they leave unchanged.
-use Rattle.std.proofs.Common.{◌≡◌, ◌∙◌, ◌==◌, ◌||◌, not, Bool, true, false, Option, Some, None, Result, Ok, Err, ℕ, refl, sym, ap, subst}
+use Rattle.std.proofs.Common.{◌≡◌, ◌∙◌, ◌==◌, ◌||◌, not, Bool, true, false, Option, Some, None, Result, Ok, Err, ℕ, refl, sym, ap, subst, arith, length, ◌<◌, ◌≤◌}
 use Rattle.std.proofs.lemmas.Bool.{false≢true}
 use Rattle.codec_payload_buffer.specs.Release.{Release}
+use Rattle.codec_payload_buffer.specs.Steps.{HasTaken, State}
 use Rattle.codec_payload_keyframes.specs.UnitGates.{Gating, is_passed, is_shown}
 use Rattle.codec_payload_stream.specs.Pops.{DropsUnits, Popped, PopsGated, PopsOnce, after_fault, gates_after, is_memory, is_passed_on, none_dropped, one_more}
 use Rattle.codec_payload_stream.specs.Sessions.{Session}
@@ -42,3 +43,15 @@ pub one_more_dropped : (now : ℕ) (s mid t : Session) (answer : Popped) → Dro
 one_more_dropped now s mid t None before pops kept = absurd (false≢true (sym kept))
 one_more_dropped now s mid t (Some (Err fault)) before pops kept = absurd (false≢true (sym kept))
 one_more_dropped now s mid t (Some (Ok unit)) before pops kept = one_more unit before pops kept
+
+-- nor does it leave more packets
+pub no_more : (g : Gating) (answer : Popped) (s t : State) (most : ℕ) → HasTaken answer s t → is_passed_on g answer ≡ false → length s.held ≤ most → length t.held ≤ most
+no_more g None s t most taken kept few = absurd (false≢true (sym kept))
+no_more g (Some (Err fault)) s t most taken kept few = absurd (false≢true (sym kept))
+no_more g (Some (Ok unit)) s t most taken kept few = omega (arith, taken, few)
+
+-- what takes from few packets takes from more
+pub taken_within : (answer : Popped) (s from t : State) → length s.held ≤ length from.held → HasTaken answer s t → HasTaken answer from t
+taken_within None s from t few taken = tt
+taken_within (Some (Ok unit)) s from t few taken = omega (arith, few, taken)
+taken_within (Some (Err fault)) s from t few taken = λ other. let less : length t.held < length s.held = taken other in omega (arith, few, less)

@@ -13,10 +13,9 @@ use crate::red::RedReceiver;
 use crate::rtp::packet::RtpError;
 use crate::rtp::times::RtpTimes;
 use crate::rtp::values::ExtensionIds;
+use crate::stream::answers::{answer_for, is_out_of_memory};
 use crate::stream::choice::{Choice, Origin, Verdict};
-use crate::stream::datagram::{
-    Datagram, Malformation, RedStream, Stream, Taken, observe, ssrc_after,
-};
+use crate::stream::datagram::{Datagram, RedStream, Stream, observe, ssrc_after};
 use crate::stream::gated::{follow, follow_into, gate_for};
 use crate::stream::reports::{ReceptionReport, ReceptionStatistics};
 use crate::stream::seen_times::SeenTimes;
@@ -667,27 +666,4 @@ fn turned_away(mut arrived: Arrived, count: u64) -> Arrived {
     arrived.received = arrived.received.wrapping_add(count);
     arrived.other_streams = arrived.other_streams.wrapping_add(count);
     arrived
-}
-
-/// Returns whether memory ran out.
-fn is_out_of_memory(answer: &Result<Outcome, ReceiveError>) -> bool {
-    matches!(answer, Err(ReceiveError::OutOfMemory))
-}
-
-/// Returns the error for a malformed datagram.
-fn error_of(malformation: Malformation) -> ReceiveError {
-    match malformation {
-        Malformation::Rtp(fault) => ReceiveError::Rtp(fault),
-        Malformation::Red => ReceiveError::Red,
-        Malformation::Retransmission => ReceiveError::Retransmission,
-    }
-}
-
-/// Returns the outcome of a datagram, or its error.
-fn answer_for(datagram: &Datagram<'_>, taken: Taken) -> Result<Outcome, ReceiveError> {
-    match datagram {
-        Datagram::Malformed(malformation) => Err(error_of(*malformation)),
-        Datagram::Red(_) if !taken.whole => Err(ReceiveError::BlocksOutOfMemory),
-        _ => Ok(taken.outcome),
-    }
 }
