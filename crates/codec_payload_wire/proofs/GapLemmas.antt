@@ -1,5 +1,5 @@
 -- A pop of a run over datagrams skips a frame only after a long series of units that no pop returned.
-use Rattle.std.proofs.Common.{◌≡◌, refl, sym, ap, ℕ, subst, List, [], ◌∷◌, None, ◌+◌, ◌<◌, ◌≤◌, ◌⊎◌, inl, inr, arith}
+use Rattle.std.proofs.Common.{sym, ℕ, subst, List, [], ◌∷◌, ◌+◌, ◌<◌, ◌≤◌, ◌⊎◌, inl, inr, arith}
 use Rattle.codec_payload_buffer.specs.Steps.{State}
 use Rattle.codec_payload_buffer.specs.declared.buffer.frames.CompleteFrame.{CompleteFrame}
 use Rattle.codec_payload_runs.proofs.order.GapLemmas.{IsGapFrom, IsPastIn, Outside, PopsNear, PopsPast, Taken, outside_more, pop_far, pop_past, span_taken, start_of}

@@ -1,4 +1,5 @@
 pub mod WireRuns
 pub mod Releases
 pub mod WireLogs
+pub mod OwnRuns
 pub mod WireRunExample

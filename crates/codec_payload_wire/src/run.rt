@@ -10,6 +10,7 @@ ghost use Rattle.codec_payload_stream.specs.declared.receiver.ReceiveError.{Rece
 ghost use Rattle.codec_payload_stream.specs.declared.receiver.ReceiveError.TheVariants as refusals;
 ghost use Rattle.codec_payload_runs.specs.Schedule.{Answer};
 ghost use Rattle.codec_payload_stream.specs.Sessions.{ReceivesBytes};
+ghost use Rattle.codec_payload_wire.specs.OwnRuns.{AsksForEnds, AsksForUnit, AsksInRun, AsksInStep, AsksPacketizer};
 ghost use Rattle.codec_payload_wire.specs.Releases.{ReleasesWithinWindows};
 ghost use Rattle.codec_payload_wire.specs.WireLogs.{KeepsPromisesWithinWindows};
 ghost use Rattle.codec_payload_wire.specs.WireRuns.{DoesStep, PopsUnit, Runs, SendsIt, SendsOrRefuses, Stops, StopsAt, StopsSending, begins, bytes_in, sent_sample, wire_of};
@@ -84,6 +85,9 @@ pub fn run_datagrams<P: Packetizer, D: Depacketizer>(
     ensures promises { IfOk result (λ run. KeepsPromisesWithinWindows (map sample_of samples.now) steps.now (begins sender.old receiver.old) (wire_of sender.new receiver.new run)) }
     ensures stops { OnErr result (Stops (map sample_of samples.now) steps.now (begins sender.old receiver.old) sender.new receiver.new) }
     ensures fault { IfErr result (λ fault. fault ≡ OutOfMemory) }
+    // Custom codecs are asked in each step, as `specs/OwnRuns.antt` says.
+    ensures own { IfOk result (λ run. AsksInRun (AsksPacketizer P.state P.packetize_step P.marker_step P.marks_spurts) (AsksForEnds D.is_head D.is_tail) (AsksForUnit D.state D.depacketize_step)
+        (map sample_of samples.now) steps.now (begins sender.old receiver.old) (wire_of sender.new receiver.new run)) }
 {
     let mut run = DatagramRun {
         datagrams: Vec::new(alloc),
@@ -109,6 +113,8 @@ fn do_step<P: Packetizer, D: Depacketizer>(
     ensures ok { OnOk result (DoesStep (map sample_of samples.now) step (wire_of sender.old receiver.old run.old) (wire_of sender.new receiver.new run.new)) }
     ensures err { OnErr result (StopsAt (map sample_of samples.now) step (wire_of sender.old receiver.old run.old) sender.new receiver.new) }
     ensures fault { IfErr result (λ fault. fault ≡ OutOfMemory) }
+    ensures own { OnOk result (AsksInStep (AsksPacketizer P.state P.packetize_step P.marker_step P.marks_spurts) (AsksForEnds D.is_head D.is_tail) (AsksForUnit D.state D.depacketize_step)
+        (map sample_of samples.now) step (wire_of sender.old receiver.old run.old) (wire_of sender.new receiver.new run.new)) }
 {
     match step {
         DatagramStep::Send(sample) => {
@@ -152,6 +158,7 @@ fn send_step<P: Packetizer>(
     ensures ok { IfOk result (λ entry. SendsIt (sample_of sample.now) sender.old (bytes_in datagrams.old.items) entry sender.new (bytes_in datagrams.new.items)) }
     ensures err { OnErr result (StopsSending (sent_sample (sample_of sample.now)) sender.old sender.new) }
     ensures fault { IfErr result (λ fault. fault ≡ OutOfMemory) }
+    ensures own { IfOk result (λ entry. AsksPacketizer P.state P.packetize_step P.marker_step P.marks_spurts (sent_sample (sample_of sample.now)) sender.old entry.fault sender.new) }
 {
     let fault = send(sender, sample)?;
     copy_datagrams(alloc, sender, datagrams)?;
@@ -173,6 +180,7 @@ fn send<P: Packetizer>(
     ensures ok { IfOk result (λ fault. SendsOrRefuses (sent_sample (sample_of sample.now)) sender.old fault sender.new) }
     ensures err { OnErr result (Refuses sender.old (sent_sample (sample_of sample.now)) OutOfMemory sender.new) }
     ensures fault { IfErr result (λ fault. fault ≡ OutOfMemory) }
+    ensures own { IfOk result (λ fault. AsksPacketizer P.state P.packetize_step P.marker_step P.marks_spurts (sent_sample (sample_of sample.now)) sender.old fault sender.new) }
 {
     let sample = Sample {
         rtp_time: sample.rtp_time,
@@ -216,6 +224,7 @@ fn deliver<D: Depacketizer>(
     ensures ok { IfOk result (λ receipt. (receipt ≢ Result.Err refusals.OutOfMemory) × ReceivesBytes now bytes.now receiver.old receipt receiver.new) }
     ensures err { OnErr result (ReceivesBytes now bytes.now receiver.old (Result.Err refusals.OutOfMemory) receiver.new) }
     ensures fault { IfErr result (λ fault. fault ≡ OutOfMemory) }
+    ensures own { AsksForEnds D.is_head D.is_tail receiver.old.packets.buffer receiver.new.packets.buffer }
 {
     match receiver.receive(now, bytes) {
         Err(ReceiveError::OutOfMemory) => Err(PacketError::OutOfMemory),
@@ -235,6 +244,7 @@ fn pop_at<D: Depacketizer>(
     ensures ok { IfOk result (λ answer. (answer ≢ Option.Some (Result.Err OutOfMemory)) × PopsUnit now receiver.old answer receiver.new) }
     ensures err { OnErr result (PopsUnit now receiver.old (Option.Some (Result.Err OutOfMemory)) receiver.new) }
     ensures fault { IfErr result (λ fault. fault ≡ OutOfMemory) }
+    ensures own { IfOk result (λ answer. AsksForUnit D.state D.depacketize_step now.0 receiver.old answer) }
 {
     match receiver.pop(now) {
         Some(Err(PacketError::OutOfMemory)) => Err(PacketError::OutOfMemory),

@@ -3,6 +3,7 @@ use Rattle.std.specs.Global.{Vec}
 use Rattle.std.specs.Prelude.{slice_get}
 use Rattle.std.proofs.lemmas.Option.{slice_get-map, slice_get_past, slice_get_read}
 use Rattle.codec_payload_codec.proofs.AnswerLemmas.{on_err}
+use Rattle.codec_payload_jitter.proofs.OwnLemmas.{stores_none}
 use Rattle.codec_payload_send.specs.Sending.{sample_of}
 use Rattle.codec_payload_wire.specs.WireRuns.{bytes_in}
 use Rattle.codec_payload_wire.proofs.run.do_step.Goals as goal
@@ -56,3 +57,20 @@ returns-in_ok-receipt-in-Deliver-clause-ok g c =
     let received = rw c.deref-in-Deliver.ensures.value at c.in_ok-receipt-in-Deliver.ensures.ok in
     let gained : c.push-in-Deliver.new.self.items ≡ c.args.run.now.receipts.items ++ c.in_ok-receipt-in-Deliver.receipt ∷ [] = search rules in
     rw c.in-Deliver.is (rw here (c.in_ok-receipt-in-Deliver.receipt, c.deliver.new.receiver, received, rw gained refl))
+
+-- Custom codecs
+
+-- a skipped delivery stores nothing
+pub returns-in_default-get-clause-own : goal.returns-in_default-get-clause-own
+returns-in_default-get-clause-own g c =
+    rw c.in-Deliver.is (λ other. stores_none g.D.Depacketizer.is_head g.D.Depacketizer.is_tail c.args.receiver.now.packets.buffer c.args.receiver.now.packets.buffer refl)
+
+pub returns-in_ok-entry-in-Send-clause-own : goal.returns-in_ok-entry-in-Send-clause-own
+returns-in_ok-entry-in-Send-clause-own g c =
+    let there = slice_get_read c.args.samples.now (length c.args.samples.now) c.in-Send.sample c.in-Some.sample.now refl c.in-Some.ensures.lookup.3.0 c.in-Some.ensures.lookup.1 in
+    let here = slice_get-map sample_of c.args.samples.now c.in-Send.sample ∙ ap (λ o. option_map sample_of o) there in
+    let gained : c.push.new.self.items ≡ c.args.run.now.sends.items ++ c.in_ok-entry-in-Send.entry ∷ [] = search rules in
+    rw c.in-Send.is (rw here (c.in_ok-entry-in-Send.entry, gained, c.in_ok-entry-in-Send.ensures.own))
+
+pub returns-in_ok-receipt-in-Deliver-clause-own : goal.returns-in_ok-receipt-in-Deliver-clause-own
+returns-in_ok-receipt-in-Deliver-clause-own g c = rw c.in-Deliver.is c.deliver.ensures.own
