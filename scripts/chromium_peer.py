@@ -61,6 +61,8 @@ CALLS = {
     "second": "video=VP8,rtx&second=1",
     "restart": "video=VP8,rtx",
     "swap": "video=VP8,rtx",
+    "layers": "video=VP9,rtx&layers=L2T2",
+    "simulcast": "video=VP8&simulcast=1&width=640",
 }
 # What the relay changes in the middle of a call.
 RESTARTS = {"restart": {"numbers": 20_000, "times": 1_000_000_000}, "swap": {"ssrc_change": 0x10}}
@@ -243,11 +245,20 @@ class Row:
     counts: collections.Counter
 
 
+def joined(frames):
+    """The pictures: frames of one RTP time are the spatial layers of one. It is a keyframe if its first layer is."""
+    pictures = {}
+    for frame in frames:
+        first = pictures.setdefault((frame.ssrc, frame.time), dataclasses.replace(frame, data=b""))
+        first.data += frame.data
+    return list(pictures.values())
+
+
 class Comparison:
     """The units of a call beside its frames."""
 
     def __init__(self, call):
-        self.call, self.faults = call, []
+        self.call, self.faults, self.frames = call, [], joined(call.frames)
         self.codecs = {int(number): codec.lower() for number, codec in re.findall(r"a=rtpmap:(\d+) ([^/]+)/", call.offer or "")}
         self.units = [unit_of(line) for line in call.lines if line.startswith("unit ")]
         self.by_frame = {self.sent_as(unit): unit for unit in self.units}
@@ -314,7 +325,7 @@ class Comparison:
         self.check_counts()
         self.check_reports()
         senders = collections.defaultdict(list)
-        for frame in self.call.frames:
+        for frame in self.frames:
             if (frame.ssrc, frame.time) in self.packets:
                 senders[frame.ssrc, frame.payload_type].append(frame)
         for (ssrc, payload_type), frames in senders.items():
@@ -329,7 +340,7 @@ class Comparison:
 
     def check_units(self):
         """Each unit is the encoder's frame, once and in order."""
-        places = {(frame.ssrc, frame.time): place for place, frame in enumerate(self.call.frames)}
+        places = {(frame.ssrc, frame.time): place for place, frame in enumerate(self.frames)}
         latest = {}
         for unit in self.units:
             at = f"unit of SSRC {unit.ssrc} at {unit.time}"
@@ -337,7 +348,7 @@ class Comparison:
             if sent_as not in places:
                 self.fault(f"{at}: the encoder made no such frame")
                 continue
-            frame = self.call.frames[places[sent_as]]
+            frame = self.frames[places[sent_as]]
             if unit.data != self.wanted(frame):
                 self.fault(f"{at}: {len(unit.data)} bytes differ from the encoder's {len(frame.data)}")
             if frame.kind in ("key", "delta") and unit.keyframe != (frame.kind == "key"):

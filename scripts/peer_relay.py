@@ -60,6 +60,8 @@ def answer_to_section(lines, port, user, password, refused):
         number = re.match(r"a=(?:rtpmap|fmtp|rtcp-fb):(\d+)", line)
         if REPEATED.match(line) and TRANSPORT_FEEDBACK not in line and not (number and number[1] not in taken):
             yield line
+        elif line.startswith(("a=rid:", "a=simulcast:")):
+            yield line.replace(" send", " recv").replace(":send", ":recv")
     yield "a=recvonly"
     yield f"a=candidate:1 1 udp 2130706431 {LOOPBACK} {port} typ host"
     yield "a=end-of-candidates"
