@@ -11,7 +11,7 @@ missing packets and keyframes, which Chromium answers. A call fails unless
 
 - each released unit is the encoder's frame of its SSRC and RTP time, byte for byte; AV1 without temporal delimiters, and with sizes;
 - no frame is released twice, and the frames of each stream are in the encoder's order;
-- `keyframe` is what the encoder says, and a unit is only `decodable` if no frame since a keyframe is missing;
+- `keyframe` is what the encoder says, and a unit is only `decodable` if all frames to which the encoder refers are;
 - at least 99 % of the frames whose packets arrived in time, at first or again, are released; and 99 % of the frames that follow a
   keyframe without a gap are decodable;
 - at least half of the lost packets of video arrive again, and a keyframe is requested if a gap stays;
@@ -81,6 +81,8 @@ class Frame:
     payload_type: int
     time: int
     kind: str
+    ids: set  # of its layers, if the encoder gives them
+    references: set  # to frames before it
     data: bytes
 
 
@@ -165,8 +167,9 @@ class Call:
 
 def frame_of(line):
     """A line of the page."""
-    ssrc, payload_type, at, kind, data = line.split(" ")
-    return Frame(int(ssrc), int(payload_type), int(at), kind, bytes.fromhex(data))
+    ssrc, payload_type, at, kind, own, references, data = line.split(" ")
+    ids, references = ({int(word) for word in words.split(",") if word != "-"} for words in (own, references))
+    return Frame(int(ssrc), int(payload_type), int(at), kind, ids, references, bytes.fromhex(data))
 
 
 def unit_of(line):
@@ -249,8 +252,10 @@ def joined(frames):
     """The pictures: frames of one RTP time are the spatial layers of one. It is a keyframe if its first layer is."""
     pictures = {}
     for frame in frames:
-        first = pictures.setdefault((frame.ssrc, frame.time), dataclasses.replace(frame, data=b""))
+        first = pictures.setdefault((frame.ssrc, frame.time), dataclasses.replace(frame, ids=set(), references=set(), data=b""))
         first.data += frame.data
+        first.ids |= frame.ids
+        first.references |= frame.references
     return list(pictures.values())
 
 
@@ -384,14 +389,16 @@ class Comparison:
     def figures(self, frames):
         """Counts of frames and packets of one sender. A chain of video begins with a keyframe, and ends at a frame that did not
         arrive, or where the sender began again."""
-        counts, chained, shown = collections.Counter(frames=len(frames)), False, False
+        counts, chained, shown, shown_ids = collections.Counter(frames=len(frames)), False, False, set()
         for frame, arrived in zip(frames, self.arrivals(frames)):
             packets, unit = self.packets[frame.ssrc, frame.time], self.by_frame.get((frame.ssrc, frame.time))
             begins = frame.kind != "delta"
             goes_on = not self.restarts(frame)
-            if unit and unit.decodable and not (begins or shown and goes_on):
-                self.fault(f"frame of SSRC {frame.ssrc} at {frame.time}: decodable behind a gap")
+            can_show = frame.references - frame.ids <= shown_ids if frame.ids else begins or shown
             shown = unit is not None and unit.decodable
+            shown_ids |= frame.ids if shown else set()
+            if shown and not can_show:
+                self.fault(f"frame of SSRC {frame.ssrc} at {frame.time}: decodable, and a frame that it refers to is missing")
             chained = arrived and (begins or chained and goes_on)
             counts += collections.Counter({
                 "packets": len(packets), "lost": sum(sent.lost for sent in packets), "arrived": arrived, "chained": chained,

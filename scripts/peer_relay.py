@@ -56,6 +56,9 @@ def answer_to_section(lines, port, user, password, refused):
     yield f"c=IN IP4 {LOOPBACK}"
     yield f"a=ice-ufrag:{user}"
     yield f"a=ice-pwd:{password}"
+    if any(line.startswith("a=simulcast:") for line in lines):
+        # Enough for the larger size: nothing here tells the browser what the network can carry.
+        yield f"a=fmtp:{taken[0]} x-google-start-bitrate=1500"
     for line in lines[1:]:
         number = re.match(r"a=(?:rtpmap|fmtp|rtcp-fb):(\d+)", line)
         if REPEATED.match(line) and TRANSPORT_FEEDBACK not in line and not (number and number[1] not in taken):
