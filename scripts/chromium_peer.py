@@ -6,10 +6,11 @@
     scripts/chromium_peer.py --loss 20 --round-trip 150 --seconds 20 vp8
 
 For each call a headless Chromium without encryption sends its fake camera and microphone (scripts/chromium_peer.html) to
-rust/examples/port_peer.rs on 127.0.0.1. scripts/peer_relay.py is the network between them, and answers for ICE. The program requests
-missing packets and keyframes, which Chromium answers. A call fails unless
+rust/examples/port_peer.rs on 127.0.0.1. scripts/peer_relay.py is the network between them, and answers for ICE. The program
+requests missing packets and keyframes, which Chromium answers. A call fails unless
 
-- each released unit is the encoder's frame of its SSRC and RTP time, byte for byte; AV1 without temporal delimiters, and with sizes;
+- each released unit is the encoder's frame of its SSRC and RTP time, byte for byte; of AV1 without temporal delimiters, and each
+  OBU with its size;
 - no frame is released twice, and the frames of each stream are in the encoder's order;
 - `keyframe` is what the encoder says, and a unit is only `decodable` if all frames to which the encoder refers are;
 - at least 99 % of the frames whose packets arrived in time, at first or again, are released; and 99 % of the frames that follow a
@@ -17,8 +18,8 @@ missing packets and keyframes, which Chromium answers. A call fails unless
 - at least half of the lost packets of video arrive again, and a keyframe is requested if a gap stays;
 - Chromium reads the receiver reports: it has the relay's round trip, and no more losses than the relay made.
 
-It prints a row for each sender. Needs Chromium of a distribution (Chrome's stable builds encrypt always) and cargo, and no network.
-The seed fixes the relay's chances; Chromium's times differ from run to run.
+It prints a row for each sender. Needs Chromium of a distribution (Chrome's stable builds encrypt always) and cargo, and no
+network. The seed fixes the relay's chances; Chromium's times differ from run to run.
 """
 
 import argparse
@@ -419,7 +420,8 @@ class Comparison:
             self.fault(f"{row.codec}: {counts['again']} of {counts['lost']} lost packets arrived again")
         # At the end of a stream a keyframe would come too late.
         if counts["decodable"] < 0.9 * counts["released"] and not counts["keyframes requested"]:
-            self.fault(f"{row.codec}: {counts['decodable']} of {counts['released']} units are decodable, and no keyframe is requested")
+            shares = f"{counts['decodable']} of {counts['released']} units are decodable"
+            self.fault(f"{row.codec}: {shares}, and no keyframe is requested")
 
 
 # The columns of the table.

@@ -204,8 +204,8 @@ class Journal:
 
 
 class Restart:
-    """Lets the sender of one SSRC begin again, from the first packet of a frame after a moment: the numbers and times jump, or the
-    SSRC and the SSRC of its retransmissions change."""
+    """Lets the sender of one SSRC begin again, from the first packet of a frame after a moment: its numbers and times jump, or its
+    SSRC changes, and so does the SSRC of its retransmissions."""
 
     def __init__(self, ssrc, retransmission, moment, numbers=0, times=0, ssrc_change=0):
         self.ssrc, self.retransmission, self.moment = ssrc, retransmission, moment
