@@ -6,19 +6,20 @@
     scripts/chromium_peer.py --loss 20 --round-trip 150 --seconds 20 vp8
 
 For each call a headless Chromium without encryption sends its fake camera and microphone (scripts/chromium_peer.html) to
-rust/examples/port_peer.rs on 127.0.0.1. scripts/peer_relay.py is the network between them, and answers for ICE. The program requests
-missing packets and keyframes, which Chromium answers. A call fails unless
+rust/examples/port_peer.rs on 127.0.0.1. scripts/peer_relay.py is the network between them, and answers for ICE. The program
+requests missing packets and keyframes, which Chromium answers. A call fails unless
 
-- each released unit is the encoder's frame of its SSRC and RTP time, byte for byte; AV1 without temporal delimiters, and with sizes;
+- each released unit is the encoder's frame of its SSRC and RTP time, byte for byte; of AV1 without temporal delimiters, and each
+  OBU with its size;
 - no frame is released twice, and the frames of each stream are in the encoder's order;
-- `keyframe` is what the encoder says, and a unit is only `decodable` if no frame since a keyframe is missing;
+- `keyframe` is what the encoder says, and a unit is only `decodable` if all frames to which the encoder refers are;
 - at least 99 % of the frames whose packets arrived in time, at first or again, are released; and 99 % of the frames that follow a
   keyframe without a gap are decodable;
 - at least half of the lost packets of video arrive again, and a keyframe is requested if a gap stays;
 - Chromium reads the receiver reports: it has the relay's round trip, and no more losses than the relay made.
 
-It prints a row for each sender. Needs Chromium of a distribution (Chrome's stable builds encrypt always) and cargo, and no network.
-The seed fixes the relay's chances; Chromium's times differ from run to run.
+It prints a row for each sender. Needs Chromium of a distribution (Chrome's stable builds encrypt always) and cargo, and no
+network. The seed fixes the relay's chances; Chromium's times differ from run to run.
 """
 
 import argparse
@@ -61,6 +62,8 @@ CALLS = {
     "second": "video=VP8,rtx&second=1",
     "restart": "video=VP8,rtx",
     "swap": "video=VP8,rtx",
+    "layers": "video=VP9,rtx&layers=L2T2",
+    "simulcast": "video=VP8&simulcast=1&width=640",
 }
 # What the relay changes in the middle of a call.
 RESTARTS = {"restart": {"numbers": 20_000, "times": 1_000_000_000}, "swap": {"ssrc_change": 0x10}}
@@ -79,6 +82,8 @@ class Frame:
     payload_type: int
     time: int
     kind: str
+    ids: set  # of its layers, if the encoder gives them
+    references: set  # to frames before it
     data: bytes
 
 
@@ -163,8 +168,9 @@ class Call:
 
 def frame_of(line):
     """A line of the page."""
-    ssrc, payload_type, at, kind, data = line.split(" ")
-    return Frame(int(ssrc), int(payload_type), int(at), kind, bytes.fromhex(data))
+    ssrc, payload_type, at, kind, own, references, data = line.split(" ")
+    ids, references = ({int(word) for word in words.split(",") if word != "-"} for words in (own, references))
+    return Frame(int(ssrc), int(payload_type), int(at), kind, ids, references, bytes.fromhex(data))
 
 
 def unit_of(line):
@@ -243,11 +249,22 @@ class Row:
     counts: collections.Counter
 
 
+def joined(frames):
+    """The pictures: frames of one RTP time are the spatial layers of one. It is a keyframe if its first layer is."""
+    pictures = {}
+    for frame in frames:
+        first = pictures.setdefault((frame.ssrc, frame.time), dataclasses.replace(frame, ids=set(), references=set(), data=b""))
+        first.data += frame.data
+        first.ids |= frame.ids
+        first.references |= frame.references
+    return list(pictures.values())
+
+
 class Comparison:
     """The units of a call beside its frames."""
 
     def __init__(self, call):
-        self.call, self.faults = call, []
+        self.call, self.faults, self.frames = call, [], joined(call.frames)
         self.codecs = {int(number): codec.lower() for number, codec in re.findall(r"a=rtpmap:(\d+) ([^/]+)/", call.offer or "")}
         self.units = [unit_of(line) for line in call.lines if line.startswith("unit ")]
         self.by_frame = {self.sent_as(unit): unit for unit in self.units}
@@ -314,7 +331,7 @@ class Comparison:
         self.check_counts()
         self.check_reports()
         senders = collections.defaultdict(list)
-        for frame in self.call.frames:
+        for frame in self.frames:
             if (frame.ssrc, frame.time) in self.packets:
                 senders[frame.ssrc, frame.payload_type].append(frame)
         for (ssrc, payload_type), frames in senders.items():
@@ -329,7 +346,7 @@ class Comparison:
 
     def check_units(self):
         """Each unit is the encoder's frame, once and in order."""
-        places = {(frame.ssrc, frame.time): place for place, frame in enumerate(self.call.frames)}
+        places = {(frame.ssrc, frame.time): place for place, frame in enumerate(self.frames)}
         latest = {}
         for unit in self.units:
             at = f"unit of SSRC {unit.ssrc} at {unit.time}"
@@ -337,7 +354,7 @@ class Comparison:
             if sent_as not in places:
                 self.fault(f"{at}: the encoder made no such frame")
                 continue
-            frame = self.call.frames[places[sent_as]]
+            frame = self.frames[places[sent_as]]
             if unit.data != self.wanted(frame):
                 self.fault(f"{at}: {len(unit.data)} bytes differ from the encoder's {len(frame.data)}")
             if frame.kind in ("key", "delta") and unit.keyframe != (frame.kind == "key"):
@@ -373,14 +390,16 @@ class Comparison:
     def figures(self, frames):
         """Counts of frames and packets of one sender. A chain of video begins with a keyframe, and ends at a frame that did not
         arrive, or where the sender began again."""
-        counts, chained, shown = collections.Counter(frames=len(frames)), False, False
+        counts, chained, shown, shown_ids = collections.Counter(frames=len(frames)), False, False, set()
         for frame, arrived in zip(frames, self.arrivals(frames)):
             packets, unit = self.packets[frame.ssrc, frame.time], self.by_frame.get((frame.ssrc, frame.time))
             begins = frame.kind != "delta"
             goes_on = not self.restarts(frame)
-            if unit and unit.decodable and not (begins or shown and goes_on):
-                self.fault(f"frame of SSRC {frame.ssrc} at {frame.time}: decodable behind a gap")
+            can_show = frame.references - frame.ids <= shown_ids if frame.ids else begins or shown
             shown = unit is not None and unit.decodable
+            shown_ids |= frame.ids if shown else set()
+            if shown and not can_show:
+                self.fault(f"frame of SSRC {frame.ssrc} at {frame.time}: decodable, and a frame that it refers to is missing")
             chained = arrived and (begins or chained and goes_on)
             counts += collections.Counter({
                 "packets": len(packets), "lost": sum(sent.lost for sent in packets), "arrived": arrived, "chained": chained,
@@ -401,7 +420,8 @@ class Comparison:
             self.fault(f"{row.codec}: {counts['again']} of {counts['lost']} lost packets arrived again")
         # At the end of a stream a keyframe would come too late.
         if counts["decodable"] < 0.9 * counts["released"] and not counts["keyframes requested"]:
-            self.fault(f"{row.codec}: {counts['decodable']} of {counts['released']} units are decodable, and no keyframe is requested")
+            shares = f"{counts['decodable']} of {counts['released']} units are decodable"
+            self.fault(f"{row.codec}: {shares}, and no keyframe is requested")
 
 
 # The columns of the table.

@@ -56,10 +56,15 @@ def answer_to_section(lines, port, user, password, refused):
     yield f"c=IN IP4 {LOOPBACK}"
     yield f"a=ice-ufrag:{user}"
     yield f"a=ice-pwd:{password}"
+    if any(line.startswith("a=simulcast:") for line in lines):
+        # Enough for the larger size: nothing here tells the browser what the network can carry.
+        yield f"a=fmtp:{taken[0]} x-google-start-bitrate=1500"
     for line in lines[1:]:
         number = re.match(r"a=(?:rtpmap|fmtp|rtcp-fb):(\d+)", line)
         if REPEATED.match(line) and TRANSPORT_FEEDBACK not in line and not (number and number[1] not in taken):
             yield line
+        elif line.startswith(("a=rid:", "a=simulcast:")):
+            yield line.replace(" send", " recv").replace(":send", ":recv")
     yield "a=recvonly"
     yield f"a=candidate:1 1 udp 2130706431 {LOOPBACK} {port} typ host"
     yield "a=end-of-candidates"
@@ -199,8 +204,8 @@ class Journal:
 
 
 class Restart:
-    """Lets the sender of one SSRC begin again, from the first packet of a frame after a moment: the numbers and times jump, or the
-    SSRC and the SSRC of its retransmissions change."""
+    """Lets the sender of one SSRC begin again, from the first packet of a frame after a moment: its numbers and times jump, or its
+    SSRC changes, and so does the SSRC of its retransmissions."""
 
     def __init__(self, ssrc, retransmission, moment, numbers=0, times=0, ssrc_change=0):
         self.ssrc, self.retransmission, self.moment = ssrc, retransmission, moment
