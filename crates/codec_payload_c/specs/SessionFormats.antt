@@ -1,5 +1,5 @@
 -- New sessions: their settings, payload formats and pairs of SSRCs, from C.
-use Rattle.std.specs.Prelude.{◌≡◌, ℕ, ◌&&◌, ◌||◌, ◌==◌, not, nat_le, nat_lt, if◌then◌else◌, Bool, Option, Some, None, List, [], is_some, map, filter_map}
+use Rattle.std.specs.Prelude.{◌≡◌, ℕ, ◌&&◌, ◌||◌, ◌==◌, not, nat_le, nat_lt, if◌then◌else◌, Bool, Option, Some, None, List, is_some, map, filter_map}
 use Rattle.std.specs.List.{list_all}
 use Rattle.codec_payload_handle.specs.Settings.{codec_numbered, depacketizer_set}
 use Rattle.codec_payload_handle.specs.declared.object.Object.{Object}

@@ -1,5 +1,5 @@
 -- The calls on a session: datagrams in, events out.
-use Rattle.std.specs.Prelude.{◌≡◌, ◌≢◌, ℕ, ◌==◌, Bool, true, false, List, [], Option, Some, None, Result, Ok, Err, length, nat_le}
+use Rattle.std.specs.Prelude.{◌≡◌, ℕ, ◌==◌, Bool, true, false, List, [], Option, Some, None, Result, Ok, Err, length, nat_le}
 use Rattle.std.specs.declared.alloc.AllocError.{AllocError}
 use Rattle.codec_payload_base.specs.declared.wire.Ticks.{Ticks}
 use Rattle.codec_payload_core.specs.Faults.{fault_number}

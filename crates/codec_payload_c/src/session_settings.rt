@@ -3,7 +3,7 @@
 ghost use Rattle.std.specs.Prelude.{◌≡◌, ◌&&◌, is_some, map, filter_map, IfErr, IfOk, IfSome, Option, Bool};
 ghost use Rattle.std.specs.List.{list_all};
 ghost use Rattle.codec_payload_c.specs.Refusals.{RefusesSettings};
-ghost use Rattle.codec_payload_c.specs.SessionFormats.{AreSessionSettings, HasPlainSettings, IsNewSession, format_given, format_in_range, is_in_range, pair_given, red_fits, session_in_range, types_fit};
+ghost use Rattle.codec_payload_c.specs.SessionFormats.{HasPlainSettings, IsNewSession, format_given, format_in_range, is_in_range, pair_given, red_fits, session_in_range, types_fit};
 
 use crate::extension::{ExtensionIds, ids_of};
 use crate::receiver::{WaitLimits, from_keyframe_of, waiting_for};
