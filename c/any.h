@@ -11,6 +11,7 @@ typedef union {
     cpay_red_sender red_sender;
     cpay_sender sender;
     cpay_receiver receiver;
+    cpay_session session;
 } any;
 
 #define ANY_INIT { CPAY_INIT }

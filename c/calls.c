@@ -35,6 +35,10 @@ void cpay_receiver_free(cpay_receiver *receiver) {
     if (receiver) proved_cpay_free(&receiver->handle);
 }
 
+void cpay_session_free(cpay_session *session) {
+    if (session) proved_cpay_free(&session->handle);
+}
+
 cpay_status proved_cpay_packetizer_new(cpay_handle *packetizer, const cpay_spec *spec);
 cpay_status cpay_packetizer_new(cpay_packetizer *packetizer, const cpay_spec *spec) {
     return proved_cpay_packetizer_new(&packetizer->handle, spec);
@@ -253,6 +257,84 @@ cpay_status cpay_receiver_report(cpay_receiver *receiver, cpay_report_info *repo
 cpay_status proved_cpay_receiver_counts(cpay_handle *receiver, cpay_receiver_counts_info *counts);
 cpay_status cpay_receiver_counts(cpay_receiver *receiver, cpay_receiver_counts_info *counts) {
     return proved_cpay_receiver_counts(&receiver->handle, counts);
+}
+
+cpay_status proved_cpay_session_new(cpay_handle *session, const cpay_session_settings *settings,
+                                    const cpay_session_format *formats, size_t formats_len, const uint8_t *no_media,
+                                    size_t no_media_len, const cpay_ssrc_pair *pairs, size_t pairs_len);
+cpay_status cpay_session_new(cpay_session *session, const cpay_session_settings *settings, const cpay_session_format *formats,
+                             size_t formats_len, const uint8_t *no_media, size_t no_media_len, const cpay_ssrc_pair *pairs,
+                             size_t pairs_len) {
+    if ((!formats && formats_len) || (!no_media && no_media_len) || (!pairs && pairs_len)) return CPAY_INVALID;
+    return proved_cpay_session_new(&session->handle, settings, formats ? formats : (const cpay_session_format *)nothing,
+                                   formats_len, no_media ? no_media : (const uint8_t *)nothing, no_media_len,
+                                   pairs ? pairs : (const cpay_ssrc_pair *)nothing, pairs_len);
+}
+
+cpay_status proved_cpay_session_receive(cpay_handle *session, uint64_t now, const uint8_t *datagram, size_t datagram_len,
+                                        cpay_arrival *arrival);
+cpay_status cpay_session_receive(cpay_session *session, uint64_t now, const uint8_t *datagram, size_t datagram_len,
+                                 cpay_arrival *arrival) {
+    if (!datagram && datagram_len) return CPAY_INVALID;
+    return proved_cpay_session_receive(&session->handle, now, datagram ? datagram : (const uint8_t *)nothing, datagram_len,
+                                       arrival);
+}
+
+cpay_status proved_cpay_session_poll(cpay_handle *session, uint64_t now, cpay_event *event, uint8_t *bytes, size_t bytes_len);
+cpay_status cpay_session_poll(cpay_session *session, uint64_t now, cpay_event *event, uint8_t *bytes, size_t bytes_len) {
+    if (!bytes && bytes_len) return CPAY_INVALID;
+    return proved_cpay_session_poll(&session->handle, now, event, bytes ? bytes : (uint8_t *)nothing, bytes_len);
+}
+
+cpay_status proved_cpay_session_values(cpay_handle *session, cpay_extension_values *values);
+cpay_status cpay_session_values(cpay_session *session, cpay_extension_values *values) {
+    return proved_cpay_session_values(&session->handle, values);
+}
+
+cpay_status proved_cpay_session_next_deadline(cpay_handle *session, uint64_t *at);
+cpay_status cpay_session_next_deadline(cpay_session *session, uint64_t *at) {
+    return proved_cpay_session_next_deadline(&session->handle, at);
+}
+
+cpay_status proved_cpay_session_end(cpay_handle *session, uint64_t now, uint32_t ssrc);
+cpay_status cpay_session_end(cpay_session *session, uint64_t now, uint32_t ssrc) {
+    return proved_cpay_session_end(&session->handle, now, ssrc);
+}
+
+cpay_status proved_cpay_session_finish(cpay_handle *session, uint64_t now);
+cpay_status cpay_session_finish(cpay_session *session, uint64_t now) {
+    return proved_cpay_session_finish(&session->handle, now);
+}
+
+cpay_status proved_cpay_session_counts(cpay_handle *session, cpay_session_counts_info *counts);
+cpay_status cpay_session_counts(cpay_session *session, cpay_session_counts_info *counts) {
+    return proved_cpay_session_counts(&session->handle, counts);
+}
+
+cpay_status proved_cpay_session_stream_at(cpay_handle *session, size_t place, cpay_session_stream *stream);
+cpay_status cpay_session_stream_at(cpay_session *session, size_t place, cpay_session_stream *stream) {
+    return proved_cpay_session_stream_at(&session->handle, place, stream);
+}
+
+cpay_status proved_cpay_session_missing(cpay_handle *session, uint32_t ssrc, uint8_t payload_type, uint64_t *numbers,
+                                        size_t numbers_len, size_t *count);
+cpay_status cpay_session_missing(cpay_session *session, uint32_t ssrc, uint8_t payload_type, uint64_t *numbers,
+                                 size_t numbers_len, size_t *count) {
+    if (!numbers && numbers_len) return CPAY_INVALID;
+    return proved_cpay_session_missing(&session->handle, ssrc, payload_type, numbers ? numbers : (uint64_t *)nothing,
+                                       numbers_len, count);
+}
+
+cpay_status proved_cpay_session_wants_keyframe(cpay_handle *session, uint32_t ssrc, uint8_t payload_type, bool *wants);
+cpay_status cpay_session_wants_keyframe(cpay_session *session, uint32_t ssrc, uint8_t payload_type, bool *wants) {
+    return proved_cpay_session_wants_keyframe(&session->handle, ssrc, payload_type, wants);
+}
+
+cpay_status proved_cpay_session_set_wait_limits(cpay_handle *session, uint32_t ssrc, uint8_t payload_type,
+                                                const cpay_wait_limits *wait_limits);
+cpay_status cpay_session_set_wait_limits(cpay_session *session, uint32_t ssrc, uint8_t payload_type,
+                                         const cpay_wait_limits *wait_limits) {
+    return proved_cpay_session_set_wait_limits(&session->handle, ssrc, payload_type, wait_limits);
 }
 
 cpay_status proved_cpay_depacketizer_new(cpay_handle *depacketizer, const cpay_spec *spec);

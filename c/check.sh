@@ -3,7 +3,7 @@
 #
 #   c/check.sh FOLDER COMMAND..    the programs are in FOLDER; COMMAND, if given, runs each of them
 #
-# The result of each call: checks, datagrams, values, packets. A stream over UDP on loopback: loopback. The stored script of the
+# The result of each call: checks, datagrams, session, values, packets. Over UDP on loopback: a stream, loopback, and a port with two senders, port. The stored script of the
 # program payload_vectors: vectors. Headers of frames, compared with other readers, and hostile frames: frames, frames.txt.
 # Allocations less frees after each type of use, and each allocation of a session refused in turn: oom. Session descriptions in
 # c/sdp: descriptions. Each is read as NAME.txt says, which was written by hand after the RFCs; the faults are in faults.txt;
@@ -26,7 +26,7 @@ says() {
     [ "$(sed -n "$2p" "$work/$1")" = "$3" ] || fail "c/$1.c printed something else: $(sed -n "$2p" "$work/$1")"
 }
 
-for name in example checks datagrams packets values loopback oom; do
+for name in example checks datagrams session packets values loopback port oom; do
     "$@" "$folder/$name" >"$work/$name" || {
         cat "$work/$name" >&2
         fail "c/$name.c failed"
@@ -35,6 +35,8 @@ for name in example checks datagrams packets values loopback oom; do
 done
 says example 2 "packets 65536 to 65538: a frame of 3000 bytes"
 says loopback '$' "1278000 bytes of frames, 64 gaps"
+says port 2 "stream 2 of payload type 111: 100 units, 8000 bytes, until a BYE"
+says port '$' "401 datagrams, 1 of RTCP, 0 for no stream"
 "$@" "$folder/vectors" <"$vectors/stdin" >"$work/vectors" || fail "c/vectors.c failed"
 cmp -s "$work/vectors" "$vectors/stdout" || fail "c/vectors.c answers other lines than the program payload_vectors"
 cut -d' ' -f1,2 "$root/c/frames.txt" | "$@" "$folder/frames" report | cut -d' ' -f1-4 >"$work/reported"

@@ -300,6 +300,50 @@ static int recovery(int *met) {
     return kept == before ? 0 : 9;
 }
 
+/* The streams of a port: two senders and a BYE, a loss and its retransmission. */
+static int port(int *met) {
+    long before = kept;
+    const cpay_session_settings settings = CPAY_LIVE_SESSION;
+    const cpay_session_format format = {.spec = {.codec = CPAY_OPUS, .rate = 48000}, .payload_type = 111, .has_rtx = true,
+                                        .rtx_payload_type = 112};
+    const cpay_ssrc_pair pair = {.ssrc = 7, .rtx_ssrc = 9};
+    static const uint8_t no_media[1] = {101};
+    cpay_session session = CPAY_INIT;
+    cpay_session_counts_info counts = {0};
+    cpay_arrival arrival = {0};
+    cpay_event event = {0};
+    uint8_t bytes[32];
+    cpay_status status;
+    AGAIN(status, cpay_session_new(&session, &settings, &format, 1, no_media, 1, &pair, 1));
+    if (status) return 1;
+#define ARRIVES(wanted, ...) \
+    do { \
+        size_t size = packet(bytes, __VA_ARGS__); \
+        AGAIN(status, cpay_session_receive(&session, 0, bytes, size, &arrival)); \
+        if (status || arrival.kind || arrival.status || arrival.outcome != (wanted)) return 2; \
+    } while (0)
+    ARRIVES(CPAY_HELD, 111, 7, 10, "\x0a", 1);
+    ARRIVES(CPAY_HELD, 111, 8, 20, "\x14", 1);
+    ARRIVES(CPAY_HELD, 111, 7, 11, "\x0b", 1);
+    ARRIVES(CPAY_HELD, 111, 7, 13, "\x0d", 1);
+    ARRIVES(CPAY_HELD, 111, 8, 21, "\x15", 1);
+    ARRIVES(CPAY_HELD, 112, 9, 12, "\0\x0c\x0c", 3);
+    AGAIN(status, cpay_session_receive(&session, 0, (const uint8_t *)"\x81\xcb\0\1\0\0\0\x08", 8, &arrival));
+    if (status || arrival.kind != CPAY_ARRIVAL_RTCP) return 3;
+    for (uint8_t units = 0; units < 6;) {
+        AGAIN(status, cpay_session_poll(&session, 0, &event, bytes, 0));
+        if (status == CPAY_OK && event.kind == CPAY_EVENT_BEGUN) continue;
+        if (status != CPAY_TOO_SMALL || event.unit.bytes != 1) return 4;
+        if (cpay_session_poll(&session, 0, &event, bytes, 1) || bytes[0] != (units < 4 ? 10 + units : 16 + units)) return 5;
+        units++;
+    }
+    if (cpay_session_poll(&session, 0, &event, bytes, 1) != CPAY_NONE) return 6;
+    if (cpay_session_poll(&session, 200, &event, bytes, 0) || event.kind != CPAY_EVENT_ENDED || event.ssrc != 8) return 7;
+    if (cpay_session_counts(&session, &counts) || counts.received != 7 || counts.ended != 2) return 8;
+    cpay_session_free(&session);
+    return kept == before ? 0 : 9;
+}
+
 /* Frees the object in a handle of any type. Returns whether it held memory, and all memory allocated since `before` was
  * released. */
 static bool gives_back(any *it, long before) {
@@ -364,6 +408,29 @@ static int left_in_red(void) {
     return 0;
 }
 
+/* A session is freed with packets that are held, and then with a unit that waits and one that was returned. */
+static int left_in_session(void) {
+    long before = kept;
+    any it = ANY_INIT;
+    const cpay_session_settings settings = CPAY_LIVE_SESSION;
+    const cpay_session_format format = {.spec = {.codec = CPAY_OPUS, .rate = 48000}, .payload_type = 111};
+    cpay_arrival arrival = {0};
+    cpay_event event = {0};
+    uint8_t bytes[32];
+    for (int units = 0; units < 2; units++) {
+        if (cpay_session_new(&it.session, &settings, &format, 1, NULL, 0, NULL, 0)) return 1;
+        for (uint8_t number = 1; number < 4; number++) {
+            size_t size = packet(bytes, 111, 7, number, "x", 1);
+            if (cpay_session_receive(&it.session, 0, bytes, size, &arrival) || arrival.outcome != CPAY_HELD) return 2;
+        }
+        if (units && (cpay_session_poll(&it.session, 0, &event, bytes, 0) || event.kind != CPAY_EVENT_BEGUN)) return 3;
+        if (units && (cpay_session_poll(&it.session, 0, &event, bytes, 1) || event.kind != CPAY_EVENT_UNIT)) return 4;
+        if (units && cpay_session_poll(&it.session, 0, &event, bytes, 0) != CPAY_TOO_SMALL) return 5;
+        if (!gives_back(&it, before)) return 6;
+    }
+    return 0;
+}
+
 /* The number of uses that kept memory, or failed. */
 static int leaks(void) {
     static const uint32_t codecs[4] = {CPAY_VP8, CPAY_VP9, CPAY_AV1, CPAY_NULL};
@@ -371,6 +438,7 @@ static int leaks(void) {
     for (size_t i = 0; i < 4; i++)
         if ((ended = left_behind(codecs[i]))) printf("memory left by codec %u: ended %d\n", (unsigned)codecs[i], ended), bad++;
     if ((ended = left_in_red())) printf("memory left by RED: ended %d\n", ended), bad++;
+    if ((ended = left_in_session())) printf("memory left by a session: ended %d\n", ended), bad++;
     return bad;
 }
 
@@ -383,6 +451,7 @@ static int session(int *met) {
     }
     int ended = red(met);
     if (!ended) ended = datagrams(met);
+    if (!ended) ended = port(met);
     return ended ? ended : recovery(met);
 }
 

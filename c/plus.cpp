@@ -75,6 +75,49 @@ void over_datagrams() {
     CHECK(to.make(receives) == CPAY_OK);
 }
 
+void over_a_port() {
+    const cpay_session_settings settings = CPAY_LIVE_SESSION;
+    cpay_session_format formats[2] = {};
+    formats[0].spec = VP8;
+    formats[0].payload_type = 96;
+    formats[1].spec = OPUS;
+    formats[1].payload_type = 111;
+    cpay_sender_settings sends = {};
+    sends.spec = VP8;
+    sends.mtu = 1200;
+    sends.payload_type = 96;
+    sends.ssrc = 7;
+    cpay::sender from;
+    cpay::session to;
+    CHECK(from.make(sends) == CPAY_OK && to.make(settings, formats) == CPAY_OK && to.make(settings, formats) == CPAY_FULL);
+    std::vector<std::uint8_t> frame(3000, 7), datagram, found;
+    std::size_t count = 0;
+    cpay_arrival arrival = {};
+    CHECK(from.send(3000, false, frame, count) == CPAY_OK && count == 3);
+    for (std::size_t place = 0; place < count; place++) {
+        CHECK(from.datagram(place, datagram) == CPAY_OK);
+        CHECK(to.receive(0, datagram, arrival) == CPAY_OK && arrival.kind == CPAY_ARRIVAL_STREAM && arrival.ssrc == 7);
+    }
+    std::uint64_t at = 9;
+    CHECK(to.next_deadline(at) == CPAY_OK && at == 0);
+    cpay_event event = {};
+    CHECK(to.poll(0, event, found) == CPAY_OK && event.kind == CPAY_EVENT_BEGUN && found.empty());
+    CHECK(to.poll(0, event, found) == CPAY_NONE && found.empty());
+    CHECK(to.set_wait_limits(7, 96, settings.audio) == CPAY_OK && to.set_wait_limits(8, 96, settings.audio) == CPAY_NONE);
+    CHECK(to.poll(100, event, found) == CPAY_OK && event.kind == CPAY_EVENT_UNIT && found == frame);
+    cpay_extension_values values = {};
+    CHECK(to.values(values) == CPAY_OK && !values.has_audio_level);
+    std::array<std::uint64_t, 4> missing = {};
+    bool wants = false;
+    CHECK(to.missing(7, 96, missing, count) == CPAY_OK && count == 0 && to.wants_keyframe(7, 96, wants) == CPAY_OK);
+    cpay_session_stream stream = {};
+    cpay_session_counts_info counts = {};
+    CHECK(to.stream_at(0, stream) == CPAY_OK && stream.counts.units == 1 && to.stream_at(1, stream) == CPAY_NONE);
+    CHECK(to.end(100, 7) == CPAY_OK && to.finish(100) == CPAY_OK);
+    CHECK(to.poll(100, event, found) == CPAY_OK && event.kind == CPAY_EVENT_ENDED && found.empty());
+    CHECK(to.counts(counts) == CPAY_OK && counts.received == 3 && counts.ended == 3);
+}
+
 void over_payloads() {
     cpay::packetizer from;
     cpay::buffer to;
@@ -115,6 +158,7 @@ void over_red() {
 
 int main() {
     over_datagrams();
+    over_a_port();
     over_payloads();
     over_red();
     return checked();

@@ -2,9 +2,10 @@
  * codec_payload: RTP payloads of media frames, and the datagrams that carry them, for C and C++.
  *
  * A sender cuts the frames of one stream into datagrams. A receiver accepts the datagrams of a socket, in any order and among any
- * other bytes, and returns units in order. For callers that handle RTP headers themselves there are a packetizer, a buffer,
- * depacketizers and RED. Sockets, clocks and threads stay with you. The library is proved: no input makes it crash or read out of
- * bounds. See docs/FORMATS.md for the formats and the rules of the buffer, and docs/C.md for a guide.
+ * other bytes, and returns units in order. A session does so for all streams of a port. For callers that handle RTP headers
+ * themselves there are a packetizer, a buffer, depacketizers and RED. Sockets, clocks and threads stay with you. The library is
+ * proved: no input makes it crash or read out of bounds. See docs/FORMATS.md for the formats and the rules of the buffer, and
+ * docs/C.md for a guide.
  *
  * FRAMES. For each codec: the rate of its RTP clock in hertz, the frame or unit, and the result for a frame longer than the MTU:
  *
@@ -27,11 +28,11 @@
  * output buffer and its other output arguments are unchanged. Exception: with CPAY_TOO_SMALL it writes the required size, and the
  * other outputs except the bytes.
  *
- * HANDLES. A packetizer, a depacketizer, a buffer, a RED sender, a sender and a receiver each live in a handle: a struct of that
- * type in your own memory. Initialise it with CPAY_INIT, create the object by the call named *_new, and end with the call named
- * *_free, which leaves the handle empty. You may free an empty handle. Other calls on an empty handle return CPAY_EMPTY; calls on a
- * handle of another type, as after a cast, return CPAY_OTHER_KIND. Never write into a handle. Never copy a handle in use: the
- * library cannot detect that another copy was freed. You may move it in memory if you forget the old place.
+ * HANDLES. A packetizer, a depacketizer, a buffer, a RED sender, a sender, a receiver and a session each live in a handle: a
+ * struct of that type in your own memory. Initialise it with CPAY_INIT, create the object by the call named *_new, and end with
+ * the call named *_free, which leaves the handle empty. You may free an empty handle. Other calls on an empty handle return
+ * CPAY_EMPTY; calls on a handle of another type, as after a cast, return CPAY_OTHER_KIND. Never write into a handle. Never copy a
+ * handle in use: the library cannot detect that another copy was freed. You may move it in memory if you forget the old place.
  *
  * MEMORY. The library allocates with the program's malloc and realloc and releases with free, only in calls marked [m]. These
  * functions must belong to one allocator. Each block must be aligned for the type stored in it, at most 8 bytes, as in glibc, musl,
@@ -210,6 +211,10 @@ typedef struct {
     cpay_handle handle;
 } cpay_receiver;
 
+typedef struct {
+    cpay_handle handle;
+} cpay_session;
+
 #define CPAY_INIT { { false, { NULL } } }
 
 /** Frees the object, and leaves the handle empty. NULL and an empty handle are ignored. */
@@ -219,6 +224,7 @@ void cpay_depacketizer_free(cpay_depacketizer *depacketizer);
 void cpay_red_sender_free(cpay_red_sender *sender);
 void cpay_sender_free(cpay_sender *sender);
 void cpay_receiver_free(cpay_receiver *receiver);
+void cpay_session_free(cpay_session *session);
 
 /** A codec with its settings. Settings of other codecs are ignored, with two exceptions: `rate` is always checked, and
  * cpay_packetizer_new checks `first_id` for every codec. Buffers and depacketizers ignore `first_id`. */
@@ -747,6 +753,182 @@ typedef struct {
 } cpay_receiver_counts_info;
 
 CPAY_CHECKED cpay_status cpay_receiver_counts(cpay_receiver *receiver, cpay_receiver_counts_info *counts);
+
+/* ---- A session: all datagrams of a port in, the events of its streams out ---- */
+
+/** A payload format of a port, as a=rtpmap and a=fmtp of a session description name it (RFC 8866, section 6). */
+typedef struct {
+    cpay_spec spec;           /**< `first_id`, `vp8_ids` and `vp9_flexible` are ignored */
+    uint32_t red_step;        /**< with has_red: RTP timestamp increment per packet, 1 to 16383; 960 is 20 ms at 48 kHz */
+    uint8_t payload_type;     /**< 0 to 127; if two formats have the same payload type, the first counts */
+    uint8_t red_payload_type; /**< with has_red: payload type of RED, 0 to 127; must differ from `payload_type` */
+    uint8_t rtx_payload_type; /**< with has_rtx: payload type of retransmissions, 0 to 127 */
+    bool has_red;             /**< packets of the format may arrive in RED (RFC 2198) */
+    bool has_rtx;             /**< packets of the format may be retransmitted under another SSRC (RFC 4588); see cpay_ssrc_pair */
+} cpay_session_format;
+
+/** Two SSRCs of one source, as a=ssrc-group:FID names them (RFC 5576, section 4.2). Without its pair a retransmission is counted
+ * as unassociated. */
+typedef struct {
+    uint32_t ssrc;     /**< SSRC of the stream */
+    uint32_t rtx_ssrc; /**< SSRC of its retransmissions */
+} cpay_ssrc_pair;
+
+/** Begin with CPAY_LIVE_SESSION. */
+typedef struct {
+    cpay_wait_limits audio;   /**< how long frames of audio wait for missing packets */
+    cpay_wait_limits video;   /**< how long frames of VP8, VP9 and AV1 wait for missing packets */
+    uint64_t idle_timeout;    /**< a stream ends once this number of ticks has passed since its last datagram */
+    uint64_t bye_wait;        /**< a stream takes packets for this number of ticks after its BYE (RFC 3550, section 6.6), since
+                                   packets may arrive after it */
+    uint64_t probation;       /**< a stream is announced once this number of datagrams was accepted: a stray packet announces
+                                   nothing. Duplicates, late and suspect packets do not count */
+    size_t limit;             /**< maximum number of packets that a stream holds, 1 to 65536 */
+    size_t max_streams;       /**< maximum number of streams, above 0; announced or not */
+    uint32_t tick_rate;       /**< ticks per second of your clock, above 0 */
+    uint8_t from_keyframe;    /**< what happens to video units that a decoder cannot show: CPAY_KEYFRAME_OFF, CPAY_KEYFRAME_MARK
+                                   or CPAY_KEYFRAME_DROP */
+    cpay_extension_ids extension_ids; /**< for cpay_session_values; two equal ids read the same element */
+} cpay_session_settings;
+
+/** Settings for live streams, with a clock of milliseconds. Audio waits for at most 100 ms and video for at most 200 ms. A session
+ * has at most 64 streams of 4096 packets. A stream is announced with its second datagram, ends 30 s after its last one, and takes
+ * packets for 200 ms after its BYE. Units that a decoder cannot show are marked. */
+#define CPAY_LIVE_SESSION \
+    { { 100, CPAY_NO_HOLD_BACK, 1, true }, { 200, CPAY_NO_HOLD_BACK, 2, true }, 30000, 200, 2, 4096, 64, 1000, \
+      CPAY_KEYFRAME_MARK, { 0, 0, 0, 0, 0, 0 } }
+
+/** Creates a session in an empty handle, for these payload formats. `no_media` lists payload types that share the SSRC and the
+ * numbers of a stream and carry none of its media: telephone events beside audio, comfort noise. `pairs` names the SSRCs of
+ * retransmissions. The lists are copied. CPAY_INVALID: unsupported codec, or a rate, payload type, step, `limit`, `max_streams` or
+ * `from_keyframe` out of range. [m] */
+CPAY_CHECKED cpay_status cpay_session_new(cpay_session *session, const cpay_session_settings *settings,
+                                          const cpay_session_format *formats, size_t formats_len, const uint8_t *no_media,
+                                          size_t no_media_len, const cpay_ssrc_pair *pairs, size_t pairs_len);
+
+/** What a session did with a datagram. */
+enum {
+    CPAY_ARRIVAL_STREAM = 0,      /**< a stream received it: see `status` and `outcome` */
+    CPAY_ARRIVAL_RTCP = 1,        /**< a valid compound packet of RTCP; streams that its BYE names end after `bye_wait` */
+    CPAY_ARRIVAL_MALFORMED = 2,   /**< neither RTP nor a valid compound packet of RTCP (RFC 3550, section 6.1) */
+    CPAY_ARRIVAL_UNKNOWN = 3,     /**< a payload type that no format names, or one of `no_media` whose SSRC has no stream */
+    CPAY_ARRIVAL_REFUSED = 4,     /**< it would begin a stream, but all places are taken, or you called cpay_session_finish */
+    CPAY_ARRIVAL_UNASSOCIATED = 5 /**< a retransmission whose stream is not known */
+};
+
+typedef struct {
+    uint32_t kind;        /**< CPAY_ARRIVAL_STREAM and so on; without a stream all other fields are 0 */
+    uint32_t ssrc;        /**< SSRC of the stream */
+    uint32_t status;      /**< CPAY_OK, or why the payload was not accepted: CPAY_RED_CORRUPTED or CPAY_RTX_TOO_SHORT; or
+                               CPAY_OUT_OF_MEMORY: a RED packet was stored, but not all of its redundant blocks */
+    uint32_t outcome;     /**< with `status` CPAY_OK: CPAY_HELD and so on, as cpay_receiver_receive reports it */
+    uint8_t payload_type; /**< payload type of the stream */
+} cpay_arrival;
+
+/** Processes one datagram of the port, received at time `now`, in ticks of your clock, and reports what was done with it. Any bytes
+ * are accepted. Its SSRC and its payload type identify the stream, which it begins if there is none and a place is free. If all
+ * places are taken, the new stream replaces the first one that is not announced yet. The time is proportional to the number of
+ * streams. CPAY_OUT_OF_MEMORY: the datagram is not counted, and you may pass it again. [m] */
+CPAY_CHECKED cpay_status cpay_session_receive(cpay_session *session, uint64_t now, const uint8_t *datagram, size_t datagram_len,
+                                              cpay_arrival *arrival);
+
+/** The kinds of events. New ones may be added: ignore those that you do not know. */
+enum {
+    CPAY_EVENT_BEGUN = 0, /**< a stream is announced: the first event of the stream */
+    CPAY_EVENT_UNIT = 1,  /**< a unit: see `unit`; its bytes are in the output buffer */
+    CPAY_EVENT_FAULT = 2, /**< the depacketizer refused a frame, which is discarded: see `status` */
+    CPAY_EVENT_ENDED = 3  /**< a stream was removed: the last event of the stream; see `why` */
+};
+
+/** Why a stream ended. */
+enum {
+    CPAY_ENDED_BY_BYE = 0,     /**< its sender left (RFC 3550, section 6.6) */
+    CPAY_ENDED_BY_TIMEOUT = 1, /**< no datagram arrived for `idle_timeout` */
+    CPAY_ENDED_BY_CALL = 2     /**< you called cpay_session_end or cpay_session_finish */
+};
+
+typedef struct {
+    uint32_t kind;        /**< CPAY_EVENT_BEGUN and so on */
+    uint32_t ssrc;        /**< SSRC of the stream */
+    uint32_t status;      /**< of CPAY_EVENT_FAULT: the error, 1 to 16; of other events CPAY_OK */
+    uint32_t why;         /**< of CPAY_EVENT_ENDED: CPAY_ENDED_BY_BYE and so on; of other events 0 */
+    uint8_t payload_type; /**< payload type of the stream's format, also if the unit came in RED or was retransmitted */
+    cpay_unit unit;       /**< of CPAY_EVENT_UNIT: the unit, as cpay_receiver_pop reports it; of other events all fields are 0 */
+} cpay_event;
+
+/** Reports the next event at time `now`. Call it until CPAY_NONE after each datagram and at each deadline. Streams are asked in the
+ * order in which they began; each stream has CPAY_EVENT_BEGUN first, then its units in order, and CPAY_EVENT_ENDED last.
+ * CPAY_NONE: there is no event. CPAY_TOO_SMALL: *event is written, and the event waits for the next call: its unit needs a buffer
+ * of `unit.bytes` bytes. CPAY_OUT_OF_MEMORY: the frame stays, and the next call tries it again. [m] */
+CPAY_CHECKED cpay_status cpay_session_poll(cpay_session *session, uint64_t now, cpay_event *event, uint8_t *bytes,
+                                           size_t bytes_len);
+
+/** Reports the header extension values of the unit that cpay_session_poll returned last with CPAY_OK: see cpay_receiver_values.
+ * CPAY_NONE: no unit was returned yet. Does not allocate. */
+CPAY_CHECKED cpay_status cpay_session_values(cpay_session *session, cpay_extension_values *values);
+
+/** Reports the time at which a poll may have an event although no datagram arrives. CPAY_NONE: only a datagram can help. */
+CPAY_CHECKED cpay_status cpay_session_next_deadline(cpay_session *session, uint64_t *at);
+
+/** Ends the streams of this SSRC at time `now`: polls report their complete units, and then CPAY_EVENT_ENDED. Without such a stream
+ * nothing changes. A later packet of the SSRC begins a new stream. */
+CPAY_CHECKED cpay_status cpay_session_end(cpay_session *session, uint64_t now, uint32_t ssrc);
+
+/** Ends all streams at time `now`, announced or not: polls report their complete units, and then CPAY_EVENT_ENDED for each. From
+ * now on no stream begins. */
+CPAY_CHECKED cpay_status cpay_session_finish(cpay_session *session, uint64_t now);
+
+/** Counters of datagrams by result, modulo 2^64. `received` is always the sum of rtcp, malformed, unknown, refused, unassociated,
+ * ended, and `taken` of each stream. */
+typedef struct {
+    uint64_t received;
+    uint64_t rtcp;         /**< CPAY_ARRIVAL_RTCP, and so on */
+    uint64_t malformed;
+    uint64_t unknown;
+    uint64_t refused;
+    uint64_t unassociated;
+    uint64_t ended;        /**< datagrams that streams received which were removed since */
+    size_t streams;        /**< streams now, announced or not */
+    bool waiting;          /**< an event waits for a larger output buffer */
+} cpay_session_counts_info;
+
+CPAY_CHECKED cpay_status cpay_session_counts(cpay_session *session, cpay_session_counts_info *counts);
+
+/** The stage of a stream. */
+enum {
+    CPAY_STREAM_PROBATION = 0, /**< too few datagrams were accepted, and the stream is not announced */
+    CPAY_STREAM_PLAYING = 1,
+    CPAY_STREAM_LEAVING = 2, /**< it takes datagrams until `ends_at`, and then ends */
+    CPAY_STREAM_DRAINING = 3 /**< polls return the complete units that it holds, and then it is removed */
+};
+
+/** A stream of a session. */
+typedef struct {
+    uint64_t taken;       /**< datagrams that the stream received, modulo 2^64 */
+    uint64_t ends_at;     /**< of CPAY_STREAM_LEAVING: the time, in ticks of your clock; in other stages 0 */
+    uint32_t ssrc;
+    uint32_t stage;       /**< CPAY_STREAM_PROBATION and so on */
+    uint32_t why;         /**< of CPAY_STREAM_LEAVING and CPAY_STREAM_DRAINING: CPAY_ENDED_BY_BYE and so on; in other stages 0 */
+    uint8_t payload_type; /**< payload type of the stream's format */
+    cpay_receiver_counts_info counts; /**< `waiting` is false: see cpay_session_counts_info */
+} cpay_session_stream;
+
+/** Describes the stream at a place, from 0, in the order in which the streams began. CPAY_NONE: there is no such stream. */
+CPAY_CHECKED cpay_status cpay_session_stream_at(cpay_session *session, size_t place, cpay_session_stream *stream);
+
+/** Reports the missing sequence numbers of the stream with this SSRC and payload type: see cpay_receiver_missing. CPAY_NONE: there
+ * is no such stream. Does not allocate. */
+CPAY_CHECKED cpay_status cpay_session_missing(cpay_session *session, uint32_t ssrc, uint8_t payload_type, uint64_t *numbers,
+                                              size_t numbers_len, size_t *count);
+
+/** Reports whether to request a keyframe of the stream with this SSRC and payload type: see cpay_receiver_wants_keyframe.
+ * CPAY_NONE: there is no such stream. Does not allocate. */
+CPAY_CHECKED cpay_status cpay_session_wants_keyframe(cpay_session *session, uint32_t ssrc, uint8_t payload_type, bool *wants);
+
+/** Replaces the wait limits of the stream with this SSRC and payload type: see cpay_receiver_set_wait_limits. CPAY_NONE: there is
+ * no such stream. */
+CPAY_CHECKED cpay_status cpay_session_set_wait_limits(cpay_session *session, uint32_t ssrc, uint8_t payload_type,
+                                                      const cpay_wait_limits *wait_limits);
 
 /* ---- A depacketizer alone, for callers that order packets themselves ---- */
 

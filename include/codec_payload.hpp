@@ -148,6 +148,45 @@ public:
     [[nodiscard]] cpay_status counts(cpay_receiver_counts_info &counts) noexcept { return cpay_receiver_counts(get(), &counts); }
 };
 
+/** All datagrams of a port in, the events of its streams out. */
+class session : public handle<cpay_session, cpay_session_free> {
+public:
+    [[nodiscard]] cpay_status make(const cpay_session_settings &settings, view<const cpay_session_format> formats,
+                                   bytes no_media = {}, view<const cpay_ssrc_pair> pairs = {}) noexcept {
+        return cpay_session_new(get(), &settings, formats.data(), formats.size(), no_media.data(), no_media.size(), pairs.data(),
+                                pairs.size());
+    }
+    [[nodiscard]] cpay_status receive(std::uint64_t now, bytes datagram, cpay_arrival &arrival) noexcept {
+        return cpay_session_receive(get(), now, datagram.data(), datagram.size(), &arrival);
+    }
+    [[nodiscard]] cpay_status poll(std::uint64_t now, cpay_event &event, room to) noexcept {
+        return cpay_session_poll(get(), now, &event, to.data(), to.size());
+    }
+    /** The same into a vector, which grows as needed. It has the bytes of a unit, and is empty on each other event and status. */
+    [[nodiscard]] cpay_status poll(std::uint64_t now, cpay_event &event, std::vector<std::uint8_t> &to) {
+        return into(to, event.unit.bytes, [&](room it) { return poll(now, event, it); });
+    }
+    [[nodiscard]] cpay_status values(cpay_extension_values &values) noexcept { return cpay_session_values(get(), &values); }
+    [[nodiscard]] cpay_status next_deadline(std::uint64_t &at) noexcept { return cpay_session_next_deadline(get(), &at); }
+    [[nodiscard]] cpay_status end(std::uint64_t now, std::uint32_t ssrc) noexcept { return cpay_session_end(get(), now, ssrc); }
+    [[nodiscard]] cpay_status finish(std::uint64_t now) noexcept { return cpay_session_finish(get(), now); }
+    [[nodiscard]] cpay_status counts(cpay_session_counts_info &counts) noexcept { return cpay_session_counts(get(), &counts); }
+    [[nodiscard]] cpay_status stream_at(std::size_t place, cpay_session_stream &stream) noexcept {
+        return cpay_session_stream_at(get(), place, &stream);
+    }
+    [[nodiscard]] cpay_status missing(std::uint32_t ssrc, std::uint8_t payload_type, view<std::uint64_t> numbers,
+                                      std::size_t &count) noexcept {
+        return cpay_session_missing(get(), ssrc, payload_type, numbers.data(), numbers.size(), &count);
+    }
+    [[nodiscard]] cpay_status wants_keyframe(std::uint32_t ssrc, std::uint8_t payload_type, bool &wants) noexcept {
+        return cpay_session_wants_keyframe(get(), ssrc, payload_type, &wants);
+    }
+    [[nodiscard]] cpay_status set_wait_limits(std::uint32_t ssrc, std::uint8_t payload_type,
+                                              const cpay_wait_limits &limits) noexcept {
+        return cpay_session_set_wait_limits(get(), ssrc, payload_type, &limits);
+    }
+};
+
 /** A frame in, its payloads out. */
 class packetizer : public handle<cpay_packetizer, cpay_packetizer_free> {
 public:

@@ -136,3 +136,77 @@ void twin_receiver_free(void *receiver) {
     cpay_receiver_free(receiver);
     free(receiver);
 }
+
+/* A session of two formats: the given one with payload type 96, RED 63 and retransmissions 98, and Opus with payload type 100. The
+ * values are max_wait, start, limit, max_streams, probation, idle_timeout, bye_wait and from_keyframe. */
+void *twin_session(uint32_t codec, uint32_t rate, uint32_t flags, const uint64_t values[8]) {
+    cpay_session_settings settings = CPAY_LIVE_SESSION;
+    cpay_session_format formats[2] = { { .red_step = 0 }, { .red_step = 0 } };
+    static const uint8_t no_media[] = { 97, 13 };
+    static const cpay_ssrc_pair pairs[] = { { 1, 2 } };
+    formats[0].spec = spec_of(codec, rate, flags, 0);
+    formats[0].payload_type = 96;
+    formats[0].has_red = formats[0].has_rtx = true;
+    formats[0].red_payload_type = 63;
+    formats[0].red_step = 90;
+    formats[0].rtx_payload_type = 98;
+    formats[1].spec = spec_of(CPAY_OPUS, 48000, 0, 0);
+    formats[1].payload_type = 100;
+    settings.audio.max_wait = settings.video.max_wait = values[0];
+    settings.audio.start = settings.video.start = (size_t)values[1];
+    settings.limit = (size_t)values[2];
+    settings.max_streams = (size_t)values[3];
+    settings.probation = values[4];
+    settings.idle_timeout = values[5];
+    settings.bye_wait = values[6];
+    settings.from_keyframe = (uint8_t)values[7];
+    cpay_session *made = calloc(1, sizeof *made);
+    if (made && !cpay_session_new(made, &settings, formats, 2, no_media, sizeof no_media, pairs, 1)) return made;
+    free(made);
+    return NULL;
+}
+
+/* What was done: kind, SSRC, payload type, status, outcome. */
+uint32_t twin_session_receive(void *session, uint64_t now, const uint8_t *datagram, size_t datagram_len, uint64_t arrival[5]) {
+    cpay_arrival it = { 0 };
+    cpay_status status = cpay_session_receive(session, now, datagram, datagram_len, &it);
+    uint64_t told[5] = { it.kind, it.ssrc, it.payload_type, it.status, it.outcome };
+    for (int place = 0; place < 5; place++) arrival[place] = told[place];
+    return status;
+}
+
+/* The next event: kind, SSRC, payload type, status, why, and of its unit the first and the last number, the RTP time, whether it is
+ * contiguous, decodable and a keyframe, and its size. */
+uint32_t twin_session_poll(void *session, uint64_t now, uint8_t *bytes, size_t bytes_len, uint64_t event[12]) {
+    cpay_event it = { 0 };
+    cpay_status status = cpay_session_poll(session, now, &it, bytes, bytes_len);
+    uint64_t told[12] = { it.kind, it.ssrc, it.payload_type, it.status, it.why, it.unit.first, it.unit.last, it.unit.rtp_time,
+                          it.unit.contiguous, it.unit.decodable, it.unit.keyframe, it.unit.bytes };
+    for (int place = 0; place < 12; place++) event[place] = told[place];
+    return status;
+}
+
+uint32_t twin_session_next_deadline(void *session, uint64_t *at) { return cpay_session_next_deadline(session, at); }
+
+uint32_t twin_session_end(void *session, uint64_t now, uint32_t ssrc) { return cpay_session_end(session, now, ssrc); }
+
+uint32_t twin_session_finish(void *session, uint64_t now) { return cpay_session_finish(session, now); }
+
+uint32_t twin_session_missing(void *session, uint32_t ssrc, uint8_t payload_type, uint64_t *numbers, size_t numbers_len,
+                              size_t *count) {
+    return cpay_session_missing(session, ssrc, payload_type, numbers, numbers_len, count);
+}
+
+/* Received, RTCP, malformed, unknown, refused, unassociated, ended, streams. */
+uint32_t twin_session_counts(void *session, uint64_t counts[8]) {
+    cpay_session_counts_info it = { 0 };
+    cpay_status status = cpay_session_counts(session, &it);
+    uint64_t told[8] = { it.received, it.rtcp, it.malformed, it.unknown, it.refused, it.unassociated, it.ended, it.streams };
+    for (int place = 0; place < 8; place++) counts[place] = told[place];
+    return status;
+}
+
+void twin_session_free(void *session) {
+    cpay_session_free(session);
+    free(session);
+}

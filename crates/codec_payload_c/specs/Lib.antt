@@ -11,6 +11,9 @@ pub mod Reds
 pub mod Refusals
 pub mod RtpFields
 pub mod Senders
+pub mod SessionFormats
+pub mod SessionStreams
+pub mod Sessions
 pub mod StreamReceivers
 pub mod StreamSenders
 pub mod Tele

@@ -168,6 +168,10 @@ abbrev pub TellsNumber : Option ℕ → ℕ → (before after : ℕ) → Type 0
 TellsNumber (Some n) status before after = (status ≡ 0) × (after ≡ n)
 TellsNumber None status before after = (status ≡ 32) × (after ≡ before)
 
+-- a receiver without a unit that waits or was popped
+abbrev pub without_units : Session → StreamReceiver
+without_units s = record { receiver = s; waiting = None; taken = None }
+
 -- the counters of a receiver
 pub record TellsCounts (r : StreamReceiver) (c : ReceiverCountsInfo) : Type 0 where
   pub received : c.received ≡ (r.receiver.arrived.received + length r.receiver.choice.candidates) % 2 ^ 64

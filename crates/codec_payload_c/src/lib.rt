@@ -15,5 +15,8 @@ mod red_blocks;
 mod red_places;
 mod rtp;
 mod sender;
+mod session;
+mod session_settings;
+mod session_streams;
 mod tele;
 mod vp8;

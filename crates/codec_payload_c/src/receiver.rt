@@ -1,12 +1,13 @@
 //! Receivers: the datagrams of one stream in, units out.
 
-ghost use Rattle.std.specs.Prelude.{◌≡◌, ◌≢◌, ◌&&◌, is_some, nat_le, nat_lt, if◌then◌else◌, Bool, IfErr, IfOk, IfSome, Option};
+ghost use Rattle.std.specs.Prelude.{◌≡◌, ◌≢◌, ◌&&◌, ◌++◌, drop, is_some, length, nat_le, nat_lt, if◌then◌else◌, Bool, IfErr, IfOk, IfSome, Option};
 ghost use Rattle.codec_payload_core.specs.Depacketizers.{depacketizer_state_of};
+ghost use Rattle.codec_payload_jitter.specs.Missing.{missing_numbers};
 ghost use Rattle.codec_payload_jitter.specs.Receiving.{deadline_of};
 ghost use Rattle.codec_payload_stream.specs.Reports.{report_of, reported};
 ghost use Rattle.codec_payload_stream.specs.Sessions.{Finishes, restarted};
 ghost use Rattle.codec_payload_c.specs.Refusals.{RefusesSettings};
-ghost use Rattle.codec_payload_c.specs.StreamReceivers.{AreSettings, IsNewStream, IsStreamReceiverOf, PopsUnit, Takes, Tells, TellsCounts, TellsMissing, TellsNumber, TellsReport, TellsJudged, TellsTaken, bound_given, from_keyframe_numbered, is_in_range, outcome_number, red_set, rtx_set, restarted_as, wait_limits_given, waiting_by};
+ghost use Rattle.codec_payload_c.specs.StreamReceivers.{AreSettings, IsNewStream, IsStreamReceiverOf, PopsUnit, Takes, Tells, TellsCounts, TellsMissing, TellsNumber, TellsReport, TellsJudged, TellsTaken, without_units, bound_given, from_keyframe_numbered, is_in_range, outcome_number, red_set, rtx_set, restarted_as, wait_limits_given, waiting_by};
 ghost use Rattle.codec_payload_handle.specs.Kinds.{Makes, OnStreamReceiver, Refuses, is_stream_receiver};
 ghost use Rattle.codec_payload_handle.specs.Settings.{depacketizer_set};
 
@@ -163,7 +164,7 @@ fn retransmission_of(settings: &ReceiverSettings) -> Option<Retransmission>
 }
 
 /// Returns what happens to units that a decoder cannot show. `None`: the number has no meaning.
-fn from_keyframe_of(number: u8) -> Option<FromKeyframe>
+pub(crate) fn from_keyframe_of(number: u8) -> Option<FromKeyframe>
     ensures { result ≡ if nat_le number 2 then Option.Some (from_keyframe_numbered number) else Option.None }
 {
     match number {
@@ -186,7 +187,7 @@ fn bound_of(hold_back: usize) -> Option<usize>
 }
 
 /// Converts the wait limits of C.
-fn waiting_for(wait_limits: WaitLimits) -> Waiting
+pub(crate) fn waiting_for(wait_limits: WaitLimits) -> Waiting
     ensures { result ≡ wait_limits_given wait_limits }
 {
     Waiting {
@@ -266,7 +267,7 @@ fn receive(stream: &mut StreamReceiver, now: u64, datagram: &[u8], outcome: &mut
 }
 
 /// Returns the status of an answer, and its outcome, if it has one.
-fn report_answer(answer: Result<Outcome, ReceiveError>, outcome: &mut u32) -> u32
+pub(crate) fn report_answer(answer: Result<Outcome, ReceiveError>, outcome: &mut u32) -> u32
     ensures { Tells answer result outcome.old outcome.new }
 {
     match answer {
@@ -322,13 +323,23 @@ fn pop(stream: &mut StreamReceiver, now: u64, unit: &mut Unit, bytes: &mut [u8])
     status::OK
 }
 
-/// Returns the counters of a receiver.
+/// Returns the counters of a receiver, and whether a unit waits.
 fn counts_of(stream: &StreamReceiver) -> ReceiverCountsInfo
     ensures { TellsCounts stream.now result }
 {
-    let counters = stream.receiver.counters();
+    ReceiverCountsInfo {
+        waiting: stream.waiting.is_some(),
+        ..counts_by(&stream.receiver)
+    }
+}
+
+/// Returns the counters of a receiver for which no unit waits.
+pub(crate) fn counts_by(receiver: &Receiver) -> ReceiverCountsInfo
+    ensures { TellsCounts (without_units receiver.now) result }
+{
+    let counters = receiver.counters();
     let packets = counters.packets;
-    let ssrc = stream.receiver.ssrc();
+    let ssrc = receiver.ssrc();
     ReceiverCountsInfo {
         received: counters.received,
         rtcp: counters.rtcp,
@@ -347,19 +358,20 @@ fn counts_of(stream: &StreamReceiver) -> ReceiverCountsInfo
         recovered: packets.recovered,
         units: packets.units,
         undecodable: counters.undecodable,
-        held: stream.receiver.held(),
+        held: receiver.held(),
         ssrc: ssrc.unwrap_or(0),
         has_ssrc: ssrc.is_some(),
-        waiting: stream.waiting.is_some(),
+        waiting: false,
     }
 }
 
 /// Writes the missing numbers to `numbers`, as many as there is room for, and returns how many were written.
-fn missing_into(stream: &StreamReceiver, numbers: &mut [u64]) -> usize
-    ensures { TellsMissing stream.now numbers.old result numbers.new }
+pub(crate) fn missing_into(receiver: &Receiver, numbers: &mut [u64]) -> usize
+    ensures count { result ≡ length (missing_numbers receiver.now.packets (length numbers.old)) }
+    ensures numbers { numbers.new ≡ missing_numbers receiver.now.packets (length numbers.old) ++ drop result numbers.old }
 {
     let mut count = 0;
-    for number in stream.receiver.missing(numbers.len()) {
+    for number in receiver.missing(numbers.len()) {
         numbers[count] = number;
         count += 1;
     }
@@ -733,7 +745,7 @@ pub extern "C" fn cpay_receiver_missing(
     };
     let answer = match &mut *object {
         Object::StreamReceiver(stream) => {
-            *count = missing_into(stream, numbers);
+            *count = missing_into(&stream.receiver, numbers);
             status::OK
         }
         _ => status::OTHER_KIND,

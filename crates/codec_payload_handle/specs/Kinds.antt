@@ -6,6 +6,7 @@ use Rattle.codec_payload_handle.specs.declared.object.Object.{Object}
 use Rattle.codec_payload_handle.specs.declared.object.Object.TheVariants as objects
 use Rattle.codec_payload_handle.specs.declared.object.FrameReceiver.{FrameReceiver}
 use Rattle.codec_payload_handle.specs.declared.object.FrameSender.{FrameSender}
+use Rattle.codec_payload_handle.specs.declared.object.PortSession.{PortSession}
 use Rattle.codec_payload_handle.specs.declared.object.StreamReceiver.{StreamReceiver}
 use Rattle.codec_payload_handle.specs.declared.object.StreamSender.{StreamSender}
 
@@ -63,6 +64,15 @@ abbrev pub OnStreamReceiver : Option Object → (StreamReceiver → StreamReceiv
 OnStreamReceiver (Some (objects.StreamReceiver r)) Does after = StaysStreamReceiver (Does r) after
 OnStreamReceiver _ Does after = Unit {0}
 
+-- the same for a session
+abbrev pub StaysPortSession : (PortSession → Type 0) → Option Object → Type 0
+StaysPortSession Done (Some (objects.PortSession s)) = Done s
+StaysPortSession Done _ = ⊥
+
+abbrev pub OnPortSession : Option Object → (PortSession → PortSession → Type 0) → Option Object → Type 0
+OnPortSession (Some (objects.PortSession r)) Does after = StaysPortSession (Does r) after
+OnPortSession _ Does after = Unit {0}
+
 abbrev pub is_frame_sender : Object → Bool
 is_frame_sender (objects.FrameSender _) = true
 is_frame_sender _ = false
@@ -86,6 +96,10 @@ is_stream_sender _ = false
 abbrev pub is_stream_receiver : Object → Bool
 is_stream_receiver (objects.StreamReceiver _) = true
 is_stream_receiver _ = false
+
+abbrev pub is_port_session : Object → Bool
+is_port_session (objects.PortSession _) = true
+is_port_session _ = false
 
 -- status 34: the handle is empty; status 35: it holds another type; the handle is unchanged
 abbrev pub Refuses : (Object → Bool) → Option Object → ℕ → Option Object → Type 0

@@ -3,7 +3,7 @@ use Rattle.std.specs.Prelude.{◌≡◌, true, false, List, length}
 use Rattle.codec_payload_base.specs.declared.wire.extension.ExtensionValues.{ExtensionValues}
 use Rattle.codec_payload_core.specs.Release.{Release, AreValues, IsFirst, IsLast, IsReceivedFirst}
 use Rattle.codec_payload_core.specs.declared.buffer.RtpMeta.{RtpMeta}
-use Rattle.codec_payload_handle.specs.Extras.{extra_told}
+use Rattle.codec_payload_handle.specs.Extras.{extra_told, nothing_told}
 use Rattle.codec_payload_handle.specs.HeaderValues.{values_told}
 use Rattle.codec_payload_handle.specs.declared.extension_values.ExtensionValues.{ExtensionValues as CValues}
 use Rattle.codec_payload_handle.specs.declared.unit.Unit.{Unit as CUnit}
@@ -11,6 +11,21 @@ use Rattle.codec_payload_handle.specs.declared.unit.Unit.{Unit as CUnit}
 -- the values of header extensions of these packets are described
 abbrev pub TellsValues : List RtpMeta → CValues → Type 0
 TellsValues metas values = (v : ExtensionValues) × AreValues metas v × (values ≡ values_told v)
+
+-- no unit: each number is 0, and each flag is false
+abbrev pub no_unit : CUnit
+no_unit = record {
+  first = 0;
+  last = 0;
+  rtp_time = 0;
+  received = 0;
+  bytes = 0;
+  contiguous = false;
+  starts_talk_spurt = false;
+  decodable = false;
+  keyframe = false;
+  extra = nothing_told;
+}
 
 -- the description of a unit without a receiver
 pub record TellsUnit (u : Release) (unit : CUnit) : Type 0 where

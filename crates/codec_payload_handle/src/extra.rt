@@ -99,7 +99,7 @@ fn layers_of(extra: &Vp9CodecExtra) -> [Vp9Layer; 3]
 }
 
 /// Returns data without any values.
-fn nothing() -> Extra
+pub fn nothing() -> Extra
     ensures { result ≡ extra_told extras.None }
 {
     let layer = layer_of(None, None, None);

@@ -6,6 +6,7 @@ use codec_payload_core::payloads::Payloads;
 use codec_payload_core::red::RedSender;
 use codec_payload_core::wire::Frequency;
 use codec_payload_sender::sender::Sender as DatagramSender;
+use codec_payload_session::session::{Event, Session};
 use codec_payload_stream::receiver::Receiver as DatagramReceiver;
 
 /// A packetizer, and the packets of its latest frame.
@@ -52,6 +53,14 @@ pub struct StreamReceiver {
     pub taken: Option<Depacketized>,
 }
 
+/// A session, the event whose bytes wait for a larger output buffer, and the latest unit.
+#[derive(Drop)]
+pub struct PortSession {
+    pub session: Session,
+    pub waiting: Option<Event>,
+    pub taken: Option<Depacketized>,
+}
+
 /// A value behind a handle.
 #[derive(Drop)]
 pub enum Object {
@@ -61,4 +70,5 @@ pub enum Object {
     RedSender(RedSender),
     StreamSender(StreamSender),
     StreamReceiver(StreamReceiver),
+    PortSession(PortSession),
 }

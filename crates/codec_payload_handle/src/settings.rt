@@ -21,7 +21,7 @@ const MAX_PICTURE_ID: u16 = 32_767;
 
 /// A codec with its settings.
 #[repr(C)]
-#[derive(Drop)]
+#[derive(Clone, Copy)]
 pub struct Spec {
     /// The number of the codec.
     pub codec: u32,

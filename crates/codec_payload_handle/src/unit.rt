@@ -1,11 +1,11 @@
 //! The description of a unit, for C.
 
-ghost use Rattle.std.specs.Prelude.{◌<◌, length};
+ghost use Rattle.std.specs.Prelude.{◌≡◌, ◌<◌, length};
 ghost use Rattle.codec_payload_core.specs.Release.{IsFirst, IsLast};
-ghost use Rattle.codec_payload_handle.specs.Units.{TellsUnit, TellsValues};
+ghost use Rattle.codec_payload_handle.specs.Units.{TellsUnit, TellsValues, no_unit};
 
 use crate::extension_values::{ExtensionValues, values_between};
-use crate::extra::{Extra, extra_of};
+use crate::extra::{Extra, extra_of, nothing};
 use codec_payload_core::buffer::{Depacketized, RtpMeta};
 
 /// A unit, without its bytes.
@@ -59,6 +59,24 @@ pub fn values_in(unit: &Depacketized) -> ExtensionValues
     let first = first_of(metas);
     let last = last_of(metas);
     values_between(&first.header.ext_vals, &last.header.ext_vals)
+}
+
+/// Returns a description with each number 0 and each flag false.
+pub fn no_unit() -> Unit
+    ensures { result ≡ no_unit }
+{
+    Unit {
+        first: 0,
+        last: 0,
+        rtp_time: 0,
+        received: 0,
+        bytes: 0,
+        contiguous: false,
+        starts_talk_spurt: false,
+        decodable: false,
+        keyframe: false,
+        extra: nothing(),
+    }
 }
 
 /// Describes a unit for C.

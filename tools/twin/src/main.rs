@@ -1,13 +1,16 @@
 //! The generated crate beside the proved library, in one process: each call of both answers the same.
 //!
-//! `twin COUNT` makes COUNT random sequences of calls of packetizers, depacketizers and receivers each; `twin FOLDER` takes the
-//! sequences of depacketizers and receivers from the fuzzer's corpora, FOLDER/depacketize and FOLDER/receiver. `twin changed COUNT`
-//! prints what the crate reads of COUNT changed copies of the session description on its standard input, as c/descriptions.c does.
+//! `twin COUNT` makes COUNT random sequences of calls of packetizers, depacketizers, receivers and sessions each; `twin FOLDER`
+//! takes the sequences of depacketizers and receivers from the fuzzer's corpora, FOLDER/depacketize and FOLDER/receiver. `twin
+//! changed COUNT` prints what the crate reads of COUNT changed copies of the session description on its standard input, as
+//! c/descriptions.c does.
 
 #[path = "../../../rust/tests/sdp/dump.rs"]
 mod descriptions;
 mod input;
 mod proved;
+mod proved_session;
+mod sessions;
 
 use codec_payload::jitter::WaitLimits;
 use codec_payload::stream::{Receiver, ReceiverSettings, RedSettings, Retransmission};
@@ -16,6 +19,7 @@ use codec_payload::{
     Packetizer, Ticks, Vp8Packetizer, Vp9PacketizerMode,
 };
 use input::{Input, random_bytes};
+use sessions::sessions;
 use std::collections::HashMap;
 use std::fmt::Debug;
 
@@ -355,10 +359,11 @@ fn main() {
     if word == "changed" {
         return print_changed(&words.next().expect("a count"));
     }
-    let sequences: [(&str, Sequence); 3] = [
+    let sequences: [(&str, Sequence); 4] = [
         ("packetize", packetize),
         ("depacketize", depacketize),
         ("receiver", receive),
+        ("session", sessions),
     ];
     let mut calls = 0;
     for (name, sequence) in sequences {

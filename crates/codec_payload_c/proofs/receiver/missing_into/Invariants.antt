@@ -6,7 +6,7 @@ abbrev pub invariant-loop-number : goal.invariant-loop-number
 invariant-loop-number l =
     goal.iterator-loop-number.can_next l.number-iterator
     × goal.iterator-loop-number.is_finite l.number-iterator
-    × (take l.count l.numbers ++ l.number-iterator ≡ missing_numbers l.stream.receiver.packets (length l.fn.numbers))
+    × (take l.count l.numbers ++ l.number-iterator ≡ missing_numbers l.receiver.packets (length l.fn.numbers))
     × (drop l.count l.numbers ≡ drop l.count l.fn.numbers)
     × (l.count + length l.number-iterator ≤ length l.fn.numbers)
     × (length l.numbers ≡ length l.fn.numbers)

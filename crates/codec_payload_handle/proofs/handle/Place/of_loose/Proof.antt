@@ -35,7 +35,7 @@ pub of_loose_spec : {M : Type 1} → statement M
 of_loose_spec 𝓤 𝓛 𝓜 𝓡 wired =
     let 𝓣 = tables 𝓤 𝓛.H 𝓜 𝓡 𝓡.env in let c = clauses 𝓛 𝓜.mem 𝓡.returns in let fn = code.function in let S = ended.signature in
     let R : RattleType = object.the_row in let Z : RattleType = heap.the_row in let LZ = heap_laws.the_row_laws in
-    let hs : Stays ended.signature.params ended.kept = (stay_dropped (plain (λ _. Loose R Z LZ ghosts)) yes, tt) in
+    let hs : Stays ended.signature.params ended.kept = (stay_dropped _ _, tt) in
     proved_at 𝓛 ended hs c 𝓜 𝓡 (Goes-blank 𝓛 0 (plain (λ _. Loose R Z LZ ghosts)) yes (λ κs x f. tt), tt) #self fn (code.unfolded 𝓤 𝓛.H 𝓜 𝓡 wired) (λ z are.
     let Post : Val → SProp 𝓤 = (walk_of 𝓛 ended hs c).post z in let Run : List Val → SProp 𝓤 = λ ws. WpFn 𝓤 𝓛.H 𝓣.C 𝓣.Λ fn ws Post in
     let v = z.0.3.0 in let x : Option Object = Some v.value in

@@ -1,0 +1,419 @@
+/* Sessions: two senders and a BYE on one port, losses and retransmissions, RED, faults, output buffers that are too small, and
+ * refused settings. Expected results follow the RFCs named here and docs/SESSION.md. */
+#include "any.h"
+#include "check.h"
+#include "codec_payload.h"
+
+enum { AUDIO = 111, VIDEO = 96, RED = 63, RTX = 112, EVENTS = 101 };
+
+static const cpay_session_format FORMATS[2] = {
+    {.spec = {.codec = CPAY_OPUS, .rate = 48000},
+     .payload_type = AUDIO,
+     .has_red = true,
+     .red_payload_type = RED,
+     .red_step = 960,
+     .has_rtx = true,
+     .rtx_payload_type = RTX},
+    {.spec = {.codec = CPAY_VP8, .rate = 90000}, .payload_type = VIDEO},
+};
+static const uint8_t NO_MEDIA[1] = {EVENTS};
+static const cpay_ssrc_pair PAIRS[1] = {{.ssrc = 1, .rtx_ssrc = 9}};
+
+static cpay_session session_of(const cpay_session_settings *settings) {
+    cpay_session session = CPAY_INIT;
+    CHECK(cpay_session_new(&session, settings, FORMATS, 2, NO_MEDIA, 1, PAIRS, 1) == CPAY_OK);
+    return session;
+}
+
+static cpay_session live(void) {
+    static const cpay_session_settings settings = CPAY_LIVE_SESSION;
+    return session_of(&settings);
+}
+
+/* An RTP packet; its time is 960 times its number. */
+static size_t packet(uint8_t *out, uint8_t type, uint8_t ssrc, uint16_t number, const void *payload, size_t size) {
+    const uint32_t time = 960u * number;
+    const uint8_t header[12] = {
+        0x80, type, (uint8_t)(number >> 8), (uint8_t)number, 0, (uint8_t)(time >> 16), (uint8_t)(time >> 8), (uint8_t)time, 0, 0, 0,
+        ssrc};
+    memcpy(out, header, sizeof header);
+    if (size) memcpy(out + 12, payload, size);
+    return 12 + size;
+}
+
+/* What the session does with such a packet. */
+static cpay_arrival sent(cpay_session *session, uint64_t now, uint8_t type, uint8_t ssrc, uint16_t number, const void *payload,
+                         size_t size) {
+    uint8_t bytes[64];
+    cpay_arrival arrival = {.kind = 99};
+    size = packet(bytes, type, ssrc, number, payload, size);
+    CHECK(cpay_session_receive(session, now, bytes, size, &arrival) == CPAY_OK);
+    return arrival;
+}
+
+/* A packet of Opus with its number as payload, which the stream of that SSRC stores. */
+static void opus(cpay_session *session, uint64_t now, uint8_t ssrc, uint16_t number) {
+    uint8_t payload = (uint8_t)number;
+    cpay_arrival it = sent(session, now, AUDIO, ssrc, number, &payload, 1);
+    CHECK(it.kind == CPAY_ARRIVAL_STREAM && it.ssrc == ssrc && it.payload_type == AUDIO);
+    CHECK(it.status == CPAY_OK && it.outcome == CPAY_HELD);
+}
+
+/* A BYE (RFC 3550, section 6.6), alone as RFC 5506 allows. */
+static void bye(cpay_session *session, uint64_t now, uint8_t ssrc) {
+    const uint8_t bytes[8] = {0x81, 203, 0, 1, 0, 0, 0, ssrc};
+    cpay_arrival arrival = {.ssrc = 99};
+    CHECK(cpay_session_receive(session, now, bytes, sizeof bytes, &arrival) == CPAY_OK);
+    CHECK(arrival.kind == CPAY_ARRIVAL_RTCP && arrival.ssrc == 0);
+}
+
+/* The next event as text: B, U, F, E or a dot for none, the SSRC, and the unit's number, the error or the reason. */
+static const char *next(cpay_session *session, uint64_t now) {
+    static char text[32];
+    uint8_t bytes[64] = {0};
+    cpay_event event = {.kind = 99};
+    cpay_status status = cpay_session_poll(session, now, &event, bytes, sizeof bytes);
+    CHECK(status == CPAY_OK || (status == CPAY_NONE && event.kind == 99));
+    if (status) return ".";
+    if (event.kind == CPAY_EVENT_UNIT) {
+        CHECK(event.status == CPAY_OK && event.why == 0 && event.unit.bytes >= 1);
+        CHECK(event.payload_type != AUDIO || bytes[0] == (uint8_t)event.unit.first);
+        sprintf(text, "U%u:%u%s", (unsigned)event.ssrc, (unsigned)(event.unit.first % 65536),
+                event.unit.decodable ? "" : "?");
+        return text;
+    }
+    CHECK(event.unit.bytes == 0 && event.unit.first == 0 && event.unit.extra.kind == 0 && !event.unit.decodable);
+    unsigned more = event.kind == CPAY_EVENT_FAULT ? event.status : event.payload_type;
+    if (event.kind == CPAY_EVENT_ENDED) more = event.why;
+    sprintf(text, "%c%u:%u", "B?FE"[event.kind & 3], (unsigned)event.ssrc, more);
+    return text;
+}
+
+/* All events until there is none. */
+static bool happens(cpay_session *session, uint64_t now, const char *wanted) {
+    char found[256] = "";
+    for (int most = 0; most < 20; most++) {
+        const char *one = next(session, now);
+        if (strlen(found) + strlen(one) + 2 < sizeof found) strcat(strcat(found, most ? " " : ""), one);
+        if (*one == '.') break;
+    }
+    if (strcmp(found, wanted)) printf("events: %s, not %s\n", found, wanted);
+    return !strcmp(found, wanted);
+}
+
+/* The counters; each received datagram is counted once. */
+static cpay_session_counts_info counts_of(cpay_session *session) {
+    cpay_session_counts_info counts = {.streams = 99};
+    cpay_session_stream stream = {.ssrc = 99};
+    uint64_t taken = 0;
+    CHECK(cpay_session_counts(session, &counts) == CPAY_OK);
+    for (size_t place = 0; cpay_session_stream_at(session, place, &stream) == CPAY_OK; place++) {
+        taken += stream.taken;
+        const cpay_receiver_counts_info *c = &stream.counts;
+        CHECK(c->received == stream.taken && c->has_ssrc && c->ssrc == stream.ssrc && !c->waiting);
+        CHECK(c->received + c->recovered == c->malformed + c->no_media + c->duplicates + c->late + c->suspect + c->evicted +
+                                                c->held + c->released + c->left + c->other_streams + c->rtcp);
+        CHECK(place < counts.streams);
+    }
+    CHECK(counts.received ==
+          counts.rtcp + counts.malformed + counts.unknown + counts.refused + counts.unassociated + counts.ended + taken);
+    return counts;
+}
+
+static uint64_t deadline(cpay_session *session) {
+    uint64_t at = 0;
+    cpay_status status = cpay_session_next_deadline(session, &at);
+    CHECK(status == CPAY_OK || (status == CPAY_NONE && at == 0));
+    return status ? UINT64_MAX : at;
+}
+
+/* Two senders on one port; one leaves by a BYE, and the other stays until the end. */
+static void two_senders(void) {
+    cpay_session session = live();
+    cpay_session_stream stream = {.ssrc = 99};
+    CHECK(happens(&session, 0, ".") && deadline(&session) == UINT64_MAX);
+    opus(&session, 0, 1, 1);
+    CHECK(happens(&session, 0, ".") && deadline(&session) == UINT64_MAX); /* in probation */
+    opus(&session, 5, 2, 9);
+    CHECK(cpay_session_stream_at(&session, 1, &stream) == CPAY_OK && stream.stage == CPAY_STREAM_PROBATION && stream.ssrc == 2);
+    CHECK(cpay_session_stream_at(&session, 2, &stream) == CPAY_NONE && stream.ssrc == 2);
+    opus(&session, 20, 1, 2);
+    CHECK(deadline(&session) == 0);
+    CHECK(happens(&session, 20, "B1:111 U1:1 U1:2 ."));
+    opus(&session, 25, 2, 10);
+    CHECK(happens(&session, 25, "B2:111 U2:9 U2:10 ."));
+    CHECK(counts_of(&session).streams == 2);
+    bye(&session, 30, 1);
+    CHECK(cpay_session_stream_at(&session, 0, &stream) == CPAY_OK && stream.stage == CPAY_STREAM_LEAVING);
+    CHECK(stream.ends_at == 230 && stream.why == CPAY_ENDED_BY_BYE && stream.payload_type == AUDIO && stream.counts.units == 2);
+    opus(&session, 40, 1, 3); /* it comes after the BYE */
+    CHECK(happens(&session, 40, "U1:3 .") && deadline(&session) == 230);
+    CHECK(happens(&session, 229, ".") && happens(&session, 230, "E1:0 ."));
+    CHECK(counts_of(&session).ended == 3 && counts_of(&session).streams == 1 && counts_of(&session).rtcp == 1);
+    CHECK(cpay_session_finish(&session, 300) == CPAY_OK && happens(&session, 300, "E2:2 ."));
+    cpay_arrival late = sent(&session, 310, AUDIO, 3, 1, "x", 1);
+    CHECK(late.kind == CPAY_ARRIVAL_REFUSED && late.ssrc == 0);
+    CHECK(counts_of(&session).received == 7 && counts_of(&session).refused == 1 && counts_of(&session).streams == 0);
+    cpay_session_free(&session);
+}
+
+/* A stream that you end, one that falls silent, and one of a single packet at the end. */
+static void ends(void) {
+    cpay_session session = live();
+    opus(&session, 0, 1, 1);
+    opus(&session, 0, 1, 2);
+    opus(&session, 0, 2, 1);
+    opus(&session, 0, 2, 2);
+    CHECK(happens(&session, 0, "B1:111 U1:1 U1:2 B2:111 U2:1 U2:2 ."));
+    CHECK(cpay_session_end(&session, 10, 7) == CPAY_OK && happens(&session, 10, "."));
+    CHECK(cpay_session_end(&session, 10, 1) == CPAY_OK && happens(&session, 10, "E1:2 ."));
+    CHECK(deadline(&session) == 30000 && happens(&session, 29999, ".") && happens(&session, 30000, "E2:1 ."));
+    opus(&session, 30000, 3, 5);
+    CHECK(happens(&session, 60000, ".") && cpay_session_finish(&session, 60000) == CPAY_OK);
+    CHECK(happens(&session, 60000, "B3:111 U3:5 E3:2 ."));
+    CHECK(counts_of(&session).ended == 5 && counts_of(&session).received == 5);
+    cpay_session_free(&session);
+}
+
+/* A lost packet is reported as missing, delays the next one until the deadline, or comes by a retransmission (RFC 4588). */
+static void losses(void) {
+    cpay_session session = live();
+    cpay_wait_limits limits = {.max_wait = 10, .hold_back = CPAY_NO_HOLD_BACK, .has_max_wait = true};
+    uint64_t numbers[3] = {7, 7, 7};
+    size_t count = 9;
+    opus(&session, 0, 1, 1);
+    opus(&session, 0, 1, 2);
+    CHECK(happens(&session, 0, "B1:111 U1:1 U1:2 ."));
+    CHECK(cpay_session_missing(&session, 1, AUDIO, numbers, 3, &count) == CPAY_OK && count == 0);
+    opus(&session, 40, 1, 5);
+    CHECK(happens(&session, 40, ".") && deadline(&session) == 140);
+    CHECK(cpay_session_missing(&session, 1, AUDIO, numbers, 3, &count) == CPAY_OK && count == 2);
+    CHECK(numbers[0] == 65536 + 3 && numbers[1] == 65536 + 4 && numbers[2] == 7);
+    CHECK(cpay_session_missing(&session, 1, AUDIO, numbers, 1, &count) == CPAY_OK && count == 1);
+    CHECK(cpay_session_missing(&session, 2, AUDIO, numbers, 3, &count) == CPAY_NONE && count == 1);
+    CHECK(cpay_session_missing(&session, 1, VIDEO, numbers, 3, &count) == CPAY_NONE && count == 1);
+    cpay_arrival it = sent(&session, 50, RTX, 9, 3, "\0\3\3", 3);
+    CHECK(it.kind == CPAY_ARRIVAL_STREAM && it.ssrc == 1 && it.payload_type == AUDIO && it.outcome == CPAY_HELD);
+    CHECK(happens(&session, 50, "U1:3 ."));
+    it = sent(&session, 50, RTX, 9, 2, "\0", 1);
+    CHECK(it.kind == CPAY_ARRIVAL_STREAM && it.ssrc == 1 && it.status == CPAY_RTX_TOO_SHORT && it.outcome == 0);
+    CHECK(sent(&session, 50, RTX, 8, 1, "\0\4\4", 3).kind == CPAY_ARRIVAL_UNASSOCIATED);
+    CHECK(cpay_session_set_wait_limits(&session, 2, AUDIO, &limits) == CPAY_NONE && deadline(&session) == 140);
+    CHECK(cpay_session_set_wait_limits(&session, 1, AUDIO, &limits) == CPAY_OK && deadline(&session) == 50);
+    CHECK(happens(&session, 49, ".") && happens(&session, 50, "U1:5 ."));
+    CHECK(counts_of(&session).unassociated == 1);
+    cpay_session_free(&session);
+}
+
+/* RED (RFC 2198): a lost packet is recovered from the next one; invalid RED is reported; telephone events carry no media. */
+static void redundant(void) {
+    cpay_session session = live();
+    opus(&session, 0, 1, 1);
+    opus(&session, 0, 1, 2);
+    /* one byte of 960 ticks before, and the byte of this packet */
+    cpay_arrival it = sent(&session, 20, RED, 1, 4, "\xef\x0f\0\x01\x6f\3\4", 7);
+    CHECK(it.kind == CPAY_ARRIVAL_STREAM && it.ssrc == 1 && it.payload_type == AUDIO && it.outcome == CPAY_HELD);
+    CHECK(happens(&session, 20, "B1:111 U1:1 U1:2 U1:3 U1:4 ."));
+    it = sent(&session, 30, RED, 1, 5, "\xff", 1);
+    CHECK(it.kind == CPAY_ARRIVAL_STREAM && it.status == CPAY_RED_CORRUPTED && it.outcome == 0);
+    it = sent(&session, 40, EVENTS, 1, 5, "\1\2\3\4", 4);
+    CHECK(it.kind == CPAY_ARRIVAL_STREAM && it.outcome == CPAY_NO_MEDIA);
+    CHECK(sent(&session, 40, EVENTS, 3, 5, "\1\2\3\4", 4).kind == CPAY_ARRIVAL_UNKNOWN);
+    CHECK(sent(&session, 40, 77, 1, 5, "x", 1).kind == CPAY_ARRIVAL_UNKNOWN);
+    CHECK(cpay_session_receive(&session, 40, (const uint8_t *)"hello", 5, &it) == CPAY_OK && it.kind == CPAY_ARRIVAL_MALFORMED);
+    CHECK(cpay_session_receive(&session, 40, NULL, 0, &it) == CPAY_OK && it.kind == CPAY_ARRIVAL_MALFORMED);
+    /* a BYE whose length is a word too long (RFC 3550, section 6.4.1) */
+    const uint8_t cut[8] = {0x81, 203, 0, 2, 0, 0, 0, 1};
+    CHECK(cpay_session_receive(&session, 40, cut, 8, &it) == CPAY_OK && it.kind == CPAY_ARRIVAL_MALFORMED);
+    cpay_session_counts_info counts = counts_of(&session);
+    CHECK(counts.unknown == 2 && counts.malformed == 3 && counts.rtcp == 0 && counts.streams == 1);
+    cpay_session_free(&session);
+}
+
+/* Video: units that a decoder cannot show, a refused frame, and a stream beside audio under the same SSRC. */
+static void video(void) {
+    /* a VP8 payload descriptor (RFC 7741, section 4.2), and headers of a delta frame and of a keyframe of 16 by 16 pixels */
+    static const uint8_t delta[] = {0x10, 0x11, 0, 0, 1};
+    static const uint8_t key[] = {0x10, 0x10, 1, 0, 0x9d, 0x01, 0x2a, 16, 0, 16, 0, 1, 2, 3, 4, 5, 6, 7, 8, 9};
+    cpay_session session = live();
+    bool wants = false;
+    uint8_t marked = VIDEO | 0x80;
+    sent(&session, 0, marked, 1, 1, delta, sizeof delta);
+    sent(&session, 33, marked, 1, 2, delta, sizeof delta);
+    opus(&session, 40, 1, 500);
+    opus(&session, 40, 1, 501);
+    CHECK(happens(&session, 40, "B1:96 B1:111 U1:500 U1:501 ."));
+    CHECK(happens(&session, 233, "U1:1? U1:2? ."));
+    CHECK(cpay_session_wants_keyframe(&session, 1, VIDEO, &wants) == CPAY_OK && wants);
+    sent(&session, 240, marked, 1, 3, key, sizeof key);
+    CHECK(happens(&session, 240, "U1:3 ."));
+    CHECK(cpay_session_wants_keyframe(&session, 1, VIDEO, &wants) == CPAY_OK && !wants);
+    sent(&session, 270, marked, 1, 4, "\x90", 1); /* a descriptor that announces a byte which is missing */
+    CHECK(happens(&session, 270, "F1:1 ."));
+    CHECK(cpay_session_wants_keyframe(&session, 1, VIDEO, &wants) == CPAY_OK && wants);
+    CHECK(cpay_session_wants_keyframe(&session, 2, VIDEO, &wants) == CPAY_NONE && wants);
+    CHECK(cpay_session_wants_keyframe(&session, 1, AUDIO, &wants) == CPAY_OK && !wants);
+    cpay_session_free(&session);
+}
+
+/* An output buffer that is too small: the event waits, and comes again unchanged, also after other datagrams. */
+static void small_buffers(void) {
+    cpay_session session = live();
+    cpay_event event = {.kind = 99};
+    cpay_extension_values values = {.audio_level = 5};
+    uint8_t bytes[4] = {7, 7, 7, 7};
+    CHECK(sent(&session, 0, AUDIO, 1, 1, "abc", 3).outcome == CPAY_HELD);
+    CHECK(sent(&session, 0, AUDIO, 1, 2, "d", 1).outcome == CPAY_HELD);
+    CHECK(cpay_session_poll(&session, 0, &event, NULL, 0) == CPAY_OK && event.kind == CPAY_EVENT_BEGUN);
+    CHECK(cpay_session_poll(&session, 0, &event, NULL, 1) == CPAY_INVALID);
+    CHECK(cpay_session_poll(&session, 0, &event, NULL, 0) == CPAY_TOO_SMALL && event.kind == CPAY_EVENT_UNIT);
+    CHECK(event.unit.bytes == 3 && event.unit.first == 65537 && event.ssrc == 1 && counts_of(&session).waiting);
+    CHECK(cpay_session_values(&session, &values) == CPAY_NONE && values.audio_level == 5);
+    bye(&session, 0, 1);
+    CHECK(cpay_session_poll(&session, 500, &event, bytes, 2) == CPAY_TOO_SMALL && event.unit.first == 65537);
+    CHECK(same(bytes, "\7\7\7\7", 4));
+    CHECK(cpay_session_poll(&session, 500, &event, bytes, 3) == CPAY_OK && same(bytes, "abc\7", 4) && event.unit.last == 65537);
+    CHECK(event.unit.rtp_time == ((uint64_t)1 << 32) + 960 && event.unit.decodable && !event.unit.keyframe);
+    CHECK(cpay_session_values(&session, &values) == CPAY_OK && !values.has_audio_level && values.audio_level == 0);
+    CHECK(!counts_of(&session).waiting);
+    CHECK(cpay_session_poll(&session, 500, &event, bytes, 4) == CPAY_OK && event.unit.first == 65538);
+    CHECK(same(bytes, "dbc\7", 4));
+    CHECK(cpay_session_poll(&session, 500, &event, bytes, 4) == CPAY_OK && event.kind == CPAY_EVENT_ENDED && event.why == 0);
+    CHECK(cpay_session_poll(&session, 500, &event, bytes, 4) == CPAY_NONE && event.kind == CPAY_EVENT_ENDED);
+    cpay_session_free(&session);
+}
+
+/* Values of header extensions, and streams in more places than there are. */
+static void values_and_places(void) {
+    cpay_session_settings settings = CPAY_LIVE_SESSION;
+    cpay_sender_settings sends = {.spec = FORMATS[0].spec, .mtu = 100, .ssrc = 1, .payload_type = AUDIO};
+    cpay_sample sample = {
+        .values = {.audio_level = -9, .has_audio_level = true, .has_voice_activity = true, .voice_activity = true}};
+    cpay_sender sender = CPAY_INIT;
+    cpay_extension_values values = {.audio_level = 5};
+    cpay_arrival arrival = {0};
+    uint8_t bytes[64];
+    size_t count = 0, size = 0;
+    settings.extension_ids.audio_level = sends.extension_ids.audio_level = 2;
+    settings.max_streams = 2;
+    settings.probation = 3;
+    cpay_session session = session_of(&settings);
+    CHECK(cpay_sender_new(&sender, &sends) == CPAY_OK);
+    for (int i = 0; i < 3; i++, sample.rtp_time += 960) {
+        CHECK(cpay_sender_send_sample(&sender, &sample, (const uint8_t *)"o", 1, &count) == CPAY_OK && count == 1);
+        CHECK(cpay_sender_datagram(&sender, 0, bytes, sizeof bytes, &size) == CPAY_OK);
+        CHECK(cpay_session_receive(&session, 0, bytes, size, &arrival) == CPAY_OK && arrival.outcome == CPAY_HELD);
+    }
+    cpay_event event = {0};
+    CHECK(cpay_session_poll(&session, 0, &event, bytes, sizeof bytes) == CPAY_OK && event.kind == CPAY_EVENT_BEGUN);
+    CHECK(cpay_session_poll(&session, 0, &event, bytes, sizeof bytes) == CPAY_OK && event.kind == CPAY_EVENT_UNIT);
+    CHECK(cpay_session_values(&session, &values) == CPAY_OK && values.audio_level == -9 && values.voice_activity);
+    opus(&session, 0, 2, 1);
+    opus(&session, 0, 3, 1); /* it takes the place of the stream in probation */
+    CHECK(counts_of(&session).ended == 1 && counts_of(&session).streams == 2);
+    opus(&session, 0, 3, 2);
+    opus(&session, 0, 3, 3);
+    CHECK(sent(&session, 0, AUDIO, 4, 1, "x", 1).kind == CPAY_ARRIVAL_REFUSED && counts_of(&session).refused == 1);
+    cpay_sender_free(&sender);
+    cpay_session_free(&session);
+}
+
+/* Settings out of range. */
+static void settings(void) {
+    const cpay_session_settings right = CPAY_LIVE_SESSION;
+    cpay_session_settings wrong;
+    cpay_session_format formats[2];
+    cpay_session session = CPAY_INIT;
+#define REFUSED(field, value) \
+    wrong = right; \
+    wrong.field = (value); \
+    CHECK(cpay_session_new(&session, &wrong, FORMATS, 2, NULL, 0, NULL, 0) == CPAY_INVALID)
+    REFUSED(limit, 0);
+    REFUSED(limit, 65537);
+    REFUSED(max_streams, 0);
+    REFUSED(tick_rate, 0);
+    REFUSED(from_keyframe, 3);
+#define REFUSED_FORMAT(field, value) \
+    memcpy(formats, FORMATS, sizeof formats); \
+    formats[0].field = (value); \
+    CHECK(cpay_session_new(&session, &right, formats, 2, NULL, 0, NULL, 0) == CPAY_INVALID)
+    REFUSED_FORMAT(spec.rate, 0);
+    REFUSED_FORMAT(spec.codec, 6);
+    REFUSED_FORMAT(payload_type, 128);
+    REFUSED_FORMAT(red_payload_type, 128);
+    REFUSED_FORMAT(red_payload_type, AUDIO);
+    REFUSED_FORMAT(red_step, 0);
+    REFUSED_FORMAT(red_step, 16384);
+    REFUSED_FORMAT(rtx_payload_type, 128);
+    formats[0] = FORMATS[0];
+    formats[1].spec.rate = 0;
+    CHECK(cpay_session_new(&session, &right, formats, 2, NULL, 0, NULL, 0) == CPAY_INVALID);
+    CHECK(cpay_session_new(&session, &right, NULL, 1, NULL, 0, NULL, 0) == CPAY_INVALID);
+    CHECK(cpay_session_new(&session, &right, FORMATS, 2, NULL, 1, NULL, 0) == CPAY_INVALID);
+    CHECK(cpay_session_new(&session, &right, FORMATS, 2, NULL, 0, NULL, 1) == CPAY_INVALID);
+    CHECK(cpay_session_new(&session, &right, NULL, 0, NULL, 0, NULL, 0) == CPAY_OK);
+    CHECK(cpay_session_new(&session, &right, FORMATS, 2, NULL, 0, NULL, 0) == CPAY_FULL);
+    CHECK(sent(&session, 0, AUDIO, 1, 1, "x", 1).kind == CPAY_ARRIVAL_UNKNOWN);
+    cpay_session_free(&session);
+    /* without RED and retransmissions their numbers are ignored */
+    formats[0] = FORMATS[0];
+    formats[0].has_red = formats[0].has_rtx = false;
+    formats[0].red_payload_type = formats[0].rtx_payload_type = 255;
+    CHECK(cpay_session_new(&session, &right, formats, 1, NO_MEDIA, 1, PAIRS, 1) == CPAY_OK);
+    cpay_session_free(&session);
+}
+
+/* Calls on handles that are empty or of another type, which change no output. */
+static void handles(void) {
+    any it = ANY_INIT;
+    const cpay_session_settings right = CPAY_LIVE_SESSION;
+    cpay_receiver_settings receives = CPAY_LIVE_AUDIO;
+    cpay_arrival arrival = {.kind = 7};
+    cpay_event event = {.kind = 7};
+    cpay_extension_values values = {.audio_level = 7};
+    cpay_session_counts_info counts = {.rtcp = 7};
+    cpay_session_stream stream = {.ssrc = 7};
+    cpay_wait_limits limits = {.hold_back = 1};
+    uint8_t bytes[4] = {7, 7, 7, 7};
+    uint64_t at = 7, numbers[1] = {7};
+    uint32_t outcome = 7;
+    size_t count = 7;
+    bool wants = true;
+    receives.spec = FORMATS[0].spec;
+    for (int kind = 0; kind < 2; kind++) {
+        cpay_status status = kind == 0 ? CPAY_EMPTY : CPAY_OTHER_KIND;
+        if (kind == 1) CHECK(cpay_receiver_new(&it.receiver, &receives, NULL, 0) == CPAY_OK);
+        CHECK(cpay_session_receive(&it.session, 0, bytes, 4, &arrival) == status);
+        CHECK(cpay_session_poll(&it.session, 0, &event, bytes, 4) == status);
+        CHECK(cpay_session_values(&it.session, &values) == status);
+        CHECK(cpay_session_next_deadline(&it.session, &at) == status);
+        CHECK(cpay_session_end(&it.session, 0, 1) == status);
+        CHECK(cpay_session_finish(&it.session, 0) == status);
+        CHECK(cpay_session_counts(&it.session, &counts) == status);
+        CHECK(cpay_session_stream_at(&it.session, 0, &stream) == status);
+        CHECK(cpay_session_missing(&it.session, 1, AUDIO, numbers, 1, &count) == status);
+        CHECK(cpay_session_wants_keyframe(&it.session, 1, AUDIO, &wants) == status);
+        CHECK(cpay_session_set_wait_limits(&it.session, 1, AUDIO, &limits) == status);
+    }
+    CHECK(arrival.kind == 7 && event.kind == 7 && values.audio_level == 7 && at == 7 && counts.rtcp == 7 && stream.ssrc == 7);
+    CHECK(same(bytes, "\7\7\7\7", 4) && numbers[0] == 7 && count == 7 && wants);
+    CHECK(cpay_session_new(&it.session, &right, FORMATS, 2, NULL, 0, NULL, 0) == CPAY_FULL);
+    cpay_session_free(&it.session);
+    cpay_session_free(NULL);
+    CHECK(cpay_session_new(&it.session, &right, FORMATS, 2, NULL, 0, NULL, 0) == CPAY_OK);
+    CHECK(cpay_receiver_receive(&it.receiver, 0, bytes, 4, &outcome) == CPAY_OTHER_KIND && outcome == 7);
+    cpay_session_free(&it.session);
+}
+
+int main(void) {
+    two_senders();
+    ends();
+    losses();
+    redundant();
+    video();
+    small_buffers();
+    values_and_places();
+    settings();
+    handles();
+    return checked();
+}

@@ -1,0 +1,88 @@
+-- New sessions: their settings, payload formats and pairs of SSRCs, from C.
+use Rattle.std.specs.Prelude.{◌≡◌, ℕ, ◌&&◌, ◌||◌, ◌==◌, not, nat_le, nat_lt, if◌then◌else◌, Bool, Option, Some, None, List, is_some, map, filter_map}
+use Rattle.std.specs.List.{list_all}
+use Rattle.codec_payload_handle.specs.Settings.{codec_numbered, depacketizer_set}
+use Rattle.codec_payload_handle.specs.declared.object.Object.{Object}
+use Rattle.codec_payload_handle.specs.declared.object.Object.TheVariants as objects
+use Rattle.codec_payload_handle.specs.declared.object.PortSession.{PortSession}
+use Rattle.codec_payload_session.specs.Ports.{new_session}
+use Rattle.codec_payload_session.specs.declared.formats.Format.{Format}
+use Rattle.codec_payload_session.specs.declared.formats.SessionSettings.{SessionSettings as Settings}
+use Rattle.codec_payload_session.specs.declared.formats.SsrcPair.{SsrcPair as Pair}
+use Rattle.codec_payload_c.specs.Ids.{ids_given}
+use Rattle.codec_payload_c.specs.Inspect.{given_if}
+use Rattle.codec_payload_c.specs.StreamReceivers.{from_keyframe_numbered, wait_limits_given}
+use Rattle.codec_payload_c.specs.declared.session_settings.SessionFormat.{SessionFormat}
+use Rattle.codec_payload_c.specs.declared.session_settings.SessionSettings.{SessionSettings}
+use Rattle.codec_payload_c.specs.declared.session_settings.SsrcPair.{SsrcPair}
+
+-- ---- ranges
+
+-- RED, if it is used: its payload type differs from the format's, and the step is in range
+abbrev pub red_fits : SessionFormat → Bool
+red_fits f = not f.has_red || (nat_le f.red_payload_type 127 && not (f.red_payload_type == f.payload_type) && nat_le 1 f.red_step && nat_le f.red_step 16383)
+
+-- the payload types and the step of RED are in range
+abbrev pub types_fit : SessionFormat → Bool
+types_fit f = nat_le f.payload_type 127 && red_fits f && (not f.has_rtx || nat_le f.rtx_payload_type 127)
+
+-- there is a depacketizer for the codec, and the payload types and the step of RED are in range
+abbrev pub format_in_range : SessionFormat → Bool
+format_in_range f = is_some (depacketizer_set f.spec) && types_fit f
+
+-- the clock has a rate, there is room for packets and streams, and `from_keyframe` has a meaning
+abbrev pub session_in_range : SessionSettings → Bool
+session_in_range s = nat_lt 0 s.tick_rate && nat_le s.from_keyframe 2 && nat_le 1 s.limit && nat_le s.limit 65536 && nat_lt 0 s.max_streams
+
+-- the settings and all formats are in range
+abbrev pub is_in_range : SessionSettings → List SessionFormat → Bool
+is_in_range s formats = session_in_range s && list_all format_in_range formats
+
+-- ---- from C
+
+abbrev pub format_with : SessionFormat → Format
+format_with f = record {
+  payload_type = f.payload_type;
+  spec = record { codec = codec_numbered f.spec.codec; clock_rate = f.spec.rate; octet_align = f.spec.octet_align };
+  red = if f.has_red then Some (record { payload_type = f.red_payload_type; step = f.red_step }) else None;
+  retransmission = given_if f.has_rtx f.rtx_payload_type;
+}
+
+-- a format that is in range
+abbrev pub format_given : SessionFormat → Option Format
+format_given f = if format_in_range f then Some (format_with f) else None
+
+abbrev pub pair_given : SsrcPair → Pair
+pair_given p = record { ssrc = p.ssrc; retransmission = p.rtx_ssrc }
+
+-- the settings, from C, without formats and other lists
+pub record HasPlainSettings (s : SessionSettings) (t : Settings) : Type 0 where
+  pub ids : t.extension_ids ≡ ids_given s.extension_ids
+  pub audio : t.audio ≡ wait_limits_given s.audio
+  pub video : t.video ≡ wait_limits_given s.video
+  pub from_keyframe : t.from_keyframe ≡ from_keyframe_numbered s.from_keyframe
+  pub limit : t.limit ≡ s.limit
+  pub max_streams : t.max_streams ≡ s.max_streams
+  pub probation : t.probation ≡ s.probation
+  pub idle_timeout : t.idle_timeout ≡ s.idle_timeout
+  pub bye_wait : t.bye_wait ≡ s.bye_wait
+  pub tick_rate : t.tick_rate ≡ s.tick_rate
+
+-- the settings of a session, from C
+pub record AreSessionSettings (s : SessionSettings) (formats : List SessionFormat) (no_media : List ℕ) (pairs : List SsrcPair) (t : Settings) : Type 0 where
+  pub plain : HasPlainSettings s t
+  pub formats_are : t.formats.items ≡ filter_map format_given formats
+  pub no_media_are : t.no_media.items ≡ no_media
+  pub pairs_are : t.pairs.items ≡ map pair_given pairs
+
+-- a new session with these settings
+pub record IsNewSession (s : SessionSettings) (formats : List SessionFormat) (no_media : List ℕ) (pairs : List SsrcPair) (r : PortSession) : Type 0 where
+  pub settings : Settings
+  pub are : AreSessionSettings s formats no_media pairs settings
+  pub made : r.session ≡ new_session settings
+  pub waiting : r.waiting ≡ None
+  pub taken : r.taken ≡ None
+
+abbrev pub IsPortSessionOf : SessionSettings → List SessionFormat → List ℕ → List SsrcPair → Object → Type 0
+IsPortSessionOf s formats no_media pairs (objects.PortSession r) = IsNewSession s formats no_media pairs r
+IsPortSessionOf s formats no_media pairs _ = ⊥

@@ -1,0 +1,144 @@
+-- The calls on a session: datagrams in, events out.
+use Rattle.std.specs.Prelude.{◌≡◌, ℕ, ◌==◌, Bool, true, false, List, [], Option, Some, None, Result, Ok, Err, length, nat_le}
+use Rattle.std.specs.declared.alloc.AllocError.{AllocError}
+use Rattle.codec_payload_base.specs.declared.wire.Ticks.{Ticks}
+use Rattle.codec_payload_core.specs.Faults.{fault_number}
+use Rattle.codec_payload_core.specs.Release.{Release}
+use Rattle.codec_payload_handle.specs.Bytes.{filled}
+use Rattle.codec_payload_handle.specs.Units.{TellsUnit, no_unit}
+use Rattle.codec_payload_handle.specs.declared.object.PortSession.{PortSession}
+use Rattle.codec_payload_handle.specs.declared.unit.Unit.{Unit as CUnit}
+use Rattle.codec_payload_session.specs.Arrivals.{Port}
+use Rattle.codec_payload_session.specs.Ports.{Receives, Session}
+use Rattle.codec_payload_session.specs.Turns.{TakesTurn}
+use Rattle.codec_payload_session.specs.declared.session.Arrival.{Arrival}
+use Rattle.codec_payload_session.specs.declared.session.Arrival.TheVariants as arrivals
+use Rattle.codec_payload_session.specs.declared.session.Event.{Event}
+use Rattle.codec_payload_session.specs.declared.session.Event.TheVariants as events
+use Rattle.codec_payload_session.specs.declared.stream.Ending.{Ending}
+use Rattle.codec_payload_session.specs.declared.stream.Ending.TheVariants as endings
+use Rattle.codec_payload_c.specs.StreamReceivers.{Tells, time_or}
+use Rattle.codec_payload_c.specs.declared.session.Arrival.{Arrival as CArrival}
+use Rattle.codec_payload_c.specs.declared.session.Event.{Event as CEvent}
+
+-- ---- datagrams
+
+-- a datagram that no stream received: all other fields are 0
+abbrev pub arrived_as : ℕ → CArrival
+arrived_as kind = record { kind = kind; ssrc = 0; status = 0; outcome = 0; payload_type = 0 }
+
+-- what was done with a datagram; the stream's answer is told as a receiver tells it, with outcome 0 if there is an error
+abbrev pub TellsArrival : Arrival → CArrival → Type 0
+TellsArrival (arrivals.Stream ssrc payload_type answer) a =
+    (a.kind ≡ 0) × (a.ssrc ≡ ssrc) × (a.payload_type ≡ payload_type) × Tells answer a.status 0 a.outcome
+TellsArrival arrivals.Rtcp a = a ≡ arrived_as 1
+TellsArrival arrivals.Malformed a = a ≡ arrived_as 2
+TellsArrival arrivals.Unknown a = a ≡ arrived_as 3
+TellsArrival arrivals.Refused a = a ≡ arrived_as 4
+TellsArrival arrivals.Unassociated a = a ≡ arrived_as 5
+
+-- the status of an answer, and what was done with the datagram, if it has one
+abbrev pub TellsAnswer : Result Arrival AllocError → ℕ → (before after : CArrival) → Type 0
+TellsAnswer (Ok arrival) status before after = (status ≡ 0) × TellsArrival arrival after
+TellsAnswer (Err e) status before after = (status ≡ 17) × (after ≡ before)
+
+-- a datagram is received
+pub record ReceivesDatagram (r : PortSession) (now : ℕ) (bytes : List ℕ) (status : ℕ) (before after : CArrival) (s : PortSession) : Type 0 where
+  pub at : Ticks
+  pub at_is : at.0 ≡ now
+  pub answer : Result Arrival AllocError
+  pub receives : Receives at bytes r.session answer s.session
+  pub tells : TellsAnswer answer status before after
+  pub waiting : s.waiting ≡ r.waiting
+  pub taken : s.taken ≡ r.taken
+
+-- ---- events
+
+-- the numbers of reasons to end
+abbrev pub ending_number : Ending → ℕ
+ending_number endings.Bye = 0
+ending_number endings.Timeout = 1
+ending_number endings.Told = 2
+
+-- the description of a unit, with its extended RTP time, and whether it is decodable and a keyframe
+abbrev pub TellsJudgedBy : Option ℕ → Bool → Bool → Release → CUnit → Type 0
+TellsJudgedBy time decodable keyframe u unit =
+    TellsUnit u (record unit { rtp_time = u.time.numer; decodable = true; keyframe = false })
+    × (unit.rtp_time ≡ time_or u.time.numer time) × (unit.decodable ≡ decodable) × (unit.keyframe ≡ keyframe)
+
+-- an event of a stream without an error or a reason to end
+abbrev pub event_with : (kind ssrc payload_type : ℕ) → CUnit → CEvent
+event_with kind ssrc payload_type unit = record { kind = kind; ssrc = ssrc; status = 0; why = 0; payload_type = payload_type; unit = unit }
+
+-- the event of a unit
+abbrev pub TellsUnitOf : (ssrc payload_type : ℕ) → (CUnit → Type 0) → CEvent → Type 0
+TellsUnitOf ssrc payload_type Told e = (e ≡ event_with 1 ssrc payload_type e.unit) × Told e.unit
+
+-- the description of an event
+abbrev pub TellsEvent : Event → CEvent → Type 0
+TellsEvent (events.Begun ssrc payload_type) e = e ≡ event_with 0 ssrc payload_type no_unit
+TellsEvent (events.Unit ssrc payload_type time decodable keyframe (Ok u)) e = TellsUnitOf ssrc payload_type (TellsJudgedBy time decodable keyframe u) e
+TellsEvent (events.Unit ssrc payload_type time decodable keyframe (Err fault)) e =
+    e ≡ record { kind = 2; ssrc = ssrc; status = fault_number fault; why = 0; payload_type = payload_type; unit = no_unit }
+TellsEvent (events.Ended ssrc payload_type why) e =
+    e ≡ record { kind = 3; ssrc = ssrc; status = 0; why = ending_number why; payload_type = payload_type; unit = no_unit }
+
+-- memory ran out for the unit of the event
+abbrev pub is_no_memory : Event → Bool
+is_no_memory (events.Begun ssrc payload_type) = false
+is_no_memory (events.Unit ssrc payload_type time decodable keyframe (Ok u)) = false
+is_no_memory (events.Unit ssrc payload_type time decodable keyframe (Err fault)) = fault_number fault == 17
+is_no_memory (events.Ended ssrc payload_type why) = false
+
+-- the bytes of the unit of the event
+abbrev pub bytes_in : Event → List ℕ
+bytes_in (events.Begun ssrc payload_type) = []
+bytes_in (events.Unit ssrc payload_type time decodable keyframe (Ok u)) = u.bytes
+bytes_in (events.Unit ssrc payload_type time decodable keyframe (Err fault)) = []
+bytes_in (events.Ended ssrc payload_type why) = []
+
+-- the latest unit after the event
+abbrev pub latest_unit : Event → Option Release → Option Release
+latest_unit (events.Begun ssrc payload_type) taken = taken
+latest_unit (events.Unit ssrc payload_type time decodable keyframe (Ok u)) taken = Some u
+latest_unit (events.Unit ssrc payload_type time decodable keyframe (Err fault)) taken = taken
+latest_unit (events.Ended ssrc payload_type why) taken = taken
+
+-- a poll of the session at that time
+abbrev pub PollsAt : ℕ → Session → Option Event → Session → Type 0
+PollsAt now s answer t = (at : Ticks) × (at.0 ≡ now) × (port : Port) × TakesTurn at s.settings.idle_timeout s.port answer port × (t ≡ record s { port = port })
+
+-- the event that waits for a larger output buffer, or else the answer of a poll
+abbrev pub ComesFrom : Option Event → ℕ → PortSession → Option Event → PortSession → Type 0
+ComesFrom (Some event) now r next s = (next ≡ Some event) × (s ≡ record r { waiting = None })
+ComesFrom None now r next s = PollsAt now r.session next s.session × (s ≡ record r { session = s.session })
+
+abbrev pub Comes : ℕ → PortSession → Option Event → PortSession → Type 0
+Comes now r next s = ComesFrom r.waiting now r next s
+
+-- the description of an event and the output buffer, before and after a call
+pub record Handing : Type 0 where
+  pub event_before : CEvent
+  pub event : CEvent
+  pub before : List ℕ
+  pub bytes : List ℕ
+
+-- Status 17: memory ran out for the unit, and nothing changes. Status 33: the event is described, and waits, since its bytes do
+-- not fit. Status 0: the event is described, and its bytes are at the front of the output buffer.
+abbrev pub Hands : (no_memory fits : Bool) → Event → ℕ → Handing → PortSession → PortSession → Type 0
+Hands true fits next status h r s = (status ≡ 17) × (h.event ≡ h.event_before) × (h.bytes ≡ h.before) × (s ≡ r)
+Hands false false next status h r s = (status ≡ 33) × TellsEvent next h.event × (h.bytes ≡ h.before) × (s ≡ record r { waiting = Some next })
+Hands false true next status h r s =
+    (status ≡ 0) × TellsEvent next h.event × (h.bytes ≡ filled (bytes_in next) h.before) × (s ≡ record r { taken = latest_unit next r.taken })
+
+-- Status 32: there is no event, and the outputs are unchanged.
+abbrev pub HandsOver : Option Event → ℕ → Handing → PortSession → PortSession → Type 0
+HandsOver None status h r s = (status ≡ 32) × (h.event ≡ h.event_before) × (h.bytes ≡ h.before) × (s ≡ r)
+HandsOver (Some next) status h r s = Hands (is_no_memory next) (nat_le (length (bytes_in next)) (length h.before)) next status h r s
+
+-- the next event comes, and is handed over
+pub record PollsEvent (now : ℕ) (r : PortSession) (status : ℕ) (h : Handing) (s : PortSession) : Type 0 where
+  pub next : Option Event
+  pub mid : PortSession
+  pub comes : Comes now r next mid
+  pub hands : HandsOver next status h mid s

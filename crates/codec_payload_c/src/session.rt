@@ -1,0 +1,436 @@
+//! Sessions: the datagrams of a port in, the events of its streams out.
+
+ghost use Rattle.std.specs.Prelude.{◌≡◌, ◌≢◌, length, nat_le, Option};
+ghost use Rattle.codec_payload_session.specs.Ports.{ends_all, ends_of};
+ghost use Rattle.codec_payload_session.specs.Streams.{due_in};
+ghost use Rattle.codec_payload_c.specs.SessionFormats.{IsPortSessionOf, is_in_range};
+ghost use Rattle.codec_payload_c.specs.Sessions.{Comes, Hands, PollsEvent, ReceivesDatagram, TellsArrival, TellsEvent, TellsJudgedBy, arrived_as, bytes_in, ending_number, event_with, is_no_memory, latest_unit};
+ghost use Rattle.codec_payload_c.specs.StreamReceivers.{TellsNumber, TellsTaken};
+ghost use Rattle.codec_payload_handle.specs.Kinds.{Makes, OnPortSession, Refuses, is_port_session};
+
+use crate::receiver::report_answer;
+use crate::session_settings::{SessionFormat, SessionSettings, SsrcPair, session_by};
+use codec_payload_core::buffer::Depacketized;
+use codec_payload_core::wire::Ticks;
+use codec_payload_handle::bytes::fill;
+use codec_payload_handle::extension_values::ExtensionValues;
+use codec_payload_handle::handle::Handle;
+use codec_payload_handle::object::{Object, PortSession};
+use codec_payload_handle::status;
+use codec_payload_handle::unit::{Unit, no_unit, unit_of, values_in};
+use codec_payload_session::session::{Arrival as Arrived, Event as SessionEvent};
+use codec_payload_session::stream::Ending;
+use std::alloc::Global;
+
+/// What a session did with a datagram.
+#[repr(C)]
+#[derive(Clone, Copy)]
+pub struct Arrival {
+    /// 0: a stream received it; 1: RTCP; 2: malformed; 3: unknown; 4: refused; 5: unassociated.
+    pub kind: u32,
+    /// The SSRC of the stream.
+    pub ssrc: u32,
+    /// The answer of the stream: 0, or the error of its payload.
+    pub status: u32,
+    /// With status 0: the outcome of the datagram.
+    pub outcome: u32,
+    /// The payload type of the stream.
+    pub payload_type: u8,
+}
+
+/// An event of a session.
+#[repr(C)]
+#[derive(Drop)]
+pub struct Event {
+    /// 0: a stream begins; 1: a unit; 2: a refused frame; 3: the end of a stream.
+    pub kind: u32,
+    pub ssrc: u32,
+    /// For a refused frame: the number of its error, 1 to 16.
+    pub status: u32,
+    /// For the end of a stream. 0: a BYE; 1: the idle timeout; 2: a call.
+    pub why: u32,
+    pub payload_type: u8,
+    /// For a unit: its description.
+    pub unit: Unit,
+}
+
+/// Returns what became of a datagram that no stream received.
+fn arrived_as(kind: u32) -> Arrival
+    ensures { result ≡ arrived_as kind }
+{
+    Arrival {
+        kind,
+        ssrc: 0,
+        status: status::OK,
+        outcome: 0,
+        payload_type: 0,
+    }
+}
+
+/// Converts the result of a datagram for C.
+fn arrival_of(arrived: Arrived) -> Arrival
+    ensures { TellsArrival arrived result }
+{
+    match arrived {
+        Arrived::Stream {
+            ssrc,
+            payload_type,
+            answer,
+        } => {
+            let mut outcome = 0;
+            let status = report_answer(answer, &mut outcome);
+            Arrival {
+                kind: 0,
+                ssrc,
+                status,
+                outcome,
+                payload_type,
+            }
+        }
+        Arrived::Rtcp => arrived_as(1),
+        Arrived::Malformed => arrived_as(2),
+        Arrived::Unknown => arrived_as(3),
+        Arrived::Refused => arrived_as(4),
+        Arrived::Unassociated => arrived_as(5),
+    }
+}
+
+/// Receives a datagram.
+fn receive(port: &mut PortSession, now: u64, datagram: &[u8], arrival: &mut Arrival) -> u32
+    ensures { ReceivesDatagram port.old now datagram.now result arrival.old arrival.new port.new }
+{
+    match port.session.receive(Ticks(now), datagram) {
+        Ok(arrived) => {
+            *arrival = arrival_of(arrived);
+            status::OK
+        }
+        Err(_) => status::OUT_OF_MEMORY,
+    }
+}
+
+/// Returns the number of a reason to end.
+pub(crate) fn number_of(why: Ending) -> u32
+    ensures { result ≡ ending_number why }
+{
+    match why {
+        Ending::Bye => 0,
+        Ending::Timeout => 1,
+        Ending::Told => 2,
+    }
+}
+
+/// Describes a unit of a session: with its extended RTP time, and whether it is decodable.
+fn judged_unit(unit: &Depacketized, time: Option<u64>, decodable: bool, keyframe: bool) -> Unit
+    ensures { TellsJudgedBy time decodable keyframe unit.now result }
+{
+    let told = unit_of(unit);
+    let rtp_time = match time {
+        Some(time) => time,
+        None => told.rtp_time,
+    };
+    Unit {
+        rtp_time,
+        decodable,
+        keyframe,
+        ..told
+    }
+}
+
+/// Returns an event of a stream without an error or a reason to end.
+fn event_with(kind: u32, ssrc: u32, payload_type: u8, unit: Unit) -> Event
+    ensures { result ≡ event_with kind ssrc payload_type unit }
+{
+    Event {
+        kind,
+        ssrc,
+        status: status::OK,
+        why: 0,
+        payload_type,
+        unit,
+    }
+}
+
+/// Describes an event for C.
+fn event_of(event: &SessionEvent) -> Event
+    ensures { TellsEvent event.now result }
+{
+    match event {
+        SessionEvent::Begun { ssrc, payload_type } => {
+            event_with(0, *ssrc, *payload_type, no_unit())
+        }
+        SessionEvent::Unit {
+            ssrc,
+            payload_type,
+            rtp_time,
+            decodable,
+            keyframe,
+            unit: Ok(unit),
+        } => {
+            let unit = judged_unit(unit, *rtp_time, *decodable, *keyframe);
+            event_with(1, *ssrc, *payload_type, unit)
+        }
+        SessionEvent::Unit {
+            ssrc,
+            payload_type,
+            unit: Err(fault),
+            ..
+        } => Event {
+            status: u32::from(fault.number()),
+            ..event_with(2, *ssrc, *payload_type, no_unit())
+        },
+        SessionEvent::Ended {
+            ssrc,
+            payload_type,
+            why,
+        } => Event {
+            why: number_of(*why),
+            ..event_with(3, *ssrc, *payload_type, no_unit())
+        },
+    }
+}
+
+/// Returns whether memory ran out for the unit of an event.
+fn is_no_memory(event: &SessionEvent) -> bool
+    ensures { result ≡ is_no_memory event.now }
+{
+    match event {
+        SessionEvent::Unit {
+            unit: Err(fault),
+            ..
+        } => u32::from(fault.number()) == status::OUT_OF_MEMORY,
+        _ => false,
+    }
+}
+
+/// Returns the bytes of an event: those of its unit.
+fn bytes_of(event: &SessionEvent) -> &[u8]
+    ensures { result.now ≡ bytes_in event.now }
+{
+    match event {
+        SessionEvent::Unit { unit: Ok(unit), .. } => &unit.bytes,
+        _ => &[],
+    }
+}
+
+/// Keeps the unit of an event, for its values of header extensions.
+fn keep_unit(port: &mut PortSession, event: SessionEvent)
+    ensures { port.new ≡ record port.old { taken = latest_unit event port.old.taken } }
+{
+    if let SessionEvent::Unit { unit: Ok(unit), .. } = event {
+        port.taken = Some(unit);
+    }
+}
+
+/// Returns the next event: the event that waits for a larger output buffer, or the next one from the session.
+fn next_event(port: &mut PortSession, now: u64) -> Option<SessionEvent>
+    ensures { Comes now port.old result port.new }
+{
+    match port.waiting.take() {
+        Some(event) => Some(event),
+        None => port.session.poll(Ticks(now)),
+    }
+}
+
+/// Hands an event over: it is described, and its bytes go to the output buffer. If that is too small, the event waits.
+fn hand_over(port: &mut PortSession, next: SessionEvent, event: &mut Event, bytes: &mut [u8]) -> u32
+    ensures hands { Hands (is_no_memory next) (nat_le (length (bytes_in next)) (length bytes.old)) next result (record { event_before = event.old; event = event.new; before = bytes.old; bytes = bytes.new }) port.old port.new }
+    ensures untouched { result ≢ 0 → bytes.new ≡ bytes.old }
+    ensures unchanged { result ≢ 0 → result ≢ 33 → event.new ≡ event.old }
+{
+    if is_no_memory(&next) {
+        return status::OUT_OF_MEMORY;
+    }
+    *event = event_of(&next);
+    if !fill(bytes, bytes_of(&next)) {
+        port.waiting = Some(next);
+        return status::TOO_SMALL;
+    }
+    keep_unit(port, next);
+    status::OK
+}
+
+/// Reports the next event, and writes its bytes to the output buffer.
+fn poll(port: &mut PortSession, now: u64, event: &mut Event, bytes: &mut [u8]) -> u32
+    ensures polls { PollsEvent now port.old result (record { event_before = event.old; event = event.new; before = bytes.old; bytes = bytes.new }) port.new }
+    ensures untouched { result ≢ 0 → bytes.new ≡ bytes.old }
+    ensures unchanged { result ≢ 0 → result ≢ 33 → event.new ≡ event.old }
+{
+    match next_event(port, now) {
+        Some(next) => hand_over(port, next, event, bytes),
+        None => status::NONE,
+    }
+}
+
+/// Creates a session with these settings, formats, payload types without media and pairs of SSRCs, in an empty handle.
+#[unsafe(no_mangle)]
+pub extern "C" fn cpay_session_new(
+    alloc: Global,
+    handle: &mut Handle,
+    settings: &SessionSettings,
+    formats: &[SessionFormat],
+    no_media: &[u8],
+    pairs: &[SsrcPair],
+) -> u32
+    ensures { Makes (IsPortSessionOf settings.now formats.now no_media.now pairs.now) (is_in_range settings.now formats.now) handle.old.place.value result handle.new.place.value }
+{
+    if let Some(object) = handle.take(alloc) {
+        handle.put(object);
+        return status::FULL;
+    }
+    let session = match session_by(alloc, settings, formats, no_media, pairs) {
+        Ok(session) => session,
+        Err(status) => return status,
+    };
+    match Box::new(alloc, Object::PortSession(session)) {
+        Ok(object) => {
+            handle.put(object);
+            status::OK
+        }
+        Err(_) => status::OUT_OF_MEMORY,
+    }
+}
+
+/// Receives a datagram at that time, and reports what was done with it.
+#[unsafe(no_mangle)]
+pub extern "C" fn cpay_session_receive(
+    alloc: Global,
+    handle: &mut Handle,
+    now: u64,
+    datagram: &[u8],
+    arrival: &mut Arrival,
+) -> u32
+    ensures receives { OnPortSession handle.old.place.value (λ r s. ReceivesDatagram r now datagram.now result arrival.old arrival.new s) handle.new.place.value }
+    ensures refused { Refuses is_port_session handle.old.place.value result handle.new.place.value }
+    ensures unchanged { result ≢ 0 → arrival.new ≡ arrival.old }
+{
+    let Some(mut object) = handle.take(alloc) else {
+        return status::EMPTY;
+    };
+    let answer = match &mut *object {
+        Object::PortSession(port) => receive(port, now, datagram, arrival),
+        _ => status::OTHER_KIND,
+    };
+    handle.put(object);
+    answer
+}
+
+/// Reports the next event at that time, and writes the bytes of its unit to the output buffer.
+#[unsafe(no_mangle)]
+pub extern "C" fn cpay_session_poll(
+    alloc: Global,
+    handle: &mut Handle,
+    now: u64,
+    event: &mut Event,
+    bytes: &mut [u8],
+) -> u32
+    ensures polls { OnPortSession handle.old.place.value (λ r s. PollsEvent now r result (record { event_before = event.old; event = event.new; before = bytes.old; bytes = bytes.new }) s) handle.new.place.value }
+    ensures refused { Refuses is_port_session handle.old.place.value result handle.new.place.value }
+    ensures untouched { result ≢ 0 → bytes.new ≡ bytes.old }
+    ensures unchanged { result ≢ 0 → result ≢ 33 → event.new ≡ event.old }
+{
+    let Some(mut object) = handle.take(alloc) else {
+        return status::EMPTY;
+    };
+    let answer = match &mut *object {
+        Object::PortSession(port) => poll(port, now, event, bytes),
+        _ => status::OTHER_KIND,
+    };
+    handle.put(object);
+    answer
+}
+
+/// Reads the values of header extensions of the latest unit.
+#[unsafe(no_mangle)]
+pub extern "C" fn cpay_session_values(
+    alloc: Global,
+    handle: &mut Handle,
+    values: &mut ExtensionValues,
+) -> u32
+    ensures tells { OnPortSession handle.old.place.value (λ r s. (s ≡ r) × TellsTaken r.taken result values.old values.new) handle.new.place.value }
+    ensures refused { Refuses is_port_session handle.old.place.value result handle.new.place.value }
+    ensures unchanged { result ≢ 0 → values.new ≡ values.old }
+{
+    let Some(mut object) = handle.take(alloc) else {
+        return status::EMPTY;
+    };
+    let answer = match &mut *object {
+        Object::PortSession(port) => match &port.taken {
+            Some(unit) => {
+                *values = values_in(unit);
+                status::OK
+            }
+            None => status::NONE,
+        },
+        _ => status::OTHER_KIND,
+    };
+    handle.put(object);
+    answer
+}
+
+/// Reports when a poll may have an event even if no datagram arrives.
+#[unsafe(no_mangle)]
+pub extern "C" fn cpay_session_next_deadline(
+    alloc: Global,
+    handle: &mut Handle,
+    at: &mut u64,
+) -> u32
+    ensures tells { OnPortSession handle.old.place.value (λ r s. (s ≡ r) × TellsNumber (due_in r.session.settings.idle_timeout r.session.port.streams) result at.old at.new) handle.new.place.value }
+    ensures refused { Refuses is_port_session handle.old.place.value result handle.new.place.value }
+    ensures unchanged { result ≢ 0 → at.new ≡ at.old }
+{
+    let Some(mut object) = handle.take(alloc) else {
+        return status::EMPTY;
+    };
+    let answer = match &mut *object {
+        Object::PortSession(port) => match port.session.next_deadline() {
+            Some(deadline) => {
+                *at = deadline.0;
+                status::OK
+            }
+            None => status::NONE,
+        },
+        _ => status::OTHER_KIND,
+    };
+    handle.put(object);
+    answer
+}
+
+/// Ends the streams of an SSRC: polls report the complete units, and then the end.
+#[unsafe(no_mangle)]
+pub extern "C" fn cpay_session_end(alloc: Global, handle: &mut Handle, now: u64, ssrc: u32) -> u32
+    ensures ends { OnPortSession handle.old.place.value (λ r s. (result ≡ 0) × (s ≡ record r { session = ends_of ssrc now r.session })) handle.new.place.value }
+    ensures refused { Refuses is_port_session handle.old.place.value result handle.new.place.value }
+{
+    let Some(mut object) = handle.take(alloc) else {
+        return status::EMPTY;
+    };
+    let answer = match &mut *object {
+        Object::PortSession(port) => {
+            port.session.end(Ticks(now), ssrc);
+            status::OK
+        }
+        _ => status::OTHER_KIND,
+    };
+    handle.put(object);
+    answer
+}
+
+/// Ends all streams. From now on no stream begins.
+#[unsafe(no_mangle)]
+pub extern "C" fn cpay_session_finish(alloc: Global, handle: &mut Handle, now: u64) -> u32
+    ensures ends { OnPortSession handle.old.place.value (λ r s. (result ≡ 0) × (s ≡ record r { session = ends_all now r.session })) handle.new.place.value }
+    ensures refused { Refuses is_port_session handle.old.place.value result handle.new.place.value }
+{
+    let Some(mut object) = handle.take(alloc) else {
+        return status::EMPTY;
+    };
+    let answer = match &mut *object {
+        Object::PortSession(port) => {
+            port.session.finish(Ticks(now));
+            status::OK
+        }
+        _ => status::OTHER_KIND,
+    };
+    handle.put(object);
+    answer
+}

@@ -1,0 +1,243 @@
+//! The settings of sessions.
+
+ghost use Rattle.std.specs.Prelude.{◌≡◌, ◌&&◌, is_some, map, filter_map, IfErr, IfOk, IfSome, Option, Bool};
+ghost use Rattle.std.specs.List.{list_all};
+ghost use Rattle.codec_payload_c.specs.Refusals.{RefusesSettings};
+ghost use Rattle.codec_payload_c.specs.SessionFormats.{HasPlainSettings, IsNewSession, format_given, format_in_range, is_in_range, pair_given, red_fits, session_in_range, types_fit};
+
+use crate::extension::{ExtensionIds, ids_of};
+use crate::receiver::{WaitLimits, from_keyframe_of, waiting_for};
+use codec_payload_core::wire::{CodecSpec, Frequency};
+use codec_payload_handle::object::PortSession;
+use codec_payload_handle::settings::{Spec, codec_of, depacketizer_of};
+use codec_payload_handle::status;
+use codec_payload_session::formats::{Format, SessionSettings as Settings, SsrcPair as Pair};
+use codec_payload_session::session::Session;
+use codec_payload_stream::receiver::RedSettings;
+use std::alloc::{AllocError, Global};
+
+/// A payload format of a port.
+#[repr(C)]
+#[derive(Clone, Copy)]
+pub struct SessionFormat {
+    pub spec: Spec,
+    /// The RTP timestamp difference between successive RED packets, 1 to 16,383.
+    pub red_step: u32,
+    /// The payload type of the media, 0 to 127.
+    pub payload_type: u8,
+    /// The payload type of RED, 0 to 127; differs from `payload_type`.
+    pub red_payload_type: u8,
+    /// The payload type of retransmissions, 0 to 127.
+    pub rtx_payload_type: u8,
+    /// Whether the format is sent in RED too.
+    pub has_red: bool,
+    /// Whether there are retransmissions of the format.
+    pub has_rtx: bool,
+}
+
+/// Two SSRCs of one source.
+#[repr(C)]
+#[derive(Clone, Copy)]
+pub struct SsrcPair {
+    /// The SSRC of the stream.
+    pub ssrc: u32,
+    /// The SSRC of its retransmissions.
+    pub rtx_ssrc: u32,
+}
+
+/// The settings of a session, except its lists.
+#[repr(C)]
+#[derive(Clone, Copy)]
+pub struct SessionSettings {
+    /// How long frames of audio wait for missing packets.
+    pub audio: WaitLimits,
+    /// How long frames of video wait for missing packets.
+    pub video: WaitLimits,
+    /// A stream ends once this number of ticks has passed since its last datagram.
+    pub idle_timeout: u64,
+    /// A stream takes packets for this number of ticks after its BYE.
+    pub bye_wait: u64,
+    /// The number of accepted datagrams after which a stream is announced.
+    pub probation: u64,
+    /// The largest number of packets that a stream holds, 1 to 65,536.
+    pub limit: usize,
+    /// The largest number of streams, above 0.
+    pub max_streams: usize,
+    /// Ticks per second of your clock, above 0.
+    pub tick_rate: u32,
+    /// What happens to units of video that a decoder cannot show. 0: nothing; 1: they are marked; 2: they are dropped.
+    pub from_keyframe: u8,
+    /// The ids of the header extensions to read.
+    pub extension_ids: ExtensionIds,
+}
+
+/// Returns whether RED of the format, if it is used, is in range.
+fn red_fits(format: &SessionFormat) -> bool
+    ensures { result ≡ red_fits format.now }
+{
+    !format.has_red
+        || (format.red_payload_type <= 127
+            && format.red_payload_type != format.payload_type
+            && format.red_step >= 1
+            && format.red_step <= 16_383)
+}
+
+/// Returns whether the payload types and the step of RED are in range.
+fn types_fit(format: &SessionFormat) -> bool
+    ensures { result ≡ types_fit format.now }
+{
+    format.payload_type <= 127
+        && red_fits(format)
+        && (!format.has_rtx || format.rtx_payload_type <= 127)
+}
+
+/// Converts a format of C. `None`: the codec is unsupported, or a number is out of range.
+fn format_of(alloc: Global, format: &SessionFormat) -> Option<Format>
+    ensures { result ≡ format_given format.now }
+{
+    let (Some(_), Some(clock_rate)) = (
+        depacketizer_of(alloc, &format.spec),
+        Frequency::make(format.spec.rate),
+    ) else {
+        return None;
+    };
+    if !types_fit(format) {
+        return None;
+    }
+    Some(Format {
+        payload_type: format.payload_type,
+        spec: CodecSpec {
+            codec: codec_of(format.spec.codec),
+            clock_rate,
+            octet_align: format.spec.octet_align,
+        },
+        red: if format.has_red {
+            Some(RedSettings {
+                payload_type: format.red_payload_type,
+                step: format.red_step,
+            })
+        } else {
+            None
+        },
+        retransmission: if format.has_rtx {
+            Some(format.rtx_payload_type)
+        } else {
+            None
+        },
+    })
+}
+
+/// Returns whether the format is in range.
+fn is_format_in_range(alloc: Global, format: &SessionFormat) -> bool
+    ensures { result ≡ format_in_range format.now }
+{
+    format_of(alloc, format).is_some()
+}
+
+/// Returns whether all formats are in range.
+fn are_in_range(alloc: Global, formats: &[SessionFormat]) -> bool
+    ensures { result ≡ list_all format_in_range formats.now }
+{
+    formats
+        .iter()
+        .all(|format| is_format_in_range(alloc, format))
+}
+
+/// Converts the formats of C that are in range.
+fn formats_of(alloc: Global, formats: &[SessionFormat]) -> Result<Vec<Format>, AllocError>
+    ensures { IfOk result (λ list. list.items ≡ filter_map format_given formats.now) }
+{
+    formats
+        .iter()
+        .filter_map(|format| format_of(alloc, format))
+        .collect(alloc)
+}
+
+/// Converts a pair of SSRCs.
+fn pair_of(pair: &SsrcPair) -> Pair
+    ensures { result ≡ pair_given pair.now }
+{
+    Pair {
+        ssrc: pair.ssrc,
+        retransmission: pair.rtx_ssrc,
+    }
+}
+
+/// Converts pairs of SSRCs.
+fn pairs_of(alloc: Global, pairs: &[SsrcPair]) -> Result<Vec<Pair>, AllocError>
+    ensures { IfOk result (λ list. list.items ≡ map pair_given pairs.now) }
+{
+    pairs.iter().map(|pair| pair_of(pair)).collect(alloc)
+}
+
+/// Returns whether the numbers of the settings are in range.
+fn is_session_in_range(settings: &SessionSettings) -> bool
+    ensures { result ≡ session_in_range settings.now }
+{
+    settings.tick_rate > 0
+        && settings.from_keyframe <= 2
+        && settings.limit >= 1
+        && settings.limit <= 65_536
+        && settings.max_streams > 0
+}
+
+/// Converts the settings of C, without any lists. `None`: a number is out of range.
+fn settings_of(alloc: Global, settings: &SessionSettings) -> Option<Settings>
+    ensures made { is_some result ≡ session_in_range settings.now }
+    ensures settings { IfSome result (HasPlainSettings settings.now) }
+{
+    if !is_session_in_range(settings) {
+        return None;
+    }
+    let tick_rate = Frequency::make(settings.tick_rate)?;
+    let from_keyframe = from_keyframe_of(settings.from_keyframe)?;
+    Some(Settings {
+        formats: Vec::new(alloc),
+        no_media: Vec::new(alloc),
+        pairs: Vec::new(alloc),
+        extension_ids: ids_of(settings.extension_ids),
+        audio: waiting_for(settings.audio),
+        video: waiting_for(settings.video),
+        from_keyframe,
+        limit: settings.limit,
+        max_streams: settings.max_streams,
+        probation: settings.probation,
+        idle_timeout: settings.idle_timeout,
+        bye_wait: settings.bye_wait,
+        tick_rate,
+    })
+}
+
+/// Creates a session. Settings out of range are refused before memory that has run out.
+pub(crate) fn session_by(
+    alloc: Global,
+    settings: &SessionSettings,
+    formats: &[SessionFormat],
+    no_media: &[u8],
+    pairs: &[SsrcPair],
+) -> Result<PortSession, u32>
+    ensures ok { IfOk result (λ s. IsNewSession settings.now formats.now no_media.now pairs.now s × (is_in_range settings.now formats.now ≡ Bool.true)) }
+    ensures err { IfErr result (λ status. RefusesSettings (is_in_range settings.now formats.now) status) }
+{
+    let Some(mut settings) = settings_of(alloc, settings) else {
+        return Err(status::INVALID);
+    };
+    if !are_in_range(alloc, formats) {
+        return Err(status::INVALID);
+    }
+    let (Ok(formats), Ok(no_media), Ok(pairs)) = (
+        formats_of(alloc, formats),
+        Vec::from_slice(alloc, no_media),
+        pairs_of(alloc, pairs),
+    ) else {
+        return Err(status::OUT_OF_MEMORY);
+    };
+    settings.formats = formats;
+    settings.no_media = no_media;
+    settings.pairs = pairs;
+    Ok(PortSession {
+        session: Session::new(alloc, settings),
+        waiting: None,
+        taken: None,
+    })
+}

@@ -1,0 +1,283 @@
+//! The streams of a session: counters, what to request, and how long to wait.
+
+ghost use Rattle.std.specs.Prelude.{◌≡◌, ◌≢◌, slice_get};
+ghost use Rattle.codec_payload_c.specs.SessionStreams.{SetsWaitLimits, TellsMissingOf, TellsSessionCounts, TellsStreamAt, TellsWants, end_time, end_reason, receiver_in, stage_number};
+ghost use Rattle.codec_payload_handle.specs.Kinds.{OnPortSession, Refuses, is_port_session};
+ghost use Rattle.codec_payload_c.specs.StreamReceivers.{wait_limits_given};
+
+use crate::receiver::{ReceiverCountsInfo, WaitLimits, counts_by, missing_into, waiting_for};
+use crate::session::number_of;
+use codec_payload_handle::handle::Handle;
+use codec_payload_handle::object::{Object, PortSession};
+use codec_payload_handle::status;
+use codec_payload_session::stream::Stage;
+use std::alloc::Global;
+
+/// Counts of datagrams by result, each modulo 2^64.
+#[repr(C)]
+#[derive(Clone, Copy)]
+pub struct SessionCountsInfo {
+    pub received: u64,
+    pub rtcp: u64,
+    pub malformed: u64,
+    pub unknown: u64,
+    pub refused: u64,
+    pub unassociated: u64,
+    /// Datagrams that the removed streams received.
+    pub ended: u64,
+    /// The number of streams, announced or not.
+    pub streams: usize,
+    /// Whether an event waits for a larger output buffer.
+    pub waiting: bool,
+}
+
+/// A stream of a session.
+#[repr(C)]
+#[derive(Drop)]
+pub struct SessionStream {
+    /// How many datagrams it received, modulo 2^64.
+    pub taken: u64,
+    /// When it ends, if it is leaving; 0 in other stages.
+    pub ends_at: u64,
+    pub ssrc: u32,
+    /// 0: in probation; 1: playing; 2: leaving; 3: draining.
+    pub stage: u32,
+    /// Why it ends, if it is leaving or draining. 0: a BYE; 1: the idle timeout; 2: a call.
+    pub why: u32,
+    pub payload_type: u8,
+    /// The counters of its receiver.
+    pub counts: ReceiverCountsInfo,
+}
+
+/// Returns the number of a stage.
+fn number_of_stage(stage: Stage) -> u32
+    ensures { result ≡ stage_number stage }
+{
+    match stage {
+        Stage::Probation => 0,
+        Stage::Playing => 1,
+        Stage::Leaving(..) => 2,
+        Stage::Draining(_) => 3,
+    }
+}
+
+/// Returns the number of the reason to end, or 0 if the stream does not end yet.
+fn reason_of(stage: Stage) -> u32
+    ensures { result ≡ end_reason stage }
+{
+    match stage {
+        Stage::Leaving(why, _) | Stage::Draining(why) => number_of(why),
+        Stage::Probation | Stage::Playing => 0,
+    }
+}
+
+/// Returns when a stream that is leaving ends.
+fn end_of(stage: Stage) -> u64
+    ensures { result ≡ end_time stage }
+{
+    match stage {
+        Stage::Leaving(_, at) => at,
+        _ => 0,
+    }
+}
+
+/// Returns the counters of a session.
+fn counts_of(port: &PortSession) -> SessionCountsInfo
+    ensures { TellsSessionCounts port.now result }
+{
+    let counts = port.session.counts();
+    SessionCountsInfo {
+        received: counts.received,
+        rtcp: counts.rtcp,
+        malformed: counts.malformed,
+        unknown: counts.unknown,
+        refused: counts.refused,
+        unassociated: counts.unassociated,
+        ended: counts.ended,
+        streams: port.session.stream_count(),
+        waiting: port.waiting.is_some(),
+    }
+}
+
+/// Describes the stream at a place.
+fn stream_at(port: &PortSession, place: usize, stream: &mut SessionStream) -> u32
+    ensures tells { TellsStreamAt (slice_get port.now.session.port.streams place) result stream.old stream.new }
+    ensures unchanged { result ≢ 0 → stream.new ≡ stream.old }
+{
+    let (Some(info), Some(receiver)) = (
+        port.session.stream_at(place),
+        port.session.receiver_at(place),
+    ) else {
+        return status::NONE;
+    };
+    *stream = SessionStream {
+        taken: info.taken,
+        ends_at: end_of(info.stage),
+        ssrc: info.ssrc,
+        stage: number_of_stage(info.stage),
+        why: reason_of(info.stage),
+        payload_type: info.payload_type,
+        counts: counts_by(receiver),
+    };
+    status::OK
+}
+
+/// Writes the missing numbers of a stream, as many as there is room for.
+fn missing(port: &PortSession, of: (u32, u8), numbers: &mut [u64], count: &mut usize) -> u32
+    ensures tells { TellsMissingOf (receiver_in of.0 of.1 port.now) result (record { before = numbers.old; numbers = numbers.new; count_before = count.old; count = count.new }) }
+    ensures unchanged { result ≢ 0 → (count.new ≡ count.old) × (numbers.new ≡ numbers.old) }
+{
+    match port.session.receiver_of(of.0, of.1) {
+        Some(receiver) => {
+            *count = missing_into(receiver, numbers);
+            status::OK
+        }
+        None => status::NONE,
+    }
+}
+
+/// Reports whether a keyframe of a stream is needed.
+fn wants_keyframe(port: &PortSession, ssrc: u32, payload_type: u8, wants: &mut bool) -> u32
+    ensures tells { TellsWants (receiver_in ssrc payload_type port.now) result wants.old wants.new }
+    ensures unchanged { result ≢ 0 → wants.new ≡ wants.old }
+{
+    match port.session.receiver_of(ssrc, payload_type) {
+        Some(receiver) => {
+            *wants = receiver.wants_keyframe();
+            status::OK
+        }
+        None => status::NONE,
+    }
+}
+
+/// Replaces the wait limits of a stream.
+fn set_wait_limits(port: &mut PortSession, ssrc: u32, payload_type: u8, limits: &WaitLimits) -> u32
+    ensures { SetsWaitLimits (receiver_in ssrc payload_type port.old) ssrc payload_type (wait_limits_given limits.now) port.old result port.new }
+{
+    if port.session.receiver_of(ssrc, payload_type).is_none() {
+        return status::NONE;
+    }
+    port.session
+        .set_wait_limits(ssrc, payload_type, waiting_for(*limits));
+    status::OK
+}
+
+/// Reports the counters of a session.
+#[unsafe(no_mangle)]
+pub extern "C" fn cpay_session_counts(
+    alloc: Global,
+    handle: &mut Handle,
+    counts: &mut SessionCountsInfo,
+) -> u32
+    ensures tells { OnPortSession handle.old.place.value (λ r s. (result ≡ 0) × (s ≡ r) × TellsSessionCounts r counts.new) handle.new.place.value }
+    ensures refused { Refuses is_port_session handle.old.place.value result handle.new.place.value }
+    ensures unchanged { result ≢ 0 → counts.new ≡ counts.old }
+{
+    let Some(mut object) = handle.take(alloc) else {
+        return status::EMPTY;
+    };
+    let answer = match &mut *object {
+        Object::PortSession(port) => {
+            *counts = counts_of(port);
+            status::OK
+        }
+        _ => status::OTHER_KIND,
+    };
+    handle.put(object);
+    answer
+}
+
+/// Describes the stream at a place, in the order in which the streams began.
+#[unsafe(no_mangle)]
+pub extern "C" fn cpay_session_stream_at(
+    alloc: Global,
+    handle: &mut Handle,
+    place: usize,
+    stream: &mut SessionStream,
+) -> u32
+    ensures tells { OnPortSession handle.old.place.value (λ r s. (s ≡ r) × TellsStreamAt (slice_get r.session.port.streams place) result stream.old stream.new) handle.new.place.value }
+    ensures refused { Refuses is_port_session handle.old.place.value result handle.new.place.value }
+    ensures unchanged { result ≢ 0 → stream.new ≡ stream.old }
+{
+    let Some(mut object) = handle.take(alloc) else {
+        return status::EMPTY;
+    };
+    let answer = match &mut *object {
+        Object::PortSession(port) => stream_at(port, place, stream),
+        _ => status::OTHER_KIND,
+    };
+    handle.put(object);
+    answer
+}
+
+/// Writes the missing numbers of a stream in rising order, as many as there is room for.
+#[unsafe(no_mangle)]
+pub extern "C" fn cpay_session_missing(
+    alloc: Global,
+    handle: &mut Handle,
+    ssrc: u32,
+    payload_type: u8,
+    numbers: &mut [u64],
+    count: &mut usize,
+) -> u32
+    ensures tells { OnPortSession handle.old.place.value (λ r s. (s ≡ r) × TellsMissingOf (receiver_in ssrc payload_type r) result (record { before = numbers.old; numbers = numbers.new; count_before = count.old; count = count.new })) handle.new.place.value }
+    ensures refused { Refuses is_port_session handle.old.place.value result handle.new.place.value }
+    ensures unchanged { result ≢ 0 → (count.new ≡ count.old) × (numbers.new ≡ numbers.old) }
+{
+    let Some(mut object) = handle.take(alloc) else {
+        return status::EMPTY;
+    };
+    let answer = match &mut *object {
+        Object::PortSession(port) => missing(port, (ssrc, payload_type), numbers, count),
+        _ => status::OTHER_KIND,
+    };
+    handle.put(object);
+    answer
+}
+
+/// Reports whether to request a keyframe of a stream.
+#[unsafe(no_mangle)]
+pub extern "C" fn cpay_session_wants_keyframe(
+    alloc: Global,
+    handle: &mut Handle,
+    ssrc: u32,
+    payload_type: u8,
+    wants: &mut bool,
+) -> u32
+    ensures tells { OnPortSession handle.old.place.value (λ r s. (s ≡ r) × TellsWants (receiver_in ssrc payload_type r) result wants.old wants.new) handle.new.place.value }
+    ensures refused { Refuses is_port_session handle.old.place.value result handle.new.place.value }
+    ensures unchanged { result ≢ 0 → wants.new ≡ wants.old }
+{
+    let Some(mut object) = handle.take(alloc) else {
+        return status::EMPTY;
+    };
+    let answer = match &mut *object {
+        Object::PortSession(port) => wants_keyframe(port, ssrc, payload_type, wants),
+        _ => status::OTHER_KIND,
+    };
+    handle.put(object);
+    answer
+}
+
+/// Replaces the wait limits of a stream.
+#[unsafe(no_mangle)]
+pub extern "C" fn cpay_session_set_wait_limits(
+    alloc: Global,
+    handle: &mut Handle,
+    ssrc: u32,
+    payload_type: u8,
+    wait_limits: &WaitLimits,
+) -> u32
+    ensures sets { OnPortSession handle.old.place.value (λ r s. SetsWaitLimits (receiver_in ssrc payload_type r) ssrc payload_type (wait_limits_given wait_limits.now) r result s) handle.new.place.value }
+    ensures refused { Refuses is_port_session handle.old.place.value result handle.new.place.value }
+{
+    let Some(mut object) = handle.take(alloc) else {
+        return status::EMPTY;
+    };
+    let answer = match &mut *object {
+        Object::PortSession(port) => set_wait_limits(port, ssrc, payload_type, wait_limits),
+        _ => status::OTHER_KIND,
+    };
+    handle.put(object);
+    answer
+}

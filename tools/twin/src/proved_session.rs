@@ -1,0 +1,114 @@
+//! The proved sessions by shim.c.
+
+use super::proved::{NONE, Spec};
+use std::ffi::c_void;
+
+unsafe extern "C" {
+    fn twin_session(codec: u32, rate: u32, flags: u32, values: *const u64) -> *mut c_void;
+    fn twin_session_receive(
+        it: *mut c_void,
+        now: u64,
+        datagram: *const u8,
+        len: usize,
+        arrival: *mut u64,
+    ) -> u32;
+    fn twin_session_poll(
+        it: *mut c_void,
+        now: u64,
+        bytes: *mut u8,
+        room: usize,
+        event: *mut u64,
+    ) -> u32;
+    fn twin_session_next_deadline(it: *mut c_void, at: *mut u64) -> u32;
+    fn twin_session_end(it: *mut c_void, now: u64, ssrc: u32) -> u32;
+    fn twin_session_finish(it: *mut c_void, now: u64) -> u32;
+    fn twin_session_missing(
+        it: *mut c_void,
+        ssrc: u32,
+        payload_type: u8,
+        numbers: *mut u64,
+        room: usize,
+        count: *mut usize,
+    ) -> u32;
+    fn twin_session_counts(it: *mut c_void, counts: *mut u64) -> u32;
+    fn twin_session_free(it: *mut c_void);
+}
+
+/// Room for the bytes of an event.
+const ROOM: usize = 1 << 16;
+/// `CPAY_TOO_SMALL`.
+const TOO_SMALL: u32 = 33;
+
+pub struct Session(*mut c_void);
+
+impl Session {
+    pub fn new(spec: Spec, values: &[u64; 8]) -> Option<Session> {
+        let it = unsafe { twin_session(spec.codec, spec.rate, spec.flags, values.as_ptr()) };
+        (!it.is_null()).then_some(Session(it))
+    }
+
+    /// Kind, SSRC, payload type, status, outcome.
+    pub fn receive(&mut self, now: u64, datagram: &[u8]) -> [u64; 5] {
+        let mut arrival = [0; 5];
+        let (at, size) = (datagram.as_ptr(), datagram.len());
+        let status = unsafe { twin_session_receive(self.0, now, at, size, arrival.as_mut_ptr()) };
+        assert_eq!(status, 0);
+        arrival
+    }
+
+    /// The fields of the event and of its unit, and its bytes. The first call has no room for bytes, so the event of a unit that has
+    /// bytes waits.
+    pub fn poll(&mut self, now: u64) -> Option<([u64; 11], Vec<u8>)> {
+        let (mut bytes, mut event) = (vec![0; ROOM], [0; 12]);
+        let mut poll = |room| unsafe {
+            twin_session_poll(self.0, now, bytes.as_mut_ptr(), room, event.as_mut_ptr())
+        };
+        let mut status = poll(0);
+        if status == TOO_SMALL {
+            status = poll(ROOM);
+        }
+        if status == NONE {
+            return None;
+        }
+        assert_eq!(status, 0);
+        bytes.truncate(event[11] as usize);
+        Some((event[..11].try_into().unwrap(), bytes))
+    }
+
+    pub fn next_deadline(&mut self) -> Option<u64> {
+        let mut at = 0;
+        (unsafe { twin_session_next_deadline(self.0, &mut at) } == 0).then_some(at)
+    }
+
+    pub fn end(&mut self, now: u64, ssrc: u32) {
+        assert_eq!(unsafe { twin_session_end(self.0, now, ssrc) }, 0);
+    }
+
+    pub fn finish(&mut self, now: u64) {
+        assert_eq!(unsafe { twin_session_finish(self.0, now) }, 0);
+    }
+
+    pub fn missing(&mut self, ssrc: u32, payload_type: u8, most: usize) -> Option<Vec<u64>> {
+        let (mut numbers, mut count) = (vec![0; most], 0);
+        let at = numbers.as_mut_ptr();
+        let status =
+            unsafe { twin_session_missing(self.0, ssrc, payload_type, at, most, &mut count) };
+        assert!(status == 0 || status == NONE);
+        numbers.truncate(count);
+        (status == 0).then_some(numbers)
+    }
+
+    /// Received, RTCP, malformed, unknown, refused, unassociated, ended, streams.
+    pub fn counts(&mut self) -> [u64; 8] {
+        let mut counts = [0; 8];
+        let status = unsafe { twin_session_counts(self.0, counts.as_mut_ptr()) };
+        assert_eq!(status, 0);
+        counts
+    }
+}
+
+impl Drop for Session {
+    fn drop(&mut self) {
+        unsafe { twin_session_free(self.0) }
+    }
+}

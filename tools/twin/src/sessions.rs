@@ -1,0 +1,254 @@
+//! Sessions of both, side by side.
+
+use super::input::Input;
+use super::{Compared, codec, proved_session};
+use codec_payload::keyframes::FromKeyframe;
+use codec_payload::session::{Arrival, Ending, Event, Format, Session, SessionSettings, SsrcPair};
+use codec_payload::stream::RedSettings;
+use codec_payload::{Codec, CodecSpec, Frequency, Ticks};
+
+/// The formats of the port: this one with RED and retransmissions, and Opus.
+fn formats(spec: CodecSpec) -> Vec<Format> {
+    let opus = CodecSpec {
+        codec: Codec::Opus,
+        clock_rate: Frequency::FORTY_EIGHT_KHZ,
+        octet_align: false,
+    };
+    let format = |payload_type, spec, red, retransmission| Format {
+        payload_type,
+        spec,
+        red,
+        retransmission,
+    };
+    let red = RedSettings {
+        payload_type: 63,
+        step: 90,
+    };
+    vec![
+        format(96, spec, Some(red), Some(98)),
+        format(100, opus, None, None),
+    ]
+}
+
+/// Settings, and the same as values of shim.c.
+fn settings(spec: CodecSpec, input: &mut Input) -> (SessionSettings, [u64; 8]) {
+    let mut ours = SessionSettings::live();
+    let max_wait = u64::from(input.byte());
+    let start = input.byte() % 4;
+    ours.formats = formats(spec);
+    ours.no_media = vec![97, 13];
+    ours.pairs = vec![SsrcPair {
+        ssrc: 1,
+        retransmission: 2,
+    }];
+    for limits in [&mut ours.audio, &mut ours.video] {
+        limits.max_wait = Some(max_wait);
+        limits.start = start.into();
+    }
+    ours.limit = usize::from(input.byte()) + 1;
+    ours.max_streams = usize::from(input.byte() % 4) + 1;
+    ours.probation = u64::from(input.byte() % 4);
+    ours.idle_timeout = u64::from(input.word());
+    ours.bye_wait = u64::from(input.byte());
+    let from_keyframe = input.byte() % 3;
+    ours.from_keyframe =
+        [FromKeyframe::Off, FromKeyframe::Mark, FromKeyframe::Drop][usize::from(from_keyframe)];
+    let values = [
+        max_wait,
+        start.into(),
+        ours.limit as u64,
+        ours.max_streams as u64,
+        ours.probation,
+        ours.idle_timeout,
+        ours.bye_wait,
+        from_keyframe.into(),
+    ];
+    (ours, values)
+}
+
+/// A datagram of one of five SSRCs, near the number before; sometimes a BYE, or any bytes.
+fn datagram(how: u8, numbers: &mut [u16; 5], input: &mut Input) -> Vec<u8> {
+    let ssrc = how & 7;
+    if ssrc > 5 {
+        return input.some().to_vec();
+    }
+    if ssrc == 5 {
+        return vec![0x81, 203, 0, 1, 0, 0, 0, input.byte() % 5];
+    }
+    let number = &mut numbers[usize::from(ssrc)];
+    let step = input.byte();
+    *number = match step {
+        0 => input.word(),
+        1..16 => number.wrapping_sub(step.into()),
+        16..32 => number.wrapping_add(u16::from(step - 14)),
+        _ => number.wrapping_add(1),
+    };
+    let flags = input.byte();
+    let payload_type = if ssrc == 2 && flags & 8 == 0 {
+        98
+    } else {
+        [96, 96, 96, 63, 100, 97, 98, 77][usize::from(flags >> 4 & 7)]
+    };
+    let mut bytes = vec![0x80, payload_type | (flags & 1) << 7];
+    bytes.extend(number.to_be_bytes());
+    bytes.extend(u32::to_be_bytes(u32::from(*number / 3) * 90));
+    bytes.extend(u32::to_be_bytes(ssrc.into()));
+    if payload_type == 98 {
+        bytes.extend(numbers[1].wrapping_sub(u16::from(flags & 7)).to_be_bytes());
+    }
+    bytes.extend(input.some());
+    bytes
+}
+
+/// The fields of an event and of its unit, and its bytes. The error of a frame is its text.
+fn told(event: Event) -> ([u64; 11], Vec<u8>, Option<String>) {
+    let mut it = [0; 11];
+    let mut stream = |kind: u64, ssrc: u32, payload_type: u8| {
+        (it[0], it[1], it[2]) = (kind, ssrc.into(), payload_type.into());
+    };
+    match event {
+        Event::Begun { ssrc, payload_type } => stream(0, ssrc, payload_type),
+        Event::Ended {
+            ssrc,
+            payload_type,
+            why,
+        } => {
+            stream(3, ssrc, payload_type);
+            it[4] = match why {
+                Ending::Bye => 0,
+                Ending::Timeout => 1,
+                Ending::Told => 2,
+            };
+        }
+        Event::Unit {
+            ssrc,
+            payload_type,
+            rtp_time,
+            decodable,
+            keyframe,
+            unit,
+        } => match unit {
+            Err(fault) => {
+                stream(2, ssrc, payload_type);
+                return (it, Vec::new(), Some(format!("{fault:?}")));
+            }
+            Ok(unit) => {
+                stream(1, ssrc, payload_type);
+                let range = unit.seq_range();
+                it[5..].copy_from_slice(&[
+                    range.start().0,
+                    range.end().0,
+                    rtp_time.unwrap_or(0),
+                    unit.contiguous.into(),
+                    decodable.into(),
+                    keyframe.into(),
+                ]);
+                return (it, unit.bytes, None);
+            }
+        },
+    }
+    (it, Vec::new(), None)
+}
+
+fn poll(
+    ours: &mut Session,
+    theirs: &mut proved_session::Session,
+    now: u64,
+    compared: &mut Compared,
+) -> bool {
+    compared.calls += 1;
+    let (ours, (mut fields, bytes)) = match (ours.poll(Ticks(now)), theirs.poll(now)) {
+        (None, None) => return false,
+        (Some(ours), Some(theirs)) => (ours, theirs),
+        (ours, theirs) => panic!("{ours:?} and {theirs:?}"),
+    };
+    let (wanted, given, fault) = told(ours);
+    if let Some(fault) = fault {
+        compared.fault(&fault, fields[3] as u32);
+        fields[3] = 0;
+    }
+    assert_eq!((wanted, given), (fields, bytes));
+    true
+}
+
+fn receive(
+    ours: &mut Session,
+    theirs: &mut proved_session::Session,
+    now: u64,
+    datagram: &[u8],
+    compared: &mut Compared,
+) {
+    compared.calls += 1;
+    let found = theirs.receive(now, datagram);
+    let wanted = match ours.receive(Ticks(now), datagram).expect("there is memory") {
+        Arrival::Stream {
+            ssrc,
+            payload_type,
+            answer,
+        } => {
+            // Each outcome and each fault has a number.
+            compared.fault(&answer, (found[3] << 8 | found[4]) as u32);
+            [0, ssrc.into(), payload_type.into(), found[3], found[4]]
+        }
+        Arrival::Rtcp => [1, 0, 0, 0, 0],
+        Arrival::Malformed => [2, 0, 0, 0, 0],
+        Arrival::Unknown => [3, 0, 0, 0, 0],
+        Arrival::Refused => [4, 0, 0, 0, 0],
+        Arrival::Unassociated => [5, 0, 0, 0, 0],
+    };
+    assert_eq!(wanted, found);
+}
+
+fn counts(ours: &Session) -> [u64; 8] {
+    let it = ours.counts();
+    [
+        it.received,
+        it.rtcp,
+        it.malformed,
+        it.unknown,
+        it.refused,
+        it.unassociated,
+        it.ended,
+        ours.stream_count() as u64,
+    ]
+}
+
+pub fn sessions(input: &mut Input, compared: &mut Compared) {
+    let (spec, theirs) = codec(input);
+    let (settings, values) = settings(spec, input);
+    let mut ours = Session::new(settings);
+    let mut theirs = proved_session::Session::new(theirs, &values).expect("the settings are right");
+    let (mut now, mut numbers) = (0_u64, [0; 5]);
+    while !input.is_empty() {
+        let how = input.byte();
+        match how >> 3 {
+            0..4 => while poll(&mut ours, &mut theirs, now, compared) {},
+            4 => now += u64::from(input.byte()),
+            5 => {
+                let (ssrc, most) = (u32::from(how & 3), usize::from(input.byte()));
+                let missing = ours
+                    .receiver_of(ssrc, 96)
+                    .map(|it| it.missing(most).collect());
+                assert_eq!(missing, theirs.missing(ssrc, 96, most));
+            }
+            6 => assert_eq!(ours.next_deadline().map(|it| it.0), theirs.next_deadline()),
+            7 if how & 7 == 0 && input.byte() < 8 => {
+                ours.finish(Ticks(now));
+                theirs.finish(now);
+            }
+            7 => {
+                ours.end(Ticks(now), u32::from(how & 7));
+                theirs.end(now, u32::from(how & 7));
+            }
+            _ => {
+                let datagram = datagram(how, &mut numbers, input);
+                receive(&mut ours, &mut theirs, now, &datagram, compared);
+            }
+        }
+        assert_eq!(counts(&ours), theirs.counts());
+    }
+    ours.finish(Ticks(now));
+    theirs.finish(now);
+    while poll(&mut ours, &mut theirs, now, compared) {}
+    assert_eq!(counts(&ours), theirs.counts());
+}
