@@ -463,6 +463,8 @@ def main(words):
     if not shutil.which("chromium"):
         print("chromium_peer: skipped, there is no chromium")
         return 0
+    # The browser and the program end with this script.
+    signal.signal(signal.SIGTERM, lambda *_: sys.exit("terminated"))
     faults, compared, names = [], 0, settings.calls or list(CALLS)
     print(f"| call: codec | {' | '.join(COLUMNS)} |\n{'|---' * (len(COLUMNS) + 1)}|")
     with tempfile.TemporaryDirectory() as folder:
