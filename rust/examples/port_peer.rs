@@ -1,5 +1,6 @@
-//! The receiving side of a call: all streams of a port, by the session description of the sender. It requests missing packets and
-//! keyframes, sends receiver reports, and prints a line for each event. `scripts/chromium_peer.py` runs it against Chromium:
+//! The receiving side of a call: all streams of a port, by the session description of the sender. The session requests missing
+//! packets and keyframes; this program sends its requests and receiver reports, and prints a line for each event.
+//! `scripts/chromium_peer.py` runs it against Chromium:
 //!
 //! ```sh
 //! cargo run --example port_peer OFFER ADDRESS
@@ -9,14 +10,13 @@
 //! - The first line is the port. An empty datagram ends the program.
 //! - The SSRCs of retransmissions are those of the offer. A sender that joins later retransmits under the SSRC of its stream.
 
-use codec_payload::feedback::{FeedbackSource, StreamRequests};
 use codec_payload::jitter::SequenceNumbers;
-use codec_payload::keyframes::is_video;
-use codec_payload::requests::NackSettings;
 use codec_payload::rtcp::{CompoundRule, ReceiverReport, ReportBlock, RtcpPacket, read_compound};
 use codec_payload::rtp::{RtpPacket, is_rtcp};
 use codec_payload::sdp::{self, Media, Role};
-use codec_payload::session::{Event, Format, Session, SessionSettings, SsrcPair};
+use codec_payload::session::{
+    Event, FeedbackSettings, Format, Session, SessionSettings, SsrcPair,
+};
 use codec_payload::stream::ReceptionStatistics;
 use codec_payload::{Clock, Frequency, Ticks};
 use std::collections::BTreeMap;
@@ -28,13 +28,8 @@ use std::time::Duration;
 type Failure = Box<dyn Error>;
 
 const OWN_SSRC: u32 = 1;
-/// How often a keyframe is requested at most, and how often reports are sent, in milliseconds.
-const KEYFRAME_INTERVAL: u64 = 500;
+/// How often reports are sent, in milliseconds.
 const REPORT_INTERVAL: u64 = 1_000;
-/// How long a frame of video waits, at least and at most.
-const WAITS: (u64, u64) = (200, 500);
-/// How many missing numbers are requested.
-const MOST_MISSING: usize = 512;
 /// The longest sleep.
 const LONGEST_SLEEP: Duration = Duration::from_millis(100);
 
@@ -52,6 +47,8 @@ fn add_section(settings: &mut SessionSettings, media: &Media) -> Result<(), Fail
                 retransmission: formats
                     .find(|it| it.role == Role::Retransmission { of })
                     .map(|it| it.payload_type),
+                nack: format.feedback.nack,
+                pli: format.feedback.pli,
             }),
             Role::TelephoneEvents | Role::ComfortNoise | Role::ErrorCorrection => {
                 settings.no_media.push(payload_type);
@@ -158,35 +155,26 @@ impl Reports {
 struct Peer {
     session: Session,
     formats: Vec<Format>,
-    pairs: Vec<SsrcPair>,
-    source: FeedbackSource,
-    /// The requests of each stream of video, by SSRC and payload type.
-    requests: BTreeMap<(u32, u8), StreamRequests>,
-    /// The payload type of the latest stream of each SSRC.
-    latest: BTreeMap<u32, u8>,
     reports: Reports,
-    missing: Vec<u64>,
+    /// The packets of RTCP to send.
+    feedback: Vec<Vec<u8>>,
 }
 
 impl Peer {
     fn new(offer: &str) -> Result<Peer, Failure> {
         let mut settings = SessionSettings::live();
+        settings.feedback = Some(FeedbackSettings::live(OWN_SSRC));
         for media in &sdp::read(offer)? {
             add_section(&mut settings, media)?;
         }
-        let (formats, pairs) = (settings.formats.clone(), settings.pairs.clone());
         Ok(Peer {
+            formats: settings.formats.clone(),
             session: Session::new(settings),
-            formats,
-            pairs,
-            source: FeedbackSource::new(OWN_SSRC, Vec::new(), false).ok_or("no name is short")?,
-            requests: BTreeMap::new(),
-            latest: BTreeMap::new(),
             reports: Reports {
                 by_ssrc: BTreeMap::new(),
                 next: REPORT_INTERVAL,
             },
-            missing: Vec::new(),
+            feedback: Vec::new(),
         })
     }
 
@@ -194,55 +182,29 @@ impl Peer {
         if is_rtcp(datagram) {
             self.reports.read(now, datagram);
         } else if let Ok(packet) = RtpPacket::parse(datagram) {
-            self.note(now, &packet);
+            self.observe(now, &packet);
         }
         self.session.receive(now, datagram)?;
         Ok(())
     }
 
-    /// Tells the reports which packets arrived, and the requests which ones were answered.
-    fn note(&mut self, now: Ticks, packet: &RtpPacket) {
-        let header = &packet.header;
-        let resent = Some(header.payload_type);
-        if let Some(format) = self.formats.iter().find(|it| it.retransmission == resent) {
-            let pair = self
-                .pairs
-                .iter()
-                .find(|it| it.retransmission == header.ssrc);
-            if let (Some(pair), [high, low, ..]) = (pair, packet.payload) {
-                let number = u16::from_be_bytes([*high, *low]);
-                self.answered(now, (pair.ssrc, format.payload_type), number);
-            }
-            return;
-        }
-        // Of a stream with an SSRC for retransmissions, a packet that comes late is no answer.
-        if !self.pairs.iter().any(|it| it.ssrc == header.ssrc) {
-            let stream = (header.ssrc, header.payload_type);
-            self.answered(now, stream, header.sequence_number);
-        }
+    /// Tells the reports which packets of media arrived.
+    fn observe(&mut self, now: Ticks, packet: &RtpPacket) {
+        let payload_type = packet.header.payload_type;
         let is_of = |it: &&Format| {
             let red = it.red.map(|red| red.payload_type);
-            it.payload_type == header.payload_type || red == Some(header.payload_type)
+            it.payload_type == payload_type || red == Some(payload_type)
         };
         if let Some(format) = self.formats.iter().find(is_of) {
             self.reports.observe(now, packet, format.spec.clock_rate);
         }
     }
 
-    fn answered(&mut self, now: Ticks, stream: (u32, u8), number: u16) {
-        if let Some(requests) = self.requests.get_mut(&stream) {
-            requests.answered(now, number);
-        }
-    }
-
-    /// Prints the events that are due.
+    /// Prints the events that are due, and keeps the feedback.
     fn poll(&mut self, now: Ticks, out: &mut impl Write) -> Result<(), Failure> {
         while let Some(event) = self.session.poll(now) {
             match event {
-                Event::Begun { ssrc, payload_type } => {
-                    writeln!(out, "begun {ssrc} {payload_type}")?;
-                    self.begin(ssrc, payload_type);
-                }
+                Event::Begun { ssrc, payload_type } => writeln!(out, "begun {ssrc} {payload_type}")?,
                 Event::Unit {
                     ssrc,
                     payload_type,
@@ -260,55 +222,19 @@ impl Peer {
                     writeln!(out)?;
                 }
                 Event::Unit { unit: Err(why), .. } => writeln!(out, "fault {why}")?,
+                Event::Feedback { packet, .. } => self.feedback.push(packet?),
                 Event::Ended {
                     ssrc, payload_type, ..
-                } => {
-                    writeln!(out, "ended {ssrc} {payload_type}")?;
-                    self.requests.remove(&(ssrc, payload_type));
-                }
+                } => writeln!(out, "ended {ssrc} {payload_type}")?,
             }
         }
+        self.feedback.extend(self.reports.take_due(now)?);
         Ok(())
-    }
-
-    /// Begins the requests of a stream, if it is video.
-    fn begin(&mut self, ssrc: u32, payload_type: u8) {
-        self.latest.insert(ssrc, payload_type);
-        let mut formats = self.formats.iter();
-        let format = formats.find(|it| it.payload_type == payload_type);
-        if format.is_some_and(|it| is_video(it.spec.codec)) {
-            let requests = StreamRequests::new(ssrc, NackSettings::live(), KEYFRAME_INTERVAL);
-            self.requests.insert((ssrc, payload_type), requests);
-        }
-    }
-
-    /// The feedback that is due.
-    fn feedback(&mut self, now: Ticks) -> Result<Vec<Vec<u8>>, Failure> {
-        let mut due: Vec<_> = self.reports.take_due(now)?.into_iter().collect();
-        for (&(ssrc, payload_type), requests) in &mut self.requests {
-            let Some(receiver) = self.session.receiver_of(ssrc, payload_type) else {
-                continue;
-            };
-            self.missing.clear();
-            self.missing.extend(receiver.missing(MOST_MISSING));
-            // After a change of codec the old stream stays until its idle timeout. It may want a keyframe all the time.
-            let is_latest = self.latest.get(&ssrc) == Some(&payload_type);
-            let wants_keyframe = receiver.wants_keyframe() && is_latest;
-            requests.update(now, &self.missing, wants_keyframe)?;
-            due.extend(requests.take_due(now, &self.source)?);
-            let mut limits = receiver.wait_limits();
-            let wait = 4 * requests.round_trip().unwrap_or(0);
-            limits.max_wait = Some(wait.clamp(WAITS.0, WAITS.1));
-            self.session.set_wait_limits(ssrc, payload_type, limits);
-        }
-        Ok(due)
     }
 
     /// How long to wait for the next datagram.
     fn sleep(&self, clock: &Clock) -> Duration {
-        let requests = self.requests.values().map(StreamRequests::next_deadline);
-        let deadlines = requests.chain([self.session.next_deadline()]).flatten();
-        let sleep = deadlines.map(|at| clock.time_left(at)).min();
+        let sleep = self.session.next_deadline().map(|at| clock.time_left(at));
         // A timeout of 0 is an error.
         sleep
             .unwrap_or(LONGEST_SLEEP)
@@ -346,7 +272,7 @@ fn run(offer: &str, address: &str) -> Result<(), Failure> {
     let mut peer = Peer::new(offer)?;
     while receive_all(&mut peer, &socket, &clock)? {
         peer.poll(clock.now(), &mut out)?;
-        for feedback in peer.feedback(clock.now())? {
+        for feedback in peer.feedback.drain(..) {
             socket.send_to(&feedback, address)?;
         }
     }

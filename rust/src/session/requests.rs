@@ -106,7 +106,7 @@ pub(crate) fn round_trip(feedback: &Option<Feedback>) -> Option<u64> {
 
 /// Returns who sends the requests.
 fn source_for(settings: &FeedbackSettings) -> Result<FeedbackSource, AllocError> {
-    let len = settings.cname.len().min(LONGEST_NAME);
+    let len = LONGEST_NAME.min(settings.cname.len());
     let cname = Vec::try_from_slice(&settings.cname[..len])?;
     Ok(FeedbackSource::new(settings.ssrc, cname, settings.has_report).unwrap())
 }
