@@ -1,23 +1,28 @@
 -- The steps of a receiver, as events of its buffer.
-use Rattle.std.proofs.Common.{◌≡◌, ◌∙◌, refl, sym, ap, subst, ℕ, zero, suc, ◌+◌, ◌-◌, ◌%◌, ◌^◌, ◌<◌, ◌⊎◌, inl, inr, List, [], ◌∷◌, ◌++◌, Bool, true, Option, Some, arith}
+use Rattle.std.proofs.Common.{◌≡◌, ◌∙◌, refl, sym, ap, subst, ℕ, zero, suc, ◌+◌, ◌-◌, ◌%◌, ◌^◌, ◌<◌, ◌⊎◌, inl, inr, List, [], ◌∷◌, ◌++◌, Bool, true, Option, Some, None, map, arith}
 use Rattle.std.specs.Prelude.{slice_get}
 use Rattle.std.proofs.lemmas.Option.{same_Some}
 use Rattle.codec_payload_buffer.proofs.MemberLemmas.{IsIn}
-use Rattle.codec_payload_buffer.specs.Steps.{State}
+use Rattle.codec_payload_buffer.specs.Held.{Held}
+use Rattle.codec_payload_buffer.specs.Steps.{State, arrived, pushed}
+use Rattle.codec_payload_buffer.specs.declared.buffer.frames.CompleteFrame.{CompleteFrame}
 use Rattle.codec_payload_buffer.specs.declared.buffer.unit.RtpMeta.{RtpMeta}
-use Rattle.codec_payload_runs.specs.Arrivals.{AllAreMade, Arrives, Asked, Event, HasArrival, Meets, OnlyArrive}
+use Rattle.codec_payload_runs.specs.Arrivals.{AllAreMade, Arrives, Asked, Event, HasArrival, Meets, OnlyArrive, PopsWaiting, Tells}
+use Rattle.codec_payload_runs.specs.Log.{Stretch, Turn, begun, with_pushes}
 use Rattle.codec_payload_rtp.specs.declared.values.ExtensionIds.{ExtensionIds}
 use Rattle.codec_payload_send.specs.Packets.{Packet, AreNumbered}
 use Rattle.codec_payload_runs.specs.Schedule.{Answer}
 use Rattle.codec_payload_jitter.specs.NotedTimes.{AreTimesOf}
+use Rattle.codec_payload_jitter.specs.Receiving.{Receiving}
 use Rattle.codec_payload_jitter.specs.Numbers.{Numbering, answer_for, numbering_after}
 use Rattle.codec_payload_jitter.specs.declared.numbers.Extended.TheVariants as extended
 use Rattle.codec_payload_sender.specs.declared.sender.Stream.{Stream}
 use Rattle.codec_payload_stream.specs.Kinds.{Kinds}
 use Rattle.codec_payload_stream.specs.Sessions.{Session, ended}
-use Rattle.codec_payload_wire.proofs.ReceivingLemmas.{AllNumbered, IsListening, finishes_as, pops_as, pushes}
+use Rattle.codec_payload_wire.proofs.ReceivingLemmas.{AllNumbered, IsListening, KeepsLimits, finishes_as, keeps_then, pops_as, pushes, wait_same}
 use Rattle.codec_payload_wire.proofs.StepLemmas.{Takes}
 use Rattle.codec_payload_wire.specs.Releases.{AreDatagrams, HasValuesOf, HaveNoPops, ReadsAs, delivered}
+use Rattle.codec_payload_wire.specs.WireLogs.{AnswersTurn, IsLogOf, wait_of}
 use Rattle.codec_payload_wire.specs.declared.run.DatagramStep.{DatagramStep}
 use Rattle.codec_payload_wire.specs.declared.run.DatagramStep.TheVariants as steps
 
@@ -73,51 +78,108 @@ values_asked : (ids : ExtensionIds) (stream : Stream) (packets : List Packet) (e
     → AllHaveValues ids stream packets events → AllHaveValues ids stream packets (Asked wait ∷ events)
 values_asked ids stream packets events wait rest j m is = elim is [ inl here ↦ absurd (cc) | inr later ↦ rest j m later ]
 
+-- what is known of the metadata of a packet, besides its delivery
+abbrev pub IsRead : ExtensionIds → Stream → List Packet → ℕ → Packet → RtpMeta → Type 0
+IsRead ids stream packets k q meta = Tells stream.clock_rate q meta × HasValuesOf ids stream packets k meta
+
+-- a log of these steps, from this stretch on, with these answers and this buffer in the end
+pub record HasLog (known : ℕ → Packet → RtpMeta → Type 0) (packets : List Packet) (r : Receiving) (at_end : Bool) (later : List DatagramStep) (w : Stretch) (answers : List Answer) (t : State) : Type 0 where
+  pub turns : List Turn
+  pub end : Stretch
+  pub is_log : IsLogOf known packets r at_end later w turns end
+  pub answers_are : map (λ (turn : Turn). turn.answer) turns ≡ answers
+  pub left : end.now ≡ t
+
+-- the frames that a pop skips
+turn_at : (wait : Option ℕ) (s t : State) (a : Answer) → PopsWaiting wait s a t → (passed : List CompleteFrame) × AnswersTurn wait s passed a t
+turn_at None s t a pops = ([], (refl, pops.0, pops.1))
+turn_at (Some h) s t a pops = (pops.1.0, (pops.0, pops.1.1))
+
 -- the events of the buffer for these steps
-pub record IsMet (stream : Stream) (packets : List Packet) (all_steps : List DatagramStep) (s : Session) (answers : List Answer) (t : Session) : Type 0 where
+pub record IsMet (r : Receiving) (stream : Stream) (packets : List Packet) (all_steps : List DatagramStep) (s : Session) (answers : List Answer) (t : Session) : Type 0 where
   pub events : List Event
   pub meets : Meets stream.clock_rate packets events s.packets.buffer answers t.packets.buffer
   pub brings : Brings s.packets.ended all_steps events
   pub values : AllHaveValues s.stream.ids stream packets events
+  pub logs : (w : Stretch) → w.now ≡ s.packets.buffer → HasLog (IsRead s.stream.ids stream packets) packets r s.packets.ended all_steps w answers t.packets.buffer
 
 module _ (stream : Stream) (types : (stream.payload_type < 64) ⊎ (95 < stream.payload_type)) (first : ℕ) (packets : List Packet) (datagrams : List (List ℕ))
-    (are : AreDatagrams stream packets datagrams) (numbered : AreNumbered first packets) where
-  pub met : (all_steps : List DatagramStep) (s t : Session) (answers : List Answer) → IsListening stream s
+    (are : AreDatagrams stream packets datagrams) (numbered : AreNumbered first packets) (r : Receiving) where
+  pub met : (all_steps : List DatagramStep) (s t : Session) (answers : List Answer) → IsListening stream s → KeepsLimits r s.packets
       → AllNumbered first s.packets.numbering (delivered all_steps) → AreTimesOf (times_from first packets) s.packets.noted → Takes all_steps datagrams s answers t
-      → IsMet stream packets all_steps s answers t
-  met [] s t answers listening numbers times takes = record { events = []; meets = (takes.0, ap (λ (x : Session). x.packets.buffer) takes.1); brings = refl; values = λ k m is. absurd is }
-  met (steps.Send i ∷ later) s t answers listening numbers times takes =
-      let rest = met later s t answers listening numbers times takes in
-      record { events = rest.events; meets = rest.meets; brings = rest.brings; values = rest.values }
-  met (steps.Deliver k now ∷ later) s t answers listening numbers times takes =
+      → IsMet r stream packets all_steps s answers t
+  met [] s t answers listening keeps numbers times takes = record {
+    events = [];
+    meets = (takes.0, ap (λ (x : Session). x.packets.buffer) takes.1);
+    brings = refl;
+    values = λ k m is. absurd is;
+    logs = λ w is. record { turns = []; end = w; is_log = refl; answers_are = sym takes.0; left = is ∙ sym (ap (λ (x : Session). x.packets.buffer) takes.1) };
+  }
+  met (steps.Send i ∷ later) s t answers listening keeps numbers times takes =
+      let rest = met later s t answers listening keeps numbers times takes in
+      record {
+        events = rest.events;
+        meets = rest.meets;
+        brings = rest.brings;
+        values = rest.values;
+        logs = λ w is. let l = rest.logs w is in record { turns = l.turns; end = l.end; is_log = l.is_log; answers_are = l.answers_are; left = l.left };
+      }
+  met (steps.Deliver k now ∷ later) s t answers listening keeps numbers times takes =
       let mid : Session = takes.3 in
       let p = packet_at_index stream first packets datagrams k takes.0 are numbered takes.1 in
       let q : Packet = p.0 in
+      let p_at : slice_get packets k ≡ Some q = p.1 in
       let number : answer_for s.packets.numbering (q.number % 2 ^ 16) ≡ extended.Number q.number =
       subst (λ (n : ℕ). answer_for s.packets.numbering (n % 2 ^ 16) ≡ extended.Number n) (sym p.3) numbers.0 in
       let place : k ≡ q.number - first = omega (arith, p.3) in
       let time : q.rtp_time ≡ times_from first packets q.number = time_at packets k q p.1 ∙ ap (time_in packets) place in
       let one = pushes (times_from first packets) stream now q takes.0 s mid takes.2 types listening p.2 number times time takes.4 in
       let numbering : mid.packets.numbering ≡ numbering_after s.packets.numbering ((first + k) % 2 ^ 16) = one.numbering ∙ ap (λ (n : ℕ). numbering_after s.packets.numbering (n % 2 ^ 16)) p.3 in
-      let rest = met later mid t answers one.listening (subst (λ (n : Numbering). AllNumbered first n (delivered later)) (sym numbering) numbers.1) one.times takes.5 in
+      let rest = met later mid t answers one.listening (keeps_then r s.packets mid.packets keeps one.limits) (subst (λ (n : Numbering). AllNumbered first n (delivered later)) (sym numbering) numbers.1) one.times takes.5 in
       record {
         events = Arrives k one.meta ∷ rest.events;
         meets = (q, p.1, one.tells, subst (λ (b : State). Meets stream.clock_rate packets rest.events b answers t.packets.buffer) one.buffer rest.meets);
         brings = (one.meta, rest.events, refl, one.received, subst (λ (b : Bool). Brings b later rest.events) one.ended rest.brings);
         values = values_with s.stream.ids stream packets rest.events k one.meta (q, p.1, one.values)
             (subst (λ (x : Kinds). AllHaveValues x.ids stream packets rest.events) one.kinds rest.values);
+        logs = λ w is.
+            let p : Held = arrived w.now.depacketizer one.meta q.payload in
+            let next : pushed w.now p ≡ mid.packets.buffer = ap (λ (b : State). pushed b (arrived b.depacketizer one.meta q.payload)) is ∙ sym one.buffer in
+            let l = subst (λ (x : Kinds). HasLog (IsRead x.ids stream packets) packets r s.packets.ended later (with_pushes w (p ∷ [])) answers t.packets.buffer) one.kinds
+            (subst (λ (b : Bool). HasLog (IsRead mid.stream.ids stream packets) packets r b later (with_pushes w (p ∷ [])) answers t.packets.buffer) one.ended (rest.logs (with_pushes w (p ∷ [])) next)) in
+            record {
+              turns = l.turns;
+              end = l.end;
+              is_log = (q, one.meta, p_at, (one.tells, (q, p_at, one.values)), one.received, l.is_log);
+              answers_are = l.answers_are;
+              left = l.left;
+            };
       }
-  met (steps.Pop now ∷ later) s t answers listening numbers times takes =
+  met (steps.Pop now ∷ later) s t answers listening keeps numbers times takes =
       let mid : Session = takes.2 in
       let one = pops_as stream now takes.0 s mid listening takes.4 takes.5 in
-      let rest = met later mid t takes.1 one.listening (subst (λ (n : Numbering). AllNumbered first n (delivered later)) (sym one.numbering) numbers) (subst (AreTimesOf (times_from first packets)) (sym one.noted) times) takes.6 in
+      let rest = met later mid t takes.1 one.listening (keeps_then r s.packets mid.packets keeps one.limits) (subst (λ (n : Numbering). AllNumbered first n (delivered later)) (sym one.numbering) numbers) (subst (AreTimesOf (times_from first packets)) (sym one.noted) times) takes.6 in
       record {
         events = Asked one.wait ∷ rest.events;
         meets = (takes.0, takes.1, mid.packets.buffer, takes.3, one.pops, rest.meets);
         brings = (one.wait, rest.events, refl, one.at_end, subst (λ (b : Bool). Brings b later rest.events) one.ended rest.brings);
         values = values_asked s.stream.ids stream packets rest.events one.wait (subst (λ (x : Kinds). AllHaveValues x.ids stream packets rest.events) one.kinds rest.values);
+        logs = λ w is.
+            let wait : one.wait ≡ wait_of r s.packets.ended w.now now.0 =
+            one.wait_is ∙ (wait_same r s.packets now.0 keeps ∙ ap (λ (b : State). wait_of r s.packets.ended b now.0) (sym is)) in
+            let turn = turn_at (wait_of r s.packets.ended w.now now.0) w.now mid.packets.buffer takes.0
+            (subst (λ (o : Option ℕ). PopsWaiting o w.now takes.0 mid.packets.buffer) wait (subst (λ (b : State). PopsWaiting one.wait b takes.0 mid.packets.buffer) (sym is) one.pops)) in
+            let l = subst (λ (x : Kinds). HasLog (IsRead x.ids stream packets) packets r s.packets.ended later (begun mid.packets.buffer) takes.1 t.packets.buffer) one.kinds
+            (subst (λ (b : Bool). HasLog (IsRead mid.stream.ids stream packets) packets r b later (begun mid.packets.buffer) takes.1 t.packets.buffer) one.ended (rest.logs (begun mid.packets.buffer) refl)) in
+            record {
+              turns = record { stretch = w; passed = turn.0; answer = takes.0; after = mid.packets.buffer } ∷ l.turns;
+              end = l.end;
+              is_log = (refl, turn.1, l.is_log);
+              answers_are = ap (λ (as' : List Answer). takes.0 ∷ as') l.answers_are ∙ sym takes.3;
+              left = l.left;
+            };
       }
-  met (steps.Finish ∷ later) s t answers listening numbers times takes =
+  met (steps.Finish ∷ later) s t answers listening keeps numbers times takes =
       let at_end : takes.0 ≡ ended s = finishes_as stream s takes.0 listening takes.1 in
       let rest = met later (ended s) t answers (record {
         payload_type = listening.payload_type;
@@ -130,8 +192,14 @@ module _ (stream : Stream) (types : (stream.payload_type < 64) ⊎ (95 < stream.
         of_codec = listening.of_codec;
         no_block_seen = listening.no_block_seen;
         drops_none = listening.drops_none;
-      }) numbers times (subst (λ (x : Session). Takes later datagrams x answers t) at_end takes.2) in
-      record { events = rest.events; meets = rest.meets; brings = rest.brings; values = rest.values }
+      }) (record { wait_limits = keeps.wait_limits; room = keeps.room }) numbers times (subst (λ (x : Session). Takes later datagrams x answers t) at_end takes.2) in
+      record {
+        events = rest.events;
+        meets = rest.meets;
+        brings = rest.brings;
+        values = rest.values;
+        logs = λ w is. let l = rest.logs w is in record { turns = l.turns; end = l.end; is_log = l.is_log; answers_are = l.answers_are; left = l.left };
+      }
 
 -- If all datagrams are delivered first
 

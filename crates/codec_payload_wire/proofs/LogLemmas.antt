@@ -1,5 +1,5 @@
 -- The pops of a run over datagrams, one after another: each waits for a number of complete frames, or is not made.
-use Rattle.std.proofs.Common.{◌≡◌, ◌∙◌, refl, sym, ap, subst, ℕ, List, [], ◌∷◌, ◌++◌, Bool, true, Option, Some, None, ◌⊎◌, inl, inr, map}
+use Rattle.std.proofs.Common.{◌≡◌, ◌∙◌, refl, sym, ap, subst, ℕ, List, [], ◌∷◌, ◌++◌, Bool, true, Option, Some, None, ◌⊎◌, inl, inr}
 use Rattle.std.specs.Prelude.{slice_get}
 use Rattle.codec_payload_buffer.proofs.MemberLemmas.{IsIn}
 use Rattle.codec_payload_buffer.specs.Held.{Held}
@@ -8,7 +8,8 @@ use Rattle.codec_payload_buffer.specs.Stretches.{after_pushes}
 use Rattle.codec_payload_buffer.specs.declared.buffer.frames.CompleteFrame.{CompleteFrame}
 use Rattle.codec_payload_buffer.specs.declared.buffer.unit.RtpMeta.{RtpMeta}
 use Rattle.codec_payload_codec.specs.Depacketizers.{DepacketizerKind}
-use Rattle.codec_payload_runs.proofs.order.ArrivalLemmas.{AllKnown}
+use Rattle.codec_payload_jitter.specs.Receiving.{Receiving}
+use Rattle.codec_payload_base.specs.declared.wire.Ticks.{Ticks}
 use Rattle.codec_payload_runs.proofs.order.ContiguousLemmas as contiguous
 use Rattle.codec_payload_runs.proofs.order.ContiguousLemmas.{IsTracked, tracked_span}
 use Rattle.codec_payload_runs.proofs.order.HoldBackLemmas.{ready_with}
@@ -17,69 +18,42 @@ use Rattle.codec_payload_runs.proofs.order.LossLemmas.{Whole, at_span, later_too
 use Rattle.codec_payload_runs.proofs.order.TakenLemmas.{IsPlain, none_is_passed}
 use Rattle.codec_payload_runs.proofs.order.TurnLemmas.{ArePushes, IsPop, IsPush, IsReady, IsSpan, Setting, are_stretches, count, left_ready, pop_is, ready_pops, span_ready}
 use Rattle.codec_payload_runs.proofs.units.UnitRows.{held_as}
-use Rattle.codec_payload_runs.specs.Arrivals.{Arrives, Event, Meets, PopsWaiting}
 use Rattle.codec_payload_runs.specs.Log.{Stretch, Turn, begun, with_pushes}
 use Rattle.codec_payload_runs.specs.RunOrder.{AllFollowAsSaid, AreStretches, FollowsAsSaid, has_evicted, last_released}
 use Rattle.codec_payload_runs.specs.RunUnits.{Fate, IsAmong, NoneIsLost, NonePassedOver, ReleasesWhole, evicted, held, released, skipped_over}
 use Rattle.codec_payload_runs.specs.Schedule.{Answer}
 use Rattle.codec_payload_runs.specs.SentStream.{SentUnit, packets_of}
 use Rattle.codec_payload_send.specs.Packets.{Packet}
-use Rattle.codec_payload_wire.proofs.EventLemmas.{Brings}
-use Rattle.codec_payload_wire.specs.WireLogs.{AnswersTurn, IsLogOf}
+use Rattle.codec_payload_wire.specs.WireLogs.{AnswersTurn, IsLogOf, wait_of}
 use Rattle.codec_payload_wire.specs.declared.run.DatagramStep.{DatagramStep}
 use Rattle.codec_payload_wire.specs.declared.run.DatagramStep.TheVariants as steps
 
--- The log of a run
-
--- a log of these steps, from this stretch on, with these answers and this buffer in the end
-pub record HasLog (known : ℕ → Packet → RtpMeta → Type 0) (packets : List Packet) (later : List DatagramStep) (w : Stretch) (answers : List Answer) (t : State) : Type 0 where
-  pub turns : List Turn
-  pub end : Stretch
-  pub is_log : IsLogOf known packets later w turns end
-  pub answers_are : map (λ (turn : Turn). turn.answer) turns ≡ answers
-  pub left : end.now ≡ t
-
--- the frames that a pop skips
-turn_at : (wait : Option ℕ) (s t : State) (a : Answer) → PopsWaiting wait s a t → (passed : List CompleteFrame) × AnswersTurn wait s passed a t
-turn_at None s t a pops = ([], (refl, pops.0, pops.1))
-turn_at (Some h) s t a pops = (pops.1.0, (pops.0, pops.1.1))
+-- what is known of each packet may be stated in other words, if it is known of each delivery
+pub log_known : (all_steps : List DatagramStep) (known told : ℕ → Packet → RtpMeta → Type 0) (packets : List Packet) (r : Receiving)
+    → ((k : ℕ) (q : Packet) (meta : RtpMeta) → IsIn (steps.Deliver k meta.received) all_steps → known k q meta → told k q meta)
+    → (at_end : Bool) (later : List DatagramStep) → ((step : DatagramStep) → IsIn step later → IsIn step all_steps) → (w : Stretch) (turns : List Turn) (end : Stretch)
+    → IsLogOf known packets r at_end later w turns end → IsLogOf told packets r at_end later w turns end
+log_known all_steps known told packets r so at_end [] among w [] end log = log
+log_known all_steps known told packets r so at_end [] among w (turn ∷ turns) end log = absurd log
+log_known all_steps known told packets r so at_end (steps.Send i ∷ later) among w turns end log =
+    log_known all_steps known told packets r so at_end later (λ step is. among step (inr is)) w turns end log
+log_known all_steps known told packets r so at_end (steps.Deliver k now ∷ later) among w turns end log =
+    let here : IsIn (steps.Deliver k log.1.received) all_steps =
+    subst (λ (at : Ticks). IsIn (steps.Deliver k at) all_steps) (sym log.4) (among (steps.Deliver k now) (inl refl)) in (
+      log.0,
+      log.1,
+      log.2,
+      so k log.0 log.1 here log.3,
+      log.4,
+      log_known all_steps known told packets r so at_end later (λ step is. among step (inr is)) (with_pushes w (arrived w.now.depacketizer log.1 log.0.payload ∷ [])) turns end log.5,
+    )
+log_known all_steps known told packets r so at_end (steps.Pop now ∷ later) among w [] end log = absurd log
+log_known all_steps known told packets r so at_end (steps.Pop now ∷ later) among w (turn ∷ turns) end log =
+    (log.0, log.1, log_known all_steps known told packets r so at_end later (λ step is. among step (inr is)) (begun turn.after) turns end log.2)
+log_known all_steps known told packets r so at_end (steps.Finish ∷ later) among w turns end log =
+    log_known all_steps known told packets r so true later (λ step is. among step (inr is)) w turns end log
 
 module _ (c : Setting) where
-  pub log_of : (at_end : Bool) (later : List DatagramStep) (events : List Event) (w : Stretch) (t : State) (answers : List Answer) → Brings at_end later events → AllKnown c events
-      → Meets c.clock_rate (packets_of c.units) events w.now answers t → HasLog c.known (packets_of c.units) later w answers t
-  log_of at_end [] events w t answers brings known meets =
-      let met = subst (λ (es : List Event). Meets c.clock_rate (packets_of c.units) es w.now answers t) brings meets in
-      record { turns = []; end = w; is_log = refl; answers_are = sym met.0; left = sym met.1 }
-  log_of at_end (steps.Send i ∷ later) events w t answers brings known meets =
-      let rest = log_of at_end later events w t answers brings known meets in
-      record { turns = rest.turns; end = rest.end; is_log = rest.is_log; answers_are = rest.answers_are; left = rest.left }
-  log_of at_end (steps.Deliver k now ∷ later) events w t answers brings known meets =
-      let met = subst (λ (es : List Event). Meets c.clock_rate (packets_of c.units) es w.now answers t) brings.2 meets in
-      let among : (j : ℕ) (m : RtpMeta) → IsIn (Arrives j m) (Arrives k brings.0 ∷ brings.1) → IsIn (Arrives j m) events = λ j m is. subst (IsIn (Arrives j m)) (sym brings.2) is in
-      let p : Held = arrived w.now.depacketizer brings.0 met.0.payload in
-      let rest = log_of at_end later brings.1 (with_pushes w (p ∷ [])) t answers brings.4 (λ j m is. known j m (among j m (inr is))) met.3 in
-      record {
-        turns = rest.turns;
-        end = rest.end;
-        is_log = (met.0, brings.0, met.1, known k brings.0 (among k brings.0 (inl refl)) met.0 met.2, brings.3, rest.is_log);
-        answers_are = rest.answers_are;
-        left = rest.left;
-      }
-  log_of at_end (steps.Pop now ∷ later) events w t answers brings known meets =
-      let met = subst (λ (es : List Event). Meets c.clock_rate (packets_of c.units) es w.now answers t) brings.2 meets in
-      let turn = turn_at brings.0 w.now met.2 met.0 met.4 in
-      let rest = log_of at_end later brings.1 (begun met.2) t met.1 brings.4 (λ j m is. known j m (subst (IsIn (Arrives j m)) (sym brings.2) (inr is))) met.5 in
-      record {
-        turns = record { stretch = w; passed = turn.0; answer = met.0; after = met.2 } ∷ rest.turns;
-        end = rest.end;
-        is_log = (refl, brings.0, turn.1, rest.is_log);
-        answers_are = ap (λ (as' : List Answer). met.0 ∷ as') rest.answers_are ∙ sym met.3;
-        left = rest.left;
-      }
-  log_of at_end (steps.Finish ∷ later) events w t answers brings known meets =
-      let rest = log_of true later events w t answers brings known meets in
-      record { turns = rest.turns; end = rest.end; is_log = rest.is_log; answers_are = rest.answers_are; left = rest.left }
-
   -- Turns
 
   -- a pop that is made with some `hold_back`, or is not made
@@ -108,28 +82,28 @@ module _ (c : Setting) where
   pushes_more (p ∷ ps) qs a b = (a.0, pushes_more ps qs a.1 b)
 
   -- the log of a run is a chain
-  pub chained : (later : List DatagramStep) (from : ℕ) (w : Stretch) (turns : List Turn) (end : Stretch) → IsReady c from w.left → IsSpan c w
-      → IsLogOf c.known (packets_of c.units) later w turns end → Chained w.left turns end
-  chained [] from w [] end ready is log = (ap (λ (x : Stretch). x.left) log, subst (IsSpan c) (sym log) is)
-  chained [] from w (turn ∷ turns) end ready is log = absurd log
-  chained (steps.Send i ∷ later) from w turns end ready is log = chained later from w turns end ready is log
-  chained (steps.Deliver k now ∷ later) from w turns end ready is log =
+  pub chained : (r : Receiving) (at_end : Bool) (later : List DatagramStep) (from : ℕ) (w : Stretch) (turns : List Turn) (end : Stretch) → IsReady c from w.left → IsSpan c w
+      → IsLogOf c.known (packets_of c.units) r at_end later w turns end → Chained w.left turns end
+  chained r at_end [] from w [] end ready is log = (ap (λ (x : Stretch). x.left) log, subst (IsSpan c) (sym log) is)
+  chained r at_end [] from w (turn ∷ turns) end ready is log = absurd log
+  chained r at_end (steps.Send i ∷ later) from w turns end ready is log = chained r at_end later from w turns end ready is log
+  chained r at_end (steps.Deliver k now ∷ later) from w turns end ready is log =
       let reads = (span_ready c from w ready is).beyond.reads in
       let p : Held = arrived w.now.depacketizer log.1 log.0.payload in
       let push : IsPush c p = (k, log.0, log.2, log.3, ap (λ (x : DepacketizerKind). held_as x log.1 log.0.payload) reads) in
-      chained later from (with_pushes w (p ∷ [])) turns end ready
+      chained r at_end later from (with_pushes w (p ∷ [])) turns end ready
       (record { sent = pushes_more w.pushes (p ∷ []) is.sent (push, tt); now = ap (λ (s : State). pushed s p) is.now ∙ sym (after_one w.left w.pushes p) }) log.5
-  chained (steps.Pop now ∷ later) from w [] end ready is log = absurd log
-  chained (steps.Pop now ∷ later) from w (turn ∷ turns) end ready is log =
+  chained r at_end (steps.Pop now ∷ later) from w [] end ready is log = absurd log
+  chained r at_end (steps.Pop now ∷ later) from w (turn ∷ turns) end ready is log =
       let at = span_ready c from w ready is in
-      let made = turn_of from log.1 w.now turn.after turn.passed turn.answer at log.2 in
+      let made = turn_of from (wait_of r at_end w.now now.0) w.now turn.after turn.passed turn.answer at log.1 in
       let next = turn_ready from w.now turn.after turn.passed turn.answer at made in (
         ap (λ (x : Stretch). x.left) log.0,
         subst (IsSpan c) (sym log.0) is,
         subst (λ (x : Stretch). IsTurn x.now turn.after turn.passed turn.answer) (sym log.0) made,
-        chained later next.0 (begun turn.after) turns end next.1 (record { sent = tt; now = refl }) log.3,
+        chained r at_end later next.0 (begun turn.after) turns end next.1 (record { sent = tt; now = refl }) log.2,
       )
-  chained (steps.Finish ∷ later) from w turns end ready is log = chained later from w turns end ready is log
+  chained r at_end (steps.Finish ∷ later) from w turns end ready is log = chained r true later from w turns end ready is log
 
   -- Order
 

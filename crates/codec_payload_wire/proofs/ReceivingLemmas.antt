@@ -34,6 +34,8 @@ use Rattle.codec_payload_stream.specs.RedOnce.{HasNoBlock}
 use Rattle.codec_payload_stream.proofs.BlockTimeLemmas.{and_false, packet_has_no_block}
 use Rattle.codec_payload_wire.proofs.ReadingLemmas.{datagram_is, packet_at}
 use Rattle.codec_payload_wire.specs.Releases.{ReadsAs, is_sent_again_by, values_read}
+use Rattle.codec_payload_jitter.specs.declared.waiting.WaitLimits.{WaitLimits}
+use Rattle.codec_payload_wire.specs.WireLogs.{wait_of}
 use Rattle.codec_payload_wire.specs.WireRuns.{Delivers, PopsUnit, Receipt}
 
 -- each datagram with one of these indices gets the number of the first sent datagram, plus its index
@@ -95,6 +97,20 @@ finishes_as stream s t listening finishes =
     let stays : SettlesOn None finishes.0 s finishes.1 = subst (λ (o : Option Candidate). SettlesOn o finishes.0 s finishes.1) none finishes.2 in
     finishes.3 ∙ ap ended stays.1
 
+-- the limits of the receiver stay
+pub record KeepsLimits (r t : Receiving) : Type 0 where
+  pub wait_limits : t.wait_limits ≡ r.wait_limits
+  pub room : t.room ≡ r.room
+
+pub keeps_then : (r s t : Receiving) → KeepsLimits r s → KeepsLimits s t → KeepsLimits r t
+keeps_then r s t one two = record { wait_limits = two.wait_limits ∙ one.wait_limits; room = two.room ∙ one.room }
+
+-- so how long pops wait follows from the buffer, the moment, and whether the stream has ended
+pub wait_same : (r s : Receiving) (now : ℕ) → KeepsLimits r s → waiting_at s now ≡ wait_of r s.ended s.buffer now
+wait_same r s now keeps =
+    ap (λ (l : WaitLimits). waiting_at (record r { buffer = s.buffer; ended = s.ended; wait_limits = l; room = s.room }) now) keeps.wait_limits
+    ∙ ap (λ (n : ℕ). waiting_at (record r { buffer = s.buffer; ended = s.ended; room = n }) now) keeps.room
+
 -- a push of the packet with this number, which has the RTP time of its number
 pub record TakesIn (time_of : ℕ → ℕ) (n : ℕ) (a : Arrival) (r t : Receiving) : Type 0 where
   pub times : AreTimesOf time_of t.noted
@@ -103,6 +119,7 @@ pub record TakesIn (time_of : ℕ → ℕ) (n : ℕ) (a : Arrival) (r t : Receiv
   pub rate : t.rate ≡ r.rate
   pub running : t.is_restarting ≡ false
   pub no_media_numbers : t.no_media_numbers ≡ r.no_media_numbers
+  pub limits : KeepsLimits r t
   pub ended : t.ended ≡ r.ended
 
 takes_in : (time_of : ℕ → ℕ) (n : ℕ) (a : Arrival) (r t : Receiving) (outcome : Outcome) → r.is_restarting ≡ false → is_built_in_depacketizer r.buffer.depacketizer ≡ true
@@ -126,6 +143,10 @@ takes_in time_of n a r t outcome running of_codec numbered times time receives =
       rate = ap (λ (x : Receiving). x.rate) receives.2 ∙ (ap (λ (x : Receiving). x.rate) trusted ∙ ap (λ (x : Receiving). x.rate) accepted);
       running = ap (λ (x : Receiving). x.is_restarting) receives.2;
       no_media_numbers = ap (λ (x : Receiving). x.no_media_numbers) receives.2 ∙ (ap (λ (x : Receiving). x.no_media_numbers) trusted ∙ ap (λ (x : Receiving). x.no_media_numbers) accepted);
+      limits = record {
+        wait_limits = ap (λ (x : Receiving). x.wait_limits) receives.2 ∙ (ap (λ (x : Receiving). x.wait_limits) trusted ∙ ap (λ (x : Receiving). x.wait_limits) accepted);
+        room = ap (λ (x : Receiving). x.room) receives.2 ∙ (ap (λ (x : Receiving). x.room) trusted ∙ ap (λ (x : Receiving). x.room) accepted);
+      };
       ended = ap (λ (x : Receiving). x.ended) receives.2 ∙ (ap (λ (x : Receiving). x.ended) trusted ∙ ap (λ (x : Receiving). x.ended) accepted);
     }
 
@@ -140,6 +161,7 @@ pub record IsPushed (time_of : ℕ → ℕ) (stream : Stream) (now : Ticks) (q :
   pub numbering : t.packets.numbering ≡ numbering_after s.packets.numbering (q.number % 2 ^ 16)
   pub listening : IsListening stream t
   pub kinds : t.stream ≡ s.stream
+  pub limits : KeepsLimits s.packets t.packets
   pub ended : t.packets.ended ≡ s.packets.ended
 
 pub pushes : (time_of : ℕ → ℕ) (stream : Stream) (now : Ticks) (q : Packet) (bytes : List ℕ) (s t : Session) (receipt : Receipt) → (stream.payload_type < 64)
@@ -187,6 +209,7 @@ pushes time_of stream now q bytes s t receipt types listening reads numbered tim
         drops_none = ap (λ (x : Session). x.gates.drops) hears.left ∙ listening.drops_none;
       };
       kinds = ap (λ (x : Session). x.stream) hears.left;
+      limits = record { wait_limits = ap (λ (x : Receiving). x.wait_limits) packets ∙ one.limits.wait_limits; room = ap (λ (x : Receiving). x.room) packets ∙ one.limits.room };
       ended = ap (λ (x : Receiving). x.ended) packets ∙ one.ended;
     }
 
@@ -212,6 +235,8 @@ pub record IsPopped (stream : Stream) (now : Ticks) (answer : Answer) (s t : Ses
   pub numbering : t.packets.numbering ≡ s.packets.numbering
   pub listening : IsListening stream t
   pub kinds : t.stream ≡ s.stream
+  pub limits : KeepsLimits s.packets t.packets
+  pub wait_is : wait ≡ waiting_at s.packets now.0
   pub ended : t.packets.ended ≡ s.packets.ended
 
 -- which parts of the jitter buffer a pop leaves unchanged, and what it does to the buffer
@@ -223,6 +248,7 @@ pub record IsTurn (wait : Option ℕ) (r : Receiving) (answer : Answer) (t : Rec
   pub noted : t.noted ≡ r.noted
   pub numbering : t.numbering ≡ r.numbering
   pub is_restarting : t.is_restarting ≡ r.is_restarting
+  pub limits : KeepsLimits r t
   pub ended : t.ended ≡ r.ended
 
 turn_of : (wait : Option ℕ) (r : Receiving) (answer : Answer) (t : Receiving) → is_built_in_depacketizer r.buffer.depacketizer ≡ true → answer ≢ Some (Err faults.OutOfMemory)
@@ -235,6 +261,7 @@ turn_of None r answer t of_codec not_memory pops = record {
   noted = ap (λ (x : Receiving). x.noted) pops.1;
   numbering = ap (λ (x : Receiving). x.numbering) pops.1;
   is_restarting = ap (λ (x : Receiving). x.is_restarting) pops.1;
+  limits = record { wait_limits = ap (λ (x : Receiving). x.wait_limits) pops.1; room = ap (λ (x : Receiving). x.room) pops.1 };
   ended = ap (λ (x : Receiving). x.ended) pops.1;
 }
 turn_of (Some h) r answer t of_codec not_memory pops = record {
@@ -245,6 +272,7 @@ turn_of (Some h) r answer t of_codec not_memory pops = record {
   noted = ap (λ (x : Receiving). x.noted) pops.2;
   numbering = ap (λ (x : Receiving). x.numbering) pops.2;
   is_restarting = ap (λ (x : Receiving). x.is_restarting) pops.2;
+  limits = record { wait_limits = ap (λ (x : Receiving). x.wait_limits) pops.2; room = ap (λ (x : Receiving). x.room) pops.2 };
   ended = ap (λ (x : Receiving). x.ended) pops.2;
 }
 
@@ -282,5 +310,7 @@ pops_as stream now answer s t listening not_memory gated =
         drops_none = ap (λ (x : Session). x.gates.drops) popped.2 ∙ (drops_stay s.gates _ answer ∙ listening.drops_none);
       };
       kinds = ap (λ (x : Session). x.stream) popped.2;
+      limits = record { wait_limits = ap (λ (x : Receiving). x.wait_limits) packets ∙ turn.limits.wait_limits; room = ap (λ (x : Receiving). x.room) packets ∙ turn.limits.room };
+      wait_is = refl;
       ended = ap (λ (x : Receiving). x.ended) packets ∙ turn.ended;
     }

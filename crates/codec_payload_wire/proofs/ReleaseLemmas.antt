@@ -37,9 +37,9 @@ use Rattle.codec_payload_stream.specs.Sessions.{Session}
 use Rattle.codec_payload_stream.specs.RedOnce.{HasNoBlock}
 use Rattle.codec_payload_stream.proofs.BlockTimeLemmas.{new_has_no_block}
 use Rattle.codec_payload_wire.proofs.DeliveredLemmas.{AllIn, delivered_before}
-use Rattle.codec_payload_wire.proofs.EventLemmas.{Brings, IsMet, delivery_of, met, split_at_end, times_from}
+use Rattle.codec_payload_wire.proofs.EventLemmas.{Brings, HasLog, IsMet, IsRead, delivery_of, met, split_at_end, times_from}
 use Rattle.codec_payload_wire.proofs.GapLemmas.{only_past_gap}
-use Rattle.codec_payload_wire.proofs.LogLemmas.{Chained, HasLog, all_follow, chained, log_of, none_is_lost, none_passed, stretches}
+use Rattle.codec_payload_wire.proofs.LogLemmas.{Chained, all_follow, chained, log_known, none_is_lost, none_passed, stretches}
 use Rattle.codec_payload_wire.proofs.NewReceivers.{IsBegun, new_is_begun}
 use Rattle.codec_payload_wire.proofs.ReceivingLemmas.{AllNumbered, IsListening}
 use Rattle.codec_payload_wire.proofs.SendingLemmas.{SendsRun, running, same_count, sends_run}
@@ -47,7 +47,7 @@ use Rattle.codec_payload_wire.proofs.StepLemmas.{ComesTo, Takes, comes_to}
 use Rattle.codec_payload_wire.proofs.ValueLemmas.{has_values}
 use Rattle.codec_payload_wire.specs.Releases.{is_sent_again_by, AllComeFirst, AreDatagrams, ComeWithin, HasValuesOf, StayWithin, IsDelivery}
 use Rattle.codec_payload_wire.specs.Releases.{IsWithinWindows, ReleaseOverDatagrams, ReleasesUnits, delivered, received_steps, sending_steps}
-use Rattle.codec_payload_wire.specs.WireLogs.{KeepsPromises, PromisesOverDatagrams, WireLog}
+use Rattle.codec_payload_wire.specs.WireLogs.{IsLogOf, KeepsPromises, PromisesOverDatagrams, WireLog}
 use Rattle.codec_payload_wire.specs.WireRuns.{Runs, Wire, begins}
 use Rattle.codec_payload_wire.specs.declared.run.DatagramStep.{DatagramStep}
 use Rattle.codec_payload_wire.specs.declared.run.DatagramStep.TheVariants as steps
@@ -199,8 +199,8 @@ module _ (samples : List Sample) (all_steps : List DatagramStep) (sender : Sendi
   nothing_noted : AreTimesOf (times_from first sent.all) receiver.packets.noted
   nothing_noted = subst (λ (x : Session). AreTimesOf (times_from first sent.all) x.packets.noted) (sym begun.is) (λ k d below. absurd (omega (arith, below)))
 
-  come : IsMet sender.stream sent.all received receiver t.pops t.session
-  come = met sender.stream within.one_stream.not_rtcp first sent.all t.datagrams sent.at.reads sent.at.numbered received receiver t.session t.pops listening numbers nothing_noted takes
+  come : IsMet receiver.packets sender.stream sent.all received receiver t.pops t.session
+  come = met sender.stream within.one_stream.not_rtcp first sent.all t.datagrams sent.at.reads sent.at.numbered receiver.packets received receiver t.session t.pops listening (record { wait_limits = refl; room = refl }) numbers nothing_noted takes
 
   abbrev start : RunState
   start = running receiver.packets.buffer first rate sender []
@@ -311,18 +311,25 @@ module _ (samples : List Sample) (all_steps : List DatagramStep) (sender : Sendi
   abbrev readies : IsReady here 0 receiver.packets.buffer
   readies = ready samples sends start after units_sent unused within.readable Known faithful units lawful (sym whole.whole)
 
-  log : HasLog Known (packets_of units) received (runs.begun receiver.packets.buffer) t.pops t.session.packets.buffer
-  log = log_of here receiver.packets.ended received come.events (runs.begun receiver.packets.buffer) t.session.packets.buffer t.pops come.brings known meets
+  log : HasLog (IsRead receiver.stream.ids sender.stream sent.all) sent.all receiver.packets receiver.packets.ended received (runs.begun receiver.packets.buffer) t.pops t.session.packets.buffer
+  log = come.logs (runs.begun receiver.packets.buffer) refl
+
+  is_log : IsLogOf Known (packets_of units) receiver.packets receiver.packets.ended received (runs.begun receiver.packets.buffer) log.turns log.end
+  is_log =
+      log_known received (IsRead receiver.stream.ids sender.stream (packets_of units)) Known (packets_of units) receiver.packets
+      (λ k q m is read. (contains_in (steps.Deliver k m.received) received is, read.0, read.1)) receiver.packets.ended received (λ step is. is)
+      (runs.begun receiver.packets.buffer) log.turns log.end
+      (subst (λ (ps : List Packet). IsLogOf (IsRead receiver.stream.ids sender.stream ps) ps receiver.packets receiver.packets.ended received (runs.begun receiver.packets.buffer) log.turns log.end) whole.whole log.is_log)
 
   chain : (l : WireLog samples all_steps (begins sender receiver) t units) → Chained here receiver.packets.buffer l.turns l.end
-  chain l = chained here received 0 (runs.begun receiver.packets.buffer) l.turns l.end readies (record { sent = tt; now = refl }) l.is_log
+  chain l = chained here receiver.packets receiver.packets.ended received 0 (runs.begun receiver.packets.buffer) l.turns l.end readies (record { sent = tt; now = refl }) l.is_log
 
   pub keeps_promises : KeepsPromises samples all_steps (begins sender receiver) t
   keeps_promises = record {
     released = releases_units;
     first = first;
     numbered = whole.numbered;
-    logged = record { turns = log.turns; end = log.end; is_log = log.is_log; answers = log.answers_are; left = log.left };
+    logged = record { turns = log.turns; end = log.end; is_log = is_log; answers = log.answers_are; left = log.left };
     order = λ l. stretches here 0 receiver.packets.buffer l.turns l.end readies (chain l);
     contiguous = λ plain l. all_follow here 0 None false receiver.packets.buffer l.turns l.end plain readies
         (tracked samples sends start after units_sent unused within.readable Known faithful units lawful (sym whole.whole)) (chain l);

@@ -1,10 +1,11 @@
 -- A run over datagrams, pop by pop: the buffer of the receiver before each pop, and the units that it held.
-use Rattle.std.specs.Prelude.{◌≡◌, ◌≢◌, ◌⊎◌, ℕ, false, List, [], ◌∷◌, Option, Some, None, Err, length, map, slice_get}
+use Rattle.std.specs.Prelude.{◌≡◌, ◌≢◌, ◌⊎◌, ℕ, Bool, true, false, List, [], ◌∷◌, Option, Some, None, Err, length, map, slice_get}
 use Rattle.codec_payload_base.specs.declared.error.PacketError.TheVariants as faults
 use Rattle.codec_payload_buffer.specs.Steps.{PopsOver, State, arrived}
 use Rattle.codec_payload_buffer.specs.declared.buffer.frames.CompleteFrame.{CompleteFrame}
 use Rattle.codec_payload_buffer.specs.declared.buffer.unit.RtpMeta.{RtpMeta}
 use Rattle.codec_payload_codec.specs.Packetizers.{may_split}
+use Rattle.codec_payload_jitter.specs.Receiving.{Receiving, waiting_at}
 use Rattle.codec_payload_runs.specs.Log.{Stretch, Turn, begun, with_pushes}
 use Rattle.codec_payload_runs.specs.ReportedIds.{next_id}
 use Rattle.codec_payload_runs.specs.RunOrder.{AllFollowAsSaid, AreStretches}
@@ -26,25 +27,31 @@ abbrev pub AnswersTurn : Option ℕ → State → List CompleteFrame → Answer 
 AnswersTurn None s passed answer t = (passed ≡ []) × (answer ≡ None) × (t ≡ s)
 AnswersTurn (Some hold_back) s passed answer t = (answer ≢ Some (Err faults.OutOfMemory)) × PopsOver (record s { hold_back = hold_back }) passed answer t
 
--- the steps of a receiver, with the stretch so far: each delivery pushes the packet of its datagram, each pop ends a turn, and the
--- steps after the last pop are the stretch at the end. `known` is what is known of the metadata of a packet
-abbrev pub IsLogOf : (ℕ → Packet → RtpMeta → Type 0) → List Packet → List DatagramStep → Stretch → List Turn → Stretch → Type 0
-IsLogOf known packets [] w [] end = end ≡ w
-IsLogOf known packets [] w (turn ∷ turns) end = ⊥
-IsLogOf known packets (steps.Send i ∷ later) w turns end = IsLogOf known packets later w turns end
-IsLogOf known packets (steps.Deliver k now ∷ later) w turns end =
+-- how many complete frames may wait behind a gap at a moment, by the limits of the receiver; its buffer is `buffer`, and `at_end`
+-- says whether the stream has ended
+abbrev pub wait_of : Receiving → Bool → State → ℕ → Option ℕ
+wait_of r at_end buffer now = waiting_at (record r { buffer = buffer; ended = at_end }) now
+
+-- the steps of a receiver with these limits, with the stretch so far: each delivery pushes the packet of its datagram, each pop ends
+-- a turn, and the steps after the last pop are the stretch at the end. `known` is what is known of the metadata of a packet
+abbrev pub IsLogOf : (ℕ → Packet → RtpMeta → Type 0) → List Packet → Receiving → Bool → List DatagramStep → Stretch → List Turn → Stretch → Type 0
+IsLogOf known packets r at_end [] w [] end = end ≡ w
+IsLogOf known packets r at_end [] w (turn ∷ turns) end = ⊥
+IsLogOf known packets r at_end (steps.Send i ∷ later) w turns end = IsLogOf known packets r at_end later w turns end
+IsLogOf known packets r at_end (steps.Deliver k now ∷ later) w turns end =
     (q : Packet) × (meta : RtpMeta) × (slice_get packets k ≡ Some q) × known k q meta × (meta.received ≡ now)
-    × IsLogOf known packets later (with_pushes w (arrived w.now.depacketizer meta q.payload ∷ [])) turns end
-IsLogOf known packets (steps.Pop now ∷ later) w [] end = ⊥
-IsLogOf known packets (steps.Pop now ∷ later) w (turn ∷ turns) end =
-    (turn.stretch ≡ w) × (wait : Option ℕ) × AnswersTurn wait w.now turn.passed turn.answer turn.after × IsLogOf known packets later (begun turn.after) turns end
-IsLogOf known packets (steps.Finish ∷ later) w turns end = IsLogOf known packets later w turns end
+    × IsLogOf known packets r at_end later (with_pushes w (arrived w.now.depacketizer meta q.payload ∷ [])) turns end
+IsLogOf known packets r at_end (steps.Pop now ∷ later) w [] end = ⊥
+IsLogOf known packets r at_end (steps.Pop now ∷ later) w (turn ∷ turns) end =
+    (turn.stretch ≡ w) × AnswersTurn (wait_of r at_end w.now now.0) w.now turn.passed turn.answer turn.after × IsLogOf known packets r at_end later (begun turn.after) turns end
+IsLogOf known packets r at_end (steps.Finish ∷ later) w turns end = IsLogOf known packets r true later w turns end
 
 -- a run described pop by pop, from the buffer before the run to the buffer after it; `end` is the stretch after the last pop
 pub record WireLog (samples : List Sample) (all_steps : List DatagramStep) (s t : Wire) (units : List SentUnit) : Type 0 where
   pub turns : List Turn
   pub end : Stretch
-  pub is_log : IsLogOf (IsKnownOf samples all_steps s t units) (packets_of units) (received_steps samples 0 all_steps t.sends) (begun s.session.packets.buffer) turns end
+  pub is_log : IsLogOf (IsKnownOf samples all_steps s t units) (packets_of units) s.session.packets s.session.packets.ended (received_steps samples 0 all_steps t.sends)
+      (begun s.session.packets.buffer) turns end
   pub answers : map (λ (turn : Turn). turn.answer) turns ≡ t.pops
   pub left : end.now ≡ t.session.packets.buffer
 
