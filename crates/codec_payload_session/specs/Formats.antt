@@ -143,4 +143,5 @@ pub record IsLiveFeedback (ssrc : ℕ) (f : FeedbackSettings) : Type 0 where
   pub has_report : f.has_report ≡ false
   pub nack : f.nack ≡ live_nack
   pub keyframe_interval : f.keyframe_interval ≡ 500
-  pub longest_wait : f.longest_wait ≡ None
+  pub silence : f.silence ≡ 2000
+  pub longest_wait : f.longest_wait ≡ Some 500

@@ -1,5 +1,5 @@
 -- What a stream requests: the packets that its receiver misses, and a keyframe if its receiver needs one.
-use Rattle.std.specs.Prelude.{◌≡◌, ◌⊎◌, ℕ, ◌+◌, ◌*◌, ◌/◌, ◌&&◌, ◌||◌, if◌then◌else◌, max, min, Bool, List, ◌∷◌, take, Option, Some, None, Result, Ok, Err}
+use Rattle.std.specs.Prelude.{◌≡◌, ◌⊎◌, ℕ, ◌+◌, ◌-◌, ◌*◌, ◌/◌, ◌&&◌, ◌||◌, nat_le, if◌then◌else◌, max, min, Bool, List, ◌∷◌, take, Option, Some, None, Result, Ok, Err}
 use Rattle.std.specs.Global.{Vec}
 use Rattle.std.specs.Option.{option_map}
 use Rattle.std.specs.declared.alloc.AllocError.{AllocError}
@@ -14,13 +14,14 @@ use Rattle.codec_payload_session.specs.declared.formats.FeedbackSettings.{Feedba
 use Rattle.codec_payload_session.specs.declared.formats.Format.{Format}
 use Rattle.codec_payload_session.specs.declared.requests.WaitRange.{WaitRange}
 
--- who sends the requests of a stream, what is requested when, at most how many packets, whether keyframes are, and how waiting
--- follows the round trip
+-- who sends the requests of a stream, what is requested when, at most how many packets, whether keyframes are, for how
+-- long after the latest datagram, and how waiting follows the round trip
 pub record Asking : Type 0 where
   pub source : Source
   pub requests : Requests
   pub most : ℕ
   pub pli : Bool
+  pub silence : ℕ
   pub waits : Option WaitRange
 
 -- ---- the requests of a new stream
@@ -44,6 +45,7 @@ asking_for f ssrc format max_wait = record {
   requests = new_requests ssrc f.nack f.keyframe_interval;
   most = if format.nack then f.nack.capacity else 0;
   pli = format.pli;
+  silence = f.silence;
   waits = range_for f max_wait;
 }
 
@@ -59,11 +61,16 @@ abbrev pub original_number : List ℕ → Option ℕ
 original_number (high ∷ low ∷ payload) = Some (high * 256 + low)
 original_number payload = None
 
+-- if retransmissions have a payload type of their own, another packet is no answer: it may only be late
+abbrev pub own_number : Option ℕ → ℕ → Option ℕ
+own_number None number = Some number
+own_number (Some payload_type) number = None
+
 abbrev pub number_by : Format → Result Packet RtpError → Option ℕ
-number_by f (Ok p) = if resends f p.header.payload_type then original_number p.payload else Some p.header.sequence_number
+number_by f (Ok p) = if resends f p.header.payload_type then original_number p.payload else own_number f.retransmission p.header.sequence_number
 number_by f (Err e) = None
 
--- the number of a packet in its stream; that of a retransmission is its original number
+-- the number that a packet answers; that of a retransmission is its original number
 abbrev pub number_at : Format → List ℕ → Option ℕ
 number_at f bytes = number_by f (rtp_at bytes)
 
@@ -78,14 +85,19 @@ heard_by now number (Some a) = Some (after_number now number a)
 
 -- ---- requests
 
--- what is requested is what the receiver misses now: packets, and a keyframe if it needs one
-abbrev pub refreshed : ℕ → Receiver → Asking → Asking
-refreshed now r a = record a { requests = updated now (missing_numbers r.packets a.most) (a.pli && r.gates.gate.wants) a.requests }
+-- the sender is not silent: its latest datagram arrived at most so many ticks ago
+abbrev pub is_heard : ℕ → ℕ → Asking → Bool
+is_heard now last a = nat_le (now - last) a.silence
+
+-- what is requested is what the receiver misses now: packets, and a keyframe if it needs one. Nothing is requested of a silent
+-- sender
+abbrev pub refreshed : ℕ → Bool → Receiver → Asking → Asking
+refreshed now heard r a = record a { requests = updated now (missing_numbers r.packets (if heard then a.most else 0)) (heard && a.pli && r.gates.gate.wants) a.requests }
 
 -- if memory runs out, nothing has changed
-abbrev pub Refreshes : ℕ → Receiver → Asking → Result (Unit {0}) AllocError → Asking → Type 0
-Refreshes now r a (Ok done) b = b ≡ refreshed now r a
-Refreshes now r a (Err e) b = b ≡ a
+abbrev pub Refreshes : ℕ → Bool → Receiver → Asking → Result (Unit {0}) AllocError → Asking → Type 0
+Refreshes now heard r a (Ok done) b = b ≡ refreshed now heard r a
+Refreshes now heard r a (Err e) b = b ≡ a
 
 -- a packet with exactly the requests that are due, which count as sent then; without a packet none is due
 pub record Sends (now : ℕ) (a : Asking) (packet : Option (List ℕ)) (b : Asking) : Type 0 where
@@ -97,9 +109,9 @@ bytes_of None = None
 bytes_of (Some bytes) = Some bytes.items
 
 -- the requests that are due by what the receiver misses now; if memory runs out, no request counts as sent
-abbrev pub Asks : ℕ → Receiver → Asking → Result (Option (Vec ℕ)) AllocError → Asking → Type 0
-Asks now r a (Ok packet) b = Sends now (refreshed now r a) (bytes_of packet) b
-Asks now r a (Err e) b = (b ≡ a) ⊎ (b ≡ refreshed now r a)
+abbrev pub Asks : ℕ → Bool → Receiver → Asking → Result (Option (Vec ℕ)) AllocError → Asking → Type 0
+Asks now heard r a (Ok packet) b = Sends now (refreshed now heard r a) (bytes_of packet) b
+Asks now heard r a (Err e) b = (b ≡ a) ⊎ (b ≡ refreshed now heard r a)
 
 -- when the next request is due
 abbrev pub requests_due : Option Asking → Option ℕ

@@ -16,7 +16,7 @@ use Rattle.codec_payload_stream.specs.declared.receiver.ReceiveError.{ReceiveErr
 use Rattle.codec_payload_stream.specs.declared.receiver.ReceiveError.TheVariants as errors
 use Rattle.codec_payload_stream.specs.declared.receiver.Settings.{Settings}
 use Rattle.codec_payload_session.specs.Formats.{HasSettings, is_video, limits_for}
-use Rattle.codec_payload_session.specs.Requests.{Asking, Asks, feedback_by, heard_by, number_at, requests_due, round_trip_of, wait_by}
+use Rattle.codec_payload_session.specs.Requests.{Asking, Asks, feedback_by, heard_by, is_heard, number_at, requests_due, round_trip_of, wait_by}
 use Rattle.codec_payload_session.specs.declared.formats.Format.{Format}
 use Rattle.codec_payload_session.specs.declared.formats.SessionSettings.{SessionSettings}
 use Rattle.codec_payload_session.specs.declared.stream.Ending.{Ending}
@@ -174,7 +174,7 @@ step_of (Err e) = steps.Feedback (Err e)
 pub record RequestsWith (now : ℕ) (a : Asking) (s : Stream) (answer : Step) (t : Stream) : Type 0 where
   pub told : Result (Option (Vec ℕ)) AllocError
   pub asking : Asking
-  pub asks : Asks now s.receiver a told asking
+  pub asks : Asks now (is_heard now s.last a) s.receiver a told asking
   pub answers : answer ≡ step_of told
   pub after : t ≡ record s { feedback = Some asking }
 

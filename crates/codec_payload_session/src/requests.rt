@@ -2,7 +2,7 @@
 
 ghost use Rattle.std.specs.Prelude.{◌≡◌, IfOk, OnOk};
 ghost use Rattle.codec_payload_jitter.specs.Missing.{missing_numbers};
-ghost use Rattle.codec_payload_session.specs.Requests.{Asks, Refreshes, after_number, feedback_by, heard_by, number_at, original_number, requests_due, range_for, round_trip_of, source_for, wait_by, wait_of, wait_within};
+ghost use Rattle.codec_payload_session.specs.Requests.{Asks, Refreshes, after_number, feedback_by, heard_by, is_heard, number_at, original_number, requests_due, range_for, round_trip_of, source_for, wait_by, wait_of, wait_within};
 
 use crate::formats::{FeedbackSettings, Format};
 use codec_payload_base::wire::Ticks;
@@ -24,6 +24,8 @@ pub(crate) struct Feedback {
     most: usize,
     /// Whether keyframes are requested.
     pli: bool,
+    /// For how many ticks after the latest datagram anything is requested.
+    silence: u64,
     /// How waiting follows the round trip. `None`: it does not.
     waits: Option<WaitRange>,
     /// Memory for the missing numbers.
@@ -44,7 +46,7 @@ impl Model for Feedback {
 
     ghost Value = { Asking };
 
-    ghost view = { λ f. record { source = f.source; requests = f.requests; most = f.most; pli = f.pli; waits = f.waits } };
+    ghost view = { λ f. record { source = f.source; requests = f.requests; most = f.most; pli = f.pli; silence = f.silence; waits = f.waits } };
 }
 
 impl Feedback {
@@ -76,6 +78,7 @@ impl Feedback {
                     ),
                     most,
                     pli: format.pli,
+                    silence: settings.silence,
                     waits: wait_range(settings, max_wait),
                     missing: Vec::new(alloc),
                 }))
@@ -103,24 +106,33 @@ impl Feedback {
         }
     }
 
-    /// Replaces what is requested by what the receiver misses now.
-    fn refresh(&mut self, now: Ticks, receiver: &Receiver) -> Result<(), AllocError>
-        ensures { Refreshes now.0 receiver.now self.old result self.new }
+    /// Replaces what is requested by what the receiver misses now. Nothing is requested of a silent sender.
+    fn refresh(
+        &mut self,
+        now: Ticks,
+        is_heard: bool,
+        receiver: &Receiver,
+    ) -> Result<(), AllocError>
+        ensures { Refreshes now.0 is_heard receiver.now self.old result self.new }
     {
-        collect_missing(receiver, self.most, &mut self.missing)?;
-        let wants_keyframe = self.pli && receiver.wants_keyframe();
+        let most = if is_heard { self.most } else { 0 };
+        collect_missing(receiver, most, &mut self.missing)?;
+        let wants_keyframe = is_heard && self.pli && receiver.wants_keyframe();
         self.requests.update(now, &self.missing, wants_keyframe)
     }
 
-    /// Returns the packet with all requests that are due, by what the receiver misses now. `None`: nothing is due.
+    /// Returns the packet with all requests that are due, by what the receiver misses now. `None`: nothing is due. `last` is when
+    /// the latest datagram arrived.
     pub(crate) fn take_due(
         &mut self,
         now: Ticks,
+        last: u64,
         receiver: &Receiver,
     ) -> Result<Option<Vec<u8>>, AllocError>
-        ensures { Asks now.0 receiver.now self.old result self.new }
+        ensures { Asks now.0 (is_heard now.0 last self.old) receiver.now self.old result self.new }
     {
-        self.refresh(now, receiver)?;
+        let is_heard = now.0.saturating_sub(last) <= self.silence;
+        self.refresh(now, is_heard, receiver)?;
         self.requests.take_due(now, &self.source)
     }
 }
@@ -213,14 +225,15 @@ fn collect_missing(
     Ok(())
 }
 
-/// Returns the number of a packet in its stream: that of a retransmission is its original number (RFC 4588, section 4).
+/// Returns the number that a packet answers: that of a retransmission is its original number (RFC 4588, section 4). If
+/// retransmissions have a payload type of their own, no other packet answers: it may only be late.
 fn number_of(format: &Format, datagram: &[u8]) -> Option<u16>
     ensures { result ≡ number_at format.now datagram.now }
 {
     match RtpPacket::parse(datagram) {
         Ok(packet) if format.resends(packet.header.payload_type) => original_number(packet.payload),
-        Ok(packet) => Some(packet.header.sequence_number),
-        Err(_) => None,
+        Ok(packet) if format.retransmission.is_none() => Some(packet.header.sequence_number),
+        _ => None,
     }
 }
 

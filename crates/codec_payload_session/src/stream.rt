@@ -265,7 +265,7 @@ impl Stream {
         ensures { RequestsBy self.old.feedback now.0 self.old result self.new }
     {
         match &mut self.feedback {
-            Some(feedback) => step_of(feedback.take_due(now, &self.receiver)),
+            Some(feedback) => step_of(feedback.take_due(now, self.last, &self.receiver)),
             None => Step::Nothing,
         }
     }
