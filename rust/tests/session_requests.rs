@@ -284,8 +284,11 @@ fn without_settings_nothing_is_requested() -> Result<(), Fail> {
 #[test]
 fn an_answer_measures_the_round_trip() -> Result<(), Fail> {
     let retransmitted = packet(RTX, 50, 900, 9_000, &[&[0, 3], frame(false)].concat());
-    for answer in [retransmitted, vp8(3, false)] {
-        let mut session = session(|s| s.video.max_wait = Some(10_000));
+    for (retransmission, answer) in [(Some(RTX), retransmitted), (None, vp8(3, false))] {
+        let mut session = session(|s| {
+            s.formats[0].retransmission = retransmission;
+            s.video.max_wait = Some(10_000);
+        });
         for number in [1, 2, 4] {
             session.receive(Ticks(0), &vp8(number, number == 1))?;
         }
@@ -303,6 +306,42 @@ fn an_answer_measures_the_round_trip() -> Result<(), Fail> {
     Ok(())
 }
 
+/// Number 3 is requested and comes by itself 2 ms later, since the network overtook it. Its sender would answer under the payload
+/// type of retransmissions, so this says nothing about the round trip.
+#[test]
+fn a_late_packet_is_no_answer() -> Result<(), Fail> {
+    let mut session = session(|_| {});
+    for number in [1, 2, 4] {
+        session.receive(Ticks(0), &vp8(number, number == 1))?;
+    }
+    assert_eq!(requested(&mut session, 0), []);
+    assert_eq!(requested(&mut session, 10), [(5, vec![3], 0)]);
+    session.receive(Ticks(12), &vp8(3, false))?;
+    assert_eq!(requested(&mut session, 12), []);
+    assert_eq!(session.stream_at(0).unwrap().round_trip, None);
+    Ok(())
+}
+
+/// A decoder needs a keyframe, and the sender stops at 0 ms: it is asked each 500 ms, for 2 s.
+#[test]
+fn a_silent_sender_is_not_asked() -> Result<(), Fail> {
+    let mut session = session(|s| s.video.max_wait = Some(20));
+    for number in [1, 2, 4] {
+        session.receive(Ticks(0), &vp8(number, number == 1))?;
+    }
+    let mut times = Vec::new();
+    while let Some(at) = session.next_deadline().filter(|at| at.0 < 20_000) {
+        for (_, _, pictures) in requested(&mut session, at.0) {
+            times.extend((0..pictures).map(|_| at.0));
+        }
+    }
+    assert_eq!(times, [20, 520, 1_020, 1_520]);
+    // It is asked again once it sends.
+    session.receive(Ticks(20_000), &vp8(5, false))?;
+    assert_eq!(requested(&mut session, 20_000), [(5, vec![], 1)]);
+    Ok(())
+}
+
 /// Number 3 is requested at 10 ms and answered at `answered`. So a frame behind the next gap waits for four round trips and 10 ms,
 /// within the session's limit of 200 ms and the longest wait of 500 ms.
 #[test]
@@ -316,6 +355,7 @@ fn waiting_follows_the_round_trip() -> Result<(), Fail> {
     ];
     for (longest_wait, answered, wait) in cases {
         let mut session = session(|s| {
+            s.formats[0].retransmission = None;
             s.video.max_wait = Some(200);
             s.feedback.as_mut().unwrap().longest_wait = longest_wait;
         });

@@ -60,6 +60,9 @@ pub struct FeedbackSettings {
     pub nack: NackSettings,
     /// The least number of ticks between two requests of a stream for a keyframe.
     pub keyframe_interval: u64,
+    /// A stream requests nothing once its latest datagram arrived more than this number of ticks ago: its sender is silent, or
+    /// continues in another stream, and cannot answer.
+    pub silence: u64,
     /// How long a frame may wait at most if waiting follows the round trip. From the first answer to a request on, `max_wait` of
     /// the stream's wait limits is `first_wait` of `nack` and four round trips: at least as long as the session's limits for audio
     /// or video say, and at most this number of ticks, unless these limits are above it. `None`, or no `max_wait` in the
@@ -118,7 +121,8 @@ pub(crate) enum Role {
 
 impl FeedbackSettings {
     /// Returns settings for live streams and a clock in milliseconds: packets of reduced size without a name, the defaults of
-    /// [`NackSettings`], and at most one request for a keyframe in 500 ms. The wait limits stay. Does not allocate.
+    /// [`NackSettings`], and at most one request for a keyframe in 500 ms. Waiting follows the round
+    /// trip, up to 500 ms. Nothing is requested 2 s after the latest datagram. Does not allocate.
     pub fn live(ssrc: u32) -> FeedbackSettings {
         FeedbackSettings {
             ssrc,
@@ -126,7 +130,8 @@ impl FeedbackSettings {
             has_report: false,
             nack: NackSettings::live(),
             keyframe_interval: 500,
-            longest_wait: None,
+            silence: 2_000,
+            longest_wait: Some(500),
         }
     }
 }

@@ -22,6 +22,8 @@ pub(crate) struct Feedback {
     most: usize,
     /// Whether keyframes are requested.
     pli: bool,
+    /// For how many ticks after the latest datagram anything is requested.
+    silence: u64,
     /// How waiting follows the round trip. `None`: it does not.
     waits: Option<WaitRange>,
     /// Memory for the missing numbers.
@@ -58,6 +60,7 @@ impl Feedback {
                     requests: StreamRequests::new(ssrc, settings.nack, settings.keyframe_interval),
                     most,
                     pli: format.pli,
+                    silence: settings.silence,
                     waits: wait_range(settings, max_wait),
                     missing: Vec::new(),
                 }))
@@ -81,20 +84,29 @@ impl Feedback {
         }
     }
 
-    /// Replaces what is requested by what the receiver misses now.
-    fn refresh(&mut self, now: Ticks, receiver: &Receiver) -> Result<(), AllocError> {
-        collect_missing(receiver, self.most, &mut self.missing)?;
-        let wants_keyframe = self.pli && receiver.wants_keyframe();
+    /// Replaces what is requested by what the receiver misses now. Nothing is requested of a silent sender.
+    fn refresh(
+        &mut self,
+        now: Ticks,
+        is_heard: bool,
+        receiver: &Receiver,
+    ) -> Result<(), AllocError> {
+        let most = if is_heard { self.most } else { 0 };
+        collect_missing(receiver, most, &mut self.missing)?;
+        let wants_keyframe = is_heard && self.pli && receiver.wants_keyframe();
         self.requests.update(now, &self.missing, wants_keyframe)
     }
 
-    /// Returns the packet with all requests that are due, by what the receiver misses now. `None`: nothing is due.
+    /// Returns the packet with all requests that are due, by what the receiver misses now. `None`: nothing is due. `last` is when
+    /// the latest datagram arrived.
     pub(crate) fn take_due(
         &mut self,
         now: Ticks,
+        last: u64,
         receiver: &Receiver,
     ) -> Result<Option<Vec<u8>>, AllocError> {
-        self.refresh(now, receiver)?;
+        let is_heard = now.0.saturating_sub(last) <= self.silence;
+        self.refresh(now, is_heard, receiver)?;
         self.requests.take_due(now, &self.source)
     }
 }
@@ -171,12 +183,13 @@ fn collect_missing(
     Ok(())
 }
 
-/// Returns the number of a packet in its stream: that of a retransmission is its original number (RFC 4588, section 4).
+/// Returns the number that a packet answers: that of a retransmission is its original number (RFC 4588, section 4). If
+/// retransmissions have a payload type of their own, no other packet answers: it may only be late.
 fn number_of(format: &Format, datagram: &[u8]) -> Option<u16> {
     match RtpPacket::parse(datagram) {
         Ok(packet) if format.resends(packet.header.payload_type) => original_number(packet.payload),
-        Ok(packet) => Some(packet.header.sequence_number),
-        Err(_) => None,
+        Ok(packet) if format.retransmission.is_none() => Some(packet.header.sequence_number),
+        _ => None,
     }
 }
 

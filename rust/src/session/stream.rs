@@ -234,7 +234,7 @@ impl Stream {
     /// Returns the requests that are due, by what the receiver misses now.
     fn request(&mut self, now: Ticks) -> Step {
         match &mut self.feedback {
-            Some(feedback) => step_of(feedback.take_due(now, &self.receiver)),
+            Some(feedback) => step_of(feedback.take_due(now, self.last, &self.receiver)),
             None => Step::Nothing,
         }
     }
