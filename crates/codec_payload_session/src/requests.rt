@@ -107,12 +107,7 @@ impl Feedback {
     }
 
     /// Replaces what is requested by what the receiver misses now. Nothing is requested of a silent sender.
-    fn refresh(
-        &mut self,
-        now: Ticks,
-        is_heard: bool,
-        receiver: &Receiver,
-    ) -> Result<(), AllocError>
+    fn refresh(&mut self, now: Ticks, is_heard: bool, receiver: &Receiver) -> Result<(), AllocError>
         ensures { Refreshes now.0 is_heard receiver.now self.old result self.new }
     {
         let most = if is_heard { self.most } else { 0 };
