@@ -47,16 +47,12 @@ fn source(payload_type: u8, ssrc: u32, until: u64) -> Result<Source, Box<dyn Err
 }
 
 fn format(payload_type: u8, codec: Codec, clock_rate: Frequency) -> Format {
-    Format {
-        payload_type,
-        spec: CodecSpec {
-            codec,
-            clock_rate,
-            octet_align: false,
-        },
-        red: None,
-        retransmission: None,
-    }
+    let spec = CodecSpec {
+        codec,
+        clock_rate,
+        octet_align: false,
+    };
+    Format::new(payload_type, spec)
 }
 
 /// Datagrams on their way, by the time of their arrival.
@@ -98,6 +94,8 @@ fn drain(session: &mut Session, now: u64, units: &mut BTreeMap<u32, u64>) {
             Event::Unit { ssrc, unit, .. } => {
                 *units.entry(ssrc).or_default() += u64::from(unit.is_ok());
             }
+            // The settings request nothing: see examples/session_requests.rs.
+            Event::Feedback { .. } => {}
             Event::Ended { ssrc, why, .. } => println!("{now:5} ms: stream {ssrc} ends: {why:?}"),
         }
     }

@@ -5,16 +5,15 @@
 //! cargo run --release --example session_requests
 //! ```
 //!
-//! - `Session::receiver_of` lends the receiver of a stream: it reports what is missing and whether a keyframe is needed.
-//! - `StreamRequests` decides when to request, and returns the RTCP packet to send. Keep one for each stream.
+//! - `SessionSettings::feedback` says who requests, and how often. `nack` and `pli` of a format say what its sender answers.
+//! - `Event::Feedback` has the RTCP packet to send.
 //! - Wait for at least four round trips: `Session::set_wait_limits`.
 
-use codec_payload::feedback::{FeedbackSource, StreamRequests};
 use codec_payload::history::{History, HistorySettings, Request, read_requests};
 use codec_payload::requests::NackSettings;
 use codec_payload::rtcp::CompoundRule;
 use codec_payload::sender::{Sample, Sender, SenderSettings};
-use codec_payload::session::{Event, Format, Session, SessionSettings};
+use codec_payload::session::{Event, FeedbackSettings, Format, Session, SessionSettings};
 use codec_payload::{
     Codec, CodecPacketizer, CodecSpec, ExtensionValues, Frequency, MediaTime, Ticks,
 };
@@ -143,79 +142,58 @@ impl SendingSide {
     }
 }
 
-/// The receiving side: a session, and the requests for its stream.
+/// The receiving side: a session that requests what it misses.
 struct ReceivingSide {
     session: Session,
-    source: FeedbackSource,
-    stream: StreamRequests,
-    missing: Vec<u64>,
     released: u64,
     decodable: u64,
 }
 
 impl ReceivingSide {
-    fn new() -> Result<ReceivingSide, Box<dyn Error>> {
+    fn new(requests: Requests) -> ReceivingSide {
+        let spec = CodecSpec {
+            codec: Codec::Vp8,
+            clock_rate: Frequency::NINETY_KHZ,
+            octet_align: false,
+        };
         let mut settings = SessionSettings::live();
         settings.formats.push(Format {
-            payload_type: VP8,
-            spec: CodecSpec {
-                codec: Codec::Vp8,
-                clock_rate: Frequency::NINETY_KHZ,
-                octet_align: false,
-            },
-            red: None,
-            retransmission: None,
+            nack: true,
+            pli: true,
+            ..Format::new(VP8, spec)
         });
-        Ok(ReceivingSide {
+        if requests != Requests::None {
+            settings.feedback = Some(FeedbackSettings::live(OWN_SSRC));
+        }
+        ReceivingSide {
             session: Session::new(settings),
-            source: FeedbackSource::new(OWN_SSRC, Vec::new(), false).ok_or("no name is short")?,
-            stream: StreamRequests::new(SSRC, NackSettings::live(), 500),
-            missing: Vec::new(),
             released: 0,
             decodable: 0,
-        })
-    }
-
-    fn receive(&mut self, now: u64, datagram: &[u8]) -> Result<(), Box<dyn Error>> {
-        let number = u16::from_be_bytes([datagram[2], datagram[3]]);
-        self.stream.answered(Ticks(now), number);
-        self.session.receive(Ticks(now), datagram)?;
-        Ok(())
-    }
-
-    /// Counts the units, and those that a decoder can show.
-    fn poll(&mut self, now: u64) {
-        while let Some(event) = self.session.poll(Ticks(now)) {
-            if let Event::Unit {
-                ssrc, payload_type, ..
-            } = event
-            {
-                let receiver = self.session.receiver_of(ssrc, payload_type);
-                self.released += 1;
-                self.decodable += u64::from(receiver.is_some_and(|it| it.unit_is_decodable()));
-            }
         }
     }
 
-    /// The feedback that is due now: a reduced-size compound packet (RFC 5506).
-    fn feedback(&mut self, now: u64) -> Result<Option<Vec<u8>>, Box<dyn Error>> {
-        let Some(receiver) = self.session.receiver_of(SSRC, VP8) else {
-            return Ok(None);
-        };
-        self.missing.clear();
-        self.missing.extend(receiver.missing(512));
-        self.stream
-            .update(Ticks(now), &self.missing, receiver.wants_keyframe())?;
-        Ok(self.stream.take_due(Ticks(now), &self.source)?)
+    /// Counts the units, and those that a decoder can show. Sends the requests: reduced-size compound packets (RFC 5506).
+    fn poll(&mut self, now: u64, back: &mut Way) -> Result<(), Box<dyn Error>> {
+        while let Some(event) = self.session.poll(Ticks(now)) {
+            match event {
+                Event::Unit { decodable, .. } => {
+                    self.released += 1;
+                    self.decodable += u64::from(decodable);
+                }
+                Event::Feedback { packet, .. } => back.send(now, &packet?),
+                Event::Begun { .. } | Event::Ended { .. } => {}
+            }
+        }
+        Ok(())
     }
 
     /// Waits for four round trips, if the round trip is known.
     fn follow_round_trip(&mut self) {
-        let Some(receiver) = self.session.receiver_of(SSRC, VP8) else {
+        let Some(stream) = self.session.stream_at(0) else {
             return;
         };
-        let mut limits = receiver.wait_limits();
-        let wait = NackSettings::live().first_wait + 4 * self.stream.round_trip().unwrap_or(0);
+        let mut limits = SessionSettings::live().video;
+        let wait = NackSettings::live().first_wait + 4 * stream.round_trip.unwrap_or(0);
         limits.max_wait = Some(wait.clamp(200, LONGEST_WAIT));
         self.session.set_wait_limits(SSRC, VP8, limits);
     }
@@ -226,7 +204,7 @@ fn run(round_trip: u64, lost: u64, requests: Requests) -> Result<[u64; 2], Box<d
     let mut there = Way::new(1, lost, round_trip / 2);
     let mut back = Way::new(2, lost, round_trip / 2);
     let mut sending = SendingSide::new()?;
-    let mut receiving = ReceivingSide::new()?;
+    let mut receiving = ReceivingSide::new(requests);
     for now in 0..LENGTH + 2_000 {
         for feedback in back.arrived(now) {
             sending.answer(&mut there, now, &feedback)?;
@@ -235,20 +213,15 @@ fn run(round_trip: u64, lost: u64, requests: Requests) -> Result<[u64; 2], Box<d
             sending.send(&mut there, now)?;
         }
         for datagram in there.arrived(now) {
-            receiving.receive(now, &datagram)?;
+            receiving.session.receive(Ticks(now), &datagram)?;
         }
-        receiving.poll(now);
-        if requests != Requests::None
-            && let Some(feedback) = receiving.feedback(now)?
-        {
-            back.send(now, &feedback);
-        }
+        receiving.poll(now, &mut back)?;
         if requests == Requests::ByRoundTrip {
             receiving.follow_round_trip();
         }
     }
     receiving.session.finish(Ticks(LENGTH + 2_000));
-    receiving.poll(LENGTH + 2_000);
+    receiving.poll(LENGTH + 2_000, &mut back)?;
     let share = |count: u64| count * 1_000 / sending.frames;
     Ok([share(receiving.released), share(receiving.decodable)])
 }

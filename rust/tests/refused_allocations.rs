@@ -6,6 +6,7 @@ use codec_payload::jitter::{JitterBuffer, Outcome, WaitLimits};
 use codec_payload::media::av1::{Av1SequenceHeader, front_obu, write_av1c};
 use codec_payload::rtp::{ExtensionIds, RtpPacket};
 use codec_payload::sender::{Sample, Sender, SenderSettings};
+use codec_payload::session::{Event, FeedbackSettings, Format, Session, SessionSettings};
 use codec_payload::stream::{ReceiveError, Receiver, ReceiverSettings, RedSettings};
 use codec_payload::*;
 use std::alloc::{GlobalAlloc, Layout, System};
@@ -437,4 +438,88 @@ fn values_and_media() {
     });
     println!("values and media: {refused} refused");
     assert!(refused >= 2, "{refused}");
+}
+
+/// A session that requests what its streams miss, under a name.
+fn requesting() -> Session {
+    let mut settings = SessionSettings::live();
+    let spec = CodecSpec {
+        codec: Codec::Opus,
+        clock_rate: Frequency::FORTY_EIGHT_KHZ,
+        octet_align: false,
+    };
+    settings.formats.push(Format {
+        nack: true,
+        ..Format::new(111, spec)
+    });
+    settings.feedback = Some(FeedbackSettings {
+        cname: vec![b'n'; 20],
+        has_report: true,
+        ..FeedbackSettings::live(1)
+    });
+    Session::new(settings)
+}
+
+fn opus(number: u8) -> [u8; 14] {
+    [0x80, 111, 0, number, 0, 0, 0, number, 0, 0, 0, 7, 1, 7]
+}
+
+/// A datagram that begins a stream changes nothing if an allocation is refused.
+#[test]
+fn streams_that_request() {
+    let refused = refuse_each("the first datagram", requesting, |session| {
+        match session.receive(Ticks(0), &opus(1)) {
+            Ok(_) => End::Done,
+            Err(AllocError) => End::OutOfMemory,
+        }
+    });
+    assert!(refused >= 3, "{refused}");
+}
+
+/// If an allocation is refused, the request is reported as out of memory, and the next poll returns it.
+#[test]
+fn requests_of_a_session() {
+    let received = || {
+        let mut session = requesting();
+        for number in [1, 2, 4] {
+            session.receive(Ticks(0), &opus(number)).unwrap();
+        }
+        session
+    };
+    let missing_one = || {
+        let mut session = received();
+        while session.poll(Ticks(0)).is_some() {}
+        session
+    };
+    let mut refused = refuse_each(
+        "a poll with a request",
+        missing_one,
+        |session| match session.poll(Ticks(10)) {
+            Some(Event::Feedback { packet: Ok(_), .. }) => End::Done,
+            Some(Event::Feedback {
+                packet: Err(AllocError),
+                ..
+            }) => End::OutOfMemory,
+            _ => End::OtherFault,
+        },
+    );
+    refused += refuse_each(
+        "a poll that finds a number missing",
+        || {
+            let mut session = received();
+            for _ in 0..3 {
+                session.poll(Ticks(0));
+            }
+            session
+        },
+        |session| match session.poll(Ticks(0)) {
+            None => End::Done,
+            Some(Event::Feedback {
+                packet: Err(AllocError),
+                ..
+            }) => End::OutOfMemory,
+            Some(_) => End::OtherFault,
+        },
+    );
+    assert!(refused >= 8, "{refused}");
 }

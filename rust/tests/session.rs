@@ -29,6 +29,8 @@ fn formats() -> Vec<Format> {
             spec: spec(Codec::Vp8, Frequency::NINETY_KHZ),
             red: None,
             retransmission: Some(RTX),
+            nack: true,
+            pli: true,
         },
         Format {
             payload_type: OPUS,
@@ -38,6 +40,8 @@ fn formats() -> Vec<Format> {
                 step: 960,
             }),
             retransmission: None,
+            nack: true,
+            pli: false,
         },
     ]
 }
@@ -89,6 +93,7 @@ fn told(session: &mut Session, now: u64) -> Vec<String> {
                 Ok(unit) => format!("unit {ssrc} {:?}", unit.bytes),
                 Err(fault) => format!("fault {ssrc} {fault}"),
             },
+            Event::Feedback { ssrc, .. } => format!("feedback {ssrc}"),
             Event::Ended { ssrc, why, .. } => format!("ended {ssrc} {why:?}"),
         });
     }

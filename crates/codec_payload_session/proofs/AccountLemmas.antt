@@ -6,6 +6,8 @@ use Rattle.std.specs.declared.alloc.AllocError.{AllocError}
 use Rattle.std.proofs.lemmas.Bool.Decides.{nat_tests}
 use Rattle.std.proofs.lemmas.List.Quantifiers.{position-Some}
 use Rattle.codec_payload_base.specs.declared.wire.Ticks.{Ticks}
+use Rattle.codec_payload_base.specs.declared.error.PacketError.{PacketError}
+use Rattle.codec_payload_buffer.specs.Release.{Release}
 use Rattle.codec_payload_jitter.specs.Receiving.{next}
 use Rattle.codec_payload_jitter.specs.declared.outcome.Outcome.{Outcome}
 use Rattle.codec_payload_jitter.specs.declared.waiting.WaitLimits.{WaitLimits}
@@ -14,7 +16,8 @@ use Rattle.codec_payload_session.proofs.QuietLemmas.{quiet_length}
 use Rattle.codec_payload_session.specs.Arrivals.{Arrives, BeginsIf, BeginsOrFeeds, BeginsWith, Feeds, FeedsIf, Port, StaysEmpty, TakesIn, TakesInAs, added, has_place, left_if, left_where, on_probation, taken_of, without}
 use Rattle.codec_payload_session.specs.Ports.{IsSession, Session, counted_if, taken_in}
 use Rattle.codec_payload_session.specs.Sorting.{sorted_at}
-use Rattle.codec_payload_session.specs.Streams.{Drains, Plays, Steps, StepsBy, Takes, end_of, heard_unless, is_accepted, is_no_memory, is_of, is_probation, left_when, waiting_if, waiting_when, waiting_where}
+use Rattle.codec_payload_session.specs.Requests.{Asking}
+use Rattle.codec_payload_session.specs.Streams.{Drains, Follows, Plays, RequestsBy, RestsBy, Steps, StepsBy, Takes, end_of, heard_unless, is_accepted, is_no_memory, is_of, is_probation, left_when, received, waiting_if, waiting_when, waiting_where}
 use Rattle.codec_payload_session.specs.Turns.{AreQuiet, TakesTurn, ended_after, kept_after}
 use Rattle.codec_payload_session.specs.declared.formats.Format.{Format}
 use Rattle.codec_payload_session.specs.declared.formats.SessionSettings.{SessionSettings}
@@ -25,6 +28,8 @@ use Rattle.codec_payload_session.specs.declared.session.Event.{Event}
 use Rattle.codec_payload_session.specs.declared.sort.Sorted.{Sorted}
 use Rattle.codec_payload_session.specs.declared.sort.Sorted.TheVariants as sorted
 use Rattle.codec_payload_session.specs.declared.stream.Ending.{Ending}
+use Rattle.codec_payload_session.specs.declared.stream.Stage.{Stage}
+use Rattle.codec_payload_session.specs.declared.stream.Stage.TheVariants as stages
 use Rattle.codec_payload_session.specs.declared.stream.Step.{Step}
 use Rattle.codec_payload_session.specs.declared.stream.Step.TheVariants as steps
 use Rattle.codec_payload_session.specs.declared.stream.Stream.{Stream}
@@ -85,7 +90,7 @@ takes_taken : (now : Ticks) (probation : ℕ) (bytes : List ℕ) (s : Stream) (t
     → t.taken ≡ taken_unless (is_no_memory told) s.taken
 takes_taken now probation bytes s told t got = ap (λ (x : Stream). x.taken) got.2 ∙ by_test (is_no_memory told)
   where
-    by_test : (b : Bool) → (heard_unless b now.0 probation (is_accepted told) (record s { receiver = got.0 })).taken ≡ taken_unless b s.taken
+    by_test : (b : Bool) → (heard_unless b now.0 probation (is_accepted told) (received now.0 bytes (is_accepted told) got.0 s)).taken ≡ taken_unless b s.taken
     by_test true = refl
     by_test false = refl
 
@@ -250,8 +255,22 @@ drains_taken : (o : Option Ending) (s t : Stream) → Drains o s t → t.taken �
 drains_taken None s t got = ap (λ (x : Stream). x.taken) got
 drains_taken (Some why) s t got = ap (λ (x : Stream). x.taken) got.2
 
+requests_taken : (o : Option Asking) (now : ℕ) (s : Stream) (step : Step) (t : Stream) → RequestsBy o now s step t → t.taken ≡ s.taken
+requests_taken None now s step t got = ap (λ (x : Stream). x.taken) got.1
+requests_taken (Some a) now s step t got = ap (λ (x : Stream). x.taken) got.after
+
+rests_taken : (stage : Stage) (now : ℕ) (s : Stream) (step : Step) (t : Stream) → RestsBy stage now s step t → t.taken ≡ s.taken
+rests_taken stages.Probation now s step t got = ap (λ (x : Stream). x.taken) got.1
+rests_taken stages.Playing now s step t got = requests_taken s.feedback now s step t got
+rests_taken (stages.Leaving why at) now s step t got = ap (λ (x : Stream). x.taken) got.1
+rests_taken (stages.Draining why) now s step t got = ap (λ (x : Stream). x.taken) got.1
+
+follows_taken : (o : Option (Result Release PacketError)) (now : ℕ) (s : Stream) (step : Step) (t : Stream) → Follows o now s step t → t.taken ≡ s.taken
+follows_taken None now s step t got = rests_taken s.stage now s step t got
+follows_taken (Some unit) now s step t got = ap (λ (x : Stream). x.taken) got.1
+
 plays_taken : (now : Ticks) (idle : ℕ) (s : Stream) (step : Step) (t : Stream) → Plays now idle s step t → t.taken ≡ s.taken
-plays_taken now idle s step t got = ap (λ (x : Stream). x.taken) got.2.after ∙ drains_taken (end_of now.0 idle s) s got.0 got.1
+plays_taken now idle s step t got = follows_taken got.2.popped now.0 (record got.0 { receiver = got.2.receiver }) step t got.2.follows ∙ drains_taken (end_of now.0 idle s) s got.0 got.1
 
 steps_by_taken : (b told : Bool) (now : Ticks) (idle : ℕ) (s : Stream) (step : Step) (t : Stream) → StepsBy b told now idle s step t → t.taken ≡ s.taken
 steps_by_taken true told now idle s step t got = ap (λ (x : Stream). x.taken) got.1
@@ -272,6 +291,7 @@ kept_taken : (step : Step) (t : Stream) (rest : List Stream) (ended : ℕ)
     → ((ended_after step t ended + taken_in (kept_after step t rest)) % 2 ^ 64 ≡ (ended + t.taken + taken_in rest) % 2 ^ 64) × (length (kept_after step t rest) ≤ 1 + length rest)
 kept_taken steps.Begun t rest ended = (omega arith, omega arith)
 kept_taken (steps.Unit unit) t rest ended = (omega arith, omega arith)
+kept_taken (steps.Feedback packet) t rest ended = (omega arith, omega arith)
 kept_taken (steps.Ended why) t rest ended = (omega arith, omega arith)
 kept_taken steps.Nothing t rest ended = (omega arith, omega arith)
 

@@ -9,6 +9,9 @@ use Rattle.codec_payload_stream.specs.Kinds.{is_among}
 use Rattle.codec_payload_stream.specs.declared.receiver.RedSettings.{RedSettings}
 use Rattle.codec_payload_stream.specs.declared.receiver.Retransmission.{Retransmission}
 use Rattle.codec_payload_stream.specs.declared.receiver.Settings.{Settings}
+use Rattle.codec_payload_base.specs.declared.wire.CodecSpec.{CodecSpec}
+use Rattle.codec_payload_requests.specs.declared.nack.NackSettings.{NackSettings}
+use Rattle.codec_payload_session.specs.declared.formats.FeedbackSettings.{FeedbackSettings}
 use Rattle.codec_payload_session.specs.declared.formats.Format.{Format}
 use Rattle.codec_payload_session.specs.declared.formats.Role.{Role}
 use Rattle.codec_payload_session.specs.declared.formats.Role.TheVariants as roles
@@ -16,6 +19,10 @@ use Rattle.codec_payload_session.specs.declared.formats.SessionSettings.{Session
 use Rattle.codec_payload_session.specs.declared.formats.SsrcPair.{SsrcPair}
 
 -- ---- payload types
+
+-- a format without RED, retransmissions and requests
+abbrev pub plain_format : ℕ → CodecSpec → Format
+plain_format payload_type spec = record { payload_type = payload_type; spec = spec; red = None; retransmission = None; nack = false; pli = false }
 
 abbrev pub is_type : Option ℕ → ℕ → Bool
 is_type None payload_type = false
@@ -109,6 +116,10 @@ pub record HasSettings (s : SessionSettings) (ssrc : ℕ) (f : Format) (r : Sett
   pub forward : r.forward ≡ forward_for (is_video f.spec.codec)
   pub backward : r.backward ≡ backward_for (is_video f.spec.codec)
 
+-- requests of missing packets: 10 ms after they are missed, then each 100 ms until the round trip is known, at most 6 times each
+abbrev pub live_nack : NackSettings
+live_nack = record { first_wait = 10; retry = 100; shortest_retry = 20; longest_retry = 400; tries = 6; capacity = 1024 }
+
 -- the settings of a new session for live streams: no formats, and the stated numbers of streams, packets and milliseconds
 pub record IsLive (s : SessionSettings) : Type 0 where
   pub formats : s.formats.items ≡ []
@@ -123,3 +134,12 @@ pub record IsLive (s : SessionSettings) : Type 0 where
   pub idle_timeout : s.idle_timeout ≡ 30000
   pub bye_wait : s.bye_wait ≡ 200
   pub tick_rate : s.tick_rate ≡ 1000
+  pub feedback : s.feedback ≡ None
+
+-- the settings of requests for live streams: the stated number of milliseconds, and no name and no report in packets
+pub record IsLiveFeedback (ssrc : ℕ) (f : FeedbackSettings) : Type 0 where
+  pub ssrc_is : f.ssrc ≡ ssrc
+  pub cname : f.cname.items ≡ []
+  pub has_report : f.has_report ≡ false
+  pub nack : f.nack ≡ live_nack
+  pub keyframe_interval : f.keyframe_interval ≡ 500

@@ -1,5 +1,7 @@
 -- One stream of a session: the datagrams and calls that its receiver gets, and when the stream begins and ends.
 use Rattle.std.specs.Prelude.{◌≡◌, ℕ, min, ◌+◌, ◌-◌, ◌^◌, ◌==◌, ◌&&◌, nat_lt, nat_le, if◌then◌else◌, Bool, true, false, List, [], ◌∷◌, Option, Some, None, Result, Ok, Err, length, map}
+use Rattle.std.specs.Global.{Vec}
+use Rattle.std.specs.declared.alloc.AllocError.{AllocError}
 use Rattle.codec_payload_base.specs.declared.error.PacketError.{PacketError}
 use Rattle.codec_payload_base.specs.declared.wire.Ticks.{Ticks}
 use Rattle.codec_payload_codec.specs.Depacketizers.{DepacketizerState, configured_depacketizer, depacketizer_state_for}
@@ -14,6 +16,7 @@ use Rattle.codec_payload_stream.specs.declared.receiver.ReceiveError.{ReceiveErr
 use Rattle.codec_payload_stream.specs.declared.receiver.ReceiveError.TheVariants as errors
 use Rattle.codec_payload_stream.specs.declared.receiver.Settings.{Settings}
 use Rattle.codec_payload_session.specs.Formats.{HasSettings}
+use Rattle.codec_payload_session.specs.Requests.{Asking, Asks, feedback_by, heard_by, number_at, requests_due, round_trip_of}
 use Rattle.codec_payload_session.specs.declared.formats.Format.{Format}
 use Rattle.codec_payload_session.specs.declared.formats.SessionSettings.{SessionSettings}
 use Rattle.codec_payload_session.specs.declared.stream.Ending.{Ending}
@@ -29,7 +32,7 @@ use Rattle.codec_payload_session.specs.declared.stream.StreamInfo.{StreamInfo}
 abbrev pub is_of : ℕ → ℕ → Stream → Bool
 is_of ssrc payload_type s = (s.ssrc == ssrc) && (s.format.payload_type == payload_type)
 
--- a stream without datagrams; its receiver is a new one with the stream's settings
+-- a stream without datagrams; its receiver is a new one with the stream's settings, and nothing was requested
 pub record Begins (settings : SessionSettings) (ssrc : ℕ) (f : Format) (s : Stream) : Type 0 where
   pub ssrc_is : s.ssrc ≡ ssrc
   pub format : s.format ≡ f
@@ -38,6 +41,7 @@ pub record Begins (settings : SessionSettings) (ssrc : ℕ) (f : Format) (s : St
   pub taken : s.taken ≡ 0
   pub accepted : s.accepted ≡ 0
   pub last : s.last ≡ 0
+  pub feedback : s.feedback ≡ feedback_by settings.feedback ssrc f
   pub depacketizer : DepacketizerState
   pub known : depacketizer_state_for f.spec.codec ≡ Some depacketizer
   pub receiver_settings : Settings
@@ -95,11 +99,19 @@ abbrev pub heard_unless : Bool → ℕ → ℕ → Bool → Stream → Stream
 heard_unless true now probation accepted s = s
 heard_unless false now probation accepted s = heard now probation accepted s
 
+-- the number of an accepted packet may answer a request
+abbrev pub answered_if : Bool → ℕ → Option ℕ → Option Asking → Option Asking
+answered_if true now number feedback = heard_by now number feedback
+answered_if false now number feedback = feedback
+
+abbrev pub received : ℕ → List ℕ → Bool → Receiver → Stream → Stream
+received now bytes accepted r s = record s { receiver = r; feedback = answered_if accepted now (number_at s.format bytes) s.feedback }
+
 -- the receiver receives the datagram; if memory runs out for it, nothing is counted
 abbrev pub Takes : Ticks → ℕ → List ℕ → Stream → Result Outcome ReceiveError → Stream → Type 0
 Takes now probation bytes s answer t =
     (r : Receiver) × ReceivesBytes now bytes s.receiver answer r
-    × (t ≡ heard_unless (is_no_memory answer) now.0 probation (is_accepted answer) (record s { receiver = r }))
+    × (t ≡ heard_unless (is_no_memory answer) now.0 probation (is_accepted answer) (received now.0 bytes (is_accepted answer) r s))
 
 -- ---- the end
 
@@ -145,23 +157,41 @@ Drains (Some why) s t = (r : Receiver) × Finishes s.receiver r × (t ≡ record
 
 -- ---- events
 
-abbrev pub ended_or_nothing : Stage → Step
-ended_or_nothing stages.Probation = steps.Nothing
-ended_or_nothing stages.Playing = steps.Nothing
-ended_or_nothing (stages.Leaving why at) = steps.Nothing
-ended_or_nothing (stages.Draining why) = steps.Ended why
+-- the packet with the requests that are due, if there are any; or memory ran out, and they stay due
+abbrev pub step_of : Result (Option (Vec ℕ)) AllocError → Step
+step_of (Ok None) = steps.Nothing
+step_of (Ok (Some packet)) = steps.Feedback (Ok packet)
+step_of (Err e) = steps.Feedback (Err e)
 
-abbrev pub told_of : Stage → Option (Result Release PacketError) → Step
-told_of stage None = ended_or_nothing stage
-told_of stage (Some unit) = steps.Unit unit
+pub record RequestsWith (now : ℕ) (a : Asking) (s : Stream) (answer : Step) (t : Stream) : Type 0 where
+  pub told : Result (Option (Vec ℕ)) AllocError
+  pub asking : Asking
+  pub asks : Asks now s.receiver a told asking
+  pub answers : answer ≡ step_of told
+  pub after : t ≡ record s { feedback = Some asking }
 
--- the answer of a pop of the stream's receiver
+-- a stream without settings of requests requests nothing
+abbrev pub RequestsBy : Option Asking → ℕ → Stream → Step → Stream → Type 0
+RequestsBy None now s answer t = (answer ≡ steps.Nothing) × (t ≡ s)
+RequestsBy (Some a) now s answer t = RequestsWith now a s answer t
+
+-- a stream without a unit: while it plays it requests what it misses, and once it is drained it ends
+abbrev pub RestsBy : Stage → ℕ → Stream → Step → Stream → Type 0
+RestsBy stages.Probation now s answer t = (answer ≡ steps.Nothing) × (t ≡ s)
+RestsBy stages.Playing now s answer t = RequestsBy s.feedback now s answer t
+RestsBy (stages.Leaving why at) now s answer t = (answer ≡ steps.Nothing) × (t ≡ s)
+RestsBy (stages.Draining why) now s answer t = (answer ≡ steps.Ended why) × (t ≡ s)
+
+abbrev pub Follows : Option (Result Release PacketError) → ℕ → Stream → Step → Stream → Type 0
+Follows None now s answer t = RestsBy s.stage now s answer t
+Follows (Some unit) now s answer t = (answer ≡ steps.Unit unit) × (t ≡ s)
+
+-- the answer of a pop of the stream's receiver; without a unit, what follows from the receiver after that pop
 pub record Pops (now : Ticks) (s : Stream) (answer : Step) (t : Stream) : Type 0 where
   pub popped : Option (Result Release PacketError)
   pub receiver : Receiver
   pub pops : PopsGated now.0 s.receiver popped receiver
-  pub told : answer ≡ told_of s.stage popped
-  pub after : t ≡ record s { receiver = receiver }
+  pub follows : Follows popped now.0 (record s { receiver = receiver }) answer t
 
 -- an announced stream ends first, if its time has come
 abbrev pub Plays : Ticks → ℕ → Stream → Step → Stream → Type 0
@@ -197,9 +227,20 @@ due_by idle told deadline last stages.Playing = due_told told (later last idle) 
 due_by idle told deadline last (stages.Leaving why at) = due_told told (Some at) deadline
 due_by idle told deadline last (stages.Draining why) = Some 0
 
+-- a stream requests only while it plays
+abbrev pub request_deadline : Stage → Option Asking → Option ℕ
+request_deadline stages.Probation feedback = None
+request_deadline stages.Playing feedback = requests_due feedback
+request_deadline (stages.Leaving why at) feedback = None
+request_deadline (stages.Draining why) feedback = None
+
+-- the time at which the stream may have a unit, or a request is due
+abbrev pub work_deadline : Stream → Option ℕ
+work_deadline s = earlier (deadline_of s.receiver.packets) (request_deadline s.stage s.feedback)
+
 -- the time at which the stream may have an event without a datagram
 abbrev pub due_of : ℕ → Stream → Option ℕ
-due_of idle s = due_by idle s.told (deadline_of s.receiver.packets) s.last s.stage
+due_of idle s = due_by idle s.told (work_deadline s) s.last s.stage
 
 -- the earliest of their times
 abbrev pub due_in : ℕ → List Stream → Option ℕ
@@ -214,3 +255,4 @@ pub record IsInfo (s : Stream) (i : StreamInfo) : Type 0 where
   pub taken : i.taken ≡ s.taken
   pub held : i.held ≡ length s.receiver.packets.buffer.held
   pub packets : i.counters.packets ≡ s.receiver.packets.counters
+  pub round_trip : i.round_trip ≡ round_trip_of s.feedback

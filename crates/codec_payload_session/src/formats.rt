@@ -1,12 +1,13 @@
 //! The payload types of a port, and the settings of its streams.
 
 ghost use Rattle.std.specs.Prelude.{◌≡◌, IfOk};
-ghost use Rattle.codec_payload_session.specs.Formats.{HasSettings, IsLive, has_type, is_video, resends, retransmission_for, retransmission_of, role_by, role_of, stream_of};
+ghost use Rattle.codec_payload_session.specs.Formats.{HasSettings, IsLive, IsLiveFeedback, has_type, is_video, plain_format, resends, retransmission_for, retransmission_of, role_by, role_of, stream_of};
 ghost use Rattle.codec_payload_stream.specs.Kinds.{is_among};
 
 use codec_payload_base::wire::{Codec, CodecSpec, Frequency};
 use codec_payload_jitter::jitter::WaitLimits;
 use codec_payload_keyframes::unit_gate::FromKeyframe;
+use codec_payload_requests::nack::NackSettings;
 use codec_payload_rtp::values::ExtensionIds;
 use codec_payload_stream::receiver::{RedSettings, Retransmission, Settings};
 use std::alloc::{AllocError, Global};
@@ -30,6 +31,10 @@ pub struct Format {
     pub red: Option<RedSettings>,
     /// The payload type of its retransmissions (RFC 4588, `apt`), 0 to 127, if there are any.
     pub retransmission: Option<u8>,
+    /// Whether its sender answers requests for missing packets: `a=rtcp-fb` with `nack` (RFC 4585, section 4.2).
+    pub nack: bool,
+    /// Whether its sender answers requests for keyframes: `a=rtcp-fb` with `nack pli`.
+    pub pli: bool,
 }
 
 /// Two SSRCs of one source, as `a=ssrc-group:FID` names them.
@@ -39,6 +44,23 @@ pub struct SsrcPair {
     pub ssrc: u32,
     /// The SSRC of its retransmissions.
     pub retransmission: u32,
+}
+
+/// Who requests missing packets and keyframes, and when.
+#[derive(Debug, Drop)]
+pub struct FeedbackSettings {
+    /// The SSRC of the session as a sender of RTCP.
+    pub ssrc: u32,
+    /// The canonical name of the session (RFC 3550, section 6.5.1), of which at most the first 255 bytes are sent. Without bytes
+    /// no source description is sent.
+    pub cname: Vec<u8>,
+    /// Whether each packet begins with an empty receiver report, as RFC 3550, section 6.1, asks. Else it has reduced size
+    /// (RFC 5506).
+    pub has_report: bool,
+    /// When missing packets are requested.
+    pub nack: NackSettings,
+    /// The least number of ticks between two requests of a stream for a keyframe.
+    pub keyframe_interval: u64,
 }
 
 /// The settings of a session.
@@ -74,6 +96,8 @@ pub struct SessionSettings {
     pub bye_wait: u64,
     /// Ticks per second of your clock.
     pub tick_rate: Frequency,
+    /// Who requests what streams miss. `None`: the session requests nothing.
+    pub feedback: Option<FeedbackSettings>,
 }
 
 /// The role of a payload type.
@@ -88,10 +112,27 @@ pub(crate) enum Role {
     Unknown,
 }
 
+impl FeedbackSettings {
+    /// Returns settings for live streams and a clock in milliseconds: packets of reduced size without a name, the defaults of
+    /// [`NackSettings`], and at most one request for a keyframe in 500 ms. Does not allocate.
+    pub fn live(alloc: Global, ssrc: u32) -> FeedbackSettings
+        ensures { IsLiveFeedback ssrc result }
+    {
+        FeedbackSettings {
+            ssrc,
+            cname: Vec::new(alloc),
+            has_report: false,
+            nack: NackSettings::live(),
+            keyframe_interval: 500,
+        }
+    }
+}
+
 impl SessionSettings {
     /// Returns settings without formats, for live streams and a clock in milliseconds. Frames of audio wait for at most 100 ms,
     /// and frames of video for at most 200 ms. A session has at most 64 streams of 4,096 packets. A stream is announced with
-    /// its second datagram, ends after 30 s without a datagram, and takes packets for 200 ms after its BYE. Does not allocate.
+    /// its second datagram, ends after 30 s without a datagram, and takes packets for 200 ms after its BYE. Nothing is
+    /// requested. Does not allocate.
     pub fn live(alloc: Global) -> SessionSettings
         ensures { IsLive result }
     {
@@ -109,6 +150,7 @@ impl SessionSettings {
             idle_timeout: 30_000,
             bye_wait: 200,
             tick_rate: Frequency::make(1_000).unwrap(),
+            feedback: None,
         }
     }
 
@@ -162,6 +204,20 @@ impl SessionSettings {
 }
 
 impl Format {
+    /// Returns a format without RED, retransmissions and requests.
+    pub fn new(payload_type: u8, spec: CodecSpec) -> Format
+        ensures { result ≡ plain_format payload_type spec }
+    {
+        Format {
+            payload_type,
+            spec,
+            red: None,
+            retransmission: None,
+            nack: false,
+            pli: false,
+        }
+    }
+
     /// Returns whether packets of this payload type carry media of this format.
     fn has_type(&self, payload_type: u8) -> bool
         ensures { result ≡ has_type self.now payload_type }
@@ -176,7 +232,7 @@ impl Format {
     }
 
     /// Returns whether packets of this payload type are retransmissions of this format.
-    fn resends(&self, payload_type: u8) -> bool
+    pub(crate) fn resends(&self, payload_type: u8) -> bool
         ensures { result ≡ resends self.now payload_type }
     {
         match self.retransmission {

@@ -66,6 +66,14 @@ pub enum Event {
         keyframe: bool,
         unit: Result<Depacketized, PacketError>,
     },
+    /// A compound packet of RTCP for the sender of a stream, which `packet` returns: a NACK of the packets that are to be
+    /// requested now (RFC 4585, section 6.2.1), and a PLI if a keyframe is (section 6.3.1). Send it: its requests count as
+    /// sent. If memory ran out, they stay due, and the next poll tries again.
+    Feedback {
+        ssrc: u32,
+        payload_type: u8,
+        packet: Result<Vec<u8>, AllocError>,
+    },
     /// A stream was removed. This is the last event of the stream.
     Ended {
         ssrc: u32,
@@ -159,6 +167,9 @@ impl Session {
     ///
     /// Streams are asked in the order in which they began. The events of a stream are `Begun`, then its units in order, then
     /// `Ended`. A stream that is not announced has no events.
+    ///
+    /// With `feedback` of the settings, a stream whose format has `nack` or `pli` also requests what its receiver misses once
+    /// no unit is due (`Feedback`), until it leaves. Each request costs one step for each missing number.
     pub fn poll(&mut self, now: Ticks) -> Option<Event>
         ensures { (port : Port) × TakesTurn now self.old.settings.idle_timeout self.old.port result port × (self.new ≡ record self.old { port = port }) }
     {

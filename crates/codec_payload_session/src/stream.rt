@@ -2,9 +2,10 @@
 
 ghost use Rattle.std.specs.Prelude.{◌≡◌, IfOk, IfSome};
 ghost use Rattle.std.specs.Option.{option_map};
-ghost use Rattle.codec_payload_session.specs.Streams.{Begins, Drains, IsInfo, Steps, Takes, due_of, earlier, end_of, ended_or_nothing, heard, is_accepted, is_no_memory, is_of, is_probation, left, left_when, waiting_if};
+ghost use Rattle.codec_payload_session.specs.Streams.{Begins, Drains, IsInfo, RequestsBy, RestsBy, Steps, Takes, due_of, earlier, end_of, heard, is_accepted, is_no_memory, is_of, is_probation, left, left_when, step_of, waiting_if, work_deadline};
 
 use crate::formats::{Format, SessionSettings};
+use crate::requests::{Feedback, hear, requests_due, round_trip};
 use codec_payload_base::error::PacketError;
 use codec_payload_base::wire::Ticks;
 use codec_payload_buffer::buffer::Depacketized;
@@ -52,6 +53,8 @@ pub struct StreamInfo {
     pub held: usize,
     /// The outcomes of its datagrams.
     pub counters: Counters,
+    /// The measured round-trip time in ticks, once a request of the session was answered.
+    pub round_trip: Option<u64>,
 }
 
 /// A stream of a session.
@@ -68,6 +71,8 @@ pub(crate) struct Stream {
     pub(crate) accepted: u64,
     /// When the latest datagram arrived.
     pub(crate) last: u64,
+    /// What it requests. `None`: nothing.
+    pub(crate) feedback: Option<Feedback>,
 }
 
 /// A step of a stream: its next event, or nothing.
@@ -75,6 +80,8 @@ pub(crate) struct Stream {
 pub(crate) enum Step {
     Begun,
     Unit(Result<Depacketized, PacketError>),
+    /// A packet of RTCP to send. If memory ran out, its requests stay due.
+    Feedback(Result<Vec<u8>, AllocError>),
     Ended(Ending),
     Nothing,
 }
@@ -93,6 +100,7 @@ impl Stream {
             return Ok(None);
         };
         depacketizer.configure_for(&format.spec);
+        let feedback = Feedback::begin(alloc, &settings.feedback, ssrc, format)?;
         let settings = settings.receiver(alloc, ssrc, format)?;
         let Ok(receiver) = Receiver::new(alloc, depacketizer, settings) else {
             return Ok(None);
@@ -106,6 +114,7 @@ impl Stream {
             taken: 0,
             accepted: 0,
             last: 0,
+            feedback,
         }))
     }
 
@@ -133,6 +142,9 @@ impl Stream {
         ensures { Takes now probation datagram.now self.old result self.new }
     {
         let answer = self.receiver.receive(now, datagram);
+        if is_accepted(&answer) {
+            hear(&mut self.feedback, &self.format, now, datagram);
+        }
         if !is_no_memory(&answer) {
             self.note(now, probation, is_accepted(&answer));
         }
@@ -219,7 +231,42 @@ impl Stream {
         self.drain(now.0, idle_timeout);
         match self.receiver.pop(now) {
             Some(unit) => Step::Unit(unit),
-            None => ended_or_nothing(self.stage),
+            None => self.rest(now),
+        }
+    }
+
+    /// Returns the step of a stream without a unit: its end, or what it requests.
+    fn rest(&mut self, now: Ticks) -> Step
+        ensures { RestsBy self.old.stage now.0 self.old result self.new }
+    {
+        match self.stage {
+            Stage::Playing => self.request(now),
+            Stage::Draining(why) => Step::Ended(why),
+            _ => Step::Nothing,
+        }
+    }
+
+    /// Returns the requests that are due, by what the receiver misses now.
+    fn request(&mut self, now: Ticks) -> Step
+        ensures { RequestsBy self.old.feedback now.0 self.old result self.new }
+    {
+        match &mut self.feedback {
+            Some(feedback) => step_of(feedback.take_due(now, &self.receiver)),
+            None => Step::Nothing,
+        }
+    }
+
+    /// Returns when the stream may have a unit, or a request is due.
+    fn work_deadline(&self) -> Option<u64>
+        ensures { result ≡ work_deadline self.now }
+    {
+        let unit = match self.receiver.next_deadline() {
+            Some(at) => Some(at.0),
+            None => None,
+        };
+        match self.stage {
+            Stage::Playing => earlier(unit, requests_due(&self.feedback)),
+            _ => unit,
         }
     }
 
@@ -236,10 +283,7 @@ impl Stream {
         if !self.told {
             return Some(0);
         }
-        match self.receiver.next_deadline() {
-            Some(at) => earlier(end, Some(at.0)),
-            None => end,
-        }
+        earlier(end, self.work_deadline())
     }
 
     /// Describes the stream, as a caller sees it.
@@ -253,6 +297,7 @@ impl Stream {
             taken: self.taken,
             held: self.receiver.held(),
             counters: self.receiver.counters(),
+            round_trip: round_trip(&self.feedback),
         }
     }
 }
@@ -264,13 +309,14 @@ fn is_probation(stage: Stage) -> bool
     matches!(stage, Stage::Probation)
 }
 
-/// Returns the step of a stream whose pop returned no unit.
-fn ended_or_nothing(stage: Stage) -> Step
-    ensures { result ≡ ended_or_nothing stage }
+/// Returns the step of a stream with these requests.
+fn step_of(packet: Result<Option<Vec<u8>>, AllocError>) -> Step
+    ensures { result ≡ step_of packet }
 {
-    match stage {
-        Stage::Draining(why) => Step::Ended(why),
-        _ => Step::Nothing,
+    match packet {
+        Ok(Some(packet)) => Step::Feedback(Ok(packet)),
+        Ok(None) => Step::Nothing,
+        Err(e) => Step::Feedback(Err(e)),
     }
 }
 

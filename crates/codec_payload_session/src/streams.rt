@@ -235,6 +235,11 @@ impl Streams {
                     unit,
                 })
             }
+            Step::Feedback(packet) => Some(Event::Feedback {
+                ssrc,
+                payload_type,
+                packet,
+            }),
             Step::Ended(why) => {
                 self.remove(turn.place);
                 Some(Event::Ended {

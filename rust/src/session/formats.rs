@@ -5,6 +5,7 @@
 use crate::jitter::jitter_buffer::WaitLimits;
 use crate::keyframes::unit_gate::FromKeyframe;
 use crate::memory::{AllocError, TryVec};
+use crate::requests::nack::NackSettings;
 use crate::rtp::values::ExtensionIds;
 use crate::stream::receiver::{ReceiverSettings, RedSettings, Retransmission};
 use crate::wire::{Codec, CodecSpec, Frequency};
@@ -29,6 +30,10 @@ pub struct Format {
     pub red: Option<RedSettings>,
     /// The payload type of its retransmissions (RFC 4588, `apt`), 0 to 127, if there are any.
     pub retransmission: Option<u8>,
+    /// Whether its sender answers requests for missing packets: `a=rtcp-fb` with `nack` (RFC 4585, section 4.2).
+    pub nack: bool,
+    /// Whether its sender answers requests for keyframes: `a=rtcp-fb` with `nack pli`.
+    pub pli: bool,
 }
 
 /// Two SSRCs of one source, as `a=ssrc-group:FID` names them.
@@ -38,6 +43,23 @@ pub struct SsrcPair {
     pub ssrc: u32,
     /// The SSRC of its retransmissions.
     pub retransmission: u32,
+}
+
+/// Who requests missing packets and keyframes, and when.
+#[derive(Debug)]
+pub struct FeedbackSettings {
+    /// The SSRC of the session as a sender of RTCP.
+    pub ssrc: u32,
+    /// The canonical name of the session (RFC 3550, section 6.5.1), of which at most the first 255 bytes are sent. Without bytes
+    /// no source description is sent.
+    pub cname: Vec<u8>,
+    /// Whether each packet begins with an empty receiver report, as RFC 3550, section 6.1, asks. Else it has reduced size
+    /// (RFC 5506).
+    pub has_report: bool,
+    /// When missing packets are requested.
+    pub nack: NackSettings,
+    /// The least number of ticks between two requests of a stream for a keyframe.
+    pub keyframe_interval: u64,
 }
 
 /// The settings of a session.
@@ -73,6 +95,8 @@ pub struct SessionSettings {
     pub bye_wait: u64,
     /// Ticks per second of your clock.
     pub tick_rate: Frequency,
+    /// Who requests what streams miss. `None`: the session requests nothing.
+    pub feedback: Option<FeedbackSettings>,
 }
 
 /// The role of a payload type.
@@ -87,10 +111,25 @@ pub(crate) enum Role {
     Unknown,
 }
 
+impl FeedbackSettings {
+    /// Returns settings for live streams and a clock in milliseconds: packets of reduced size without a name, the defaults of
+    /// [`NackSettings`], and at most one request for a keyframe in 500 ms. Does not allocate.
+    pub fn live(ssrc: u32) -> FeedbackSettings {
+        FeedbackSettings {
+            ssrc,
+            cname: Vec::new(),
+            has_report: false,
+            nack: NackSettings::live(),
+            keyframe_interval: 500,
+        }
+    }
+}
+
 impl SessionSettings {
     /// Returns settings without formats, for live streams and a clock in milliseconds. Frames of audio wait for at most 100 ms,
     /// and frames of video for at most 200 ms. A session has at most 64 streams of 4,096 packets. A stream is announced with
-    /// its second datagram, ends after 30 s without a datagram, and takes packets for 200 ms after its BYE. Does not allocate.
+    /// its second datagram, ends after 30 s without a datagram, and takes packets for 200 ms after its BYE. Nothing is
+    /// requested. Does not allocate.
     pub fn live() -> SessionSettings {
         SessionSettings {
             formats: Vec::new(),
@@ -106,6 +145,7 @@ impl SessionSettings {
             idle_timeout: 30_000,
             bye_wait: 200,
             tick_rate: Frequency::make(1_000).unwrap(),
+            feedback: None,
         }
     }
 
@@ -152,6 +192,18 @@ impl SessionSettings {
 }
 
 impl Format {
+    /// Returns a format without RED, retransmissions and requests.
+    pub fn new(payload_type: u8, spec: CodecSpec) -> Format {
+        Format {
+            payload_type,
+            spec,
+            red: None,
+            retransmission: None,
+            nack: false,
+            pli: false,
+        }
+    }
+
     /// Returns whether packets of this payload type carry media of this format.
     fn has_type(&self, payload_type: u8) -> bool {
         if self.payload_type == payload_type {
@@ -164,7 +216,7 @@ impl Format {
     }
 
     /// Returns whether packets of this payload type are retransmissions of this format.
-    fn resends(&self, payload_type: u8) -> bool {
+    pub(crate) fn resends(&self, payload_type: u8) -> bool {
         match self.retransmission {
             Some(own) => own == payload_type,
             None => false,

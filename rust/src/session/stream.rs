@@ -9,8 +9,10 @@ use crate::jitter::jitter_buffer::WaitLimits;
 use crate::jitter::outcome::Outcome;
 use crate::memory::AllocError;
 use crate::session::formats::{Format, SessionSettings};
+use crate::session::requests::{Feedback, hear, requests_due, round_trip};
 use crate::stream::receiver::{Counters, ReceiveError, Receiver};
 use crate::wire::Ticks;
+use alloc::vec::Vec;
 
 /// Why a stream ended.
 #[derive(Clone, Copy, Debug, PartialEq, Eq)]
@@ -50,6 +52,8 @@ pub struct StreamInfo {
     pub held: usize,
     /// The outcomes of its datagrams.
     pub counters: Counters,
+    /// The measured round-trip time in ticks, once a request of the session was answered.
+    pub round_trip: Option<u64>,
 }
 
 /// A stream of a session.
@@ -66,6 +70,8 @@ pub(crate) struct Stream {
     pub(crate) accepted: u64,
     /// When the latest datagram arrived.
     pub(crate) last: u64,
+    /// What it requests. `None`: nothing.
+    pub(crate) feedback: Option<Feedback>,
 }
 
 /// A step of a stream: its next event, or nothing.
@@ -73,6 +79,8 @@ pub(crate) struct Stream {
 pub(crate) enum Step {
     Begun,
     Unit(Result<Depacketized, PacketError>),
+    /// A packet of RTCP to send. If memory ran out, its requests stay due.
+    Feedback(Result<Vec<u8>, AllocError>),
     Ended(Ending),
     Nothing,
 }
@@ -88,6 +96,7 @@ impl Stream {
             return Ok(None);
         };
         depacketizer.configure_for(&format.spec);
+        let feedback = Feedback::begin(&settings.feedback, ssrc, format)?;
         let settings = settings.receiver(ssrc, format)?;
         let Ok(receiver) = Receiver::new(depacketizer, settings) else {
             return Ok(None);
@@ -101,6 +110,7 @@ impl Stream {
             taken: 0,
             accepted: 0,
             last: 0,
+            feedback,
         }))
     }
 
@@ -122,6 +132,9 @@ impl Stream {
         datagram: &[u8],
     ) -> Result<Outcome, ReceiveError> {
         let answer = self.receiver.receive(now, datagram);
+        if is_accepted(&answer) {
+            hear(&mut self.feedback, &self.format, now, datagram);
+        }
         if !is_no_memory(&answer) {
             self.note(now, probation, is_accepted(&answer));
         }
@@ -194,7 +207,36 @@ impl Stream {
         self.drain(now.0, idle_timeout);
         match self.receiver.pop(now) {
             Some(unit) => Step::Unit(unit),
-            None => ended_or_nothing(self.stage),
+            None => self.rest(now),
+        }
+    }
+
+    /// Returns the step of a stream without a unit: its end, or what it requests.
+    fn rest(&mut self, now: Ticks) -> Step {
+        match self.stage {
+            Stage::Playing => self.request(now),
+            Stage::Draining(why) => Step::Ended(why),
+            _ => Step::Nothing,
+        }
+    }
+
+    /// Returns the requests that are due, by what the receiver misses now.
+    fn request(&mut self, now: Ticks) -> Step {
+        match &mut self.feedback {
+            Some(feedback) => step_of(feedback.take_due(now, &self.receiver)),
+            None => Step::Nothing,
+        }
+    }
+
+    /// Returns when the stream may have a unit, or a request is due.
+    fn work_deadline(&self) -> Option<u64> {
+        let unit = match self.receiver.next_deadline() {
+            Some(at) => Some(at.0),
+            None => None,
+        };
+        match self.stage {
+            Stage::Playing => earlier(unit, requests_due(&self.feedback)),
+            _ => unit,
         }
     }
 
@@ -209,10 +251,7 @@ impl Stream {
         if !self.told {
             return Some(0);
         }
-        match self.receiver.next_deadline() {
-            Some(at) => earlier(end, Some(at.0)),
-            None => end,
-        }
+        earlier(end, self.work_deadline())
     }
 
     /// Describes the stream, as a caller sees it.
@@ -224,6 +263,7 @@ impl Stream {
             taken: self.taken,
             held: self.receiver.held(),
             counters: self.receiver.counters(),
+            round_trip: round_trip(&self.feedback),
         }
     }
 }
@@ -233,11 +273,12 @@ fn is_probation(stage: Stage) -> bool {
     matches!(stage, Stage::Probation)
 }
 
-/// Returns the step of a stream whose pop returned no unit.
-fn ended_or_nothing(stage: Stage) -> Step {
-    match stage {
-        Stage::Draining(why) => Step::Ended(why),
-        _ => Step::Nothing,
+/// Returns the step of a stream with these requests.
+fn step_of(packet: Result<Option<Vec<u8>>, AllocError>) -> Step {
+    match packet {
+        Ok(Some(packet)) => Step::Feedback(Ok(packet)),
+        Ok(None) => Step::Nothing,
+        Err(e) => Step::Feedback(Err(e)),
     }
 }
 

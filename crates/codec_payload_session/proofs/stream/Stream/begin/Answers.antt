@@ -12,6 +12,7 @@ returns c = record {
   taken = refl;
   accepted = refl;
   last = refl;
+  feedback = c.in_ok-feedback.ensures;
   depacketizer = depacketizer_state_of c.in-Some.depacketizer;
   known = sym c.in-Some.ensures;
   receiver_settings = c.in_ok-settings.settings;

@@ -1,0 +1,180 @@
+//! What a stream of a session requests: missing packets and keyframes.
+
+ghost use Rattle.std.specs.Prelude.{◌≡◌, IfOk, OnOk};
+ghost use Rattle.codec_payload_jitter.specs.Missing.{missing_numbers};
+ghost use Rattle.codec_payload_session.specs.Requests.{Asks, Refreshes, after_number, feedback_by, heard_by, number_at, original_number, requests_due, round_trip_of, source_for};
+
+use crate::formats::{FeedbackSettings, Format};
+use codec_payload_base::wire::Ticks;
+use codec_payload_feedback::requests::{FeedbackSource, StreamRequests};
+use codec_payload_rtp::rtp::RtpPacket;
+use codec_payload_stream::receiver::Receiver;
+use std::alloc::{AllocError, Global};
+use std::marker::Model;
+
+/// The longest canonical name (RFC 3550, section 6.5.1), in bytes.
+const LONGEST_NAME: usize = 255;
+
+/// The requests of one stream, and who sends them.
+#[derive(Debug, Drop)]
+pub(crate) struct Feedback {
+    source: FeedbackSource,
+    requests: StreamRequests,
+    /// How many missing packets are requested at most.
+    most: usize,
+    /// Whether keyframes are requested.
+    pli: bool,
+    /// Memory for the missing numbers.
+    missing: Vec<u64>,
+}
+
+impl Model for Feedback {
+    ghost use Rattle.codec_payload_session.specs.Requests.{Asking};
+
+    ghost Value = { Asking };
+
+    ghost view = { λ f. record { source = f.source; requests = f.requests; most = f.most; pli = f.pli } };
+}
+
+impl Feedback {
+    /// Returns the requests of a new stream. `None`: it requests nothing.
+    pub(crate) fn begin(
+        alloc: Global,
+        settings: &Option<FeedbackSettings>,
+        ssrc: u32,
+        format: &Format,
+    ) -> Result<Option<Feedback>, AllocError>
+        ensures { IfOk result (λ feedback. feedback ≡ feedback_by settings.now ssrc format.now) }
+    {
+        match settings {
+            Some(settings) if format.nack || format.pli => {
+                let source = source_for(alloc, settings)?;
+                let most = if format.nack {
+                    settings.nack.capacity
+                } else {
+                    0
+                };
+                Ok(Some(Feedback {
+                    source,
+                    requests: StreamRequests::new(
+                        alloc,
+                        ssrc,
+                        settings.nack,
+                        settings.keyframe_interval,
+                    ),
+                    most,
+                    pli: format.pli,
+                    missing: Vec::new(alloc),
+                }))
+            }
+            _ => Ok(None),
+        }
+    }
+
+    /// Records that a packet with this number came. If the number was requested, that measures the round trip.
+    fn hear(&mut self, now: Ticks, number: Option<u16>)
+        ensures { self.new ≡ after_number now.0 number self.old }
+    {
+        if let Some(number) = number {
+            self.requests.answered(now, number);
+        }
+    }
+
+    /// Replaces what is requested by what the receiver misses now.
+    fn refresh(&mut self, now: Ticks, receiver: &Receiver) -> Result<(), AllocError>
+        ensures { Refreshes now.0 receiver.now self.old result self.new }
+    {
+        collect_missing(receiver, self.most, &mut self.missing)?;
+        let wants_keyframe = self.pli && receiver.wants_keyframe();
+        self.requests.update(now, &self.missing, wants_keyframe)
+    }
+
+    /// Returns the packet with all requests that are due, by what the receiver misses now. `None`: nothing is due.
+    pub(crate) fn take_due(
+        &mut self,
+        now: Ticks,
+        receiver: &Receiver,
+    ) -> Result<Option<Vec<u8>>, AllocError>
+        ensures { Asks now.0 receiver.now self.old result self.new }
+    {
+        self.refresh(now, receiver)?;
+        self.requests.take_due(now, &self.source)
+    }
+}
+
+/// Records the number of a packet that was accepted.
+pub(crate) fn hear(feedback: &mut Option<Feedback>, format: &Format, now: Ticks, datagram: &[u8])
+    ensures { feedback.new ≡ heard_by now.0 (number_at format.now datagram.now) feedback.old }
+{
+    if let Some(feedback) = feedback {
+        feedback.hear(now, number_of(format, datagram));
+    }
+}
+
+/// Returns when the next request is due.
+pub(crate) fn requests_due(feedback: &Option<Feedback>) -> Option<u64>
+    ensures { result ≡ requests_due feedback.now }
+{
+    match feedback {
+        Some(feedback) => match feedback.requests.next_deadline() {
+            Some(at) => Some(at.0),
+            None => None,
+        },
+        None => None,
+    }
+}
+
+/// Returns the measured round-trip time, once a request was answered.
+pub(crate) fn round_trip(feedback: &Option<Feedback>) -> Option<u64>
+    ensures { result ≡ round_trip_of feedback.now }
+{
+    match feedback {
+        Some(feedback) => feedback.requests.round_trip(),
+        None => None,
+    }
+}
+
+/// Returns who sends the requests.
+fn source_for(alloc: Global, settings: &FeedbackSettings) -> Result<FeedbackSource, AllocError>
+    ensures { IfOk result (λ source. source ≡ source_for settings.now) }
+{
+    let len = LONGEST_NAME.min(settings.cname.len());
+    let cname = Vec::from_slice(alloc, &settings.cname[..len])?;
+    Ok(FeedbackSource::new(alloc, settings.ssrc, cname, settings.has_report).unwrap())
+}
+
+/// Writes the missing numbers of the receiver to `missing`, at most `most` of them.
+fn collect_missing(
+    receiver: &Receiver,
+    most: usize,
+    missing: &mut Vec<u64>,
+) -> Result<(), AllocError>
+    ensures { OnOk result (missing.new.items ≡ missing_numbers receiver.now.packets most) }
+{
+    missing.clear();
+    for number in receiver.missing(most) {
+        missing.push(number)?;
+    }
+    Ok(())
+}
+
+/// Returns the number of a packet in its stream: that of a retransmission is its original number (RFC 4588, section 4).
+fn number_of(format: &Format, datagram: &[u8]) -> Option<u16>
+    ensures { result ≡ number_at format.now datagram.now }
+{
+    match RtpPacket::parse(datagram) {
+        Ok(packet) if format.resends(packet.header.payload_type) => original_number(packet.payload),
+        Ok(packet) => Some(packet.header.sequence_number),
+        Err(_) => None,
+    }
+}
+
+/// Returns the original number of a retransmission.
+fn original_number(payload: &[u8]) -> Option<u16>
+    ensures { result ≡ original_number payload.now }
+{
+    match payload {
+        [high, low, ..] => Some(u16::from(*high) * 256 + u16::from(*low)),
+        _ => None,
+    }
+}
