@@ -783,11 +783,14 @@ typedef struct {
     uint64_t retry;             /**< time between two requests of a number while the round-trip time is unknown */
     uint64_t shortest_retry;    /**< least time between two requests of a number once the round-trip time is known */
     uint64_t longest_retry;     /**< largest time between them; if it is below `shortest_retry`, it wins */
+    uint64_t longest_wait;      /**< with has_longest_wait: `max_wait` of a stream becomes `first_wait` and four round trips, between
+                                     the session's own and this time */
     size_t capacity;            /**< how many missing numbers of a stream are followed at most: the lowest */
     uint32_t tries;             /**< how often a number is requested at most; 0 requests nothing */
     uint32_t ssrc;              /**< SSRC of the session as a sender of RTCP */
     bool has_report;            /**< each packet begins with an empty receiver report (RFC 3550, section 6.1); else it has reduced
                                      size (RFC 5506) */
+    bool has_longest_wait;      /**< waiting follows the measured round trip */
 } cpay_session_feedback;
 
 /** Begin with CPAY_LIVE_SESSION. */
@@ -815,7 +818,7 @@ typedef struct {
  * number is requested after 10 ms and at most 6 times, and a keyframe at most once in 500 ms. */
 #define CPAY_LIVE_SESSION \
     { { 100, CPAY_NO_HOLD_BACK, 1, true }, { 200, CPAY_NO_HOLD_BACK, 2, true }, 30000, 200, 2, 4096, 64, 1000, \
-      CPAY_KEYFRAME_MARK, false, { 500, 10, 100, 20, 400, 1024, 6, 0, false }, { 0, 0, 0, 0, 0, 0 } }
+      CPAY_KEYFRAME_MARK, false, { 500, 10, 100, 20, 400, 0, 1024, 6, 0, false, false }, { 0, 0, 0, 0, 0, 0 } }
 
 /** Creates a session in an empty handle, for these payload formats. `no_media` lists payload types that share the SSRC and the
  * numbers of a stream and carry none of its media: telephone events beside audio, comfort noise. `pairs` names the SSRCs of

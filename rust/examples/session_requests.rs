@@ -7,10 +7,9 @@
 //!
 //! - `SessionSettings::feedback` says who requests, and how often. `nack` and `pli` of a format say what its sender answers.
 //! - `Event::Feedback` has the RTCP packet to send.
-//! - Wait for at least four round trips: `Session::set_wait_limits`.
+//! - Wait for at least four round trips: `FeedbackSettings::longest_wait`.
 
 use codec_payload::history::{History, HistorySettings, Request, read_requests};
-use codec_payload::requests::NackSettings;
 use codec_payload::rtcp::CompoundRule;
 use codec_payload::sender::{Sample, Sender, SenderSettings};
 use codec_payload::session::{Event, FeedbackSettings, Format, Session, SessionSettings};
@@ -163,7 +162,11 @@ impl ReceivingSide {
             ..Format::new(VP8, spec)
         });
         if requests != Requests::None {
-            settings.feedback = Some(FeedbackSettings::live(OWN_SSRC));
+            let longest_wait = (requests == Requests::ByRoundTrip).then_some(LONGEST_WAIT);
+            settings.feedback = Some(FeedbackSettings {
+                longest_wait,
+                ..FeedbackSettings::live(OWN_SSRC)
+            });
         }
         ReceivingSide {
             session: Session::new(settings),
@@ -186,17 +189,6 @@ impl ReceivingSide {
         }
         Ok(())
     }
-
-    /// Waits for four round trips, if the round trip is known.
-    fn follow_round_trip(&mut self) {
-        let Some(stream) = self.session.stream_at(0) else {
-            return;
-        };
-        let mut limits = SessionSettings::live().video;
-        let wait = NackSettings::live().first_wait + 4 * stream.round_trip.unwrap_or(0);
-        limits.max_wait = Some(wait.clamp(200, LONGEST_WAIT));
-        self.session.set_wait_limits(SSRC, VP8, limits);
-    }
 }
 
 /// Released and decodable units in thousandths of the sent frames.
@@ -216,9 +208,6 @@ fn run(round_trip: u64, lost: u64, requests: Requests) -> Result<[u64; 2], Box<d
             receiving.session.receive(Ticks(now), &datagram)?;
         }
         receiving.poll(now, &mut back)?;
-        if requests == Requests::ByRoundTrip {
-            receiving.follow_round_trip();
-        }
     }
     receiving.session.finish(Ticks(LENGTH + 2_000));
     receiving.poll(LENGTH + 2_000, &mut back)?;

@@ -303,6 +303,39 @@ fn an_answer_measures_the_round_trip() -> Result<(), Fail> {
     Ok(())
 }
 
+/// Number 3 is requested at 10 ms and answered at `answered`. So a frame behind the next gap waits for four round trips and 10 ms,
+/// within the session's limit of 200 ms and the longest wait of 500 ms.
+#[test]
+fn waiting_follows_the_round_trip() -> Result<(), Fail> {
+    let cases = [
+        (Some(500), 20, 200),
+        (Some(500), 80, 290),
+        (Some(500), 190, 500),
+        (Some(100), 80, 200),
+        (None, 80, 200),
+    ];
+    for (longest_wait, answered, wait) in cases {
+        let mut session = session(|s| {
+            s.video.max_wait = Some(200);
+            s.feedback.as_mut().unwrap().longest_wait = longest_wait;
+        });
+        for number in [1, 2, 4] {
+            session.receive(Ticks(0), &vp8(number, number == 1))?;
+        }
+        assert_eq!(requested(&mut session, 0), []);
+        assert_eq!(requested(&mut session, 10), [(5, vec![3], 0)]);
+        session.receive(Ticks(answered), &vp8(3, false))?;
+        assert_eq!(
+            session.stream_at(0).unwrap().round_trip,
+            Some(answered - 10)
+        );
+        let limits = session.receiver_of(5, VP8).unwrap().wait_limits();
+        assert_eq!(limits.max_wait, Some(wait));
+        assert_eq!(limits.start, 0);
+    }
+    Ok(())
+}
+
 /// RFC 3550, sections 6.4.2 and 6.5: an empty report and the name come first, and of a long name 255 bytes.
 #[test]
 fn packets_carry_a_report_and_a_name() -> Result<(), Fail> {

@@ -66,6 +66,8 @@ pub struct SessionFeedback {
     pub shortest_retry: u64,
     /// The largest number of ticks between two requests of a number once the round-trip time is known.
     pub longest_retry: u64,
+    /// How long a frame may wait at most if waiting follows the round trip.
+    pub longest_wait: u64,
     /// How many missing numbers of a stream are followed at most.
     pub capacity: usize,
     /// How often a number is requested at most.
@@ -74,6 +76,8 @@ pub struct SessionFeedback {
     pub ssrc: u32,
     /// Whether each packet begins with an empty receiver report.
     pub has_report: bool,
+    /// Whether `longest_wait` is set. If not, the wait limits stay.
+    pub has_longest_wait: bool,
 }
 
 /// The settings of a session, except its lists.
@@ -228,6 +232,11 @@ fn feedback_of(alloc: Global, settings: &SessionSettings) -> Option<FeedbackSett
             capacity: feedback.capacity,
         },
         keyframe_interval: feedback.keyframe_interval,
+        longest_wait: if feedback.has_longest_wait {
+            Some(feedback.longest_wait)
+        } else {
+            None
+        },
     })
 }
 

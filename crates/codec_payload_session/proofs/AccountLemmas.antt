@@ -16,8 +16,9 @@ use Rattle.codec_payload_session.proofs.QuietLemmas.{quiet_length}
 use Rattle.codec_payload_session.specs.Arrivals.{Arrives, BeginsIf, BeginsOrFeeds, BeginsWith, Feeds, FeedsIf, Port, StaysEmpty, TakesIn, TakesInAs, added, has_place, left_if, left_where, on_probation, taken_of, without}
 use Rattle.codec_payload_session.specs.Ports.{IsSession, Session, counted_if, taken_in}
 use Rattle.codec_payload_session.specs.Sorting.{sorted_at}
-use Rattle.codec_payload_session.specs.Requests.{Asking}
-use Rattle.codec_payload_session.specs.Streams.{Drains, Follows, Plays, RequestsBy, RestsBy, Steps, StepsBy, Takes, end_of, heard_unless, is_accepted, is_no_memory, is_of, is_probation, left_when, received, waiting_if, waiting_when, waiting_where}
+use Rattle.codec_payload_stream.specs.Sessions.{Session as Receiver}
+use Rattle.codec_payload_session.specs.Requests.{Asking, heard_by, number_at, wait_by}
+use Rattle.codec_payload_session.specs.Streams.{Drains, Follows, Plays, RequestsBy, RestsBy, Steps, StepsBy, Takes, end_of, heard_unless, is_accepted, is_no_memory, is_of, is_probation, left_when, received, waiting_for, waiting_if, waiting_when, waiting_where}
 use Rattle.codec_payload_session.specs.Turns.{AreQuiet, TakesTurn, ended_after, kept_after}
 use Rattle.codec_payload_session.specs.declared.formats.Format.{Format}
 use Rattle.codec_payload_session.specs.declared.formats.SessionSettings.{SessionSettings}
@@ -86,13 +87,25 @@ abbrev taken_unless : Bool → ℕ → ℕ
 taken_unless true n = n
 taken_unless false n = next n
 
+waiting_taken : (o : Option ℕ) (s : Stream) → (waiting_for o s).taken ≡ s.taken
+waiting_taken None s = refl
+waiting_taken (Some wait) s = refl
+
+received_taken : (now : ℕ) (bytes : List ℕ) (accepted : Bool) (r : Receiver) (s : Stream) → (received now bytes accepted r s).taken ≡ s.taken
+received_taken now bytes true r s =
+    waiting_taken (wait_by (heard_by now (number_at s.format bytes) s.feedback)) (record s { receiver = r; feedback = heard_by now (number_at s.format bytes) s.feedback })
+received_taken now bytes false r s = refl
+
 takes_taken : (now : Ticks) (probation : ℕ) (bytes : List ℕ) (s : Stream) (told : Result Outcome ReceiveError) (t : Stream) → Takes now probation bytes s told t
     → t.taken ≡ taken_unless (is_no_memory told) s.taken
 takes_taken now probation bytes s told t got = ap (λ (x : Stream). x.taken) got.2 ∙ by_test (is_no_memory told)
   where
+    same : (received now.0 bytes (is_accepted told) got.0 s).taken ≡ s.taken
+    same = received_taken now.0 bytes (is_accepted told) got.0 s
+
     by_test : (b : Bool) → (heard_unless b now.0 probation (is_accepted told) (received now.0 bytes (is_accepted told) got.0 s)).taken ≡ taken_unless b s.taken
-    by_test true = refl
-    by_test false = refl
+    by_test true = same
+    by_test false = ap next same
 
 abbrev with_all : SessionSettings → Port → ArrivalCounts → Session
 with_all settings p c = record { settings = settings; port = p; counts = c }

@@ -143,3 +143,4 @@ pub record IsLiveFeedback (ssrc : ℕ) (f : FeedbackSettings) : Type 0 where
   pub has_report : f.has_report ≡ false
   pub nack : f.nack ≡ live_nack
   pub keyframe_interval : f.keyframe_interval ≡ 500
+  pub longest_wait : f.longest_wait ≡ None

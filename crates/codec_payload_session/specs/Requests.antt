@@ -1,5 +1,5 @@
 -- What a stream requests: the packets that its receiver misses, and a keyframe if its receiver needs one.
-use Rattle.std.specs.Prelude.{◌≡◌, ◌⊎◌, ℕ, ◌+◌, ◌*◌, ◌/◌, ◌&&◌, ◌||◌, if◌then◌else◌, Bool, List, ◌∷◌, take, Option, Some, None, Result, Ok, Err}
+use Rattle.std.specs.Prelude.{◌≡◌, ◌⊎◌, ℕ, ◌+◌, ◌*◌, ◌/◌, ◌&&◌, ◌||◌, if◌then◌else◌, max, min, Bool, List, ◌∷◌, take, Option, Some, None, Result, Ok, Err}
 use Rattle.std.specs.Global.{Vec}
 use Rattle.std.specs.Option.{option_map}
 use Rattle.std.specs.declared.alloc.AllocError.{AllocError}
@@ -12,13 +12,16 @@ use Rattle.codec_payload_stream.specs.Sessions.{Session as Receiver}
 use Rattle.codec_payload_session.specs.Formats.{resends}
 use Rattle.codec_payload_session.specs.declared.formats.FeedbackSettings.{FeedbackSettings}
 use Rattle.codec_payload_session.specs.declared.formats.Format.{Format}
+use Rattle.codec_payload_session.specs.declared.requests.WaitRange.{WaitRange}
 
--- who sends the requests of a stream, what is requested when, at most how many packets, and whether keyframes are
+-- who sends the requests of a stream, what is requested when, at most how many packets, whether keyframes are, and how waiting
+-- follows the round trip
 pub record Asking : Type 0 where
   pub source : Source
   pub requests : Requests
   pub most : ℕ
   pub pli : Bool
+  pub waits : Option WaitRange
 
 -- ---- the requests of a new stream
 
@@ -26,18 +29,28 @@ pub record Asking : Type 0 where
 abbrev pub source_for : FeedbackSettings → Source
 source_for f = record { ssrc = f.ssrc; cname = take 255 f.cname.items; has_report = f.has_report }
 
-abbrev pub asking_for : FeedbackSettings → ℕ → Format → Asking
-asking_for f ssrc format = record {
+-- waiting follows the round trip between the stream's own limit and the longest wait
+abbrev pub range_by : ℕ → Option ℕ → Option ℕ → Option WaitRange
+range_by first None least = None
+range_by first (Some most) None = None
+range_by first (Some most) (Some least) = Some (record { first = first; least = least; most = most })
+
+abbrev pub range_for : FeedbackSettings → Option ℕ → Option WaitRange
+range_for f max_wait = range_by f.nack.first_wait f.longest_wait max_wait
+
+abbrev pub asking_for : FeedbackSettings → ℕ → Format → Option ℕ → Asking
+asking_for f ssrc format max_wait = record {
   source = source_for f;
   requests = new_requests ssrc f.nack f.keyframe_interval;
   most = if format.nack then f.nack.capacity else 0;
   pli = format.pli;
+  waits = range_for f max_wait;
 }
 
 -- a stream whose sender answers no requests has none
-abbrev pub feedback_by : Option FeedbackSettings → ℕ → Format → Option Asking
-feedback_by None ssrc format = None
-feedback_by (Some f) ssrc format = if format.nack || format.pli then Some (asking_for f ssrc format) else None
+abbrev pub feedback_by : Option FeedbackSettings → ℕ → Format → Option ℕ → Option Asking
+feedback_by None ssrc format max_wait = None
+feedback_by (Some f) ssrc format max_wait = if format.nack || format.pli then Some (asking_for f ssrc format max_wait) else None
 
 -- ---- a packet came
 
@@ -97,3 +110,22 @@ requests_due (Some a) = deadline_of a.requests
 abbrev pub round_trip_of : Option Asking → Option ℕ
 round_trip_of None = None
 round_trip_of (Some a) = option_map (λ eighths. eighths / 8) a.requests.nack.round_trip
+
+-- ---- waiting
+
+-- the first wait and four round trips, at most the longest wait, and at least the stream's own limit
+abbrev pub wait_within : WaitRange → ℕ → ℕ
+wait_within range round_trip = max (min (round_trip * 4 + range.first) range.most) range.least
+
+abbrev pub wait_for : Option WaitRange → Option ℕ → Option ℕ
+wait_for None round_trip = None
+wait_for (Some range) None = None
+wait_for (Some range) (Some round_trip) = Some (wait_within range round_trip)
+
+-- how long a frame may wait, once the round trip is known
+abbrev pub wait_of : Asking → Option ℕ
+wait_of a = wait_for a.waits (option_map (λ eighths. eighths / 8) a.requests.nack.round_trip)
+
+abbrev pub wait_by : Option Asking → Option ℕ
+wait_by None = None
+wait_by (Some a) = wait_of a

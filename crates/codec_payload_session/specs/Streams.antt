@@ -15,8 +15,8 @@ use Rattle.codec_payload_stream.specs.Sessions.{Finishes, ReceivesBytes, Session
 use Rattle.codec_payload_stream.specs.declared.receiver.ReceiveError.{ReceiveError}
 use Rattle.codec_payload_stream.specs.declared.receiver.ReceiveError.TheVariants as errors
 use Rattle.codec_payload_stream.specs.declared.receiver.Settings.{Settings}
-use Rattle.codec_payload_session.specs.Formats.{HasSettings}
-use Rattle.codec_payload_session.specs.Requests.{Asking, Asks, feedback_by, heard_by, number_at, requests_due, round_trip_of}
+use Rattle.codec_payload_session.specs.Formats.{HasSettings, is_video, limits_for}
+use Rattle.codec_payload_session.specs.Requests.{Asking, Asks, feedback_by, heard_by, number_at, requests_due, round_trip_of, wait_by}
 use Rattle.codec_payload_session.specs.declared.formats.Format.{Format}
 use Rattle.codec_payload_session.specs.declared.formats.SessionSettings.{SessionSettings}
 use Rattle.codec_payload_session.specs.declared.stream.Ending.{Ending}
@@ -41,7 +41,7 @@ pub record Begins (settings : SessionSettings) (ssrc : ℕ) (f : Format) (s : St
   pub taken : s.taken ≡ 0
   pub accepted : s.accepted ≡ 0
   pub last : s.last ≡ 0
-  pub feedback : s.feedback ≡ feedback_by settings.feedback ssrc f
+  pub feedback : s.feedback ≡ feedback_by settings.feedback ssrc f (limits_for settings (is_video f.spec.codec)).max_wait
   pub depacketizer : DepacketizerState
   pub known : depacketizer_state_for f.spec.codec ≡ Some depacketizer
   pub receiver_settings : Settings
@@ -99,13 +99,21 @@ abbrev pub heard_unless : Bool → ℕ → ℕ → Bool → Stream → Stream
 heard_unless true now probation accepted s = s
 heard_unless false now probation accepted s = heard now probation accepted s
 
--- the number of an accepted packet may answer a request
-abbrev pub answered_if : Bool → ℕ → Option ℕ → Option Asking → Option Asking
-answered_if true now number feedback = heard_by now number feedback
-answered_if false now number feedback = feedback
+-- frames wait for at most that time
+abbrev pub waiting_for : Option ℕ → Stream → Stream
+waiting_for None s = s
+waiting_for (Some wait) s = record s {
+  receiver = record s.receiver { packets = record s.receiver.packets { wait_limits = record s.receiver.packets.wait_limits { max_wait = Some wait } } };
+}
 
+-- waiting follows the round trip
+abbrev pub following : Stream → Stream
+following s = waiting_for (wait_by s.feedback) s
+
+-- the number of an accepted packet may answer a request, which measures the round trip
 abbrev pub received : ℕ → List ℕ → Bool → Receiver → Stream → Stream
-received now bytes accepted r s = record s { receiver = r; feedback = answered_if accepted now (number_at s.format bytes) s.feedback }
+received now bytes true r s = following (record s { receiver = r; feedback = heard_by now (number_at s.format bytes) s.feedback })
+received now bytes false r s = record s { receiver = r }
 
 -- the receiver receives the datagram; if memory runs out for it, nothing is counted
 abbrev pub Takes : Ticks → ℕ → List ℕ → Stream → Result Outcome ReceiveError → Stream → Type 0

@@ -2,7 +2,7 @@
 
 ghost use Rattle.std.specs.Prelude.{◌≡◌, IfOk, OnOk};
 ghost use Rattle.codec_payload_jitter.specs.Missing.{missing_numbers};
-ghost use Rattle.codec_payload_session.specs.Requests.{Asks, Refreshes, after_number, feedback_by, heard_by, number_at, original_number, requests_due, round_trip_of, source_for};
+ghost use Rattle.codec_payload_session.specs.Requests.{Asks, Refreshes, after_number, feedback_by, heard_by, number_at, original_number, requests_due, range_for, round_trip_of, source_for, wait_by, wait_of, wait_within};
 
 use crate::formats::{FeedbackSettings, Format};
 use codec_payload_base::wire::Ticks;
@@ -24,8 +24,19 @@ pub(crate) struct Feedback {
     most: usize,
     /// Whether keyframes are requested.
     pli: bool,
+    /// How waiting follows the round trip. `None`: it does not.
+    waits: Option<WaitRange>,
     /// Memory for the missing numbers.
     missing: Vec<u64>,
+}
+
+/// The limits between which waiting follows the round trip, in ticks.
+#[derive(Clone, Copy, Debug)]
+pub(crate) struct WaitRange {
+    /// How long a missing packet waits for its first request.
+    first: u64,
+    least: u64,
+    most: u64,
 }
 
 impl Model for Feedback {
@@ -33,18 +44,19 @@ impl Model for Feedback {
 
     ghost Value = { Asking };
 
-    ghost view = { λ f. record { source = f.source; requests = f.requests; most = f.most; pli = f.pli } };
+    ghost view = { λ f. record { source = f.source; requests = f.requests; most = f.most; pli = f.pli; waits = f.waits } };
 }
 
 impl Feedback {
-    /// Returns the requests of a new stream. `None`: it requests nothing.
+    /// Returns the requests of a new stream whose frames wait for at most `max_wait`. `None`: it requests nothing.
     pub(crate) fn begin(
         alloc: Global,
         settings: &Option<FeedbackSettings>,
         ssrc: u32,
         format: &Format,
+        max_wait: Option<u64>,
     ) -> Result<Option<Feedback>, AllocError>
-        ensures { IfOk result (λ feedback. feedback ≡ feedback_by settings.now ssrc format.now) }
+        ensures { IfOk result (λ feedback. feedback ≡ feedback_by settings.now ssrc format.now max_wait) }
     {
         match settings {
             Some(settings) if format.nack || format.pli => {
@@ -64,6 +76,7 @@ impl Feedback {
                     ),
                     most,
                     pli: format.pli,
+                    waits: wait_range(settings, max_wait),
                     missing: Vec::new(alloc),
                 }))
             }
@@ -77,6 +90,16 @@ impl Feedback {
     {
         if let Some(number) = number {
             self.requests.answered(now, number);
+        }
+    }
+
+    /// Returns how long a frame may wait, by the round trip. `None`: the wait limits stay.
+    fn wait(&self) -> Option<u64>
+        ensures { result ≡ wait_of self.now }
+    {
+        match (self.waits, self.requests.round_trip()) {
+            (Some(range), Some(round_trip)) => Some(wait_within(range, round_trip)),
+            _ => None,
         }
     }
 
@@ -132,6 +155,38 @@ pub(crate) fn round_trip(feedback: &Option<Feedback>) -> Option<u64>
         Some(feedback) => feedback.requests.round_trip(),
         None => None,
     }
+}
+
+/// Returns how long a frame of the stream may wait, by the round trip. `None`: its wait limits stay.
+pub(crate) fn wait_by(feedback: &Option<Feedback>) -> Option<u64>
+    ensures { result ≡ wait_by feedback.now }
+{
+    match feedback {
+        Some(feedback) => feedback.wait(),
+        None => None,
+    }
+}
+
+/// Returns how waiting follows the round trip, if it does.
+fn wait_range(settings: &FeedbackSettings, max_wait: Option<u64>) -> Option<WaitRange>
+    ensures { result ≡ range_for settings.now max_wait }
+{
+    match (settings.longest_wait, max_wait) {
+        (Some(most), Some(least)) => Some(WaitRange {
+            first: settings.nack.first_wait,
+            least,
+            most,
+        }),
+        _ => None,
+    }
+}
+
+/// Returns four round trips and the first wait, within the range.
+fn wait_within(range: WaitRange, round_trip: u64) -> u64
+    ensures { result ≡ wait_within range round_trip }
+{
+    let wait = round_trip.saturating_mul(4).saturating_add(range.first);
+    wait.min(range.most).max(range.least)
 }
 
 /// Returns who sends the requests.

@@ -2,10 +2,11 @@
 
 ghost use Rattle.std.specs.Prelude.{◌≡◌, IfOk, IfSome};
 ghost use Rattle.std.specs.Option.{option_map};
-ghost use Rattle.codec_payload_session.specs.Streams.{Begins, Drains, IsInfo, RequestsBy, RestsBy, Steps, Takes, due_of, earlier, end_of, heard, is_accepted, is_no_memory, is_of, is_probation, left, left_when, step_of, waiting_if, work_deadline};
+ghost use Rattle.codec_payload_session.specs.Requests.{wait_by};
+ghost use Rattle.codec_payload_session.specs.Streams.{Begins, Drains, IsInfo, RequestsBy, RestsBy, Steps, Takes, due_of, earlier, end_of, heard, is_accepted, is_no_memory, is_of, is_probation, left, left_when, step_of, waiting_for, waiting_if, work_deadline};
 
 use crate::formats::{Format, SessionSettings};
-use crate::requests::{Feedback, hear, requests_due, round_trip};
+use crate::requests::{Feedback, hear, requests_due, round_trip, wait_by};
 use codec_payload_base::error::PacketError;
 use codec_payload_base::wire::Ticks;
 use codec_payload_buffer::buffer::Depacketized;
@@ -100,7 +101,8 @@ impl Stream {
             return Ok(None);
         };
         depacketizer.configure_for(&format.spec);
-        let feedback = Feedback::begin(alloc, &settings.feedback, ssrc, format)?;
+        let max_wait = settings.limits(format).max_wait;
+        let feedback = Feedback::begin(alloc, &settings.feedback, ssrc, format, max_wait)?;
         let settings = settings.receiver(alloc, ssrc, format)?;
         let Ok(receiver) = Receiver::new(alloc, depacketizer, settings) else {
             return Ok(None);
@@ -144,11 +146,23 @@ impl Stream {
         let answer = self.receiver.receive(now, datagram);
         if is_accepted(&answer) {
             hear(&mut self.feedback, &self.format, now, datagram);
+            self.follow_round_trip();
         }
         if !is_no_memory(&answer) {
             self.note(now, probation, is_accepted(&answer));
         }
         answer
+    }
+
+    /// Waits for as long as the round trip asks for, if waiting follows it and it is known.
+    fn follow_round_trip(&mut self)
+        ensures { self.new ≡ waiting_for (wait_by self.old.feedback) self.old }
+    {
+        if let Some(wait) = wait_by(&self.feedback) {
+            let mut limits = self.receiver.wait_limits();
+            limits.max_wait = Some(wait);
+            self.receiver.set_wait_limits(limits);
+        }
     }
 
     /// Counts one more datagram.

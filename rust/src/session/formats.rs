@@ -60,6 +60,11 @@ pub struct FeedbackSettings {
     pub nack: NackSettings,
     /// The least number of ticks between two requests of a stream for a keyframe.
     pub keyframe_interval: u64,
+    /// How long a frame may wait at most if waiting follows the round trip. From the first answer to a request on, `max_wait` of
+    /// the stream's wait limits is `first_wait` of `nack` and four round trips: at least as long as the session's limits for audio
+    /// or video say, and at most this number of ticks, unless these limits are above it. `None`, or no `max_wait` in the
+    /// session's limits: the wait limits stay.
+    pub longest_wait: Option<u64>,
 }
 
 /// The settings of a session.
@@ -113,7 +118,7 @@ pub(crate) enum Role {
 
 impl FeedbackSettings {
     /// Returns settings for live streams and a clock in milliseconds: packets of reduced size without a name, the defaults of
-    /// [`NackSettings`], and at most one request for a keyframe in 500 ms. Does not allocate.
+    /// [`NackSettings`], and at most one request for a keyframe in 500 ms. The wait limits stay. Does not allocate.
     pub fn live(ssrc: u32) -> FeedbackSettings {
         FeedbackSettings {
             ssrc,
@@ -121,6 +126,7 @@ impl FeedbackSettings {
             has_report: false,
             nack: NackSettings::live(),
             keyframe_interval: 500,
+            longest_wait: None,
         }
     }
 }
@@ -159,6 +165,15 @@ impl SessionSettings {
         stream_of(&self.pairs, retransmission)
     }
 
+    /// Returns how long frames of this format wait.
+    pub(crate) fn limits(&self, format: &Format) -> WaitLimits {
+        if is_video(format.spec.codec) {
+            self.video
+        } else {
+            self.audio
+        }
+    }
+
     /// Returns the settings of the receiver of a stream.
     pub(crate) fn receiver(
         &self,
@@ -167,16 +182,10 @@ impl SessionSettings {
     ) -> Result<ReceiverSettings, AllocError> {
         let no_media = Vec::try_from_slice(&self.no_media)?;
         let (payload_type, clock_rate) = (format.payload_type, format.spec.clock_rate);
-        let (mut settings, limits) = if is_video(format.spec.codec) {
-            (
-                ReceiverSettings::live_video(payload_type, clock_rate),
-                self.video,
-            )
+        let mut settings = if is_video(format.spec.codec) {
+            ReceiverSettings::live_video(payload_type, clock_rate)
         } else {
-            (
-                ReceiverSettings::live_audio(payload_type, clock_rate),
-                self.audio,
-            )
+            ReceiverSettings::live_audio(payload_type, clock_rate)
         };
         settings.no_media = no_media;
         settings.ssrc = Some(ssrc);
@@ -184,7 +193,7 @@ impl SessionSettings {
         settings.retransmission = retransmission_for(&self.pairs, ssrc, format.retransmission);
         settings.extension_ids = self.extension_ids;
         settings.tick_rate = self.tick_rate;
-        settings.wait_limits = limits;
+        settings.wait_limits = self.limits(format);
         settings.from_keyframe = self.from_keyframe;
         settings.limit = self.limit;
         Ok(settings)

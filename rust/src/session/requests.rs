@@ -22,16 +22,28 @@ pub(crate) struct Feedback {
     most: usize,
     /// Whether keyframes are requested.
     pli: bool,
+    /// How waiting follows the round trip. `None`: it does not.
+    waits: Option<WaitRange>,
     /// Memory for the missing numbers.
     missing: Vec<u64>,
 }
 
+/// The limits between which waiting follows the round trip, in ticks.
+#[derive(Clone, Copy, Debug)]
+pub(crate) struct WaitRange {
+    /// How long a missing packet waits for its first request.
+    first: u64,
+    least: u64,
+    most: u64,
+}
+
 impl Feedback {
-    /// Returns the requests of a new stream. `None`: it requests nothing.
+    /// Returns the requests of a new stream whose frames wait for at most `max_wait`. `None`: it requests nothing.
     pub(crate) fn begin(
         settings: &Option<FeedbackSettings>,
         ssrc: u32,
         format: &Format,
+        max_wait: Option<u64>,
     ) -> Result<Option<Feedback>, AllocError> {
         match settings {
             Some(settings) if format.nack || format.pli => {
@@ -46,6 +58,7 @@ impl Feedback {
                     requests: StreamRequests::new(ssrc, settings.nack, settings.keyframe_interval),
                     most,
                     pli: format.pli,
+                    waits: wait_range(settings, max_wait),
                     missing: Vec::new(),
                 }))
             }
@@ -57,6 +70,14 @@ impl Feedback {
     fn hear(&mut self, now: Ticks, number: Option<u16>) {
         if let Some(number) = number {
             self.requests.answered(now, number);
+        }
+    }
+
+    /// Returns how long a frame may wait, by the round trip. `None`: the wait limits stay.
+    fn wait(&self) -> Option<u64> {
+        match (self.waits, self.requests.round_trip()) {
+            (Some(range), Some(round_trip)) => Some(wait_within(range, round_trip)),
+            _ => None,
         }
     }
 
@@ -104,9 +125,35 @@ pub(crate) fn round_trip(feedback: &Option<Feedback>) -> Option<u64> {
     }
 }
 
+/// Returns how long a frame of the stream may wait, by the round trip. `None`: its wait limits stay.
+pub(crate) fn wait_by(feedback: &Option<Feedback>) -> Option<u64> {
+    match feedback {
+        Some(feedback) => feedback.wait(),
+        None => None,
+    }
+}
+
+/// Returns how waiting follows the round trip, if it does.
+fn wait_range(settings: &FeedbackSettings, max_wait: Option<u64>) -> Option<WaitRange> {
+    match (settings.longest_wait, max_wait) {
+        (Some(most), Some(least)) => Some(WaitRange {
+            first: settings.nack.first_wait,
+            least,
+            most,
+        }),
+        _ => None,
+    }
+}
+
+/// Returns four round trips and the first wait, within the range.
+fn wait_within(range: WaitRange, round_trip: u64) -> u64 {
+    let wait = round_trip.saturating_mul(4).saturating_add(range.first);
+    wait.min(range.most).max(range.least)
+}
+
 /// Returns who sends the requests.
 fn source_for(settings: &FeedbackSettings) -> Result<FeedbackSource, AllocError> {
-    let len = settings.cname.len().min(LONGEST_NAME);
+    let len = LONGEST_NAME.min(settings.cname.len());
     let cname = Vec::try_from_slice(&settings.cname[..len])?;
     Ok(FeedbackSource::new(settings.ssrc, cname, settings.has_report).unwrap())
 }

@@ -9,7 +9,7 @@ use crate::jitter::jitter_buffer::WaitLimits;
 use crate::jitter::outcome::Outcome;
 use crate::memory::AllocError;
 use crate::session::formats::{Format, SessionSettings};
-use crate::session::requests::{Feedback, hear, requests_due, round_trip};
+use crate::session::requests::{Feedback, hear, requests_due, round_trip, wait_by};
 use crate::stream::receiver::{Counters, ReceiveError, Receiver};
 use crate::wire::Ticks;
 use alloc::vec::Vec;
@@ -96,7 +96,8 @@ impl Stream {
             return Ok(None);
         };
         depacketizer.configure_for(&format.spec);
-        let feedback = Feedback::begin(&settings.feedback, ssrc, format)?;
+        let max_wait = settings.limits(format).max_wait;
+        let feedback = Feedback::begin(&settings.feedback, ssrc, format, max_wait)?;
         let settings = settings.receiver(ssrc, format)?;
         let Ok(receiver) = Receiver::new(depacketizer, settings) else {
             return Ok(None);
@@ -134,11 +135,21 @@ impl Stream {
         let answer = self.receiver.receive(now, datagram);
         if is_accepted(&answer) {
             hear(&mut self.feedback, &self.format, now, datagram);
+            self.follow_round_trip();
         }
         if !is_no_memory(&answer) {
             self.note(now, probation, is_accepted(&answer));
         }
         answer
+    }
+
+    /// Waits for as long as the round trip asks for, if waiting follows it and it is known.
+    fn follow_round_trip(&mut self) {
+        if let Some(wait) = wait_by(&self.feedback) {
+            let mut limits = self.receiver.wait_limits();
+            limits.max_wait = Some(wait);
+            self.receiver.set_wait_limits(limits);
+        }
     }
 
     /// Counts one more datagram.
