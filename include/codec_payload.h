@@ -783,8 +783,8 @@ typedef struct {
     uint64_t retry;             /**< time between two requests of a number while the round-trip time is unknown */
     uint64_t shortest_retry;    /**< least time between two requests of a number once the round-trip time is known */
     uint64_t longest_retry;     /**< largest time between them; if it is below `shortest_retry`, it wins */
-    uint64_t longest_wait;      /**< with has_longest_wait: `max_wait` of a stream becomes `first_wait` and four round trips, between
-                                     the session's own and this time */
+    uint64_t longest_wait;      /**< with has_longest_wait: `max_wait` of a stream becomes `first_wait` and four round trips: at
+                                     least its own value in the settings, and at most this time */
     size_t capacity;            /**< how many missing numbers of a stream are followed at most: the lowest */
     uint32_t tries;             /**< how often a number is requested at most; 0 requests nothing */
     uint32_t ssrc;              /**< SSRC of the session as a sender of RTCP */
