@@ -205,6 +205,41 @@ static void losses(void) {
     cpay_session_free(&session);
 }
 
+/* Requests (RFC 4585): a NACK 10 ms after a number is first missing, once more after 100 ms, and a PLI for video. */
+static void requests(void) {
+    static const uint8_t delta[] = {0x10, 0x11, 0, 0, 1};
+    static const uint8_t nack[] = {0x81, 205, 0, 3, 0, 0, 0, 77, 0, 0, 0, 1, 0, 3, 0, 1};
+    static const uint8_t pli[] = {0x81, 206, 0, 2, 0, 0, 0, 77, 0, 0, 0, 1};
+    cpay_session_settings settings = CPAY_LIVE_SESSION;
+    cpay_session_format formats[2];
+    cpay_session session = CPAY_INIT;
+    cpay_event event = {.kind = 99};
+    uint8_t bytes[64];
+    memcpy(formats, FORMATS, sizeof formats);
+    formats[0].nack = formats[1].pli = true;
+    settings.has_feedback = true;
+    settings.feedback.ssrc = 77;
+    settings.audio.max_wait = 500;
+    CHECK(cpay_session_new(&session, &settings, formats, 2, NULL, 0, NULL, 0) == CPAY_OK);
+    opus(&session, 0, 1, 1);
+    opus(&session, 0, 1, 2);
+    CHECK(happens(&session, 0, "B1:111 U1:1 U1:2 ."));
+    opus(&session, 0, 1, 5);
+    CHECK(happens(&session, 0, ".") && deadline(&session) == 10);
+    for (uint64_t now = 10; now < 300; now += 100) {
+        CHECK(cpay_session_poll(&session, now, &event, bytes, 15) == CPAY_TOO_SMALL && event.kind == CPAY_EVENT_FEEDBACK);
+        CHECK(cpay_session_poll(&session, now, &event, bytes, 16) == CPAY_OK && event.bytes == 16 && event.unit.bytes == 0);
+        CHECK(event.ssrc == 1 && event.payload_type == AUDIO && same(bytes, (const char *)nack, 16));
+        CHECK(happens(&session, now, ".") && deadline(&session) == now + 100);
+    }
+    sent(&session, 310, VIDEO | 0x80, 1, 1, delta, sizeof delta);
+    sent(&session, 310, VIDEO | 0x80, 1, 2, delta, sizeof delta);
+    while (cpay_session_poll(&session, 510, &event, bytes, 64) == CPAY_OK)
+        if (event.kind == CPAY_EVENT_FEEDBACK && event.payload_type == VIDEO) break;
+    CHECK(event.payload_type == VIDEO && event.bytes == 12 && same(bytes, (const char *)pli, 12));
+    cpay_session_free(&session);
+}
+
 /* RED (RFC 2198): a lost packet is recovered from the next one; invalid RED is reported; telephone events carry no media. */
 static void redundant(void) {
     cpay_session session = live();
@@ -409,6 +444,7 @@ int main(void) {
     two_senders();
     ends();
     losses();
+    requests();
     redundant();
     video();
     small_buffers();

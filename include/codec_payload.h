@@ -765,6 +765,8 @@ typedef struct {
     uint8_t rtx_payload_type; /**< with has_rtx: payload type of retransmissions, 0 to 127 */
     bool has_red;             /**< packets of the format may arrive in RED (RFC 2198) */
     bool has_rtx;             /**< packets of the format may be retransmitted under another SSRC (RFC 4588); see cpay_ssrc_pair */
+    bool nack;                /**< its sender answers requests for missing packets: a=rtcp-fb with nack (RFC 4585, section 4.2) */
+    bool pli;                 /**< its sender answers requests for keyframes: a=rtcp-fb with nack pli */
 } cpay_session_format;
 
 /** Two SSRCs of one source, as a=ssrc-group:FID names them (RFC 5576, section 4.2). Without its pair a retransmission is counted
@@ -773,6 +775,23 @@ typedef struct {
     uint32_t ssrc;     /**< SSRC of the stream */
     uint32_t rtx_ssrc; /**< SSRC of its retransmissions */
 } cpay_ssrc_pair;
+
+/** Who requests missing packets and keyframes, and when. Times are in ticks of your clock. */
+typedef struct {
+    uint64_t keyframe_interval; /**< least time between two requests of a stream for a keyframe */
+    uint64_t first_wait;        /**< time from the moment that a number is first missing until its first request */
+    uint64_t retry;             /**< time between two requests of a number while the round-trip time is unknown */
+    uint64_t shortest_retry;    /**< least time between two requests of a number once the round-trip time is known */
+    uint64_t longest_retry;     /**< largest time between them; if it is below `shortest_retry`, it wins */
+    uint64_t longest_wait;      /**< with has_longest_wait: `max_wait` of a stream becomes `first_wait` and four round trips: at
+                                     least its own value in the settings, and at most this time */
+    size_t capacity;            /**< how many missing numbers of a stream are followed at most: the lowest */
+    uint32_t tries;             /**< how often a number is requested at most; 0 requests nothing */
+    uint32_t ssrc;              /**< SSRC of the session as a sender of RTCP */
+    bool has_report;            /**< each packet begins with an empty receiver report (RFC 3550, section 6.1); else it has reduced
+                                     size (RFC 5506) */
+    bool has_longest_wait;      /**< waiting follows the measured round trip */
+} cpay_session_feedback;
 
 /** Begin with CPAY_LIVE_SESSION. */
 typedef struct {
@@ -788,15 +807,18 @@ typedef struct {
     uint32_t tick_rate;       /**< ticks per second of your clock, above 0 */
     uint8_t from_keyframe;    /**< what happens to video units that a decoder cannot show: CPAY_KEYFRAME_OFF, CPAY_KEYFRAME_MARK
                                    or CPAY_KEYFRAME_DROP */
+    bool has_feedback;        /**< the session requests what its streams miss: see CPAY_EVENT_FEEDBACK */
+    cpay_session_feedback feedback;   /**< with has_feedback: set at least `ssrc` */
     cpay_extension_ids extension_ids; /**< for cpay_session_values; two equal ids read the same element */
 } cpay_session_settings;
 
 /** Settings for live streams, with a clock of milliseconds. Audio waits for at most 100 ms and video for at most 200 ms. A session
  * has at most 64 streams of 4096 packets. A stream is announced with its second datagram, ends 30 s after its last one, and takes
- * packets for 200 ms after its BYE. Units that a decoder cannot show are marked. */
+ * packets for 200 ms after its BYE. Units that a decoder cannot show are marked. Nothing is requested; with has_feedback a missing
+ * number is requested after 10 ms and at most 6 times, and a keyframe at most once in 500 ms. */
 #define CPAY_LIVE_SESSION \
     { { 100, CPAY_NO_HOLD_BACK, 1, true }, { 200, CPAY_NO_HOLD_BACK, 2, true }, 30000, 200, 2, 4096, 64, 1000, \
-      CPAY_KEYFRAME_MARK, { 0, 0, 0, 0, 0, 0 } }
+      CPAY_KEYFRAME_MARK, false, { 500, 10, 100, 20, 400, 0, 1024, 6, 0, false, false }, { 0, 0, 0, 0, 0, 0 } }
 
 /** Creates a session in an empty handle, for these payload formats. `no_media` lists payload types that share the SSRC and the
  * numbers of a stream and carry none of its media: telephone events beside audio, comfort noise. `pairs` names the SSRCs of
@@ -837,7 +859,9 @@ enum {
     CPAY_EVENT_BEGUN = 0, /**< a stream is announced: the first event of the stream */
     CPAY_EVENT_UNIT = 1,  /**< a unit: see `unit`; its bytes are in the output buffer */
     CPAY_EVENT_FAULT = 2, /**< the depacketizer refused a frame, which is discarded: see `status` */
-    CPAY_EVENT_ENDED = 3  /**< a stream was removed: the last event of the stream; see `why` */
+    CPAY_EVENT_ENDED = 3, /**< a stream was removed: the last event of the stream; see `why` */
+    CPAY_EVENT_FEEDBACK = 4 /**< a compound packet of RTCP for the sender of the stream is in the output buffer: send it. It has a
+                                 NACK of missing packets, and a PLI if a keyframe is needed (RFC 4585, sections 6.2.1, 6.3.1) */
 };
 
 /** Why a stream ended. */
@@ -852,14 +876,15 @@ typedef struct {
     uint32_t ssrc;        /**< SSRC of the stream */
     uint32_t status;      /**< of CPAY_EVENT_FAULT: the error, 1 to 16; of other events CPAY_OK */
     uint32_t why;         /**< of CPAY_EVENT_ENDED: CPAY_ENDED_BY_BYE and so on; of other events 0 */
+    size_t bytes;         /**< bytes in the output buffer: of the unit, or of the RTCP packet */
     uint8_t payload_type; /**< payload type of the stream's format, also if the unit came in RED or was retransmitted */
     cpay_unit unit;       /**< of CPAY_EVENT_UNIT: the unit, as cpay_receiver_pop reports it; of other events all fields are 0 */
 } cpay_event;
 
 /** Reports the next event at time `now`. Call it until CPAY_NONE after each datagram and at each deadline. Streams are asked in the
  * order in which they began; each stream has CPAY_EVENT_BEGUN first, then its units in order, and CPAY_EVENT_ENDED last.
- * CPAY_NONE: there is no event. CPAY_TOO_SMALL: *event is written, and the event waits for the next call: its unit needs a buffer
- * of `unit.bytes` bytes. CPAY_OUT_OF_MEMORY: the frame stays, and the next call tries it again. [m] */
+ * CPAY_NONE: there is no event. CPAY_TOO_SMALL: *event is written, and the event waits for the next call: it needs a buffer of
+ * `bytes` bytes. CPAY_OUT_OF_MEMORY: the frame or the request stays, and the next call tries it again. [m] */
 CPAY_CHECKED cpay_status cpay_session_poll(cpay_session *session, uint64_t now, cpay_event *event, uint8_t *bytes,
                                            size_t bytes_len);
 

@@ -162,9 +162,9 @@ public:
     [[nodiscard]] cpay_status poll(std::uint64_t now, cpay_event &event, room to) noexcept {
         return cpay_session_poll(get(), now, &event, to.data(), to.size());
     }
-    /** The same into a vector, which grows as needed. It has the bytes of a unit, and is empty on each other event and status. */
+    /** The same into a vector, which grows as needed. It has the bytes of the unit or RTCP packet, and is empty otherwise. */
     [[nodiscard]] cpay_status poll(std::uint64_t now, cpay_event &event, std::vector<std::uint8_t> &to) {
-        return into(to, event.unit.bytes, [&](room it) { return poll(now, event, it); });
+        return into(to, event.bytes, [&](room it) { return poll(now, event, it); });
     }
     [[nodiscard]] cpay_status values(cpay_extension_values &values) noexcept { return cpay_session_values(get(), &values); }
     [[nodiscard]] cpay_status next_deadline(std::uint64_t &at) noexcept { return cpay_session_next_deadline(get(), &at); }

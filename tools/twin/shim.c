@@ -160,6 +160,9 @@ void *twin_session(uint32_t codec, uint32_t rate, uint32_t flags, const uint64_t
     settings.idle_timeout = values[5];
     settings.bye_wait = values[6];
     settings.from_keyframe = (uint8_t)values[7];
+    settings.has_feedback = true;
+    settings.feedback.ssrc = 77;
+    formats[0].nack = formats[0].pli = formats[1].nack = formats[1].pli = true;
     cpay_session *made = calloc(1, sizeof *made);
     if (made && !cpay_session_new(made, &settings, formats, 2, no_media, sizeof no_media, pairs, 1)) return made;
     free(made);
@@ -176,12 +179,12 @@ uint32_t twin_session_receive(void *session, uint64_t now, const uint8_t *datagr
 }
 
 /* The next event: kind, SSRC, payload type, status, why, and of its unit the first and the last number, the RTP time, whether it is
- * contiguous, decodable and a keyframe, and its size. */
+ * contiguous, decodable and a keyframe; and the number of its bytes. */
 uint32_t twin_session_poll(void *session, uint64_t now, uint8_t *bytes, size_t bytes_len, uint64_t event[12]) {
     cpay_event it = { 0 };
     cpay_status status = cpay_session_poll(session, now, &it, bytes, bytes_len);
     uint64_t told[12] = { it.kind, it.ssrc, it.payload_type, it.status, it.why, it.unit.first, it.unit.last, it.unit.rtp_time,
-                          it.unit.contiguous, it.unit.decodable, it.unit.keyframe, it.unit.bytes };
+                          it.unit.contiguous, it.unit.decodable, it.unit.keyframe, it.bytes };
     for (int place = 0; place < 12; place++) event[place] = told[place];
     return status;
 }

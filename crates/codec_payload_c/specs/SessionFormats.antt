@@ -1,17 +1,19 @@
 -- New sessions: their settings, payload formats and pairs of SSRCs, from C.
-use Rattle.std.specs.Prelude.{◌≡◌, ℕ, ◌&&◌, ◌||◌, ◌==◌, not, nat_le, nat_lt, if◌then◌else◌, Bool, Option, Some, None, List, is_some, map, filter_map}
+use Rattle.std.specs.Prelude.{◌≡◌, ℕ, ◌&&◌, ◌||◌, ◌==◌, not, nat_le, nat_lt, if◌then◌else◌, Bool, true, false, Option, Some, None, List, [], is_some, map, filter_map}
 use Rattle.std.specs.List.{list_all}
 use Rattle.codec_payload_handle.specs.Settings.{codec_numbered, depacketizer_set}
 use Rattle.codec_payload_handle.specs.declared.object.Object.{Object}
 use Rattle.codec_payload_handle.specs.declared.object.Object.TheVariants as objects
 use Rattle.codec_payload_handle.specs.declared.object.PortSession.{PortSession}
 use Rattle.codec_payload_session.specs.Ports.{new_session}
+use Rattle.codec_payload_session.specs.declared.formats.FeedbackSettings.{FeedbackSettings}
 use Rattle.codec_payload_session.specs.declared.formats.Format.{Format}
 use Rattle.codec_payload_session.specs.declared.formats.SessionSettings.{SessionSettings as Settings}
 use Rattle.codec_payload_session.specs.declared.formats.SsrcPair.{SsrcPair as Pair}
 use Rattle.codec_payload_c.specs.Ids.{ids_given}
 use Rattle.codec_payload_c.specs.Inspect.{given_if}
 use Rattle.codec_payload_c.specs.StreamReceivers.{from_keyframe_numbered, wait_limits_given}
+use Rattle.codec_payload_c.specs.declared.session_settings.SessionFeedback.{SessionFeedback}
 use Rattle.codec_payload_c.specs.declared.session_settings.SessionFormat.{SessionFormat}
 use Rattle.codec_payload_c.specs.declared.session_settings.SessionSettings.{SessionSettings}
 use Rattle.codec_payload_c.specs.declared.session_settings.SsrcPair.{SsrcPair}
@@ -46,6 +48,8 @@ format_with f = record {
   spec = record { codec = codec_numbered f.spec.codec; clock_rate = f.spec.rate; octet_align = f.spec.octet_align };
   red = if f.has_red then Some (record { payload_type = f.red_payload_type; step = f.red_step }) else None;
   retransmission = given_if f.has_rtx f.rtx_payload_type;
+  nack = f.nack;
+  pli = f.pli;
 }
 
 -- a format that is in range
@@ -54,6 +58,24 @@ format_given f = if format_in_range f then Some (format_with f) else None
 
 abbrev pub pair_given : SsrcPair → Pair
 pair_given p = record { ssrc = p.ssrc; retransmission = p.rtx_ssrc }
+
+-- who requests missing packets and keyframes, from C; without a name
+pub record HasFeedback (c : SessionFeedback) (t : FeedbackSettings) : Type 0 where
+  pub ssrc_is : t.ssrc ≡ c.ssrc
+  pub cname : t.cname.items ≡ []
+  pub has_report : t.has_report ≡ c.has_report
+  pub keyframe_interval : t.keyframe_interval ≡ c.keyframe_interval
+  pub longest_wait : t.longest_wait ≡ given_if c.has_longest_wait c.longest_wait
+  pub nack : t.nack ≡ record { first_wait = c.first_wait; retry = c.retry; shortest_retry = c.shortest_retry; longest_retry = c.longest_retry; tries = c.tries; capacity = c.capacity }
+
+-- the settings of requests, if they are set
+abbrev pub MatchFeedbackIf : Bool → SessionFeedback → Option FeedbackSettings → Type 0
+MatchFeedbackIf false c t = t ≡ None
+MatchFeedbackIf true c None = ⊥
+MatchFeedbackIf true c (Some t) = HasFeedback c t
+
+abbrev pub MatchFeedback : SessionSettings → Option FeedbackSettings → Type 0
+MatchFeedback s t = MatchFeedbackIf s.has_feedback s.feedback t
 
 -- the settings, from C, without formats and other lists
 pub record HasPlainSettings (s : SessionSettings) (t : Settings) : Type 0 where
@@ -67,6 +89,7 @@ pub record HasPlainSettings (s : SessionSettings) (t : Settings) : Type 0 where
   pub idle_timeout : t.idle_timeout ≡ s.idle_timeout
   pub bye_wait : t.bye_wait ≡ s.bye_wait
   pub tick_rate : t.tick_rate ≡ s.tick_rate
+  pub feedback : MatchFeedback s t.feedback
 
 -- the settings of a session, from C
 pub record AreSessionSettings (s : SessionSettings) (formats : List SessionFormat) (no_media : List ℕ) (pairs : List SsrcPair) (t : Settings) : Type 0 where

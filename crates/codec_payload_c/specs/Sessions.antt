@@ -1,5 +1,6 @@
 -- The calls on a session: datagrams in, events out.
 use Rattle.std.specs.Prelude.{◌≡◌, ℕ, ◌==◌, Bool, true, false, List, [], Option, Some, None, Result, Ok, Err, length, nat_le}
+use Rattle.std.specs.Global.{Vec}
 use Rattle.std.specs.declared.alloc.AllocError.{AllocError}
 use Rattle.codec_payload_base.specs.declared.wire.Ticks.{Ticks}
 use Rattle.codec_payload_core.specs.Faults.{fault_number}
@@ -68,26 +69,35 @@ TellsJudgedBy time decodable keyframe u unit =
 
 -- an event of a stream without an error or a reason to end
 abbrev pub event_with : (kind ssrc payload_type : ℕ) → CUnit → CEvent
-event_with kind ssrc payload_type unit = record { kind = kind; ssrc = ssrc; status = 0; why = 0; payload_type = payload_type; unit = unit }
+event_with kind ssrc payload_type unit = record { kind = kind; ssrc = ssrc; status = 0; why = 0; bytes = unit.bytes; payload_type = payload_type; unit = unit }
 
 -- the event of a unit
 abbrev pub TellsUnitOf : (ssrc payload_type : ℕ) → (CUnit → Type 0) → CEvent → Type 0
 TellsUnitOf ssrc payload_type Told e = (e ≡ event_with 1 ssrc payload_type e.unit) × Told e.unit
+
+-- the bytes of an RTCP packet; none if memory ran out for it
+abbrev pub bytes_sent : Result (Vec ℕ) AllocError → List ℕ
+bytes_sent (Ok packet) = packet.items
+bytes_sent (Err e) = []
 
 -- the description of an event
 abbrev pub TellsEvent : Event → CEvent → Type 0
 TellsEvent (events.Begun ssrc payload_type) e = e ≡ event_with 0 ssrc payload_type no_unit
 TellsEvent (events.Unit ssrc payload_type time decodable keyframe (Ok u)) e = TellsUnitOf ssrc payload_type (TellsJudgedBy time decodable keyframe u) e
 TellsEvent (events.Unit ssrc payload_type time decodable keyframe (Err fault)) e =
-    e ≡ record { kind = 2; ssrc = ssrc; status = fault_number fault; why = 0; payload_type = payload_type; unit = no_unit }
+    e ≡ record { kind = 2; ssrc = ssrc; status = fault_number fault; why = 0; bytes = 0; payload_type = payload_type; unit = no_unit }
+TellsEvent (events.Feedback ssrc payload_type packet) e =
+    e ≡ record { kind = 4; ssrc = ssrc; status = 0; why = 0; bytes = length (bytes_sent packet); payload_type = payload_type; unit = no_unit }
 TellsEvent (events.Ended ssrc payload_type why) e =
-    e ≡ record { kind = 3; ssrc = ssrc; status = 0; why = ending_number why; payload_type = payload_type; unit = no_unit }
+    e ≡ record { kind = 3; ssrc = ssrc; status = 0; why = ending_number why; bytes = 0; payload_type = payload_type; unit = no_unit }
 
--- memory ran out for the unit of the event
+-- memory ran out for the unit or the RTCP packet of the event
 abbrev pub is_no_memory : Event → Bool
 is_no_memory (events.Begun ssrc payload_type) = false
 is_no_memory (events.Unit ssrc payload_type time decodable keyframe (Ok u)) = false
 is_no_memory (events.Unit ssrc payload_type time decodable keyframe (Err fault)) = fault_number fault == 17
+is_no_memory (events.Feedback ssrc payload_type (Ok packet)) = false
+is_no_memory (events.Feedback ssrc payload_type (Err e)) = true
 is_no_memory (events.Ended ssrc payload_type why) = false
 
 -- the bytes of the unit of the event
@@ -95,6 +105,7 @@ abbrev pub bytes_in : Event → List ℕ
 bytes_in (events.Begun ssrc payload_type) = []
 bytes_in (events.Unit ssrc payload_type time decodable keyframe (Ok u)) = u.bytes
 bytes_in (events.Unit ssrc payload_type time decodable keyframe (Err fault)) = []
+bytes_in (events.Feedback ssrc payload_type packet) = bytes_sent packet
 bytes_in (events.Ended ssrc payload_type why) = []
 
 -- the latest unit after the event
@@ -102,6 +113,7 @@ abbrev pub latest_unit : Event → Option Release → Option Release
 latest_unit (events.Begun ssrc payload_type) taken = taken
 latest_unit (events.Unit ssrc payload_type time decodable keyframe (Ok u)) taken = Some u
 latest_unit (events.Unit ssrc payload_type time decodable keyframe (Err fault)) taken = taken
+latest_unit (events.Feedback ssrc payload_type packet) taken = taken
 latest_unit (events.Ended ssrc payload_type why) taken = taken
 
 -- a poll of the session at that time

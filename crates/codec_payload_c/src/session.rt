@@ -42,13 +42,15 @@ pub struct Arrival {
 #[repr(C)]
 #[derive(Drop)]
 pub struct Event {
-    /// 0: a stream begins; 1: a unit; 2: a refused frame; 3: the end of a stream.
+    /// 0: a stream begins; 1: a unit; 2: a refused frame; 3: the end of a stream; 4: an RTCP packet to send.
     pub kind: u32,
     pub ssrc: u32,
     /// For a refused frame: the number of its error, 1 to 16.
     pub status: u32,
     /// For the end of a stream. 0: a BYE; 1: the idle timeout; 2: a call.
     pub why: u32,
+    /// The number of bytes in the output buffer: of the unit, or of the RTCP packet.
+    pub bytes: usize,
     pub payload_type: u8,
     /// For a unit: its description.
     pub unit: Unit,
@@ -145,6 +147,7 @@ fn event_with(kind: u32, ssrc: u32, payload_type: u8, unit: Unit) -> Event
         ssrc,
         status: status::OK,
         why: 0,
+        bytes: unit.bytes,
         payload_type,
         unit,
     }
@@ -178,6 +181,14 @@ fn event_of(event: &SessionEvent) -> Event
             status: u32::from(fault.number()),
             ..event_with(2, *ssrc, *payload_type, no_unit())
         },
+        SessionEvent::Feedback {
+            ssrc,
+            payload_type,
+            ..
+        } => Event {
+            bytes: bytes_of(event).len(),
+            ..event_with(4, *ssrc, *payload_type, no_unit())
+        },
         SessionEvent::Ended {
             ssrc,
             payload_type,
@@ -189,7 +200,7 @@ fn event_of(event: &SessionEvent) -> Event
     }
 }
 
-/// Returns whether memory ran out for the unit of an event.
+/// Returns whether memory ran out for the unit or the packet of an event.
 fn is_no_memory(event: &SessionEvent) -> bool
     ensures { result ≡ is_no_memory event.now }
 {
@@ -198,16 +209,21 @@ fn is_no_memory(event: &SessionEvent) -> bool
             unit: Err(fault),
             ..
         } => u32::from(fault.number()) == status::OUT_OF_MEMORY,
+        SessionEvent::Feedback { packet: Err(_), .. } => true,
         _ => false,
     }
 }
 
-/// Returns the bytes of an event: those of its unit.
+/// Returns the bytes of an event: those of its unit, or of its RTCP packet.
 fn bytes_of(event: &SessionEvent) -> &[u8]
     ensures { result.now ≡ bytes_in event.now }
 {
     match event {
         SessionEvent::Unit { unit: Ok(unit), .. } => &unit.bytes,
+        SessionEvent::Feedback {
+            packet: Ok(packet),
+            ..
+        } => packet,
         _ => &[],
     }
 }

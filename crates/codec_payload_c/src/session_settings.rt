@@ -3,7 +3,7 @@
 ghost use Rattle.std.specs.Prelude.{◌≡◌, ◌&&◌, is_some, map, filter_map, IfErr, IfOk, IfSome, Option, Bool};
 ghost use Rattle.std.specs.List.{list_all};
 ghost use Rattle.codec_payload_c.specs.Refusals.{RefusesSettings};
-ghost use Rattle.codec_payload_c.specs.SessionFormats.{HasPlainSettings, IsNewSession, format_given, format_in_range, is_in_range, pair_given, red_fits, session_in_range, types_fit};
+ghost use Rattle.codec_payload_c.specs.SessionFormats.{HasPlainSettings, IsNewSession, MatchFeedback, format_given, format_in_range, is_in_range, pair_given, red_fits, session_in_range, types_fit};
 
 use crate::extension::{ExtensionIds, ids_of};
 use crate::receiver::{WaitLimits, from_keyframe_of, waiting_for};
@@ -11,7 +11,10 @@ use codec_payload_core::wire::{CodecSpec, Frequency};
 use codec_payload_handle::object::PortSession;
 use codec_payload_handle::settings::{Spec, codec_of, depacketizer_of};
 use codec_payload_handle::status;
-use codec_payload_session::formats::{Format, SessionSettings as Settings, SsrcPair as Pair};
+use codec_payload_requests::nack::NackSettings;
+use codec_payload_session::formats::{
+    FeedbackSettings, Format, SessionSettings as Settings, SsrcPair as Pair,
+};
 use codec_payload_session::session::Session;
 use codec_payload_stream::receiver::RedSettings;
 use std::alloc::{AllocError, Global};
@@ -33,6 +36,10 @@ pub struct SessionFormat {
     pub has_red: bool,
     /// Whether there are retransmissions of the format.
     pub has_rtx: bool,
+    /// Whether its sender answers requests for missing packets.
+    pub nack: bool,
+    /// Whether its sender answers requests for keyframes.
+    pub pli: bool,
 }
 
 /// Two SSRCs of one source.
@@ -43,6 +50,34 @@ pub struct SsrcPair {
     pub ssrc: u32,
     /// The SSRC of its retransmissions.
     pub rtx_ssrc: u32,
+}
+
+/// Who requests missing packets and keyframes, and when.
+#[repr(C)]
+#[derive(Clone, Copy)]
+pub struct SessionFeedback {
+    /// The least number of ticks between two requests of a stream for a keyframe.
+    pub keyframe_interval: u64,
+    /// Ticks from the moment that a number is first reported missing until its first request.
+    pub first_wait: u64,
+    /// Ticks between two requests of a number while the round-trip time is unknown.
+    pub retry: u64,
+    /// The least number of ticks between two requests of a number once the round-trip time is known.
+    pub shortest_retry: u64,
+    /// The largest number of ticks between two requests of a number once the round-trip time is known.
+    pub longest_retry: u64,
+    /// How long a frame may wait at most if waiting follows the round trip.
+    pub longest_wait: u64,
+    /// How many missing numbers of a stream are followed at most.
+    pub capacity: usize,
+    /// How often a number is requested at most.
+    pub tries: u32,
+    /// The SSRC of the session as a sender of RTCP.
+    pub ssrc: u32,
+    /// Whether each packet begins with an empty receiver report.
+    pub has_report: bool,
+    /// Whether `longest_wait` is set. If not, the wait limits stay.
+    pub has_longest_wait: bool,
 }
 
 /// The settings of a session, except its lists.
@@ -67,6 +102,10 @@ pub struct SessionSettings {
     pub tick_rate: u32,
     /// What happens to units of video that a decoder cannot show. 0: nothing; 1: they are marked; 2: they are dropped.
     pub from_keyframe: u8,
+    /// Whether `feedback` is set. If not, nothing is requested.
+    pub has_feedback: bool,
+    /// Who requests missing packets and keyframes.
+    pub feedback: SessionFeedback,
     /// The ids of the header extensions to read.
     pub extension_ids: ExtensionIds,
 }
@@ -124,6 +163,8 @@ fn format_of(alloc: Global, format: &SessionFormat) -> Option<Format>
         } else {
             None
         },
+        nack: format.nack,
+        pli: format.pli,
     })
 }
 
@@ -170,6 +211,35 @@ fn pairs_of(alloc: Global, pairs: &[SsrcPair]) -> Result<Vec<Pair>, AllocError>
     pairs.iter().map(|pair| pair_of(pair)).collect(alloc)
 }
 
+/// Converts the settings of requests; without a name no source description is sent.
+fn feedback_of(alloc: Global, settings: &SessionSettings) -> Option<FeedbackSettings>
+    ensures { MatchFeedback settings.now result }
+{
+    if !settings.has_feedback {
+        return None;
+    }
+    let feedback = settings.feedback;
+    Some(FeedbackSettings {
+        ssrc: feedback.ssrc,
+        cname: Vec::new(alloc),
+        has_report: feedback.has_report,
+        nack: NackSettings {
+            first_wait: feedback.first_wait,
+            retry: feedback.retry,
+            shortest_retry: feedback.shortest_retry,
+            longest_retry: feedback.longest_retry,
+            tries: feedback.tries,
+            capacity: feedback.capacity,
+        },
+        keyframe_interval: feedback.keyframe_interval,
+        longest_wait: if feedback.has_longest_wait {
+            Some(feedback.longest_wait)
+        } else {
+            None
+        },
+    })
+}
+
 /// Returns whether the numbers of the settings are in range.
 fn is_session_in_range(settings: &SessionSettings) -> bool
     ensures { result ≡ session_in_range settings.now }
@@ -205,6 +275,7 @@ fn settings_of(alloc: Global, settings: &SessionSettings) -> Option<Settings>
         idle_timeout: settings.idle_timeout,
         bye_wait: settings.bye_wait,
         tick_rate,
+        feedback: feedback_of(alloc, settings),
     })
 }
 

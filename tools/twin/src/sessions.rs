@@ -3,7 +3,9 @@
 use super::input::Input;
 use super::{Compared, codec, proved_session};
 use codec_payload::keyframes::FromKeyframe;
-use codec_payload::session::{Arrival, Ending, Event, Format, Session, SessionSettings, SsrcPair};
+use codec_payload::session::{
+    Arrival, Ending, Event, FeedbackSettings, Format, Session, SessionSettings, SsrcPair,
+};
 use codec_payload::stream::RedSettings;
 use codec_payload::{Codec, CodecSpec, Frequency, Ticks};
 
@@ -19,6 +21,8 @@ fn formats(spec: CodecSpec) -> Vec<Format> {
         spec,
         red,
         retransmission,
+        nack: true,
+        pli: true,
     };
     let red = RedSettings {
         payload_type: 63,
@@ -51,6 +55,7 @@ fn settings(spec: CodecSpec, input: &mut Input) -> (SessionSettings, [u64; 8]) {
     ours.idle_timeout = u64::from(input.word());
     ours.bye_wait = u64::from(input.byte());
     let from_keyframe = input.byte() % 3;
+    ours.feedback = Some(FeedbackSettings::live(77));
     ours.from_keyframe =
         [FromKeyframe::Off, FromKeyframe::Mark, FromKeyframe::Drop][usize::from(from_keyframe)];
     let values = [
@@ -108,6 +113,14 @@ fn told(event: Event) -> ([u64; 11], Vec<u8>, Option<String>) {
     };
     match event {
         Event::Begun { ssrc, payload_type } => stream(0, ssrc, payload_type),
+        Event::Feedback {
+            ssrc,
+            payload_type,
+            packet,
+        } => {
+            stream(4, ssrc, payload_type);
+            return (it, packet.expect("there is memory"), None);
+        }
         Event::Ended {
             ssrc,
             payload_type,
