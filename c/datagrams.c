@@ -61,6 +61,7 @@ static cpay_receiver_counts_info counts_of(cpay_receiver *receiver) {
     CHECK(cpay_receiver_counts(receiver, &c) == CPAY_OK);
     uint64_t dropped = c.no_media + c.duplicates + c.late + c.suspect + c.evicted;
     CHECK(c.received + c.recovered == c.rtcp + c.malformed + c.other_streams + c.undecided + dropped + c.held + c.released + c.left);
+    CHECK(c.left == c.incomplete + c.skipped + c.refused);
     return c;
 }
 

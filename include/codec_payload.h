@@ -740,7 +740,10 @@ typedef struct {
     uint64_t suspect;
     uint64_t evicted;
     uint64_t released; /**< packets released in a unit */
-    uint64_t left;     /**< packets discarded with a frame that was incomplete, skipped or refused */
+    uint64_t left;     /**< packets discarded with a frame: incomplete + skipped + refused */
+    uint64_t incomplete; /**< discarded packets of frames that were never complete: packets were lost, or came too late */
+    uint64_t skipped;    /**< discarded packets of complete frames whose picture ids of VP8 or VP9 are too old */
+    uint64_t refused;    /**< discarded packets of frames that the depacketizer refused: the sender's payloads are not valid */
     uint64_t restarts; /**< restarts of the sender */
     uint64_t retransmitted; /**< missing packets filled in by retransmissions */
     uint64_t recovered;     /**< missing packets filled in by redundant blocks of RED; they are not in `received` */
@@ -779,6 +782,7 @@ typedef struct {
 /** Who requests missing packets and keyframes, and when. Times are in ticks of your clock. */
 typedef struct {
     uint64_t keyframe_interval; /**< least time between two requests of a stream for a keyframe */
+    uint64_t silence;           /**< a stream requests nothing once its latest datagram is older than this: nobody answers then */
     uint64_t first_wait;        /**< time from the moment that a number is first missing until its first request */
     uint64_t retry;             /**< time between two requests of a number while the round-trip time is unknown */
     uint64_t shortest_retry;    /**< least time between two requests of a number once the round-trip time is known */
@@ -815,10 +819,11 @@ typedef struct {
 /** Settings for live streams, with a clock of milliseconds. Audio waits for at most 100 ms and video for at most 200 ms. A session
  * has at most 64 streams of 4096 packets. A stream is announced with its second datagram, ends 30 s after its last one, and takes
  * packets for 200 ms after its BYE. Units that a decoder cannot show are marked. Nothing is requested; with has_feedback a missing
- * number is requested after 10 ms and at most 6 times, and a keyframe at most once in 500 ms. */
+ * number is requested after 10 ms and at most 6 times, and a keyframe at most once in 500 ms, for 2 s after the latest datagram of
+ * the stream; and waiting follows the round trip, up to 500 ms. */
 #define CPAY_LIVE_SESSION \
     { { 100, CPAY_NO_HOLD_BACK, 1, true }, { 200, CPAY_NO_HOLD_BACK, 2, true }, 30000, 200, 2, 4096, 64, 1000, \
-      CPAY_KEYFRAME_MARK, false, { 500, 10, 100, 20, 400, 0, 1024, 6, 0, false, false }, { 0, 0, 0, 0, 0, 0 } }
+      CPAY_KEYFRAME_MARK, false, { 500, 2000, 10, 100, 20, 400, 500, 1024, 6, 0, false, true }, { 0, 0, 0, 0, 0, 0 } }
 
 /** Creates a session in an empty handle, for these payload formats. `no_media` lists payload types that share the SSRC and the
  * numbers of a stream and carry none of its media: telephone events beside audio, comfort noise. `pairs` names the SSRCs of

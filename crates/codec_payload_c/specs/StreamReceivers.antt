@@ -186,6 +186,9 @@ pub record TellsCounts (r : StreamReceiver) (c : ReceiverCountsInfo) : Type 0 wh
   pub evicted : c.evicted ≡ r.receiver.packets.counters.evicted
   pub released : c.released ≡ r.receiver.packets.counters.released
   pub left : c.left ≡ r.receiver.packets.counters.left
+  pub incomplete : c.incomplete ≡ r.receiver.packets.counters.incomplete
+  pub skipped : c.skipped ≡ r.receiver.packets.counters.skipped
+  pub refused : c.refused ≡ r.receiver.packets.counters.refused
   pub restarts : c.restarts ≡ r.receiver.packets.counters.restarts
   pub retransmitted : c.retransmitted ≡ r.receiver.packets.counters.retransmitted
   pub recovered : c.recovered ≡ r.receiver.packets.counters.recovered

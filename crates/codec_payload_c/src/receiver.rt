@@ -106,8 +106,14 @@ pub struct ReceiverCountsInfo {
     pub evicted: u64,
     /// Packets that were released in a unit.
     pub released: u64,
-    /// Packets that were discarded with a frame.
+    /// Packets that were discarded with a frame: the sum of the next three, modulo 2^64.
     pub left: u64,
+    /// Discarded packets of frames that were never complete.
+    pub incomplete: u64,
+    /// Discarded packets of complete frames that were skipped for their picture ids.
+    pub skipped: u64,
+    /// Discarded packets of frames that the depacketizer refused.
+    pub refused: u64,
     pub restarts: u64,
     pub retransmitted: u64,
     pub recovered: u64,
@@ -353,6 +359,9 @@ pub(crate) fn counts_by(receiver: &Receiver) -> ReceiverCountsInfo
         evicted: packets.evicted,
         released: packets.released,
         left: packets.left,
+        incomplete: packets.incomplete,
+        skipped: packets.skipped,
+        refused: packets.refused,
         restarts: packets.restarts,
         retransmitted: packets.retransmitted,
         recovered: packets.recovered,

@@ -58,6 +58,8 @@ pub struct SsrcPair {
 pub struct SessionFeedback {
     /// The least number of ticks between two requests of a stream for a keyframe.
     pub keyframe_interval: u64,
+    /// For how many ticks after its latest datagram a stream requests anything.
+    pub silence: u64,
     /// Ticks from the moment that a number is first reported missing until its first request.
     pub first_wait: u64,
     /// Ticks between two requests of a number while the round-trip time is unknown.
@@ -232,6 +234,7 @@ fn feedback_of(alloc: Global, settings: &SessionSettings) -> Option<FeedbackSett
             capacity: feedback.capacity,
         },
         keyframe_interval: feedback.keyframe_interval,
+        silence: feedback.silence,
         longest_wait: if feedback.has_longest_wait {
             Some(feedback.longest_wait)
         } else {
