@@ -14,9 +14,7 @@ use codec_payload::jitter::SequenceNumbers;
 use codec_payload::rtcp::{CompoundRule, ReceiverReport, ReportBlock, RtcpPacket, read_compound};
 use codec_payload::rtp::{RtpPacket, is_rtcp};
 use codec_payload::sdp::{self, Media, Role};
-use codec_payload::session::{
-    Event, FeedbackSettings, Format, Session, SessionSettings, SsrcPair,
-};
+use codec_payload::session::{Event, FeedbackSettings, Format, Session, SessionSettings, SsrcPair};
 use codec_payload::stream::ReceptionStatistics;
 use codec_payload::{Clock, Frequency, Ticks};
 use std::collections::BTreeMap;
@@ -204,7 +202,9 @@ impl Peer {
     fn poll(&mut self, now: Ticks, out: &mut impl Write) -> Result<(), Failure> {
         while let Some(event) = self.session.poll(now) {
             match event {
-                Event::Begun { ssrc, payload_type } => writeln!(out, "begun {ssrc} {payload_type}")?,
+                Event::Begun { ssrc, payload_type } => {
+                    writeln!(out, "begun {ssrc} {payload_type}")?
+                }
                 Event::Unit {
                     ssrc,
                     payload_type,
