@@ -202,9 +202,11 @@ impl Session {
     }
 
     /// Changes how long the stream with this SSRC and payload type waits for missing packets. Without such a stream nothing
-    /// changes. See [`Receiver::set_wait_limits`].
+    /// changes. See [`Receiver::set_wait_limits`]. If waiting follows the round trip ([`FeedbackSettings::longest_wait`]), later
+    /// packets replace `max_wait`.
     ///
     /// [`Receiver::set_wait_limits`]: codec_payload_stream::receiver::Receiver::set_wait_limits
+    /// [`FeedbackSettings::longest_wait`]: crate::formats::FeedbackSettings::longest_wait
     pub fn set_wait_limits(&mut self, ssrc: u32, payload_type: u8, wait_limits: WaitLimits)
         ensures { self.new ≡ waits_of ssrc payload_type wait_limits self.old }
     {
@@ -231,7 +233,7 @@ impl Session {
     }
 
     /// Lends the receiver of the stream at a place, in the order in which the streams began. It reports what to request
-    /// ([`Receiver::missing`], [`Receiver::wants_keyframe`]), and what a receiver report has.
+    /// ([`Receiver::missing`], [`Receiver::wants_keyframe`]), and its counters.
     ///
     /// [`Receiver::missing`]: codec_payload_stream::receiver::Receiver::missing
     /// [`Receiver::wants_keyframe`]: codec_payload_stream::receiver::Receiver::wants_keyframe
