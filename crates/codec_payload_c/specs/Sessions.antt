@@ -5,6 +5,7 @@ use Rattle.std.specs.declared.alloc.AllocError.{AllocError}
 use Rattle.codec_payload_base.specs.declared.wire.Ticks.{Ticks}
 use Rattle.codec_payload_core.specs.Faults.{fault_number}
 use Rattle.codec_payload_core.specs.Release.{Release}
+use Rattle.codec_payload_core.specs.declared.error.PacketError.{PacketError}
 use Rattle.codec_payload_handle.specs.Bytes.{filled}
 use Rattle.codec_payload_handle.specs.Units.{TellsUnit, no_unit}
 use Rattle.codec_payload_handle.specs.declared.object.PortSession.{PortSession}
@@ -108,11 +109,15 @@ bytes_in (events.Unit ssrc payload_type time decodable keyframe (Err fault)) = [
 bytes_in (events.Feedback ssrc payload_type packet) = bytes_sent packet
 bytes_in (events.Ended ssrc payload_type why) = []
 
+-- the unit, or without one the unit before it
+abbrev pub popped_or : Result Release PacketError → Option Release → Option Release
+popped_or (Ok u) taken = Some u
+popped_or (Err fault) taken = taken
+
 -- the latest unit after the event
 abbrev pub latest_unit : Event → Option Release → Option Release
 latest_unit (events.Begun ssrc payload_type) taken = taken
-latest_unit (events.Unit ssrc payload_type time decodable keyframe (Ok u)) taken = Some u
-latest_unit (events.Unit ssrc payload_type time decodable keyframe (Err fault)) taken = taken
+latest_unit (events.Unit ssrc payload_type time decodable keyframe unit) taken = popped_or unit taken
 latest_unit (events.Feedback ssrc payload_type packet) taken = taken
 latest_unit (events.Ended ssrc payload_type why) taken = taken
 

@@ -4,13 +4,14 @@ ghost use Rattle.std.specs.Prelude.{◌≡◌, ◌≢◌, length, nat_le, Option
 ghost use Rattle.codec_payload_session.specs.Ports.{ends_all, ends_of};
 ghost use Rattle.codec_payload_session.specs.Streams.{due_in};
 ghost use Rattle.codec_payload_c.specs.SessionFormats.{IsPortSessionOf, is_in_range};
-ghost use Rattle.codec_payload_c.specs.Sessions.{Comes, Hands, PollsEvent, ReceivesDatagram, TellsArrival, TellsEvent, TellsJudgedBy, arrived_as, bytes_in, ending_number, event_with, is_no_memory, latest_unit};
+ghost use Rattle.codec_payload_c.specs.Sessions.{Comes, Hands, PollsEvent, ReceivesDatagram, TellsArrival, TellsEvent, TellsJudgedBy, arrived_as, bytes_in, ending_number, event_with, is_no_memory, latest_unit, popped_or};
 ghost use Rattle.codec_payload_c.specs.StreamReceivers.{TellsNumber, TellsTaken};
 ghost use Rattle.codec_payload_handle.specs.Kinds.{Makes, OnPortSession, Refuses, is_port_session};
 
 use crate::receiver::report_answer;
 use crate::session_settings::{SessionFormat, SessionSettings, SsrcPair, session_by};
 use codec_payload_core::buffer::Depacketized;
+use codec_payload_core::error::PacketError;
 use codec_payload_core::wire::Ticks;
 use codec_payload_handle::bytes::fill;
 use codec_payload_handle::extension_values::ExtensionValues;
@@ -232,7 +233,16 @@ fn bytes_of(event: &SessionEvent) -> &[u8]
 fn keep_unit(port: &mut PortSession, event: SessionEvent)
     ensures { port.new ≡ record port.old { taken = latest_unit event port.old.taken } }
 {
-    if let SessionEvent::Unit { unit: Ok(unit), .. } = event {
+    if let SessionEvent::Unit { unit, .. } = event {
+        keep_popped(port, unit);
+    }
+}
+
+/// Keeps a unit that was popped.
+fn keep_popped(port: &mut PortSession, unit: Result<Depacketized, PacketError>)
+    ensures { port.new ≡ record port.old { taken = popped_or unit port.old.taken } }
+{
+    if let Ok(unit) = unit {
         port.taken = Some(unit);
     }
 }
