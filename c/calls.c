@@ -330,11 +330,35 @@ cpay_status cpay_session_wants_keyframe(cpay_session *session, uint32_t ssrc, ui
     return proved_cpay_session_wants_keyframe(&session->handle, ssrc, payload_type, wants);
 }
 
+cpay_status proved_cpay_session_report(cpay_handle *session, uint64_t now, uint32_t ssrc, uint8_t payload_type,
+                                       cpay_report_block_info *block);
+cpay_status cpay_session_report(cpay_session *session, uint64_t now, uint32_t ssrc, uint8_t payload_type,
+                                cpay_report_block_info *block) {
+    return proved_cpay_session_report(&session->handle, now, ssrc, payload_type, block);
+}
+
+cpay_status proved_cpay_session_sender_clock(cpay_handle *session, uint32_t ssrc, uint8_t payload_type,
+                                             cpay_sender_clock_info *clock);
+cpay_status cpay_session_sender_clock(cpay_session *session, uint32_t ssrc, uint8_t payload_type,
+                                      cpay_sender_clock_info *clock) {
+    return proved_cpay_session_sender_clock(&session->handle, ssrc, payload_type, clock);
+}
+
 cpay_status proved_cpay_session_set_wait_limits(cpay_handle *session, uint32_t ssrc, uint8_t payload_type,
                                                 const cpay_wait_limits *wait_limits);
 cpay_status cpay_session_set_wait_limits(cpay_session *session, uint32_t ssrc, uint8_t payload_type,
                                          const cpay_wait_limits *wait_limits) {
     return proved_cpay_session_set_wait_limits(&session->handle, ssrc, payload_type, wait_limits);
+}
+
+cpay_status proved_cpay_session_add_pair(cpay_handle *session, uint32_t ssrc, uint32_t retransmission);
+cpay_status cpay_session_add_pair(cpay_session *session, uint32_t ssrc, uint32_t retransmission) {
+    return proved_cpay_session_add_pair(&session->handle, ssrc, retransmission);
+}
+
+cpay_status proved_cpay_session_remove_pair(cpay_handle *session, uint32_t ssrc);
+cpay_status cpay_session_remove_pair(cpay_session *session, uint32_t ssrc) {
+    return proved_cpay_session_remove_pair(&session->handle, ssrc);
 }
 
 cpay_status proved_cpay_depacketizer_new(cpay_handle *depacketizer, const cpay_spec *spec);

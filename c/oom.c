@@ -1,5 +1,6 @@
-/* Counts allocations. First, an object of each type is made, used and freed, with packets, units and bytes left in it. Memory
- * that was not released is counted before and after the free, and for each other call. Then one session of each type runs again
+/* Counts allocations. First, an object of each type is made, and takes no more bytes than its type may. Pops in steady state
+ * allocate nothing. Then an object of each type is made, used and freed, with packets, units and bytes left in it. Memory that
+ * was not released is counted before and after the free, and for each other call. Then one session of each type runs again
  * and again; each time one more allocation succeeds, and the next one fails. The call that asked for it must return 17 and
  * change no output. It is made once more, and the session must then end as with all memory, with all memory released. Linked
  * with -Wl,--wrap=malloc,--wrap=realloc,--wrap=free. */
@@ -11,7 +12,8 @@
 #include <string.h>
 
 static long refuse_at, asked;
-static long kept; /* allocations less frees */
+static long kept;   /* allocations less frees */
+static size_t total; /* bytes of all allocations */
 static bool refused;
 
 void *__real_malloc(size_t size);
@@ -28,7 +30,7 @@ static bool refuses(void) {
 
 void *__wrap_malloc(size_t size) {
     void *made = refuses() ? NULL : __real_malloc(size);
-    if (made) kept++;
+    if (made) kept++, total += size;
     return made;
 }
 
@@ -431,6 +433,78 @@ static int left_in_session(void) {
     return 0;
 }
 
+/* Frees an object that was just made, and returns whether it took at most that many bytes since `before`. */
+static bool is_within(any *it, const char *type, size_t before, size_t most) {
+    size_t took = total - before;
+    cpay_buffer_free(&it->buffer);
+    if (took > most) printf("a new %s takes %zu bytes\n", type, took);
+    return took <= most;
+}
+
+/* The number of types whose objects take more bytes than they may when they are new. */
+static int too_large(void) {
+    const cpay_spec opus = {.codec = CPAY_OPUS, .rate = 48000};
+    const cpay_sender_settings sends = {.spec = opus, .mtu = MTU, .ssrc = 7, .payload_type = 111};
+    const cpay_session_settings port = CPAY_LIVE_SESSION;
+    const cpay_session_format format = {.spec = opus, .payload_type = 111};
+    static const uint32_t distance = 1;
+    cpay_receiver_settings receives = CPAY_LIVE_AUDIO;
+    any it = ANY_INIT;
+    int bad = 0;
+    size_t before = total;
+    receives.spec = opus;
+    receives.payload_type = 111;
+#define TAKES(most, type, call) bad += (before = total, (call) != CPAY_OK) || !is_within(&it, type, before, most)
+    TAKES(200, "packetizer", cpay_packetizer_new(&it.packetizer, &opus));
+    TAKES(350, "depacketizer", cpay_depacketizer_new(&it.depacketizer, &opus));
+    TAKES(600, "buffer", cpay_buffer_new(&it.buffer, &opus, 0, 64));
+    TAKES(150, "sender of RED", cpay_red_sender_new(&it.red_sender, 63, 111, &distance, 1));
+    TAKES(1200, "sender", cpay_sender_new(&it.sender, &sends));
+    TAKES(2600, "receiver", cpay_receiver_new(&it.receiver, &receives, NULL, 0));
+    TAKES(1200, "session", cpay_session_new(&it.session, &port, &format, 1, NULL, 0, NULL, 0));
+    return bad;
+}
+
+/* Units of a receiver and of a buffer, with one byte each. 0 if the bytes are right, a unit that waits stays, the values of the
+ * unit before stay until then, and only the first two pops allocate. */
+static int pops_allocate(void) {
+    long before = kept;
+    cpay_receiver_settings receives = CPAY_LIVE_AUDIO;
+    const cpay_spec opus = {.codec = CPAY_OPUS, .rate = 48000};
+    cpay_receiver receiver = CPAY_INIT;
+    cpay_buffer buffer = CPAY_INIT;
+    cpay_extension_values values;
+    cpay_unit unit;
+    uint8_t bytes[32];
+    uint32_t outcome;
+    receives.spec = opus;
+    receives.payload_type = 111;
+    receives.start = 0;
+    receives.has_ssrc = true;
+    receives.ssrc = 7;
+    receives.extension_ids.audio_level = 1;
+    if (cpay_receiver_new(&receiver, &receives, NULL, 0) || cpay_buffer_new(&buffer, &opus, 0, 64)) return 1;
+    for (uint8_t number = 1; number < 9; number++) {
+        const uint8_t levelled[21] = {0x90, 111, 0, number, 0, 0, 0, number, 0, 0, 0, 7,
+                                      0xbe, 0xde, 0, 1, 0x10, number, 0, 0, number};
+        cpay_received received = {.number = number, .rtp_time = number};
+        if (cpay_receiver_receive(&receiver, 0, levelled, sizeof levelled, &outcome)) return 2;
+        if (cpay_buffer_push(&buffer, &received, &number, 1)) return 3;
+        long popped = asked;
+        if (cpay_receiver_pop(&receiver, 0, &unit, bytes, 0) != CPAY_TOO_SMALL || unit.first % 65536 != number) return 4;
+        if (number > 1 && (cpay_receiver_values(&receiver, &values) || values.audio_level != 1 - number)) return 5;
+        if (cpay_receiver_pop(&receiver, 0, &unit, bytes, 1) || unit.first % 65536 != number || bytes[0] != number) return 6;
+        if (cpay_receiver_values(&receiver, &values) || values.audio_level != -number) return 7;
+        if (cpay_receiver_pop(&receiver, 0, &unit, bytes, 1) != CPAY_NONE) return 8;
+        if (cpay_buffer_pop(&buffer, &unit, bytes, 0) != CPAY_TOO_SMALL || unit.first != number) return 9;
+        if (cpay_buffer_pop(&buffer, &unit, bytes, 1) || unit.first != number || bytes[0] != number) return 10;
+        if (number > 2 && asked != popped) return 11;
+    }
+    cpay_receiver_free(&receiver);
+    cpay_buffer_free(&buffer);
+    return kept == before ? 0 : 12;
+}
+
 /* The number of uses that kept memory, or failed. */
 static int leaks(void) {
     static const uint32_t codecs[4] = {CPAY_VP8, CPAY_VP9, CPAY_AV1, CPAY_NULL};
@@ -439,7 +513,8 @@ static int leaks(void) {
         if ((ended = left_behind(codecs[i]))) printf("memory left by codec %u: ended %d\n", (unsigned)codecs[i], ended), bad++;
     if ((ended = left_in_red())) printf("memory left by RED: ended %d\n", ended), bad++;
     if ((ended = left_in_session())) printf("memory left by a session: ended %d\n", ended), bad++;
-    return bad;
+    if ((ended = pops_allocate())) printf("pops in steady state: ended %d\n", ended), bad++;
+    return bad + too_large();
 }
 
 static int session(int *met) {

@@ -110,6 +110,10 @@ void over_a_port() {
     std::array<std::uint64_t, 4> missing = {};
     bool wants = false;
     CHECK(to.missing(7, 96, missing, count) == CPAY_OK && count == 0 && to.wants_keyframe(7, 96, wants) == CPAY_OK);
+    cpay_report_block_info block = {};
+    cpay_sender_clock_info clock = {};
+    CHECK(to.report(100, 7, 96, block) == CPAY_OK && block.ssrc == 7 && to.report(100, 8, 96, block) == CPAY_NONE);
+    CHECK(to.sender_clock(7, 96, clock) == CPAY_NONE);
     cpay_session_stream stream = {};
     cpay_session_counts_info counts = {};
     CHECK(to.stream_at(0, stream) == CPAY_OK && stream.counts.units == 1 && to.stream_at(1, stream) == CPAY_NONE);

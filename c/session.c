@@ -205,6 +205,64 @@ static void losses(void) {
     cpay_session_free(&session);
 }
 
+/* A sender that joins later: its retransmissions have SSRC 80, which is named while the stream waits for one. */
+static void pairs(void) {
+    cpay_session session = live();
+    opus(&session, 0, 8, 1);
+    opus(&session, 0, 8, 3);
+    CHECK(happens(&session, 0, "B8:111 U8:1 ."));
+    CHECK(sent(&session, 10, RTX, 80, 1, "\0\2\2", 3).kind == CPAY_ARRIVAL_UNASSOCIATED);
+    CHECK(cpay_session_add_pair(&session, 8, 80) == CPAY_OK);
+    cpay_arrival it = sent(&session, 20, RTX, 80, 2, "\0\2\2", 3);
+    CHECK(it.kind == CPAY_ARRIVAL_STREAM && it.ssrc == 8 && it.outcome == CPAY_HELD);
+    CHECK(happens(&session, 20, "U8:2 U8:3 ."));
+    /* The pair of another sender stays, and the later pair wins. */
+    opus(&session, 30, 1, 1);
+    it = sent(&session, 30, RTX, 9, 1, "\0\3\3", 3);
+    CHECK(it.kind == CPAY_ARRIVAL_STREAM && it.ssrc == 1);
+    CHECK(cpay_session_add_pair(&session, 8, 81) == CPAY_OK);
+    CHECK(sent(&session, 30, RTX, 80, 3, "\0\4\4", 3).kind == CPAY_ARRIVAL_UNASSOCIATED);
+    CHECK(sent(&session, 30, RTX, 81, 1, "\0\4\4", 3).ssrc == 8);
+    CHECK(cpay_session_remove_pair(&session, 8) == CPAY_OK);
+    CHECK(cpay_session_remove_pair(&session, 7) == CPAY_OK);
+    CHECK(sent(&session, 30, RTX, 81, 2, "\0\5\5", 3).kind == CPAY_ARRIVAL_UNASSOCIATED);
+    CHECK(sent(&session, 30, RTX, 9, 2, "\0\4\4", 3).ssrc == 1);
+    CHECK(counts_of(&session).unassociated == 3);
+    cpay_session_free(&session);
+}
+
+/* A sender that goes from Opus to G.711 under one SSRC: 200 ms after its last packet the first stream ends. Video under that SSRC
+ * ends no audio. */
+static void change_of_format(void) {
+    enum { PCMU = 0 };
+    static const cpay_session_settings settings = CPAY_LIVE_SESSION;
+    static const cpay_session_format formats[3] = {
+        {.spec = {.codec = CPAY_OPUS, .rate = 48000}, .payload_type = AUDIO},
+        {.spec = {.codec = CPAY_PCMU, .rate = 8000}, .payload_type = PCMU},
+        {.spec = {.codec = CPAY_VP8, .rate = 90000}, .payload_type = VIDEO},
+    };
+    cpay_session session = CPAY_INIT;
+    CHECK(cpay_session_new(&session, &settings, formats, 3, NULL, 0, NULL, 0) == CPAY_OK);
+    opus(&session, 0, 1, 1);
+    opus(&session, 20, 1, 2);
+    CHECK(happens(&session, 20, "B1:111 U1:1 U1:2 ."));
+    uint64_t ended = 0;
+    for (uint16_t number = 3; number < 9; number++) {
+        uint64_t now = 40u * number;
+        sent(&session, now - 1, VIDEO | 0x80, 1, number, "\x10\1\0", 3);
+        if (number == 6)
+            for (const char *one; *(one = next(&session, now)) != '.';)
+                CHECK(strcmp(one, "E1:3"));
+        cpay_arrival it = sent(&session, now, PCMU, 1, number, "\1", 1);
+        CHECK(it.kind == CPAY_ARRIVAL_STREAM && it.payload_type == PCMU);
+        for (const char *one; *(one = next(&session, now)) != '.';)
+            if (!strcmp(one, "E1:3")) ended = now;
+    }
+    CHECK(ended == 240 && CPAY_ENDED_BY_CHANGE == 3);
+    CHECK(counts_of(&session).streams == 2 && counts_of(&session).ended == 2);
+    cpay_session_free(&session);
+}
+
 /* Requests (RFC 4585): a NACK 10 ms after a number is first missing, once more after 100 ms, and a PLI for video. */
 static void requests(void) {
     static const uint8_t delta[] = {0x10, 0x11, 0, 0, 1};
@@ -288,6 +346,33 @@ static void video(void) {
     CHECK(cpay_session_wants_keyframe(&session, 1, VIDEO, &wants) == CPAY_OK && wants);
     CHECK(cpay_session_wants_keyframe(&session, 2, VIDEO, &wants) == CPAY_NONE && wants);
     CHECK(cpay_session_wants_keyframe(&session, 1, AUDIO, &wants) == CPAY_OK && !wants);
+    cpay_session_free(&session);
+}
+
+/* Figure 2 of RFC 3550: a sender report of 46,853.125 s arrives, and 5.250 s later a block is made. */
+static void reports(void) {
+    static const uint8_t sender_report[28] = {0x80, 200, 0, 6, 0, 0, 0, 1, 0xb4, 0x4d, 0xb7, 0x05, 0x20, 0, 0, 0, 0, 0, 0x1e, 0x61};
+    cpay_session session = live();
+    cpay_report_block_info block = {.ssrc = 99};
+    cpay_sender_clock_info clock = {.rtp_time = 99};
+    cpay_arrival arrival = {0};
+    CHECK(cpay_session_report(&session, 0, 1, AUDIO, &block) == CPAY_NONE && block.ssrc == 99);
+    opus(&session, 100000, 1, 10);
+    opus(&session, 100040, 1, 12);
+    opus(&session, 100040, 2, 10);
+    CHECK(cpay_session_report(&session, 100041, 1, AUDIO, &block) == CPAY_OK && block.last_sender_report == 0);
+    CHECK(block.fraction_lost == 85 && block.cumulative_lost == 1 && block.delay_since_sender_report == 0); /* 1 of 3 */
+    CHECK(cpay_session_sender_clock(&session, 1, AUDIO, &clock) == CPAY_NONE && clock.rtp_time == 99);
+    CHECK(cpay_session_receive(&session, 100050, sender_report, sizeof sender_report, &arrival) == CPAY_OK);
+    CHECK(arrival.kind == CPAY_ARRIVAL_RTCP);
+    CHECK(cpay_session_report(&session, 105300, 1, AUDIO, &block) == CPAY_OK && block.ssrc == 1 && block.fraction_lost == 0);
+    CHECK(block.cumulative_lost == 1 && block.highest == 12 && block.jitter == 0);
+    CHECK(block.last_sender_report == 0xb7052000 && block.delay_since_sender_report == 0x54000);
+    CHECK(cpay_session_sender_clock(&session, 1, AUDIO, &clock) == CPAY_OK && clock.ntp_time == 0xb44db70520000000);
+    CHECK(clock.rtp_time == 7777 && clock.arrived == 100050);
+    CHECK(cpay_session_sender_clock(&session, 2, AUDIO, &clock) == CPAY_NONE && clock.rtp_time == 7777);
+    CHECK(cpay_session_sender_clock(&session, 1, VIDEO, &clock) == CPAY_NONE && clock.rtp_time == 7777);
+    CHECK(cpay_session_report(&session, 105300, 2, AUDIO, &block) == CPAY_OK && block.ssrc == 2 && block.highest == 10);
     cpay_session_free(&session);
 }
 
@@ -409,6 +494,8 @@ static void handles(void) {
     cpay_session_counts_info counts = {.rtcp = 7};
     cpay_session_stream stream = {.ssrc = 7};
     cpay_wait_limits limits = {.hold_back = 1};
+    cpay_report_block_info block = {.ssrc = 7};
+    cpay_sender_clock_info clock = {.rtp_time = 7};
     uint8_t bytes[4] = {7, 7, 7, 7};
     uint64_t at = 7, numbers[1] = {7};
     uint32_t outcome = 7;
@@ -429,7 +516,12 @@ static void handles(void) {
         CHECK(cpay_session_missing(&it.session, 1, AUDIO, numbers, 1, &count) == status);
         CHECK(cpay_session_wants_keyframe(&it.session, 1, AUDIO, &wants) == status);
         CHECK(cpay_session_set_wait_limits(&it.session, 1, AUDIO, &limits) == status);
+        CHECK(cpay_session_add_pair(&it.session, 1, 9) == status);
+        CHECK(cpay_session_remove_pair(&it.session, 1) == status);
+        CHECK(cpay_session_report(&it.session, 0, 1, AUDIO, &block) == status);
+        CHECK(cpay_session_sender_clock(&it.session, 1, AUDIO, &clock) == status);
     }
+    CHECK(block.ssrc == 7 && clock.rtp_time == 7);
     CHECK(arrival.kind == 7 && event.kind == 7 && values.audio_level == 7 && at == 7 && counts.rtcp == 7 && stream.ssrc == 7);
     CHECK(same(bytes, "\7\7\7\7", 4) && numbers[0] == 7 && count == 7 && wants);
     CHECK(cpay_session_new(&it.session, &right, FORMATS, 2, NULL, 0, NULL, 0) == CPAY_FULL);
@@ -444,9 +536,12 @@ int main(void) {
     two_senders();
     ends();
     losses();
+    pairs();
+    change_of_format();
     requests();
     redundant();
     video();
+    reports();
     small_buffers();
     values_and_places();
     settings();

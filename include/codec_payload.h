@@ -836,7 +836,8 @@ CPAY_CHECKED cpay_status cpay_session_new(cpay_session *session, const cpay_sess
 /** What a session did with a datagram. */
 enum {
     CPAY_ARRIVAL_STREAM = 0,      /**< a stream received it: see `status` and `outcome` */
-    CPAY_ARRIVAL_RTCP = 1,        /**< a valid compound packet of RTCP; streams that its BYE names end after `bye_wait` */
+    CPAY_ARRIVAL_RTCP = 1,        /**< a valid compound packet of RTCP; streams that its BYE names end after `bye_wait`, and its
+                                       sender reports state the clocks of streams: see cpay_session_sender_clock */
     CPAY_ARRIVAL_MALFORMED = 2,   /**< neither RTP nor a valid compound packet of RTCP (RFC 3550, section 6.1) */
     CPAY_ARRIVAL_UNKNOWN = 3,     /**< a payload type that no format names, or one of `no_media` whose SSRC has no stream */
     CPAY_ARRIVAL_REFUSED = 4,     /**< it would begin a stream, but all places are taken, or you called cpay_session_finish */
@@ -873,7 +874,8 @@ enum {
 enum {
     CPAY_ENDED_BY_BYE = 0,     /**< its sender left (RFC 3550, section 6.6) */
     CPAY_ENDED_BY_TIMEOUT = 1, /**< no datagram arrived for `idle_timeout` */
-    CPAY_ENDED_BY_CALL = 2     /**< you called cpay_session_end or cpay_session_finish */
+    CPAY_ENDED_BY_CALL = 2,    /**< you called cpay_session_end or cpay_session_finish */
+    CPAY_ENDED_BY_CHANGE = 3   /**< its sender continues in another format under the same SSRC */
 };
 
 typedef struct {
@@ -955,10 +957,50 @@ CPAY_CHECKED cpay_status cpay_session_missing(cpay_session *session, uint32_t ss
  * CPAY_NONE: there is no such stream. Does not allocate. */
 CPAY_CHECKED cpay_status cpay_session_wants_keyframe(cpay_session *session, uint32_t ssrc, uint8_t payload_type, bool *wants);
 
+/** A block of a receiver report (RFC 3550, section 6.4.1). */
+typedef struct {
+    uint32_t ssrc;            /**< SSRC of the stream */
+    uint32_t cumulative_lost; /**< packets expected minus packets received, duplicates included: 24 bits in two's complement */
+    uint32_t highest;         /**< highest sequence number in the low 16 bits, and the number of wraps above them */
+    uint32_t jitter;          /**< interarrival jitter, in ticks of the RTP clock */
+    uint32_t last_sender_report; /**< LSR: middle 32 bits of the NTP time of the last sender report; 0 if there was none */
+    uint32_t delay_since_sender_report; /**< DLSR: time since that report arrived, in 1/65536 s; 0 if there was none */
+    uint8_t fraction_lost;    /**< fraction of packets lost since the previous block, in 1/256 */
+} cpay_report_block_info;
+
+/** Returns the block of a receiver report about the stream with this SSRC and payload type at time `now`, and starts the next
+ * interval of `fraction_lost`. In the packet the block is `ssrc`, then `fraction_lost` and the 24 bits of `cumulative_lost`, and
+ * then the other fields in their order, each of 32 bits in network byte order. A stream in probation has a block too. CPAY_NONE:
+ * there is no such stream, or no packet of it arrived yet. */
+CPAY_CHECKED cpay_status cpay_session_report(cpay_session *session, uint64_t now, uint32_t ssrc, uint8_t payload_type,
+                                             cpay_report_block_info *block);
+
+/** What the latest sender report about a stream says (RFC 3550, section 6.4.1): one moment by the wall clock of the sender and as
+ * an RTP time. */
+typedef struct {
+    uint64_t ntp_time; /**< seconds since 1900 in the upper 32 bits, fractions of a second in the lower 32 bits */
+    uint64_t arrived;  /**< when the report arrived, in ticks of your clock */
+    uint32_t rtp_time; /**< the same moment as an RTP time of the stream */
+} cpay_sender_clock_info;
+
+/** Reports the clock of the sender of the stream with this SSRC and payload type. CPAY_NONE: there is no such stream, or no sender
+ * report about it arrived since it began. */
+CPAY_CHECKED cpay_status cpay_session_sender_clock(cpay_session *session, uint32_t ssrc, uint8_t payload_type,
+                                                   cpay_sender_clock_info *clock);
+
 /** Replaces the wait limits of the stream with this SSRC and payload type: see cpay_receiver_set_wait_limits. CPAY_NONE: there is
  * no such stream. */
 CPAY_CHECKED cpay_status cpay_session_set_wait_limits(cpay_session *session, uint32_t ssrc, uint8_t payload_type,
                                                       const cpay_wait_limits *wait_limits);
+
+/** Names the SSRC of the retransmissions of `ssrc` (`a=ssrc-group:FID`), for a sender that joins later: streams that exist take
+ * them too. The later pair wins: it replaces the pair with the same `ssrc`, and the pair with the same `retransmission`.
+ * CPAY_OUT_OF_MEMORY: the pairs are unchanged. [m] */
+CPAY_CHECKED cpay_status cpay_session_add_pair(cpay_session *session, uint32_t ssrc, uint32_t retransmission);
+
+/** Forgets the SSRC of the retransmissions of `ssrc`. Without such a pair nothing changes. The end of a stream removes no pair.
+ * Does not allocate. */
+CPAY_CHECKED cpay_status cpay_session_remove_pair(cpay_session *session, uint32_t ssrc);
 
 /* ---- A depacketizer alone, for callers that order packets themselves ---- */
 

@@ -181,10 +181,22 @@ public:
     [[nodiscard]] cpay_status wants_keyframe(std::uint32_t ssrc, std::uint8_t payload_type, bool &wants) noexcept {
         return cpay_session_wants_keyframe(get(), ssrc, payload_type, &wants);
     }
+    [[nodiscard]] cpay_status report(std::uint64_t now, std::uint32_t ssrc, std::uint8_t payload_type,
+                                     cpay_report_block_info &block) noexcept {
+        return cpay_session_report(get(), now, ssrc, payload_type, &block);
+    }
+    [[nodiscard]] cpay_status sender_clock(std::uint32_t ssrc, std::uint8_t payload_type,
+                                           cpay_sender_clock_info &clock) noexcept {
+        return cpay_session_sender_clock(get(), ssrc, payload_type, &clock);
+    }
     [[nodiscard]] cpay_status set_wait_limits(std::uint32_t ssrc, std::uint8_t payload_type,
                                               const cpay_wait_limits &limits) noexcept {
         return cpay_session_set_wait_limits(get(), ssrc, payload_type, &limits);
     }
+    [[nodiscard]] cpay_status add_pair(std::uint32_t ssrc, std::uint32_t retransmission) noexcept {
+        return cpay_session_add_pair(get(), ssrc, retransmission);
+    }
+    [[nodiscard]] cpay_status remove_pair(std::uint32_t ssrc) noexcept { return cpay_session_remove_pair(get(), ssrc); }
 };
 
 /** A frame in, its payloads out. */

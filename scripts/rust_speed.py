@@ -2,7 +2,9 @@
 """Prints what calls of rust/ take: instructions by callgrind, and times as ratios to a copy of the same frame.
 
   scripts/rust_speed.py [--fallible]
+  scripts/rust_speed.py [--fallible] --sessions
 
+With --sessions it prints what a datagram takes in a session beside a receiver alone (tools/speed/src/bin/session.rs).
 Needs cargo, and valgrind for instructions. Times depend on the machine and on what else runs on it; instructions do not.
 """
 import os
@@ -18,17 +20,45 @@ CASES = [("opus", 120), ("VP8", 1_000), ("VP8", 20_000), ("VP9", 1_000), ("VP9",
 CALLS = ["packetize", "packetize_into", "depacketize"]
 # The rounds of tools/speed, each with this many calls.
 ROUNDS = 12
+# The streams and the hostile datagrams of tools/speed/src/bin/session.rs.
+KINDS = {"audio": "Opus", "video": "VP8", "requests": "VP8, requests"}
+HOSTILE = {"goodbyes": "300 BYEs of nobody, 1,200 bytes", "strays": "a packet of a new SSRC, all places taken"}
+
+
+def collected(*words):
+    """The instructions of a run of a program."""
+    with tempfile.TemporaryDirectory() as folder:
+        ran = subprocess.run(["valgrind", "--tool=callgrind", f"--callgrind-out-file={folder}/out", *map(str, words)],
+                             capture_output=True, text=True, check=True)
+    return int(re.search(r"Collected : (\d+)", ran.stderr)[1])
 
 
 def instructions(program, codec, size, call):
     """Instructions of one call: the difference of two runs, so that start and end do not count."""
-    def of(count):
-        with tempfile.TemporaryDirectory() as folder:
-            ran = subprocess.run(["valgrind", "--tool=callgrind", f"--callgrind-out-file={folder}/out", program, codec, str(size), call,
-                                  str(count)], capture_output=True, text=True, check=True)
-        return int(re.search(r"Collected : (\d+)", ran.stderr)[1])
+    few, many = (collected(program, codec, size, call, count) for count in (10, 30))
+    return (many - few) / (20 * ROUNDS)
 
-    return (of(30) - of(10)) / (20 * ROUNDS)
+
+def of_datagram(way, kind, streams, counts=(30, 60)):
+    """What a datagram takes in a session of so many streams."""
+    program = f"{SPEED}/target/release/session"
+    few, many = (collected(program, way, kind, streams, count) for count in counts)
+    return (many - few) / ((counts[1] - counts[0]) * streams)
+
+
+def print_sessions():
+    print("| streams | receiver | `receive`, `poll` | ratio | and `next_deadline` | ratio |")
+    print("|---" * 6 + "|")
+    for kind, name in KINDS.items():
+        for streams in (1, 8, 64):
+            bare, *others = (of_datagram(way, kind, streams) for way in ("bare", "poll", "deadline"))
+            cells = " | ".join(f"{other:,.0f} | {other / bare:.2f}" for other in others)
+            print(f"| {streams} of {name} | {bare:,.0f} | {cells} |", flush=True)
+    print("\n| `receive` of | 1 stream | 8 streams | 64 streams |")
+    print("|---" * 4 + "|")
+    for kind, name in HOSTILE.items():
+        cells = (of_datagram("receive", kind, streams, (4, 8)) for streams in (1, 8, 64))
+        print(f"| {name} | " + " | ".join(f"{cell:,.0f}" for cell in cells) + " |", flush=True)
 
 
 def time_of(program, codec, size, call):
@@ -39,6 +69,9 @@ def time_of(program, codec, size, call):
 def main(words):
     features = ["--features", "codec-payload/fallible"] if "--fallible" in words else []
     subprocess.run(["cargo", "build", "--offline", "--quiet", "--release", *features], cwd=SPEED, check=True)
+    if "--sessions" in words:
+        print_sessions()
+        return 0
     program = f"{SPEED}/target/release/speed"
     counts = shutil.which("valgrind")
     print("| frame | copy, ns | " + " | ".join(f"{call}: instructions | ratio to the copy" for call in CALLS) + " |")

@@ -8,15 +8,13 @@
 //!
 //! - OFFER is a file with the session description (SDP); ADDRESS receives the feedback. Without them the program says so.
 //! - The first line is the port. An empty datagram ends the program.
-//! - The SSRCs of retransmissions are those of the offer. A sender that joins later retransmits under the SSRC of its stream.
+//! - The SSRCs of retransmissions are those of the offer (`sdp::session_settings`). For a sender that joins later, a program with
+//!   signalling passes `sdp::pairs` of the new offer to `Session::add_pair`; this one has none.
 
-use codec_payload::jitter::SequenceNumbers;
-use codec_payload::rtcp::{CompoundRule, ReceiverReport, ReportBlock, RtcpPacket, read_compound};
-use codec_payload::rtp::{RtpPacket, is_rtcp};
-use codec_payload::sdp::{self, Media, Role};
-use codec_payload::session::{Event, FeedbackSettings, Format, Session, SessionSettings, SsrcPair};
-use codec_payload::stream::ReceptionStatistics;
-use codec_payload::{Clock, Frequency, Ticks};
+use codec_payload::rtcp::ReceiverReport;
+use codec_payload::sdp;
+use codec_payload::session::{Event, FeedbackSettings, Session};
+use codec_payload::{Clock, Ticks};
 use std::collections::BTreeMap;
 use std::error::Error;
 use std::io::{self, ErrorKind, Write};
@@ -28,115 +26,49 @@ type Failure = Box<dyn Error>;
 const OWN_SSRC: u32 = 1;
 /// How often reports are sent, in milliseconds.
 const REPORT_INTERVAL: u64 = 1_000;
+/// A receiver report has room for this number of blocks (RFC 3550, section 6.4.2).
+const MOST_BLOCKS: usize = 31;
 /// The longest sleep.
 const LONGEST_SLEEP: Duration = Duration::from_millis(100);
 
-/// Adds the formats and the pairs of SSRCs of an `m=` section.
-fn add_section(settings: &mut SessionSettings, media: &Media) -> Result<(), Failure> {
-    for format in &media.formats {
-        let payload_type = format.payload_type;
-        let of = Some(payload_type);
-        let mut formats = media.formats.iter();
-        match format.role {
-            Role::Media(spec) => settings.formats.push(Format {
-                payload_type,
-                spec,
-                red: media.receiver_settings(payload_type)?.and_then(|it| it.red),
-                retransmission: formats
-                    .find(|it| it.role == Role::Retransmission { of })
-                    .map(|it| it.payload_type),
-                nack: format.feedback.nack,
-                pli: format.feedback.pli,
-            }),
-            Role::TelephoneEvents | Role::ComfortNoise | Role::ErrorCorrection => {
-                settings.no_media.push(payload_type);
-            }
-            _ => {}
-        }
-    }
-    for source in &media.sources {
-        if let Some(retransmission) = source.retransmission {
-            let ssrc = source.ssrc;
-            settings.pairs.push(SsrcPair {
-                ssrc,
-                retransmission,
-            });
-        }
-    }
-    Ok(())
+/// All streams of a port, and what is sent back.
+struct Peer {
+    session: Session,
+    /// When the next receiver report is due.
+    next_report: Ticks,
+    /// The packets of RTCP to send.
+    feedback: Vec<Vec<u8>>,
 }
 
-/// What receiver reports need of one SSRC (RFC 3550, section 6.4.1).
-struct Reported {
-    statistics: ReceptionStatistics,
-    /// The middle 32 bits of the latest sender report's NTP time, and when the report arrived.
-    sender_report: Option<(u32, u64)>,
-}
-
-impl Reported {
-    fn block(&mut self, now: u64, ssrc: u32) -> Option<ReportBlock> {
-        let report = self.statistics.report()?;
-        let (last_sender_report, arrived) = self.sender_report.unwrap_or((0, now));
-        Some(ReportBlock {
-            ssrc,
-            fraction_lost: report.fraction_lost,
-            cumulative_lost: report.cumulative_lost as u32 & 0xff_ffff,
-            highest_sequence_number: report.highest,
-            jitter: report.jitter,
-            last_sender_report,
-            delay_since_sender_report: ((now - arrived) * 65_536 / 1_000) as u32,
+impl Peer {
+    fn new(offer: &str) -> Result<Peer, Failure> {
+        let mut settings = sdp::session_settings(&sdp::read(offer)?)?;
+        settings.feedback = Some(FeedbackSettings::live(OWN_SSRC));
+        Ok(Peer {
+            session: Session::new(settings),
+            next_report: Ticks(REPORT_INTERVAL),
+            feedback: Vec::new(),
         })
     }
-}
 
-/// The receiver reports of a port.
-struct Reports {
-    by_ssrc: BTreeMap<u32, Reported>,
-    next: u64,
-}
-
-impl Reports {
-    /// Counts a packet of media.
-    fn observe(&mut self, now: Ticks, packet: &RtpPacket, clock_rate: Frequency) {
-        let header = &packet.header;
-        let reported = self.by_ssrc.entry(header.ssrc).or_insert_with(|| Reported {
-            statistics: ReceptionStatistics::over(
-                SequenceNumbers::new(),
-                SessionSettings::live().tick_rate,
-                clock_rate,
-            ),
-            sender_report: None,
-        });
-        let (number, time) = (header.sequence_number, header.timestamp);
-        reported.statistics.observe(now, number, time);
-    }
-
-    /// Keeps the times of sender reports.
-    fn read(&mut self, now: Ticks, datagram: &[u8]) {
-        let Ok(packets) = read_compound(CompoundRule::ReducedSize, datagram) else {
-            return;
-        };
-        for packet in packets {
-            if let RtcpPacket::SenderReport(report) = packet
-                && let Some(reported) = self.by_ssrc.get_mut(&report.ssrc)
-            {
-                let middle = report.ntp_seconds << 16 | report.ntp_fraction >> 16;
-                reported.sender_report = Some((middle, now.0));
-            }
-        }
-    }
-
-    /// Returns a receiver report, if one is due.
-    fn take_due(&mut self, now: Ticks) -> Result<Option<Vec<u8>>, Failure> {
-        if now.0 < self.next || self.by_ssrc.is_empty() {
+    /// Returns a receiver report with a block for each SSRC, if it is due. A sender that changed its codec has more than one
+    /// stream: the latest counts.
+    fn take_report(&mut self, now: Ticks) -> Result<Option<Vec<u8>>, Failure> {
+        if now < self.next_report {
             return Ok(None);
         }
-        self.next = now.0 + REPORT_INTERVAL;
+        self.next_report = Ticks(now.0 + REPORT_INTERVAL);
+        let places = 0..self.session.stream_count();
+        let streams = places.filter_map(|place| self.session.stream_at(place));
+        let latest: BTreeMap<_, _> = streams.map(|it| (it.ssrc, it.payload_type)).collect();
         let mut blocks = Vec::new();
-        for (ssrc, reported) in &mut self.by_ssrc {
-            if let Some(block) = reported.block(now.0, *ssrc) {
+        for (ssrc, payload_type) in latest.into_iter().take(MOST_BLOCKS) {
+            if let Some(block) = self.session.report(now, ssrc, payload_type) {
                 block.write(&mut blocks)?;
             }
+        }
+        if blocks.is_empty() {
+            return Ok(None);
         }
         let mut datagram = Vec::new();
         ReceiverReport {
@@ -146,56 +78,6 @@ impl Reports {
         }
         .write(&mut datagram)?;
         Ok(Some(datagram))
-    }
-}
-
-/// All streams of a port, and what is sent back.
-struct Peer {
-    session: Session,
-    formats: Vec<Format>,
-    reports: Reports,
-    /// The packets of RTCP to send.
-    feedback: Vec<Vec<u8>>,
-}
-
-impl Peer {
-    fn new(offer: &str) -> Result<Peer, Failure> {
-        let mut settings = SessionSettings::live();
-        settings.feedback = Some(FeedbackSettings::live(OWN_SSRC));
-        for media in &sdp::read(offer)? {
-            add_section(&mut settings, media)?;
-        }
-        Ok(Peer {
-            formats: settings.formats.clone(),
-            session: Session::new(settings),
-            reports: Reports {
-                by_ssrc: BTreeMap::new(),
-                next: REPORT_INTERVAL,
-            },
-            feedback: Vec::new(),
-        })
-    }
-
-    fn receive(&mut self, now: Ticks, datagram: &[u8]) -> Result<(), Failure> {
-        if is_rtcp(datagram) {
-            self.reports.read(now, datagram);
-        } else if let Ok(packet) = RtpPacket::parse(datagram) {
-            self.observe(now, &packet);
-        }
-        self.session.receive(now, datagram)?;
-        Ok(())
-    }
-
-    /// Tells the reports which packets of media arrived.
-    fn observe(&mut self, now: Ticks, packet: &RtpPacket) {
-        let payload_type = packet.header.payload_type;
-        let is_of = |it: &&Format| {
-            let red = it.red.map(|red| red.payload_type);
-            it.payload_type == payload_type || red == Some(payload_type)
-        };
-        if let Some(format) = self.formats.iter().find(is_of) {
-            self.reports.observe(now, packet, format.spec.clock_rate);
-        }
     }
 
     /// Prints the events that are due, and keeps the feedback.
@@ -228,7 +110,8 @@ impl Peer {
                 } => writeln!(out, "ended {ssrc} {payload_type}")?,
             }
         }
-        self.feedback.extend(self.reports.take_due(now)?);
+        let report = self.take_report(now)?;
+        self.feedback.extend(report);
         Ok(())
     }
 
@@ -252,7 +135,9 @@ fn receive_all(peer: &mut Peer, socket: &UdpSocket, clock: &Clock) -> Result<boo
     loop {
         match socket.recv(&mut datagram) {
             Ok(0) => return Ok(false),
-            Ok(size) => peer.receive(clock.now(), &datagram[..size])?,
+            Ok(size) => {
+                peer.session.receive(clock.now(), &datagram[..size])?;
+            }
             Err(why) if matches!(why.kind(), ErrorKind::WouldBlock | ErrorKind::TimedOut) => {
                 return Ok(true);
             }

@@ -1,4 +1,4 @@
-//! From a session description (SDP, RFC 8866) to the settings of receivers.
+//! From a session description (SDP, RFC 8866) to the settings of receivers and of sessions.
 //!
 //! Written by hand and not proved. Any text may be given: [`read`] does not panic, and reads the text twice.
 //!
@@ -16,8 +16,11 @@
 //! # }
 //! ```
 
+mod port;
 mod section;
 mod text;
+
+pub use port::{MAX_PAIRS, SessionError, pairs, session_settings};
 
 use crate::memory::{AllocError, TryVec};
 use crate::rtp::ExtensionIds;
@@ -291,10 +294,7 @@ impl<'a> Media<'a> {
         };
         let mut settings = limits(payload_type, spec.clock_rate);
         settings.extension_ids = self.extension_ids;
-        settings.red = self.red_over(payload_type).map(|red| RedSettings {
-            payload_type: red.payload_type,
-            step: self.red_step(spec.clock_rate),
-        });
+        settings.red = self.red_settings(payload_type, spec.clock_rate, true);
         if let [source] = self.sources[..] {
             settings.ssrc = Some(source.ssrc);
             settings.retransmission = self.retransmission(source, payload_type);
@@ -308,14 +308,24 @@ impl<'a> Media<'a> {
         Ok(Some(settings))
     }
 
-    /// RED over the payload type, or RED that names no payload type.
-    fn red_over(&self, payload_type: u8) -> Option<&Format<'a>> {
+    /// RED over the payload type, or, with `any`, RED that names no payload type.
+    fn red_settings(
+        &self,
+        payload_type: u8,
+        clock_rate: Frequency,
+        any: bool,
+    ) -> Option<RedSettings> {
         let red = |over| {
             self.formats
                 .iter()
                 .find(|format| format.role == Role::Red { over })
         };
-        red(Some(payload_type)).or_else(|| red(None))
+        let named = red(Some(payload_type));
+        let format = named.or_else(|| red(None).filter(|_| any))?;
+        Some(RedSettings {
+            payload_type: format.payload_type,
+            step: self.red_step(clock_rate),
+        })
     }
 
     /// The packet time in ticks of the RTP clock, within what RED can express (RFC 2198, section 3: 14 bits).
@@ -326,14 +336,17 @@ impl<'a> Media<'a> {
     }
 
     fn retransmission(&self, source: Source, payload_type: u8) -> Option<Retransmission> {
-        let of = Some(payload_type);
-        let format = self
-            .formats
-            .iter()
-            .find(|format| format.role == Role::Retransmission { of })?;
         Some(Retransmission {
             ssrc: source.retransmission?,
-            payload_type: format.payload_type,
+            payload_type: self.retransmission_type(payload_type)?,
         })
+    }
+
+    /// The payload type of the retransmissions of a payload type.
+    fn retransmission_type(&self, payload_type: u8) -> Option<u8> {
+        let of = Some(payload_type);
+        let mut formats = self.formats.iter();
+        let format = formats.find(|format| format.role == Role::Retransmission { of })?;
+        Some(format.payload_type)
     }
 }

@@ -2,13 +2,20 @@
 //! with memory succeeds or fails as its input says. Nothing aborts.
 #![cfg(feature = "fallible")]
 
+#[allow(dead_code, reason = "the tests of sessions use the rest")]
+#[path = "sessions/datagrams.rs"]
+mod datagrams;
+
 use codec_payload::jitter::{JitterBuffer, Outcome, WaitLimits};
 use codec_payload::media::av1::{Av1SequenceHeader, front_obu, write_av1c};
 use codec_payload::rtp::{ExtensionIds, RtpPacket};
 use codec_payload::sender::{Sample, Sender, SenderSettings};
-use codec_payload::session::{Event, FeedbackSettings, Format, Session, SessionSettings};
+use codec_payload::session::{
+    Arrival, Event, FeedbackSettings, Format, Session, SessionSettings, SsrcPair,
+};
 use codec_payload::stream::{ReceiveError, Receiver, ReceiverSettings, RedSettings};
 use codec_payload::*;
+use datagrams::*;
 use std::alloc::{GlobalAlloc, Layout, System};
 use std::cell::Cell;
 
@@ -443,14 +450,10 @@ fn values_and_media() {
 /// A session that requests what its streams miss, under a name.
 fn requesting() -> Session {
     let mut settings = SessionSettings::live();
-    let spec = CodecSpec {
-        codec: Codec::Opus,
-        clock_rate: Frequency::FORTY_EIGHT_KHZ,
-        octet_align: false,
-    };
     settings.formats.push(Format {
         nack: true,
-        ..Format::new(111, spec)
+        retransmission: Some(97),
+        ..opus_format()
     });
     settings.feedback = Some(FeedbackSettings {
         cname: vec![b'n'; 20],
@@ -460,15 +463,12 @@ fn requesting() -> Session {
     Session::new(settings)
 }
 
-fn opus(number: u8) -> [u8; 14] {
-    [0x80, 111, 0, number, 0, 0, 0, number, 0, 0, 0, 7, 1, 7]
-}
-
 /// A datagram that begins a stream changes nothing if an allocation is refused.
 #[test]
 fn streams_that_request() {
+    let first = opus(7, 1);
     let refused = refuse_each("the first datagram", requesting, |session| {
-        match session.receive(Ticks(0), &opus(1)) {
+        match session.receive(Ticks(0), &first) {
             Ok(_) => End::Done,
             Err(AllocError) => End::OutOfMemory,
         }
@@ -482,7 +482,7 @@ fn requests_of_a_session() {
     let received = || {
         let mut session = requesting();
         for number in [1, 2, 4] {
-            session.receive(Ticks(0), &opus(number)).unwrap();
+            session.receive(Ticks(0), &opus(7, number)).unwrap();
         }
         session
     };
@@ -522,4 +522,160 @@ fn requests_of_a_session() {
         },
     );
     assert!(refused >= 8, "{refused}");
+}
+
+/// A session of VP8 with retransmissions and of Opus in RED, that requests what it misses. Only so many allocations succeed.
+struct Life {
+    session: Session,
+    left: usize,
+    refused: bool,
+    events: Vec<String>,
+}
+
+impl Life {
+    fn new(left: usize) -> Life {
+        let mut settings = SessionSettings::live();
+        settings.formats = answered_formats();
+        settings.no_media = vec![EVENTS];
+        settings.pairs = vec![SsrcPair {
+            ssrc: 5,
+            retransmission: 50,
+        }];
+        settings.max_streams = 3;
+        settings.feedback = Some(FeedbackSettings {
+            cname: vec![b'n'; 20],
+            has_report: true,
+            ..FeedbackSettings::live(1)
+        });
+        Life {
+            session: Session::new(settings),
+            left,
+            refused: false,
+            events: Vec::new(),
+        }
+    }
+
+    /// Makes a call, and notes whether an allocation was refused in it. All later allocations succeed.
+    fn call<T>(&mut self, call: impl FnOnce(&mut Session) -> T) -> T {
+        MADE.set(0);
+        LEFT.set(self.left);
+        let answer = call(&mut self.session);
+        LEFT.set(usize::MAX);
+        self.refused = MADE.get() > self.left;
+        self.left = if self.refused {
+            usize::MAX
+        } else {
+            self.left - MADE.get()
+        };
+        answer
+    }
+
+    /// The counters of the session and of each stream, and the number of held packets.
+    fn state(&self) -> String {
+        let streams = (0..self.session.stream_count()).map(|place| self.session.stream_at(place));
+        let streams: Vec<_> = streams.collect();
+        format!("{:?} {streams:?}", self.session.counts())
+    }
+
+    /// If memory ran out, nothing has changed, and the datagram is passed again. If it ran out for a block of RED, the same
+    /// datagram brings the block.
+    fn receive(&mut self, now: u64, datagram: &[u8]) {
+        let before = self.state();
+        let answer = self.call(|session| session.receive(Ticks(now), datagram));
+        let blocks = Err(ReceiveError::BlocksOutOfMemory);
+        match answer {
+            Err(AllocError) => assert_eq!((self.refused, self.state()), (true, before)),
+            Ok(Arrival::Stream { answer, .. }) if answer == blocks => assert!(self.refused),
+            Ok(_) => return,
+        }
+        assert!(self.session.receive(Ticks(now), datagram).is_ok());
+    }
+
+    /// Polls until there is no event. If memory ran out, the next poll returns the same event.
+    fn poll(&mut self, now: u64) {
+        while let Some(event) = self.call(|session| session.poll(Ticks(now))) {
+            match event {
+                Event::Unit {
+                    unit: Err(PacketError::OutOfMemory),
+                    ..
+                }
+                | Event::Feedback { packet: Err(_), .. } => assert!(self.refused),
+                event => self.events.push(format!("{now}: {event:?}")),
+            }
+        }
+    }
+
+    /// All that happens to a session: streams begin, packets are lost and requested, RED and retransmissions bring them, a stray
+    /// is replaced, and streams end in each way.
+    fn live(&mut self) {
+        let again = packet(RTX, 50, 9, 9_000, &[&[0, 3], vp8_frame(false)].concat());
+        let block = [0x80 | OPUS, 0x0f, 0, 2, OPUS, 3, 7, 4, 7];
+        let datagrams = [
+            (0, vp8(5, 1, true)),
+            (5, opus(6, 1)),
+            (20, vp8(5, 2, false)),
+            (25, opus(6, 2)),
+            (40, vp8(5, 4, false)),
+            (60, packet(RED, 6, 4, 3_840, &block)),
+            (80, opus(99, 1)),
+            (100, packet(EVENTS, 5, 5, 12_000, &[1, 2, 3, 4])),
+            (120, again),
+            (140, opus(7, 1)),
+            (160, vp8(5, 9, false)),
+            (180, bye(6)),
+            (900, opus(7, 2)),
+        ];
+        for (now, datagram) in datagrams {
+            self.receive(now, &datagram);
+            self.poll(now);
+            while let Some(at) = self.session.next_deadline().filter(|at| at.0 < now + 15) {
+                self.poll(at.0);
+            }
+        }
+        self.call(|session| session.end(Ticks(900), 7));
+        self.poll(900);
+        self.call(|session| session.finish(Ticks(910)));
+        self.poll(910);
+        assert_eq!(self.session.stream_count(), 0);
+        let counts = self.session.counts();
+        assert_eq!(counts.received, counts.rtcp + counts.ended);
+    }
+}
+
+/// Each allocation in the life of a session is refused in turn, and the events are the same.
+#[test]
+fn a_session_from_its_first_datagram_to_its_end() {
+    let mut whole = Life::new(usize::MAX);
+    whole.live();
+    let count = usize::MAX - whole.left;
+    println!("a session: {count} refused, {} events", whole.events.len());
+    assert!(count > 80 && whole.events.len() > 15);
+    for place in 0..count {
+        let mut life = Life::new(place);
+        life.live();
+        assert!(life.left > count, "allocation {place} was not refused");
+        assert_eq!(life.events, whole.events, "allocation {place} of {count}");
+    }
+}
+
+/// A pair that finds no memory leaves the pairs that were named before.
+#[test]
+fn pairs_of_a_session() {
+    let again = [0x80, 97, 0, 9, 0, 0, 0, 2, 0, 0, 0, 70, 0, 2, 1, 2];
+    let named = || {
+        let mut session = requesting();
+        session.add_pair(7, 70).unwrap();
+        session.receive(Ticks(0), &opus(7, 1)).unwrap();
+        session
+    };
+    let refused = refuse_each("a pair", named, |session| match session.add_pair(8, 80) {
+        Ok(()) => End::Done,
+        Err(AllocError) => {
+            // The packet goes to its stream, for which there is no memory either.
+            let arrival = session.receive(Ticks(0), &again);
+            assert!(!matches!(arrival, Ok(Arrival::Unassociated)));
+            End::OutOfMemory
+        }
+    });
+    assert!(refused >= 1, "{refused}");
 }

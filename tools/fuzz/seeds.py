@@ -20,6 +20,10 @@ CODECS = {"opus": 0, "pcmu": 1, "pcma": 2, "g722": 3, "cn": 4, "amrwb": 5, "amrw
           "vp8-id": 7, "vp9": 8, "vp9-flex": 8, "av1": 9, "null": 10}
 # A receiver with a limit of 4,096 and no other setting.
 PLAIN = bytes([0, 0, 0])
+# A session of VP8 that requests packets and keyframes, with at most 4 streams: settings of src/session.rs, and time 0.
+SESSION = bytes([0x59, 0, 7, 0, 100, 0, 200, 0x75, 0x30, 200, 0, 0x0c, 10, 100, 20, 200, 255, 99, 7, 208, 0])
+# Calls of a session: polls, a poll at the next deadline, and a BYE of SSRC 1.
+POLL, DEADLINE, BYE = bytes([0]), bytes([7 << 3]), bytes([10 << 3, 0, 0x80, 1, 1, 0])
 
 
 def some(data):
@@ -38,6 +42,22 @@ def words(text, name):
 def captured():
     with open(f"{ROOT}/scripts/captured_packets.txt", encoding="utf-8") as it:
         return [bytes.fromhex(field) for field in re.findall(r"\b(?:[0-9a-f]{2}){12,}\b", it.read())]
+
+
+def vp8(ssrc, step, is_key):
+    """A call of a session: a packet of VP8 whose number is `step` above the latest one of its SSRC."""
+    payload = bytes([0x10, 0x10, 0, 0, 0x9d, 1, 0x2a, 0x10, 0, 0x10, 0] if is_key else [0x10, 0x11, 0, 0])
+    return bytes([105 + ssrc, step + 22 if step > 1 else 255, 1]) + some(payload)
+
+
+def sessions():
+    """Sessions with losses, requests and ends: their settings and calls."""
+    frames = [vp8(ssrc, 2 if place % 5 == 3 else 1, place == 0) for place in range(20) for ssrc in (0, 1, 3)]
+    yield SESSION + b"".join(frame + POLL for frame in frames)
+    yield SESSION + b"".join(frame + POLL + DEADLINE * 2 for frame in frames)
+    yield SESSION + b"".join(frames) + BYE + POLL + DEADLINE * 9
+    for text in texts(datagram_vectors.ROWS):
+        yield SESSION + b"".join(bytes([9 << 3]) + some(packet) + POLL for packet in words(text, "datagram"))
 
 
 def seeds():
@@ -60,6 +80,8 @@ def seeds():
     for text in texts(datagram_vectors.ROWS):
         calls = b"".join(bytes([5]) + some(packet) + bytes([0]) for packet in words(text, "datagram"))
         yield "receiver", PLAIN + bytes(2) + calls
+    for data in sessions():
+        yield "session", data
     yield "buffer", bytes([1, 4, 0x80, 1, 0x80, 3, 0x80, 2, 0, 0, 0, 0])
 
 

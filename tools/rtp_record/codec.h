@@ -14,7 +14,8 @@ typedef enum {
     CODEC_VIDEO,
     CODEC_EVENTS, /* telephone events (RFC 4733) */
     CODEC_RED,    /* redundant audio (RFC 2198) around another codec */
-    CODEC_BESIDE, /* comes beside media, and becomes no file: comfort noise, retransmissions, error correction */
+    CODEC_RTX,    /* retransmissions of another payload type (RFC 4588) */
+    CODEC_BESIDE, /* comes beside media, and becomes no file: comfort noise, error correction */
 } codec_kind;
 
 /* A codec. Those without a place in libavformat have AV_CODEC_ID_NONE, and those without one in the library CPAY_NULL. */
@@ -36,7 +37,7 @@ typedef struct {
     char name[CODEC_NAME]; /* as it was said */
     uint32_t rate;         /* of the RTP clock, in hertz */
     int channels;          /* of audio */
-    uint8_t inner;         /* of RED: the payload type inside, or PAYLOAD_TYPES where it is not said */
+    uint8_t inner;         /* of RED and retransmissions: the payload type inside, or PAYLOAD_TYPES where it is not said */
     bool octet_align;      /* of AMR-WB */
     bool guessed;
 } codec_use;

@@ -69,11 +69,12 @@ static bool receives(record *it) {
     settings.has_max_wait = true;
     settings.max_wait = 2ull * CLOCK;
     settings.tick_rate = CLOCK;
-    if (it->stream.has_red) {
-        settings.has_red = true;
-        settings.red_payload_type = it->stream.red_payload_type;
-        settings.red_step = it->stream.red_step;
-    }
+    settings.has_red = it->stream.has_red;
+    settings.red_payload_type = it->stream.red_payload_type;
+    settings.red_step = it->stream.red_step;
+    settings.has_rtx = it->stream.has_rtx;
+    settings.rtx_ssrc = it->stream.rtx_ssrc;
+    settings.rtx_payload_type = it->stream.rtx_payload_type;
     cpay_status status = cpay_receiver_new(&it->receiver, &settings, it->no_media, it->stream.no_media_len);
     return status == CPAY_OK || fail(it, cpay_status_text(status));
 }
@@ -261,17 +262,18 @@ bool record_take(record *it, const record_packet *packet) {
 
 void record_sender_report(record *it, uint64_t ntp, uint32_t rtp_time) { timeline_report(&it->times, ntp, rtp_time); }
 
-/* How many packets others in RED carried. */
-static uint64_t recovered(record *it) {
+static void count_repairs(record *it) {
     cpay_receiver_counts_info counts = {0};
-    return cpay_receiver_counts(&it->receiver, &counts) ? 0 : counts.recovered;
+    if (cpay_receiver_counts(&it->receiver, &counts)) return;
+    it->totals.recovered = counts.recovered;
+    it->totals.retransmitted = counts.retransmitted;
 }
 
 bool record_close(record *it, record_totals *totals) {
     if (!it->failed && cpay_receiver_finish(&it->receiver) == CPAY_OK) take_units(it, UINT64_MAX);
     for (const held *one = it->first_held; one; one = one->next) it->totals.skipped++;
     drop_held(it);
-    it->totals.recovered = recovered(it);
+    count_repairs(it);
     *totals = it->totals;
     bool whole = !it->failed;
     cpay_receiver_free(&it->receiver);

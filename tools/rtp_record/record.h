@@ -23,6 +23,9 @@ typedef struct {
     bool has_red; /* it is sent in RED, whose payload type this is */
     uint8_t red_payload_type;
     uint32_t red_step; /* how many ticks of the RTP clock packets in RED are apart, 1 to 16383 */
+    bool has_rtx; /* its packets are retransmitted (RFC 4588) under this SSRC and payload type */
+    uint32_t rtx_ssrc;
+    uint8_t rtx_payload_type;
     const uint8_t *no_media; /* payload types that come under its SSRC and carry no media of it */
     size_t no_media_len;
 } record_stream;
@@ -47,6 +50,7 @@ typedef struct {
     uint64_t filled;  /* frames of silence that replace lost packets */
     double seconds;   /* from the first frame to the last */
     uint64_t recovered; /* packets that others in RED carried */
+    uint64_t retransmitted; /* missing packets that retransmissions filled in */
 } record_totals;
 
 typedef struct record record;
@@ -55,7 +59,7 @@ typedef struct record record;
  * printed. */
 record *record_open(const record_stream *stream, writer *file, size_t track, const record_options *options);
 
-/* A packet of the stream's SSRC, whatever its payload type. false where the file cannot be written any more. */
+/* A packet of the stream's SSRC, whatever its payload type, or a retransmission. false where the file cannot be written any more. */
 bool record_take(record *it, const record_packet *packet);
 
 /* A sender report of the stream's SSRC: the same moment as an NTP time, seconds since 1900 in the upper 32 bits, and as RTP time.

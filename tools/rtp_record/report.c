@@ -88,9 +88,9 @@ static void print_types(const stream *it) {
 static void print_totals(const record_totals *totals) {
     printf("\"frames\": %" PRIu64 ", \"frame_bytes\": %" PRIu64 ", \"gaps\": %" PRIu64 ", \"left_out\": %" PRIu64
            ", \"undecodable\": %" PRIu64 ", \"damaged\": %" PRIu64 ", \"refused\": %" PRIu64 ", \"filled\": %" PRIu64
-           ", \"recovered\": %" PRIu64 ", \"media_seconds\": %.3f",
+           ", \"recovered\": %" PRIu64 ", \"retransmitted\": %" PRIu64 ", \"media_seconds\": %.3f",
            totals->frames, totals->bytes, totals->gaps, totals->skipped, totals->undecodable, totals->damaged, totals->refused,
-           totals->filled, totals->recovered, totals->seconds);
+           totals->filled, totals->recovered, totals->retransmitted, totals->seconds);
 }
 
 static void print_stream(stream *it) {

@@ -16,7 +16,7 @@ static codec_use use_of(const cpay_sdp_format *format) {
     if (!format->name[0]) return codec_use_unknown();
     codec_use use = codec_use_of(format->name, format->clock_rate, (int)format->channels);
     if (codec_is_media(&use) && format->role != CPAY_SDP_MEDIA) use = codec_use_unsupported(format->name);
-    if (format->role == CPAY_SDP_RED && format->has_of) use.inner = format->of;
+    if (format->has_of) use.inner = format->of;
     use.octet_align = format->octet_align;
     return use;
 }
@@ -109,18 +109,18 @@ bool signalling_map(signalling *it, const char *text) {
 
 /* ---- Asking ---- */
 
-static bool has_ssrc(const sdp_medium *medium, uint32_t ssrc) {
+static const cpay_sdp_source *source_in(const sdp_medium *medium, uint32_t ssrc) {
     for (size_t i = 0; i < medium->source_count; i++) {
         const cpay_sdp_source *source = &medium->sources[i];
-        if (source->ssrc == ssrc || (source->has_rtx && source->rtx_ssrc == ssrc)) return true;
+        if (source->ssrc == ssrc || (source->has_rtx && source->rtx_ssrc == ssrc)) return source;
     }
-    return false;
+    return NULL;
 }
 
 /* How well a section fits to a stream: 0 not at all. */
 static int fit(const sdp_medium *medium, const wire_flow *flow, uint32_t ssrc, uint8_t payload_type) {
     if (medium->uses[payload_type].codec->kind == CODEC_UNKNOWN) return 0;
-    if (has_ssrc(medium, ssrc)) return 4;
+    if (source_in(medium, ssrc)) return 4;
     if (medium->port && medium->port == flow->destination_port) return 3;
     if (medium->port && medium->port == flow->source_port) return 2;
     return 1;
@@ -139,10 +139,33 @@ static const sdp_medium *medium_of(const signalling *it, const wire_flow *flow, 
     return best;
 }
 
-codec_use signalling_use(const signalling *it, const wire_flow *flow, uint32_t ssrc, uint8_t payload_type) {
-    if (it->by_hand && it->by_hand[payload_type].codec->kind != CODEC_UNKNOWN) return it->by_hand[payload_type];
+/* The codec of a payload type by --map or an SDP. NULL: neither names it. */
+static const codec_use *named_use(const signalling *it, const wire_flow *flow, uint32_t ssrc, uint8_t payload_type) {
+    if (it->by_hand && it->by_hand[payload_type].codec->kind != CODEC_UNKNOWN) return &it->by_hand[payload_type];
     const sdp_medium *medium = medium_of(it, flow, ssrc, payload_type);
-    return medium ? medium->uses[payload_type] : static_use(payload_type);
+    return medium ? &medium->uses[payload_type] : NULL;
+}
+
+codec_use signalling_use(const signalling *it, const wire_flow *flow, uint32_t ssrc, uint8_t payload_type) {
+    const codec_use *use = named_use(it, flow, ssrc, payload_type);
+    return use ? *use : static_use(payload_type);
+}
+
+uint8_t signalling_around(const signalling *it, const wire_flow *flow, uint32_t ssrc, const codec_use *media, uint8_t payload_type,
+                          codec_kind kind) {
+    for (uint8_t type = 0; type < PAYLOAD_TYPES; type++) {
+        const codec_use *use = named_use(it, flow, ssrc, type);
+        if (!use || use->codec->kind != kind) continue;
+        bool names_none = kind == CODEC_RED && use->inner == PAYLOAD_TYPES && use->rate == media->rate;
+        if (use->inner == payload_type || names_none) return type;
+    }
+    return PAYLOAD_TYPES;
+}
+
+const cpay_sdp_source *signalling_source(const signalling *it, uint32_t ssrc) {
+    const cpay_sdp_source *source = NULL;
+    for (size_t i = 0; i < it->media_count && !source; i++) source = source_in(&it->media[i], ssrc);
+    return source;
 }
 
 bool signalling_encrypts(const signalling *it, const wire_flow *flow, uint32_t ssrc, uint8_t payload_type) {

@@ -36,6 +36,14 @@ codec_use signalling_use(const signalling *it, const wire_flow *flow, uint32_t s
 /* Whether that section says SRTP. */
 bool signalling_encrypts(const signalling *it, const wire_flow *flow, uint32_t ssrc, uint8_t payload_type);
 
+/* The payload type of RED (CODEC_RED) or retransmissions (CODEC_RTX) that names the payload type of media; or of RED that names none and
+ * has the rate of the media. PAYLOAD_TYPES: none is signalled. */
+uint8_t signalling_around(const signalling *it, const wire_flow *flow, uint32_t ssrc, const codec_use *media, uint8_t payload_type,
+                          codec_kind kind);
+
+/* The source of an SDP whose media or retransmissions have this SSRC (RFC 5576, section 4.2). NULL: there is none. */
+const cpay_sdp_source *signalling_source(const signalling *it, uint32_t ssrc);
+
 void signalling_free(signalling *it);
 
 #endif

@@ -76,6 +76,8 @@ static void settle_by(stream *it, const signalling *known, const record_packet *
         use = inner;
     } else if (codec_is_media(&use)) {
         it->payload_type = payload_type;
+        if (use.codec->kind == CODEC_AUDIO) /* whose sender may go over to RED later */
+            it->red_payload_type = signalling_around(known, &it->flow, it->ssrc, &use, payload_type, CODEC_RED);
     } else if (use.codec->kind != CODEC_UNSUPPORTED) {
         if (it->use.codec->kind == CODEC_UNKNOWN) it->use = use; /* as it is called; media may come yet */
         return;
@@ -89,7 +91,7 @@ static size_t beside(const stream *it, const signalling *known, uint8_t types[PA
     size_t count = 0;
     for (uint8_t type = 0; type < PAYLOAD_TYPES; type++) {
         codec_use use = signalling_use(known, &it->flow, it->ssrc, type);
-        bool carries_none = use.codec->kind == CODEC_EVENTS || use.codec->kind == CODEC_BESIDE;
+        bool carries_none = use.codec->kind == CODEC_EVENTS || use.codec->kind == CODEC_BESIDE || use.codec->kind == CODEC_RTX;
         if (carries_none && type != it->payload_type && type != it->red_payload_type) types[count++] = type;
     }
     return count;
@@ -174,6 +176,15 @@ static void begin_file(streams *all, stream *it, const record_stream *described,
     if (it->file) it->record = record_open(described, it->file, 0, &output->options);
 }
 
+/* Adds the retransmissions of a stream, if an SDP names their SSRC and their payload type. */
+static void describe_rtx(record_stream *described, const stream *it, const signalling *known) {
+    const cpay_sdp_source *source = signalling_source(known, it->ssrc);
+    if (!source || !source->has_rtx || source->ssrc != it->ssrc) return;
+    described->rtx_ssrc = source->rtx_ssrc;
+    described->rtx_payload_type = signalling_around(known, &it->flow, it->ssrc, &it->use, it->payload_type, CODEC_RTX);
+    described->has_rtx = described->rtx_payload_type < PAYLOAD_TYPES;
+}
+
 static void begin_record(streams *all, stream *it, const signalling *known, streams_output *output) {
     uint8_t types[PAYLOAD_TYPES];
     record_stream described = {
@@ -186,6 +197,7 @@ static void begin_record(streams *all, stream *it, const signalling *known, stre
         .no_media = types,
     };
     described.no_media_len = beside(it, known, types);
+    describe_rtx(&described, it, known);
     if (output->together) {
         size_t track = 0;
         for (size_t i = 0; i < all->count; i++) track += all->list[i]->record != NULL;
@@ -210,6 +222,14 @@ static void take(stream *it, const signalling *known, const record_packet *packe
         if (use.codec->kind == CODEC_EVENTS) it->events = events_new(payload_type, use.rate);
     }
     if (it->events) events_datagram(it->events, packet->time, packet->bytes, packet->size);
+}
+
+/* A retransmission goes to the streams of the SSRC whose packets are retransmitted. */
+static void repair(const streams *all, const stream *it, const signalling *known, const record_packet *packet) {
+    const cpay_sdp_source *source = signalling_source(known, it->ssrc);
+    if (!source || source->ssrc == it->ssrc) return;
+    for (stream *one = all->buckets[bucket_of(&it->flow, source->ssrc)]; one; one = one->next)
+        if (is_stream(one, &it->flow, source->ssrc) && one->record) record_take(one->record, packet);
 }
 
 static void drop_kept(streams *all, stream *it) {
@@ -292,16 +312,15 @@ static void take_rtp(streams *all, const signalling *known, streams_output *outp
     all->rtp++;
     if (!it->settled) settle_by(it, known, &packet);
     count_packet(it, &packet);
+    if (it->use.codec->kind == CODEC_RTX) repair(all, it, known, &packet);
     if (it->settled && it->valid && it->kept_count == 0) take(it, known, &packet);
     else keep_or_settle(all, it, known, output, &packet);
 }
 
-static void take_rtcp(streams *it, const wire_datagram *datagram) {
-    wire_rtcp rtcp = wire_rtcp_of(datagram->payload);
+static void take_rtcp(streams *it, wire_bytes rtcp) {
     wire_report report;
     it->rtcp++;
-    while (wire_rtcp_next(&rtcp, &report)) {
-        if (report.kind != WIRE_SENDER_REPORT) continue;
+    while (wire_next_report(&rtcp, &report)) {
         it->reports[it->report_count++ % REPORTS] = report;
         for (size_t i = 0; i < it->count; i++)
             if (it->list[i]->ssrc == report.ssrc && it->list[i]->record)
@@ -315,7 +334,7 @@ void streams_datagram(streams *it, const signalling *known, streams_output *outp
     case WIRE_DTLS: it->dtls++; break;
     case WIRE_ZRTP: it->zrtp++; break;
     case WIRE_RTP_OR_RTCP:
-        if (cpay_is_rtcp(datagram->payload.at, datagram->payload.left)) take_rtcp(it, datagram);
+        if (cpay_is_rtcp(datagram->payload.at, datagram->payload.left)) take_rtcp(it, datagram->payload);
         else take_rtp(it, known, output, time, datagram);
         break;
     default: it->other++;

@@ -7,7 +7,7 @@
 
 enum { ETHERTYPE_IPV4 = 0x0800, ETHERTYPE_IPV6 = 0x86dd, ETHERTYPE_VLAN = 0x8100, ETHERTYPE_QINQ = 0x88a8, ETHERTYPE_QINQ_OLD = 0x9100 };
 enum { PROTOCOL_HOP_BY_HOP = 0, PROTOCOL_UDP = 17, PROTOCOL_ROUTING = 43, PROTOCOL_FRAGMENT = 44, PROTOCOL_OPTIONS = 60 };
-enum { RTCP_SENDER_REPORT = 200, RTCP_SOURCE_DESCRIPTION = 202, RTCP_BYE = 203, SDES_END = 0, SDES_CNAME = 1 };
+enum { RTCP_SENDER_REPORT = 200 };
 
 /* ---- Reading ---- */
 
@@ -185,89 +185,34 @@ wire_protocol wire_protocol_of(wire_bytes payload) {
 
 /* ---- RTCP ---- */
 
-wire_rtcp wire_rtcp_of(wire_bytes payload) { return (wire_rtcp){.rest = payload}; }
-
-/* Goes on to the next packet of the compound one. */
-static bool next_packet(wire_rtcp *rtcp) {
+/* Takes the next packet of a compound one: its type, and its bytes after the header. */
+static bool take_rtcp(wire_bytes *rtcp, uint8_t *type, wire_bytes *packet) {
     uint8_t first = 0;
     uint16_t words = 0;
-    if (!take_8(&rtcp->rest, &first) || !take_8(&rtcp->rest, &rtcp->type) || !take_16(&rtcp->rest, &words) || first >> 6 != 2 ||
-        !take(&rtcp->rest, (size_t)words * 4, &rtcp->packet))
-        return false;
-    rtcp->sources = rtcp->type == RTCP_SENDER_REPORT ? 1 : first & 31;
-    return true;
+    return take_8(rtcp, &first) && take_8(rtcp, type) && take_16(rtcp, &words) && first >> 6 == 2 &&
+           take(rtcp, (size_t)words * 4, packet);
 }
 
-static bool take_sender_report(wire_bytes *packet, wire_report *report) {
+/* Takes what the two clocks of a sender say; false if the sender has no clock, and so reports a moment of 0. */
+static bool take_moment(wire_bytes *packet, wire_report *report) {
     uint32_t seconds = 0;
     uint32_t fraction = 0;
     if (!take_32(packet, &report->ssrc) || !take_32(packet, &seconds) || !take_32(packet, &fraction) ||
         !take_32(packet, &report->rtp_time))
         return false;
-    report->kind = WIRE_SENDER_REPORT;
     report->ntp = (uint64_t)seconds << 32 | fraction;
-    return seconds || fraction; /* a sender without a clock sends zeros */
+    return report->ntp != 0;
 }
 
-/* Takes a chunk of a source description; false where it has no name. Chunks end on a multiple of four bytes. */
-static bool take_description(wire_bytes *packet, wire_report *report) {
-    bool named = false;
+bool wire_next_report(wire_bytes *rtcp, wire_report *report) {
     uint8_t type = 0;
-    uint8_t length = 0;
-    if (!take_32(packet, &report->ssrc)) return false;
-    while (take_8(packet, &type) && type != SDES_END) {
-        wire_bytes text;
-        if (!take_8(packet, &length) || !take(packet, length, &text)) return false;
-        if (type == SDES_CNAME) {
-            report->cname = text;
-            named = true;
-        }
-    }
-    skip(packet, packet->left % 4);
-    report->kind = WIRE_CNAME;
-    return named;
+    wire_bytes packet;
+    while (take_rtcp(rtcp, &type, &packet))
+        if (type == RTCP_SENDER_REPORT && take_moment(&packet, report)) return true;
+    return false;
 }
 
-/* What the packet says of its next source, where that is known. */
-static bool take_report(wire_rtcp *rtcp, wire_report *report) {
-    switch (rtcp->type) {
-    case RTCP_SENDER_REPORT: return take_sender_report(&rtcp->packet, report);
-    case RTCP_SOURCE_DESCRIPTION: return take_description(&rtcp->packet, report);
-    case RTCP_BYE: report->kind = WIRE_BYE; return take_32(&rtcp->packet, &report->ssrc);
-    default: rtcp->sources = 0; return false;
-    }
-}
-
-bool wire_rtcp_next(wire_rtcp *rtcp, wire_report *report) {
-    for (;;) {
-        if (!rtcp->sources && !next_packet(rtcp)) return false;
-        if (!rtcp->sources) continue;
-        rtcp->sources--;
-        *report = (wire_report){0};
-        if (take_report(rtcp, report)) return true;
-    }
-}
-
-/* ---- Writing ---- */
-
-void wire_write_rtp(uint8_t header[WIRE_RTP_HEADER], bool marker, uint8_t payload_type, uint16_t number, uint32_t time,
-                    uint32_t ssrc) {
-    const uint8_t bytes[WIRE_RTP_HEADER] = {
-        0x80,
-        (uint8_t)((marker ? 0x80 : 0) | payload_type),
-        (uint8_t)(number >> 8),
-        (uint8_t)number,
-        (uint8_t)(time >> 24),
-        (uint8_t)(time >> 16),
-        (uint8_t)(time >> 8),
-        (uint8_t)time,
-        (uint8_t)(ssrc >> 24),
-        (uint8_t)(ssrc >> 16),
-        (uint8_t)(ssrc >> 8),
-        (uint8_t)ssrc,
-    };
-    memcpy(header, bytes, sizeof bytes);
-}
+/* ---- Text ---- */
 
 static void end_text(const wire_flow *flow, const uint8_t address[16], uint16_t port, char text[WIRE_END_TEXT]) {
     char host[INET6_ADDRSTRLEN] = "?";

@@ -1,4 +1,4 @@
-/* Bytes from the network: link, IP and UDP headers, the type of a datagram, and RTCP reports.
+/* Bytes from the network: link, IP and UDP headers, the type of a datagram, and RTCP sender reports.
  *
  * Only the library, libpcap and wire.c read untrusted bytes. All its reads go through a reader that knows where its
  * bytes end; nothing is allocated, and each loop takes at least a byte a turn. */
@@ -51,34 +51,16 @@ typedef enum { WIRE_STUN, WIRE_ZRTP, WIRE_DTLS, WIRE_TURN, WIRE_RTP_OR_RTCP, WIR
 
 wire_protocol wire_protocol_of(wire_bytes payload);
 
-typedef enum { WIRE_SENDER_REPORT, WIRE_CNAME, WIRE_BYE } wire_report_kind;
-
-/* What an RTCP packet says of a source (RFC 3550, section 6). */
+/* What a sender report says (RFC 3550, section 6.4.1). */
 typedef struct {
-    wire_report_kind kind;
     uint32_t ssrc;
-    uint64_t ntp;      /* of a sender report: seconds since 1900 in the upper 32 bits, fractions in the lower */
-    uint32_t rtp_time; /* of a sender report: the same moment by the RTP clock */
-    wire_bytes cname;  /* at most 255 bytes, any */
+    uint64_t ntp;      /* seconds since 1900 in the upper 32 bits, fractions in the lower */
+    uint32_t rtp_time; /* the same moment by the RTP clock */
 } wire_report;
 
-/* The position of the reader in a compound RTCP packet. */
-typedef struct {
-    wire_bytes rest;   /* the bytes after the current packet */
-    wire_bytes packet; /* the unread bytes of the current packet */
-    uint8_t type;      /* its type, or 0 */
-    uint8_t sources;   /* how many of its sources are not read yet */
-} wire_rtcp;
-
-wire_rtcp wire_rtcp_of(wire_bytes payload);
-
-/* The next report of a compound packet; false at its end, and where it goes on as no RTCP. */
-bool wire_rtcp_next(wire_rtcp *rtcp, wire_report *report);
-
-/* Writes the header of an RTP packet (RFC 3550, section 5.1) without CSRCs, extension and padding. */
-enum { WIRE_RTP_HEADER = 12 };
-void wire_write_rtp(uint8_t header[WIRE_RTP_HEADER], bool marker, uint8_t payload_type, uint16_t number, uint32_t time,
-                    uint32_t ssrc);
+/* Takes the bytes of a compound RTCP packet up to its next sender report, and reads the report. Reports of a sender without a clock are
+ * skipped. false: no report follows, or the next bytes are not RTCP. */
+bool wire_next_report(wire_bytes *rtcp, wire_report *report);
 
 /* Writes an end of a flow as text: 10.0.0.1:5004, [::1]:5004. */
 enum { WIRE_END_TEXT = 56 };

@@ -200,6 +200,20 @@ uint32_t twin_session_missing(void *session, uint32_t ssrc, uint8_t payload_type
     return cpay_session_missing(session, ssrc, payload_type, numbers, numbers_len, count);
 }
 
+/* SSRC, fraction lost, lost, highest number, jitter, last sender report, delay since. */
+uint32_t twin_session_report(void *session, uint64_t now, uint32_t ssrc, uint8_t payload_type, uint32_t block[7]) {
+    cpay_report_block_info it = { 0 };
+    cpay_status status = cpay_session_report(session, now, ssrc, payload_type, &it);
+    uint32_t told[7] = { it.ssrc, it.fraction_lost, it.cumulative_lost, it.highest, it.jitter, it.last_sender_report,
+                         it.delay_since_sender_report };
+    for (int place = 0; place < 7; place++) block[place] = told[place];
+    return status;
+}
+
+uint32_t twin_session_add_pair(void *session, uint32_t ssrc, uint32_t rtx_ssrc) {
+    return cpay_session_add_pair(session, ssrc, rtx_ssrc);
+}
+
 /* Received, RTCP, malformed, unknown, refused, unassociated, ended, streams. */
 uint32_t twin_session_counts(void *session, uint64_t counts[8]) {
     cpay_session_counts_info it = { 0 };

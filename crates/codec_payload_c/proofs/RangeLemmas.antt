@@ -1,5 +1,5 @@
 -- A receiver is made exactly if all settings are in range.
-use Rattle.std.proofs.Common.{◌≡◌, ◌∙◌, ap, refl, sym, subst, ℕ, Bool, true, false, List, Option, Some, None, Result, Ok, Err, ◌&&◌, ◌||◌, ◌==◌, not, nat_le, nat_lt, if◌then◌else◌, is_ok, arith}
+use Rattle.std.proofs.Common.{◌≡◌, ◌∙◌, ap, refl, sym, ℕ, Bool, true, false, List, Option, Some, None, Result, Ok, Err, ◌&&◌, ◌||◌, ◌==◌, not, nat_le, nat_lt, if◌then◌else◌, is_ok}
 use Rattle.codec_payload_c.specs.StreamReceivers.{AreSettings, is_in_range, red_in_range, rtx_in_range}
 use Rattle.codec_payload_core.specs.Depacketizers.{DepacketizerState}
 use Rattle.codec_payload_jitter.specs.Numbers.{Numbering, numbering_within}

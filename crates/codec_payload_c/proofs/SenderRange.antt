@@ -1,5 +1,5 @@
 -- A sender is made exactly if its settings are in range.
-use Rattle.std.proofs.Common.{◌≡◌, ◌≢◌, ◌⊎◌, inl, inr, ◌∙◌, ap, sym, refl, subst, ℕ, Bool, true, false, Option, Some, None, Result, Ok, Err, ◌&&◌, not, nat_le, nat_lt, if◌then◌else◌, IfSome, arith}
+use Rattle.std.proofs.Common.{◌≡◌, inl, inr, ap, refl, subst, ℕ, Bool, true, false, Some, None, Result, Ok, Err, ◌&&◌, not, nat_le, nat_lt, if◌then◌else◌, IfSome, arith}
 use Rattle.codec_payload_rtp.specs.ExtensionWriting.{ids_fit}
 use Rattle.codec_payload_sender.specs.Senders.{refusal_of}
 use Rattle.codec_payload_sender.specs.declared.sender.SenderError.{SenderError}

@@ -13,7 +13,7 @@ use Rattle.codec_payload_handle.specs.declared.object.Object.TheVariants as obje
 
 -- a new depacketizer, without bytes of a unit
 abbrev pub IsAssemblerOf : Option DepacketizerState → Object → Type 0
-IsAssemblerOf depacketizer (objects.Assembler r) = (Some (depacketizer_state_of r.depacketizer) ≡ depacketizer) × (r.bytes.items ≡ []) × (r.extra ≡ told.None)
+IsAssemblerOf depacketizer (objects.Assembler r) = (Some (depacketizer_state_of r.value.depacketizer) ≡ depacketizer) × (r.value.bytes.items ≡ []) × (r.value.extra ≡ told.None)
 IsAssemblerOf depacketizer _ = ⊥
 
 -- a payload is read as the depacketizer reads it

@@ -24,7 +24,7 @@ pub record IsNew (spec : Spec) (depacketizer : Option DepacketizerState) (hold_b
   pub rate : r.rate ≡ spec.rate
 
 abbrev pub IsFrameReceiverOf : Spec → Option DepacketizerState → ℕ → ℕ → Object → Type 0
-IsFrameReceiverOf spec depacketizer hold_back limit (objects.FrameReceiver r) = IsNew spec depacketizer hold_back limit r
+IsFrameReceiverOf spec depacketizer hold_back limit (objects.FrameReceiver r) = IsNew spec depacketizer hold_back limit r.value
 IsFrameReceiverOf spec depacketizer hold_back limit _ = ⊥
 
 -- the metadata of a packet

@@ -12,6 +12,8 @@ pub mod Refusals
 pub mod RtpFields
 pub mod Senders
 pub mod SessionFormats
+pub mod SessionPairs
+pub mod SessionReports
 pub mod SessionStreams
 pub mod Sessions
 pub mod StreamReceivers

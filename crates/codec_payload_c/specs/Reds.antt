@@ -6,7 +6,7 @@ use Rattle.codec_payload_handle.specs.declared.object.Object.TheVariants as obje
 
 -- a sender without earlier payloads
 abbrev pub IsRedSenderOf : ℕ → ℕ → List ℕ → Object → Type 0
-IsRedSenderOf red_pt primary_pt distances (objects.RedSender r) = r ≡ record { red_pt = red_pt; primary_pt = primary_pt; distances = distances; history = [] }
+IsRedSenderOf red_pt primary_pt distances (objects.RedSender r) = r.value ≡ record { red_pt = red_pt; primary_pt = primary_pt; distances = distances; history = [] }
 IsRedSenderOf red_pt primary_pt distances _ = ⊥
 
 -- the new types and distances, if they are accepted; otherwise nothing changed

@@ -15,7 +15,7 @@ packets_in r = map (λ p. p.items) r.packets.items
 
 -- a new packetizer, without packets
 abbrev pub IsFrameSenderOf : Option PacketizerState → Object → Type 0
-IsFrameSenderOf packetizer (objects.FrameSender s) = (Some (packetizer_state_of s.packetizer) ≡ packetizer) × (packets_in s ≡ []) × (s.taken ≡ 0)
+IsFrameSenderOf packetizer (objects.FrameSender s) = (Some (packetizer_state_of s.value.packetizer) ≡ packetizer) × (packets_in s.value ≡ []) × (s.value.taken ≡ 0)
 IsFrameSenderOf packetizer _ = ⊥
 
 -- A frame is packetized: its packets can be fetched, from the first one, and packets of the previous frame are discarded. After

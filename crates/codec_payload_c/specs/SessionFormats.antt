@@ -108,5 +108,5 @@ pub record IsNewSession (s : SessionSettings) (formats : List SessionFormat) (no
   pub taken : r.taken ≡ None
 
 abbrev pub IsPortSessionOf : SessionSettings → List SessionFormat → List ℕ → List SsrcPair → Object → Type 0
-IsPortSessionOf s formats no_media pairs (objects.PortSession r) = IsNewSession s formats no_media pairs r
+IsPortSessionOf s formats no_media pairs (objects.PortSession r) = IsNewSession s formats no_media pairs r.value
 IsPortSessionOf s formats no_media pairs _ = ⊥

@@ -29,7 +29,7 @@ use Rattle.codec_payload_c.specs.declared.session.Event.{Event as CEvent}
 abbrev pub arrived_as : ℕ → CArrival
 arrived_as kind = record { kind = kind; ssrc = 0; status = 0; outcome = 0; payload_type = 0 }
 
--- what was done with a datagram; the stream's answer is told as a receiver tells it, with outcome 0 if there is an error
+-- what was done with a datagram; the stream's answer is reported as a receiver reports it, with outcome 0 if there is an error
 abbrev pub TellsArrival : Arrival → CArrival → Type 0
 TellsArrival (arrivals.Stream ssrc payload_type answer) a =
     (a.kind ≡ 0) × (a.ssrc ≡ ssrc) × (a.payload_type ≡ payload_type) × Tells answer a.status 0 a.outcome
@@ -61,6 +61,7 @@ abbrev pub ending_number : Ending → ℕ
 ending_number endings.Bye = 0
 ending_number endings.Timeout = 1
 ending_number endings.Told = 2
+ending_number endings.Changed = 3
 
 -- the description of a unit, with its extended RTP time, and whether it is decodable and a keyframe
 abbrev pub TellsJudgedBy : Option ℕ → Bool → Bool → Release → CUnit → Type 0
@@ -101,7 +102,7 @@ is_no_memory (events.Feedback ssrc payload_type (Ok packet)) = false
 is_no_memory (events.Feedback ssrc payload_type (Err e)) = true
 is_no_memory (events.Ended ssrc payload_type why) = false
 
--- the bytes of the unit of the event
+-- the bytes of the event: of its unit, or of its RTCP packet
 abbrev pub bytes_in : Event → List ℕ
 bytes_in (events.Begun ssrc payload_type) = []
 bytes_in (events.Unit ssrc payload_type time decodable keyframe (Ok u)) = u.bytes
@@ -140,8 +141,8 @@ pub record Handing : Type 0 where
   pub before : List ℕ
   pub bytes : List ℕ
 
--- Status 17: memory ran out for the unit, and nothing changes. Status 33: the event is described, and waits, since its bytes do
--- not fit. Status 0: the event is described, and its bytes are at the front of the output buffer.
+-- Status 17: memory ran out for the unit or the request, and nothing changes. Status 33: the event is described, and waits, since its
+-- bytes do not fit. Status 0: the event is described, and its bytes are at the front of the output buffer.
 abbrev pub Hands : (no_memory fits : Bool) → Event → ℕ → Handing → PortSession → PortSession → Type 0
 Hands true fits next status h r s = (status ≡ 17) × (h.event ≡ h.event_before) × (h.bytes ≡ h.before) × (s ≡ r)
 Hands false false next status h r s = (status ≡ 33) × TellsEvent next h.event × (h.bytes ≡ h.before) × (s ≡ record r { waiting = Some next })

@@ -1,5 +1,5 @@
 -- The calls on a receiver of datagrams.
-use Rattle.std.specs.Prelude.{◌≡◌, ◌≢◌, ℕ, ◌+◌, ◌-◌, ◌%◌, ◌^◌, ◌&&◌, ◌||◌, ◌==◌, not, nat_le, nat_lt, if◌then◌else◌, Bool, true, false, Option, Some, None, Result, Ok, Err, List, is_some, length, drop, ◌++◌}
+use Rattle.std.specs.Prelude.{◌≡◌, ◌≢◌, ◌⊎◌, ◌<◌, ◌≤◌, ℕ, ◌+◌, ◌-◌, ◌%◌, ◌^◌, ◌&&◌, ◌||◌, ◌==◌, not, nat_le, nat_lt, if◌then◌else◌, Bool, true, false, Option, Some, None, Result, Ok, Err, List, is_some, length, drop, ◌++◌}
 use Rattle.codec_payload_core.specs.Depacketizers.{DepacketizerState}
 use Rattle.codec_payload_jitter.specs.Missing.{missing_numbers}
 use Rattle.codec_payload_jitter.specs.declared.waiting.WaitLimits.{WaitLimits}
@@ -18,6 +18,7 @@ use Rattle.codec_payload_stream.specs.declared.receiver.Settings.{Settings}
 use Rattle.codec_payload_stream.specs.declared.reports.ReceptionReport.{ReceptionReport}
 use Rattle.codec_payload_base.specs.declared.wire.Ticks.{Ticks}
 use Rattle.codec_payload_core.specs.Release.{Release}
+use Rattle.codec_payload_handle.specs.Bytes.{filled}
 use Rattle.codec_payload_handle.specs.Popping.{Answer, AnswersPop}
 use Rattle.codec_payload_handle.specs.Units.{TellsUnit, TellsValues}
 use Rattle.codec_payload_handle.specs.declared.extension_values.ExtensionValues.{ExtensionValues as CValues}
@@ -96,7 +97,7 @@ pub record IsNewStream (s : ReceiverSettings) (no_media : List ℕ) (depacketize
   pub taken : r.taken ≡ None
 
 abbrev pub IsStreamReceiverOf : ReceiverSettings → List ℕ → Option DepacketizerState → Object → Type 0
-IsStreamReceiverOf s no_media depacketizer (objects.StreamReceiver r) = IsNewStream s no_media depacketizer r
+IsStreamReceiverOf s no_media depacketizer (objects.StreamReceiver r) = IsNewStream s no_media depacketizer r.value
 IsStreamReceiverOf s no_media depacketizer _ = ⊥
 
 -- the numbers of outcomes
@@ -141,11 +142,24 @@ abbrev pub time_or : ℕ → Option ℕ → ℕ
 time_or time None = time
 time_or time (Some t) = t
 
+-- a description with the extended RTP time of the unit that a receiver released, and whether it is decodable
+abbrev pub judged_by : Session → CUnit → CUnit
+judged_by s unit = record unit { rtp_time = time_or unit.rtp_time s.time; decodable = s.gates.gate.shows; keyframe = s.gates.is_keyframe }
+
 -- the description of a unit that a receiver released: with its extended RTP time, and whether it is decodable
 abbrev pub TellsJudged : Session → Release → CUnit → Type 0
 TellsJudged s u unit =
     TellsUnit u (record unit { rtp_time = u.time.numer; decodable = true; keyframe = false })
     × (unit.rtp_time ≡ time_or u.time.numer s.time) × (unit.decodable ≡ s.gates.gate.shows) × (unit.keyframe ≡ s.gates.is_keyframe)
+
+-- A unit that waited is described. Status 0: its bytes are at the front of the output buffer, and it is the latest popped unit.
+-- Status 33: the output buffer is too small, and the unit still waits
+pub record HandsOver (u : Release) (status : ℕ) (unit : CUnit) (before bytes : List ℕ) (r s : StreamReceiver) : Type 0 where
+  pub tells : TellsJudged r.receiver u unit
+  pub receiver : s.receiver ≡ r.receiver
+  pub answers : (status ≡ 0) ⊎ (status ≡ 33)
+  pub ok : status ≡ 0 → (length u.bytes ≤ length before) × (bytes ≡ filled u.bytes before) × (s.waiting ≡ None) × (s.taken ≡ Some u)
+  pub too_small : status ≡ 33 → (length before < length u.bytes) × (bytes ≡ before) × (s.waiting ≡ Some u) × (s.taken ≡ r.taken)
 
 -- the description of a unit; if the caller gets its bytes, it becomes the latest popped unit
 abbrev pub TellsAndTakes : ℕ → StreamReceiver → Release → CUnit → Type 0

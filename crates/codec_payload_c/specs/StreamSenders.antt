@@ -48,7 +48,7 @@ refusal_status errors.OutOfMemory = 17
 
 -- a new sender by these settings
 abbrev pub IsStreamSenderOf : SenderSettings → Option PacketizerState → Object → Type 0
-IsStreamSenderOf s packetizer (objects.StreamSender r) = IfSome packetizer (λ p. (r.sender ≡ sender_by (settings_for s) p) × (r.rate ≡ s.spec.rate))
+IsStreamSenderOf s packetizer (objects.StreamSender r) = IfSome packetizer (λ p. (r.value.sender ≡ sender_by (settings_for s) p) × (r.value.rate ≡ s.spec.rate))
 IsStreamSenderOf s packetizer _ = ⊥
 
 -- a frame with its time and values of header extensions

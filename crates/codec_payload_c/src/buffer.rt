@@ -10,12 +10,12 @@ use codec_payload_core::buffer::{DepacketizingBuffer, RtpMeta};
 use codec_payload_core::wire::{
     ExtensionValues, Frequency, MediaTime, Pt, RtpHeader, SeqNo, Ticks,
 };
-use codec_payload_handle::bytes::fill;
 use codec_payload_handle::handle::Handle;
 use codec_payload_handle::object::{FrameReceiver, Object};
 use codec_payload_handle::settings::{Spec, depacketizer_of};
+use codec_payload_handle::slot::UnitSlot;
 use codec_payload_handle::status;
-use codec_payload_handle::unit::{Unit, unit_of};
+use codec_payload_handle::unit::Unit;
 use std::alloc::Global;
 
 /// The largest number of packets that a buffer can hold.
@@ -83,24 +83,20 @@ fn push(receiver: &mut FrameReceiver, alloc: Global, packet: &Received, payload:
 }
 
 /// Writes the next unit to the output buffer: the unit that waits for a larger output buffer, or the next one from the buffer.
-fn pop(receiver: &mut FrameReceiver, unit: &mut Unit, bytes: &mut [u8]) -> u32
+fn pop(receiver: &mut FrameReceiver, alloc: Global, unit: &mut Unit, bytes: &mut [u8]) -> u32
     ensures { PopsUnit receiver.old result unit.old unit.new bytes.old bytes.new receiver.new }
 {
-    if receiver.waiting.is_none() {
-        match receiver.buffer.pop() {
+    if !receiver.waiting.is_some() {
+        match receiver.waiting.pop_buffer(&mut receiver.buffer) {
             None => return status::NONE,
             Some(Err(fault)) => return u32::from(fault.number()),
-            Some(Ok(next)) => receiver.waiting = Some(next),
+            Some(Ok(())) => {}
         }
     }
-    let Some(next) = &receiver.waiting else {
-        return status::NONE;
-    };
-    *unit = unit_of(next);
-    if !fill(bytes, &next.bytes) {
+    if !receiver.waiting.write(unit, bytes) {
         return status::TOO_SMALL;
     }
-    receiver.waiting = None;
+    receiver.waiting.clear(alloc);
     status::OK
 }
 
@@ -143,8 +139,11 @@ pub extern "C" fn cpay_buffer_new(
     }
     let receiver = FrameReceiver {
         buffer: DepacketizingBuffer::with_limit(alloc, depacketizer, hold_back, limit),
-        waiting: None,
+        waiting: UnitSlot::new(alloc),
         rate,
+    };
+    let Ok(receiver) = Box::new(alloc, receiver) else {
+        return status::OUT_OF_MEMORY;
     };
     match Box::new(alloc, Object::FrameReceiver(receiver)) {
         Ok(object) => {
@@ -194,7 +193,7 @@ pub extern "C" fn cpay_buffer_pop(
         return status::EMPTY;
     };
     let answer = match &mut *object {
-        Object::FrameReceiver(receiver) => pop(receiver, unit, bytes),
+        Object::FrameReceiver(receiver) => pop(receiver, alloc, unit, bytes),
         _ => status::OTHER_KIND,
     };
     handle.put(object);

@@ -7,7 +7,7 @@ ghost use Rattle.codec_payload_handle.specs.Settings.{depacketizer_set};
 
 use codec_payload_core::codec::{CodecExtra, Depacketizer};
 use codec_payload_handle::bytes::fill;
-use codec_payload_handle::extra::{Extra, extra_of};
+use codec_payload_handle::extra::{Extra, tell_extra};
 use codec_payload_handle::handle::Handle;
 use codec_payload_handle::object::{Assembler, Object};
 use codec_payload_handle::settings::{Spec, depacketizer_of};
@@ -32,7 +32,7 @@ fn take(assembler: &mut Assembler, size: &mut usize, extra: &mut Extra, bytes: &
     ensures { Takes assembler.old result size.new extra.new bytes.old bytes.new assembler.new }
 {
     *size = assembler.bytes.len();
-    *extra = extra_of(&assembler.extra);
+    tell_extra(extra, &assembler.extra);
     if !fill(bytes, &assembler.bytes) {
         return status::TOO_SMALL;
     }
@@ -57,6 +57,9 @@ pub extern "C" fn cpay_depacketizer_new(alloc: Global, handle: &mut Handle, spec
         depacketizer,
         bytes: Vec::new(alloc),
         extra: CodecExtra::None,
+    };
+    let Ok(assembler) = Box::new(alloc, assembler) else {
+        return status::OUT_OF_MEMORY;
     };
     match Box::new(alloc, Object::Assembler(assembler)) {
         Ok(object) => {

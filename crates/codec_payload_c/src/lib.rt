@@ -16,6 +16,8 @@ mod red_places;
 mod rtp;
 mod sender;
 mod session;
+mod session_pairs;
+mod session_reports;
 mod session_settings;
 mod session_streams;
 mod tele;

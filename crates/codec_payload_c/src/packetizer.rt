@@ -95,6 +95,9 @@ pub extern "C" fn cpay_packetizer_new(alloc: Global, handle: &mut Handle, spec: 
         marked: false,
         frame,
     };
+    let Ok(sender) = Box::new(alloc, sender) else {
+        return status::OUT_OF_MEMORY;
+    };
     match Box::new(alloc, Object::FrameSender(sender)) {
         Ok(object) => {
             handle.put(object);

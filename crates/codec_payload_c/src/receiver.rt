@@ -1,28 +1,27 @@
 //! Receivers: the datagrams of one stream in, units out.
 
-ghost use Rattle.std.specs.Prelude.{◌≡◌, ◌≢◌, ◌&&◌, ◌++◌, drop, is_some, length, nat_le, nat_lt, if◌then◌else◌, Bool, IfErr, IfOk, IfSome, Option};
+ghost use Rattle.std.specs.Prelude.{◌≡◌, ◌≢◌, ◌&&◌, ◌++◌, drop, is_some, length, nat_le, nat_lt, if◌then◌else◌, Bool, IfErr, IfOk, IfSome, IsSome, Option};
 ghost use Rattle.codec_payload_core.specs.Depacketizers.{depacketizer_state_of};
 ghost use Rattle.codec_payload_jitter.specs.Missing.{missing_numbers};
 ghost use Rattle.codec_payload_jitter.specs.Receiving.{deadline_of};
 ghost use Rattle.codec_payload_stream.specs.Reports.{report_of, reported};
 ghost use Rattle.codec_payload_stream.specs.Sessions.{Finishes, restarted};
 ghost use Rattle.codec_payload_c.specs.Refusals.{RefusesSettings};
-ghost use Rattle.codec_payload_c.specs.StreamReceivers.{AreSettings, IsNewStream, IsStreamReceiverOf, PopsUnit, Takes, Tells, TellsCounts, TellsMissing, TellsNumber, TellsReport, TellsJudged, TellsTaken, without_units, bound_given, from_keyframe_numbered, is_in_range, outcome_number, red_set, rtx_set, restarted_as, wait_limits_given, waiting_by};
+ghost use Rattle.codec_payload_c.specs.StreamReceivers.{AreSettings, HandsOver, IsNewStream, IsStreamReceiverOf, PopsUnit, Takes, Tells, TellsCounts, TellsMissing, TellsNumber, TellsReport, TellsTaken, without_units, bound_given, from_keyframe_numbered, is_in_range, judged_by, outcome_number, red_set, rtx_set, restarted_as, wait_limits_given, waiting_by};
 ghost use Rattle.codec_payload_handle.specs.Kinds.{Makes, OnStreamReceiver, Refuses, is_stream_receiver};
 ghost use Rattle.codec_payload_handle.specs.Settings.{depacketizer_set};
 
 use crate::extension::{ExtensionIds, ids_of};
 use crate::rtp::status_of;
-use codec_payload_core::buffer::Depacketized;
 use codec_payload_core::codec::CodecDepacketizer;
 use codec_payload_core::wire::{Frequency, Ticks};
-use codec_payload_handle::bytes::fill;
 use codec_payload_handle::extension_values::ExtensionValues;
 use codec_payload_handle::handle::Handle;
 use codec_payload_handle::object::{Object, StreamReceiver};
 use codec_payload_handle::settings::{Spec, depacketizer_of};
+use codec_payload_handle::slot::UnitSlot;
 use codec_payload_handle::status;
-use codec_payload_handle::unit::{Unit, unit_of, values_in};
+use codec_payload_handle::unit::Unit;
 use codec_payload_jitter::jitter::WaitLimits as Waiting;
 use codec_payload_jitter::outcome::Outcome;
 use codec_payload_stream::receiver::{
@@ -288,45 +287,54 @@ pub(crate) fn report_answer(answer: Result<Outcome, ReceiveError>, outcome: &mut
     }
 }
 
-/// Describes a unit that a receiver released: with its extended RTP time, and whether it is decodable.
-fn judged_unit(unit: &Depacketized, receiver: &Receiver) -> Unit
-    ensures { TellsJudged receiver.now unit.now result }
+/// Adds what a receiver knows of the unit that it released to the description: its extended RTP time, and whether it is
+/// decodable.
+fn judge(unit: &mut Unit, receiver: &Receiver)
+    ensures { unit.new ≡ judged_by receiver.now unit.old }
 {
-    let told = unit_of(unit);
-    let rtp_time = match receiver.unit_time() {
-        Some(time) => time,
-        None => told.rtp_time,
-    };
-    Unit {
-        rtp_time,
-        decodable: receiver.unit_is_decodable(),
-        keyframe: receiver.unit_is_keyframe(),
-        ..told
+    if let Some(time) = receiver.unit_time() {
+        unit.rtp_time = time;
     }
+    unit.decodable = receiver.unit_is_decodable();
+    unit.keyframe = receiver.unit_is_keyframe();
+}
+
+/// Describes the unit that waits, and writes it to the output buffer. If that is too small, the unit still waits.
+fn hand_over(stream: &mut StreamReceiver, alloc: Global, unit: &mut Unit, bytes: &mut [u8]) -> u32
+    requires { IsSome stream.old.waiting }
+    ensures { IfSome stream.old.waiting (λ u. HandsOver u result unit.new bytes.old bytes.new stream.old stream.new) }
+{
+    let has_room = stream.waiting.write(unit, bytes);
+    judge(unit, &stream.receiver);
+    if !has_room {
+        return status::TOO_SMALL;
+    }
+    stream.waiting.move_to(&mut stream.taken, alloc);
+    status::OK
 }
 
 /// Writes the next unit to the output buffer: the unit that waits for a larger output buffer, or the next one from the
 /// receiver.
-fn pop(stream: &mut StreamReceiver, now: u64, unit: &mut Unit, bytes: &mut [u8]) -> u32
+fn pop(
+    stream: &mut StreamReceiver,
+    alloc: Global,
+    now: u64,
+    unit: &mut Unit,
+    bytes: &mut [u8],
+) -> u32
     ensures { PopsUnit stream.old now result unit.old unit.new bytes.old bytes.new stream.new }
 {
-    if stream.waiting.is_none() {
-        match stream.receiver.pop(Ticks(now)) {
-            None => return status::NONE,
-            Some(Err(fault)) => return u32::from(fault.number()),
-            Some(Ok(next)) => stream.waiting = Some(next),
-        }
+    if stream.waiting.is_some() {
+        return hand_over(stream, alloc, unit, bytes);
     }
-    let Some(next) = stream.waiting.take() else {
-        return status::NONE;
-    };
-    *unit = judged_unit(&next, &stream.receiver);
-    if !fill(bytes, &next.bytes) {
-        stream.waiting = Some(next);
-        return status::TOO_SMALL;
+    match stream
+        .waiting
+        .pop_receiver(&mut stream.receiver, Ticks(now))
+    {
+        None => status::NONE,
+        Some(Err(fault)) => u32::from(fault.number()),
+        Some(Ok(())) => hand_over(stream, alloc, unit, bytes),
     }
-    stream.taken = Some(next);
-    status::OK
 }
 
 /// Returns the counters of a receiver, and whether a unit waits.
@@ -419,10 +427,12 @@ fn stream_by(
     if !has_memory {
         return Err(status::OUT_OF_MEMORY);
     }
+    let waiting = UnitSlot::new(alloc);
+    let taken = UnitSlot::new(alloc);
     Ok(StreamReceiver {
         receiver,
-        waiting: None,
-        taken: None,
+        waiting,
+        taken,
     })
 }
 
@@ -450,6 +460,9 @@ pub extern "C" fn cpay_receiver_new(
     let stream = match stream_by(alloc, settings, depacketizer, rate, no_media) {
         Ok(stream) => stream,
         Err(status) => return status,
+    };
+    let Ok(stream) = Box::new(alloc, stream) else {
+        return status::OUT_OF_MEMORY;
     };
     match Box::new(alloc, Object::StreamReceiver(stream)) {
         Ok(object) => {
@@ -502,7 +515,7 @@ pub extern "C" fn cpay_receiver_pop(
         return status::EMPTY;
     };
     let answer = match &mut *object {
-        Object::StreamReceiver(stream) => pop(stream, now, unit, bytes),
+        Object::StreamReceiver(stream) => pop(stream, alloc, now, unit, bytes),
         _ => status::OTHER_KIND,
     };
     handle.put(object);
@@ -524,9 +537,9 @@ pub extern "C" fn cpay_receiver_values(
         return status::EMPTY;
     };
     let answer = match &mut *object {
-        Object::StreamReceiver(stream) => match &stream.taken {
-            Some(unit) => {
-                *values = values_in(unit);
+        Object::StreamReceiver(stream) => match stream.taken.values() {
+            Some(told) => {
+                *values = told;
                 status::OK
             }
             None => status::NONE,

@@ -83,6 +83,9 @@ pub extern "C" fn cpay_red_sender_new(
         Pt::new_with_value(primary_pt),
         distances,
     );
+    let Ok(sender) = Box::new(alloc, sender) else {
+        return status::OUT_OF_MEMORY;
+    };
     match Box::new(alloc, Object::RedSender(sender)) {
         Ok(object) => {
             handle.put(object);

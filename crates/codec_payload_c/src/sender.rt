@@ -276,6 +276,9 @@ pub extern "C" fn cpay_sender_new(
         Ok(stream) => stream,
         Err(status) => return status,
     };
+    let Ok(stream) = Box::new(alloc, stream) else {
+        return status::OUT_OF_MEMORY;
+    };
     match Box::new(alloc, Object::StreamSender(stream)) {
         Ok(object) => {
             handle.put(object);

@@ -57,7 +57,7 @@ pub struct Event {
     pub unit: Unit,
 }
 
-/// Returns what became of a datagram that no stream received.
+/// Returns the result of a datagram that no stream received.
 fn arrived_as(kind: u32) -> Arrival
     ensures { result ≡ arrived_as kind }
 {
@@ -119,6 +119,7 @@ pub(crate) fn number_of(why: Ending) -> u32
         Ending::Bye => 0,
         Ending::Timeout => 1,
         Ending::Told => 2,
+        Ending::Changed => 3,
     }
 }
 
@@ -306,6 +307,9 @@ pub extern "C" fn cpay_session_new(
     let session = match session_by(alloc, settings, formats, no_media, pairs) {
         Ok(session) => session,
         Err(status) => return status,
+    };
+    let Ok(session) = Box::new(alloc, session) else {
+        return status::OUT_OF_MEMORY;
     };
     match Box::new(alloc, Object::PortSession(session)) {
         Ok(object) => {

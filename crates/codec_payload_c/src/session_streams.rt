@@ -42,7 +42,7 @@ pub struct SessionStream {
     pub ssrc: u32,
     /// 0: in probation; 1: playing; 2: leaving; 3: draining.
     pub stage: u32,
-    /// Why it ends, if it is leaving or draining. 0: a BYE; 1: the idle timeout; 2: a call.
+    /// Why it ends, if it is leaving or draining. 0: a BYE; 1: the idle timeout; 2: a call; 3: a change of format.
     pub why: u32,
     pub payload_type: u8,
     /// The counters of its receiver.

@@ -12,65 +12,65 @@ use Rattle.codec_payload_handle.specs.declared.object.StreamSender.{StreamSender
 
 -- if the handle holds a packetizer, it holds one afterwards, after this step
 abbrev pub StaysFrameSender : (FrameSender → Type 0) → Option Object → Type 0
-StaysFrameSender Done (Some (objects.FrameSender s)) = Done s
+StaysFrameSender Done (Some (objects.FrameSender s)) = Done s.value
 StaysFrameSender Done _ = ⊥
 
 abbrev pub OnFrameSender : Option Object → (FrameSender → FrameSender → Type 0) → Option Object → Type 0
-OnFrameSender (Some (objects.FrameSender r)) Does after = StaysFrameSender (Does r) after
+OnFrameSender (Some (objects.FrameSender r)) Does after = StaysFrameSender (Does r.value) after
 OnFrameSender _ Does after = Unit {0}
 
 -- the same for a depacketizer
 abbrev pub StaysAssembler : (Assembler → Type 0) → Option Object → Type 0
-StaysAssembler Done (Some (objects.Assembler s)) = Done s
+StaysAssembler Done (Some (objects.Assembler s)) = Done s.value
 StaysAssembler Done _ = ⊥
 
 abbrev pub OnAssembler : Option Object → (Assembler → Assembler → Type 0) → Option Object → Type 0
-OnAssembler (Some (objects.Assembler r)) Does after = StaysAssembler (Does r) after
+OnAssembler (Some (objects.Assembler r)) Does after = StaysAssembler (Does r.value) after
 OnAssembler _ Does after = Unit {0}
 
 -- the same for a buffer
 abbrev pub StaysFrameReceiver : (FrameReceiver → Type 0) → Option Object → Type 0
-StaysFrameReceiver Done (Some (objects.FrameReceiver s)) = Done s
+StaysFrameReceiver Done (Some (objects.FrameReceiver s)) = Done s.value
 StaysFrameReceiver Done _ = ⊥
 
 abbrev pub OnFrameReceiver : Option Object → (FrameReceiver → FrameReceiver → Type 0) → Option Object → Type 0
-OnFrameReceiver (Some (objects.FrameReceiver r)) Does after = StaysFrameReceiver (Does r) after
+OnFrameReceiver (Some (objects.FrameReceiver r)) Does after = StaysFrameReceiver (Does r.value) after
 OnFrameReceiver _ Does after = Unit {0}
 
 -- the same for a RED sender
 abbrev pub StaysRedSender : (RedSender → Type 0) → Option Object → Type 0
-StaysRedSender Done (Some (objects.RedSender s)) = Done s
+StaysRedSender Done (Some (objects.RedSender s)) = Done s.value
 StaysRedSender Done _ = ⊥
 
 abbrev pub OnRedSender : Option Object → (RedSender → RedSender → Type 0) → Option Object → Type 0
-OnRedSender (Some (objects.RedSender r)) Does after = StaysRedSender (Does r) after
+OnRedSender (Some (objects.RedSender r)) Does after = StaysRedSender (Does r.value) after
 OnRedSender _ Does after = Unit {0}
 
 -- the same for a sender of datagrams
 abbrev pub StaysStreamSender : (StreamSender → Type 0) → Option Object → Type 0
-StaysStreamSender Done (Some (objects.StreamSender s)) = Done s
+StaysStreamSender Done (Some (objects.StreamSender s)) = Done s.value
 StaysStreamSender Done _ = ⊥
 
 abbrev pub OnStreamSender : Option Object → (StreamSender → StreamSender → Type 0) → Option Object → Type 0
-OnStreamSender (Some (objects.StreamSender r)) Does after = StaysStreamSender (Does r) after
+OnStreamSender (Some (objects.StreamSender r)) Does after = StaysStreamSender (Does r.value) after
 OnStreamSender _ Does after = Unit {0}
 
 -- the same for a receiver of datagrams
 abbrev pub StaysStreamReceiver : (StreamReceiver → Type 0) → Option Object → Type 0
-StaysStreamReceiver Done (Some (objects.StreamReceiver s)) = Done s
+StaysStreamReceiver Done (Some (objects.StreamReceiver s)) = Done s.value
 StaysStreamReceiver Done _ = ⊥
 
 abbrev pub OnStreamReceiver : Option Object → (StreamReceiver → StreamReceiver → Type 0) → Option Object → Type 0
-OnStreamReceiver (Some (objects.StreamReceiver r)) Does after = StaysStreamReceiver (Does r) after
+OnStreamReceiver (Some (objects.StreamReceiver r)) Does after = StaysStreamReceiver (Does r.value) after
 OnStreamReceiver _ Does after = Unit {0}
 
 -- the same for a session
 abbrev pub StaysPortSession : (PortSession → Type 0) → Option Object → Type 0
-StaysPortSession Done (Some (objects.PortSession s)) = Done s
+StaysPortSession Done (Some (objects.PortSession s)) = Done s.value
 StaysPortSession Done _ = ⊥
 
 abbrev pub OnPortSession : Option Object → (PortSession → PortSession → Type 0) → Option Object → Type 0
-OnPortSession (Some (objects.PortSession r)) Does after = StaysPortSession (Does r) after
+OnPortSession (Some (objects.PortSession r)) Does after = StaysPortSession (Does r.value) after
 OnPortSession _ Does after = Unit {0}
 
 abbrev pub is_frame_sender : Object → Bool

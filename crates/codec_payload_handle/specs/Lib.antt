@@ -5,4 +5,5 @@ pub mod Kinds
 pub mod Owned
 pub mod Popping
 pub mod Settings
+pub mod Slots
 pub mod Units

@@ -2,7 +2,7 @@
 
 ghost use Rattle.std.specs.Prelude.{◌≡◌};
 ghost use Rattle.codec_payload_core.specs.declared.interface.CodecExtra.TheVariants as extras;
-ghost use Rattle.codec_payload_handle.specs.Extras.{event_told, extra_told, layer_told, layers_told};
+ghost use Rattle.codec_payload_handle.specs.Extras.{event_told, extra_told, layer_told, layers_told, nothing_told};
 
 use codec_payload_core::codec::{CodecExtra, TelephoneEvent, Vp8CodecExtra, Vp9CodecExtra};
 
@@ -124,60 +124,55 @@ pub fn nothing() -> Extra
     }
 }
 
-/// Converts the data of VP8.
-fn vp8_extra(told: &Vp8CodecExtra) -> Extra
-    ensures { result ≡ extra_told (extras.Vp8 told.now) }
+/// Describes the data of VP8, in fields that are all 0.
+fn tell_vp8(extra: &mut Extra, told: &Vp8CodecExtra)
+    requires { extra.old ≡ nothing_told }
+    ensures { extra.new ≡ extra_told (extras.Vp8 told.now) }
 {
-    Extra {
-        picture_id: told.picture_id.unwrap_or(0),
-        tl0_picture_id: told.tl0_picture_id.unwrap_or(0),
-        kind: 1,
-        has_picture_id: told.picture_id.is_some(),
-        has_tl0_picture_id: told.tl0_picture_id.is_some(),
-        has_temporal_layer: true,
-        temporal_layer: told.layer_index,
-        is_keyframe: told.is_keyframe,
-        discardable: told.discardable,
-        sync: told.sync,
-        ..nothing()
-    }
+    extra.picture_id = told.picture_id.unwrap_or(0);
+    extra.tl0_picture_id = told.tl0_picture_id.unwrap_or(0);
+    extra.kind = 1;
+    extra.has_picture_id = told.picture_id.is_some();
+    extra.has_tl0_picture_id = told.tl0_picture_id.is_some();
+    extra.has_temporal_layer = true;
+    extra.temporal_layer = told.layer_index;
+    extra.is_keyframe = told.is_keyframe;
+    extra.discardable = told.discardable;
+    extra.sync = told.sync;
 }
 
-/// Converts the data of VP9.
-fn vp9_extra(told: &Vp9CodecExtra) -> Extra
-    ensures { result ≡ extra_told (extras.Vp9 told.now) }
+/// Describes the data of VP9, in fields that are all 0.
+fn tell_vp9(extra: &mut Extra, told: &Vp9CodecExtra)
+    requires { extra.old ≡ nothing_told }
+    ensures { extra.new ≡ extra_told (extras.Vp9 told.now) }
 {
-    Extra {
-        picture_id: told.picture_id.unwrap_or(0),
-        tl0_picture_id: told.tl0_picture_id.unwrap_or(0),
-        kind: 2,
-        has_picture_id: told.picture_id.is_some(),
-        has_tl0_picture_id: told.tl0_picture_id.is_some(),
-        has_temporal_layer: told.tid.is_some(),
-        temporal_layer: told.tid.unwrap_or(0),
-        is_keyframe: told.is_keyframe,
-        layers: layers_of(told),
-        ..nothing()
-    }
+    extra.picture_id = told.picture_id.unwrap_or(0);
+    extra.tl0_picture_id = told.tl0_picture_id.unwrap_or(0);
+    extra.kind = 2;
+    extra.has_picture_id = told.picture_id.is_some();
+    extra.has_tl0_picture_id = told.tl0_picture_id.is_some();
+    extra.has_temporal_layer = told.tid.is_some();
+    extra.temporal_layer = told.tid.unwrap_or(0);
+    extra.is_keyframe = told.is_keyframe;
+    extra.layers = layers_of(told);
 }
 
-/// Converts the codec-specific data of a unit for C.
-pub fn extra_of(told: &CodecExtra) -> Extra
-    ensures { result ≡ extra_told told.now }
+/// Describes the codec-specific data of a unit for C, in place of what `extra` has.
+pub fn tell_extra(extra: &mut Extra, told: &CodecExtra)
+    ensures { extra.new ≡ extra_told told.now }
 {
+    *extra = nothing();
     match told {
-        CodecExtra::None => nothing(),
-        CodecExtra::Vp8(told) => vp8_extra(told),
-        CodecExtra::Vp9(told) => vp9_extra(told),
-        CodecExtra::Av1(told) => Extra {
-            kind: 3,
-            is_keyframe: told.is_keyframe,
-            ..nothing()
-        },
-        CodecExtra::Tele(report) => Extra {
-            kind: 4,
-            event: event_of(*report),
-            ..nothing()
-        },
+        CodecExtra::None => {}
+        CodecExtra::Vp8(told) => tell_vp8(extra, told),
+        CodecExtra::Vp9(told) => tell_vp9(extra, told),
+        CodecExtra::Av1(told) => {
+            extra.kind = 3;
+            extra.is_keyframe = told.is_keyframe;
+        }
+        CodecExtra::Tele(report) => {
+            extra.kind = 4;
+            extra.event = event_of(*report);
+        }
     }
 }

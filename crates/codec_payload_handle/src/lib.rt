@@ -9,5 +9,6 @@ pub mod handle;
 pub mod loose;
 pub mod object;
 pub mod settings;
+pub mod slot;
 pub mod status;
 pub mod unit;

@@ -1,5 +1,6 @@
 //! The contents of a handle.
 
+use crate::slot::UnitSlot;
 use codec_payload_core::buffer::{Depacketized, DepacketizingBuffer};
 use codec_payload_core::codec::{CodecDepacketizer, CodecExtra, CodecPacketizer};
 use codec_payload_core::payloads::Payloads;
@@ -34,7 +35,7 @@ pub struct Assembler {
 #[derive(Drop)]
 pub struct FrameReceiver {
     pub buffer: DepacketizingBuffer,
-    pub waiting: Option<Depacketized>,
+    pub waiting: UnitSlot,
     pub rate: Frequency,
 }
 
@@ -49,8 +50,8 @@ pub struct StreamSender {
 #[derive(Drop)]
 pub struct StreamReceiver {
     pub receiver: DatagramReceiver,
-    pub waiting: Option<Depacketized>,
-    pub taken: Option<Depacketized>,
+    pub waiting: UnitSlot,
+    pub taken: UnitSlot,
 }
 
 /// A session, the event whose bytes wait for a larger output buffer, and the latest unit.
@@ -61,14 +62,14 @@ pub struct PortSession {
     pub taken: Option<Depacketized>,
 }
 
-/// A value behind a handle.
+/// A value behind a handle. Each has its own box, so that no handle takes the memory of the largest type.
 #[derive(Drop)]
 pub enum Object {
-    FrameSender(FrameSender),
-    Assembler(Assembler),
-    FrameReceiver(FrameReceiver),
-    RedSender(RedSender),
-    StreamSender(StreamSender),
-    StreamReceiver(StreamReceiver),
-    PortSession(PortSession),
+    FrameSender(Box<FrameSender>),
+    Assembler(Box<Assembler>),
+    FrameReceiver(Box<FrameReceiver>),
+    RedSender(Box<RedSender>),
+    StreamSender(Box<StreamSender>),
+    StreamReceiver(Box<StreamReceiver>),
+    PortSession(Box<PortSession>),
 }

@@ -1,12 +1,13 @@
 //! The description of a unit, for C.
 
 ghost use Rattle.std.specs.Prelude.{◌≡◌, ◌<◌, length};
-ghost use Rattle.codec_payload_core.specs.Release.{IsFirst, IsLast};
+ghost use Rattle.codec_payload_core.specs.Release.{IsFirst, IsLast, IsReceivedFirst};
+ghost use Rattle.codec_payload_core.specs.Steps.{released_into};
 ghost use Rattle.codec_payload_handle.specs.Units.{TellsUnit, TellsValues, no_unit};
 
 use crate::extension_values::{ExtensionValues, values_between};
-use crate::extra::{Extra, extra_of, nothing};
-use codec_payload_core::buffer::{Depacketized, RtpMeta};
+use crate::extra::{Extra, nothing, tell_extra};
+use codec_payload_core::buffer::{Depacketized, RtpMeta, UnitInfo};
 
 /// A unit, without its bytes.
 #[repr(C)]
@@ -50,15 +51,36 @@ fn last_of(metas: &[RtpMeta]) -> &RtpMeta
     &metas[metas.len() - 1]
 }
 
-/// Returns the values of header extensions of a unit for C: the values of its last packet, with the capture time and layers
-/// allocation of its first packet, if that has them.
-pub fn values_in(unit: &Depacketized) -> ExtensionValues
-    ensures { TellsValues unit.now.metas result }
+/// Returns the first of the packets with the earliest time of arrival.
+fn received_first(metas: &[RtpMeta]) -> &RtpMeta
+    requires { 0 < length metas.now }
+    ensures { IsReceivedFirst metas.now result.now }
 {
-    let metas = unit.meta();
+    let mut first = 0;
+    for (i, meta) in metas.iter().enumerate() {
+        if meta.received.0 < metas[first].received.0 {
+            first = i;
+        }
+    }
+    &metas[first]
+}
+
+/// Returns the values of header extensions of a unit with these packets for C: the values of its last packet, with the capture
+/// time and layers allocation of its first packet, if that has them.
+pub fn values_of_packets(metas: &[RtpMeta]) -> ExtensionValues
+    requires { 0 < length metas.now }
+    ensures { TellsValues metas.now result }
+{
     let first = first_of(metas);
     let last = last_of(metas);
     values_between(&first.header.ext_vals, &last.header.ext_vals)
+}
+
+/// Returns the values of header extensions of a unit for C, as [`values_of_packets`] does.
+pub fn values_in(unit: &Depacketized) -> ExtensionValues
+    ensures { TellsValues unit.now.metas result }
+{
+    values_of_packets(unit.meta())
 }
 
 /// Returns a description with each number 0 and each flag false.
@@ -79,21 +101,34 @@ pub fn no_unit() -> Unit
     }
 }
 
+/// Describes a unit with this data, these bytes and these packets for C, in place of what `unit` has.
+pub fn describe(unit: &mut Unit, info: &UnitInfo, bytes: &[u8], metas: &[RtpMeta])
+    requires { 0 < length metas.now }
+    ensures { TellsUnit (released_into info.now bytes.now metas.now) unit.new }
+{
+    let first = first_of(metas);
+    unit.first = first.seq_no.0;
+    unit.last = last_of(metas).seq_no.0;
+    unit.rtp_time = info.time.numer();
+    unit.received = received_first(metas).received.0;
+    unit.bytes = bytes.len();
+    unit.contiguous = info.contiguous;
+    unit.starts_talk_spurt = first.header.marker;
+    unit.decodable = true;
+    unit.keyframe = false;
+    tell_extra(&mut unit.extra, &info.codec_extra);
+}
+
 /// Describes a unit for C.
 pub fn unit_of(unit: &Depacketized) -> Unit
     ensures { TellsUnit unit.now result }
 {
-    let numbers = unit.seq_range();
-    Unit {
-        first: numbers.start().0,
-        last: numbers.end().0,
-        rtp_time: unit.time.numer(),
-        received: unit.first_network_time().0,
-        bytes: unit.bytes.len(),
+    let info = UnitInfo {
+        time: unit.time,
         contiguous: unit.contiguous,
-        starts_talk_spurt: unit.start_of_talkspurt(),
-        decodable: true,
-        keyframe: false,
-        extra: extra_of(&unit.codec_extra),
-    }
+        codec_extra: unit.codec_extra,
+    };
+    let mut told = no_unit();
+    describe(&mut told, &info, &unit.bytes, unit.meta());
+    told
 }

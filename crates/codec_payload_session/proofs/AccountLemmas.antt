@@ -1,5 +1,5 @@
 -- Every datagram is accounted for.
-use Rattle.std.proofs.Common.{◌≡◌, ◌≤◌, ◌<◌, inl, inr, ◌∙◌, ℕ, zero, suc, ◌+◌, ◌%◌, ◌^◌, ◌&&◌, ◌||◌, not, List, [], ◌∷◌, ◌++◌, length, Bool, true, false, cond, Option, Some, None, Result, Ok, Err, ap, refl, sym, subst, arith, nat_lt, slice_get, slice_set}
+use Rattle.std.proofs.Common.{◌≡◌, ◌≤◌, ◌<◌, inl, inr, ◌∙◌, ℕ, zero, suc, ◌+◌, ◌%◌, ◌^◌, ◌&&◌, ◌||◌, not, List, [], ◌∷◌, ◌++◌, length, Bool, true, false, cond, is_ok, Option, Some, None, Result, Ok, Err, ap, refl, sym, subst, arith, nat_lt, slice_get, slice_set}
 use Rattle.std.specs.List.{position, remove}
 use Rattle.std.specs.Option.{is_some}
 use Rattle.std.specs.declared.alloc.AllocError.{AllocError}
@@ -12,9 +12,17 @@ use Rattle.codec_payload_jitter.specs.Receiving.{next}
 use Rattle.codec_payload_jitter.specs.declared.outcome.Outcome.{Outcome}
 use Rattle.codec_payload_jitter.specs.declared.waiting.WaitLimits.{WaitLimits}
 use Rattle.codec_payload_stream.specs.declared.receiver.ReceiveError.{ReceiveError}
+use Rattle.codec_payload_rtcp.specs.RtcpPackets.{Packet}
+use Rattle.codec_payload_rtcp.specs.RtcpReading.{compound_at}
+use Rattle.codec_payload_rtcp.specs.declared.items.ReportBlock.{ReportBlock}
+use Rattle.codec_payload_rtcp.specs.declared.packet.RtcpError.{RtcpError}
 use Rattle.codec_payload_session.proofs.QuietLemmas.{quiet_length}
-use Rattle.codec_payload_session.specs.Arrivals.{Arrives, BeginsIf, BeginsOrFeeds, BeginsWith, Feeds, FeedsIf, Port, StaysEmpty, TakesIn, TakesInAs, added, has_place, left_if, left_where, on_probation, taken_of, without}
-use Rattle.codec_payload_session.specs.Ports.{IsSession, Session, counted_if, taken_in}
+use Rattle.codec_payload_session.proofs.ReportLemmas.{noted_length}
+use Rattle.codec_payload_session.specs.Arrivals.{Arrives, BeginsIf, BeginsOrFeeds, BeginsWith, Feeds, FeedsIf, Port, StaysEmpty, TakesIn, TakesInAs, added, has_place, left_if, left_where, on_probation, taken_of, without, TakesMedia}
+use Rattle.codec_payload_session.specs.Ports.{IsSession, ReportsIf, Session, counted_if, taken_in}
+use Rattle.codec_payload_session.specs.Reports.{noted_at, noted_in, reported_by}
+use Rattle.codec_payload_session.proofs.ChangeLemmas.{length_continued, taken_continued}
+use Rattle.codec_payload_session.specs.Changes.{continues}
 use Rattle.codec_payload_session.specs.Sorting.{sorted_at}
 use Rattle.codec_payload_stream.specs.Sessions.{Session as Receiver}
 use Rattle.codec_payload_session.specs.Requests.{Asking, heard_by, number_at, wait_by}
@@ -138,12 +146,21 @@ feeds_keep settings c place now bytes p answer q got kept =
       bounded = omega (arith, kept.bounded, length_set p.streams place got.after);
     }
 
-rtcp_keeps : (settings : SessionSettings) (c : ArrivalCounts) (who : ℕ → Bool) (why : Ending) (at : ℕ) (p : Port) → IsSession (with_all settings p c)
-    → Keeps settings c (record p { streams = left_where who why at p.streams }) (Ok arrivals.Rtcp)
-rtcp_keeps settings c who why at p kept = record {
-  accounted = omega (arith, kept.accounted, taken_left who why at p.streams);
-  bounded = omega (arith, kept.bounded, length_left who why at p.streams);
-}
+-- a sender report is no datagram that a stream takes
+taken_noted : (now : Ticks) (o : Result (List Packet) RtcpError) (ss : List Stream) → taken_in (noted_in now o ss) ≡ taken_in ss
+taken_noted now (Err e) ss = refl
+taken_noted now (Ok ps) [] = refl
+taken_noted now (Ok ps) (s ∷ ss) = ap (λ (n : ℕ). s.taken + n) (taken_noted now (Ok ps) ss)
+
+rtcp_keeps : (settings : SessionSettings) (c : ArrivalCounts) (now : Ticks) (bytes : List ℕ) (who : ℕ → Bool) (why : Ending) (at : ℕ) (p : Port) → IsSession (with_all settings p c)
+    → Keeps settings c (record p { streams = left_where who why at (noted_at now bytes p.streams) }) (Ok arrivals.Rtcp)
+rtcp_keeps settings c now bytes who why at p kept =
+    let noted_taken : taken_in (noted_at now bytes p.streams) ≡ taken_in p.streams = taken_noted now (compound_at false bytes) p.streams in
+    let noted_count : length (noted_at now bytes p.streams) ≡ length p.streams = noted_length now (compound_at false bytes) p.streams in
+    record {
+      accounted = omega (arith, kept.accounted, noted_taken, taken_left who why at (noted_at now bytes p.streams));
+      bounded = omega (arith, kept.bounded, noted_count, length_left who why at (noted_at now bytes p.streams));
+    }
 
 malformed_keeps : (settings : SessionSettings) (c : ArrivalCounts) (p : Port) → IsSession (with_all settings p c) → Keeps settings c p (Ok arrivals.Malformed)
 malformed_keeps settings c p kept = record { accounted = omega (arith, kept.accounted); bounded = kept.bounded }
@@ -206,6 +223,19 @@ begins_or_feeds_keeps : (o : Option ℕ) (settings : SessionSettings) (c : Arriv
 begins_or_feeds_keeps None settings c ssrc f now bytes p answer q got kept = begins_if_keeps (has_place settings.max_streams p) settings c ssrc f now bytes p answer q refl got kept
 begins_or_feeds_keeps (Some place) settings c ssrc f now bytes p answer q got kept = feeds_keep settings c place now bytes p answer q got kept
 
+-- streams that their sender left take no datagram
+media_keeps : (settings : SessionSettings) (c : ArrivalCounts) (ssrc : ℕ) (f : Format) (now : Ticks) (bytes : List ℕ) (p : Port) (answer : Result Arrival AllocError) (q : Port)
+    → TakesMedia settings ssrc f now bytes p answer q → IsSession (with_all settings p c) → Keeps settings c q answer
+media_keeps settings c ssrc f now bytes p answer q got kept =
+    let mid : Port = got.received in
+    let after : Keeps settings c mid answer = begins_or_feeds_keeps _ settings c ssrc f now bytes p answer mid got.takes kept in
+    let leaves : Bool = is_ok answer && continues ssrc f mid.streams in
+    subst (λ (x : Port). Keeps settings c x answer) (sym got.left)
+    (record {
+      accounted = omega (arith, after.accounted, taken_continued leaves now.0 settings.bye_wait ssrc f mid.streams);
+      bounded = omega (arith, after.bounded, length_continued leaves now.0 settings.bye_wait ssrc f mid.streams);
+    })
+
 feeds_if_unassociated : (o : Option ℕ) (settings : SessionSettings) (c : ArrivalCounts) (now : Ticks) (bytes : List ℕ) (p : Port) (answer : Result Arrival AllocError) (q : Port)
     → FeedsIf o arrivals.Unassociated settings.probation now bytes p answer q → IsSession (with_all settings p c) → Keeps settings c q answer
 feeds_if_unassociated None settings c now bytes p answer q got kept = keeps_by settings c p q answer (Ok arrivals.Unassociated) got.0 got.1 (unassociated_keeps settings c p kept)
@@ -218,11 +248,11 @@ feeds_if_unknown (Some place) settings c now bytes p answer q got kept = feeds_k
 
 keeps_as : (d : Sorted) (settings : SessionSettings) (now : Ticks) (bytes : List ℕ) (c : ArrivalCounts) (p q : Port) (answer : Result Arrival AllocError)
     → TakesInAs d settings now bytes p answer q → IsSession (with_all settings p c) → Keeps settings c q answer
-keeps_as sorted.Rtcp settings now bytes c p q answer got kept = keeps_by settings c _ q answer (Ok arrivals.Rtcp) got.0 got.1 (rtcp_keeps settings c _ _ _ p kept)
+keeps_as sorted.Rtcp settings now bytes c p q answer got kept = keeps_by settings c _ q answer (Ok arrivals.Rtcp) got.0 got.1 (rtcp_keeps settings c now bytes _ _ _ p kept)
 keeps_as sorted.Malformed settings now bytes c p q answer got kept = keeps_by settings c p q answer (Ok arrivals.Malformed) got.0 got.1 (malformed_keeps settings c p kept)
 keeps_as sorted.Unknown settings now bytes c p q answer got kept = keeps_by settings c p q answer (Ok arrivals.Unknown) got.0 got.1 (unknown_keeps settings c p kept)
 keeps_as sorted.Unassociated settings now bytes c p q answer got kept = keeps_by settings c p q answer (Ok arrivals.Unassociated) got.0 got.1 (unassociated_keeps settings c p kept)
-keeps_as (sorted.Media ssrc f) settings now bytes c p q answer got kept = begins_or_feeds_keeps _ settings c ssrc f now bytes p answer q got kept
+keeps_as (sorted.Media ssrc f) settings now bytes c p q answer got kept = media_keeps settings c ssrc f now bytes p answer q got kept
 keeps_as (sorted.Retransmission ssrc payload_type) settings now bytes c p q answer got kept = feeds_if_unassociated _ settings c now bytes p answer q got kept
 keeps_as (sorted.NoMedia ssrc) settings now bytes c p q answer got kept = feeds_if_unknown _ settings c now bytes p answer q got kept
 
@@ -261,6 +291,17 @@ waiting_keeps settings c ssrc payload_type limits p kept = record {
   accounted = omega (arith, kept.accounted, taken_waiting ssrc payload_type limits p.streams);
   bounded = omega (arith, kept.bounded, length_waiting ssrc payload_type limits p.streams);
 }
+
+-- a report is no datagram
+pub reports_keep : (settings : SessionSettings) (c : ArrivalCounts) (o : Option ℕ) (tick_rate now : ℕ) (answer : Option ReportBlock) (p q : Port) → ReportsIf o tick_rate now p answer q
+    → IsSession (with_all settings p c) → IsSession (with_all settings q c)
+reports_keep settings c None tick_rate now answer p q got kept = subst (λ (x : Port). IsSession (with_all settings x c)) (sym got.1) kept
+reports_keep settings c (Some place) tick_rate now answer p q got kept =
+    subst (λ (x : Port). IsSession (with_all settings x c)) (sym got.left)
+    (record {
+      accounted = omega (arith, kept.accounted, taken_set p.streams place got.stream (reported_by got.stream) got.there);
+      bounded = omega (arith, kept.bounded, length_set p.streams place (reported_by got.stream));
+    })
 
 -- ---- turns
 

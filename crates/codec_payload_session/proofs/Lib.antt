@@ -1,3 +1,7 @@
 mod AccountLemmas
+mod ChangeLemmas
+mod GoodbyeLemmas
+mod PairLemmas
 mod QuietLemmas
+mod ReportLemmas
 mod SourceLemmas

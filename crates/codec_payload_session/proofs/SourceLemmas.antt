@@ -1,6 +1,5 @@
 -- The SSRCs of a BYE.
-use Rattle.std.proofs.Common.{◌≡◌, ◌≢◌, ◌<◌, ℕ, List, ◌∷◌, length, Bool, true, false, ◌||◌, eqb, Option, Some, None, ap, ◌∙◌, arith}
-use Rattle.std.proofs.lemmas.Bool.{eq-eqb, ne_eqb}
+use Rattle.std.proofs.Common.{◌≡◌, ◌<◌, ℕ, List, ◌∷◌, length, Bool, false, ◌||◌, eqb, Option, Some, None, ap, arith}
 use Rattle.codec_payload_session.specs.Arrivals.{names, source_at_front}
 
 abbrev pub named_first : ℕ → Option (ℕ × List ℕ) → Bool
@@ -22,12 +21,6 @@ pub sources_fewer : (bytes : List ℕ) (x : ℕ × List ℕ) → source_at_front
 unfolding source_at_front
 sources_fewer (s3 ∷ s2 ∷ s1 ∷ s0 ∷ ssrcs) x e = omega (arith, ap left_of e)
 sources_fewer bytes x e = absurd (cc)
-
-pub named_here : (ssrc : ℕ) (bytes : List ℕ) (x : ℕ × List ℕ) → source_at_front bytes ≡ Some x → x.0 ≡ ssrc → names ssrc bytes ≡ true
-named_here ssrc bytes x e is = names_more ssrc bytes (Some x) e ∙ ap (λ b. b || names ssrc x.1) (eq-eqb x.0 ssrc is)
-
-pub named_later : (ssrc : ℕ) (bytes : List ℕ) (x : ℕ × List ℕ) → source_at_front bytes ≡ Some x → x.0 ≢ ssrc → names ssrc bytes ≡ names ssrc x.1
-named_later ssrc bytes x e is = names_more ssrc bytes (Some x) e ∙ ap (λ b. b || names ssrc x.1) (ne_eqb x.0 ssrc is)
 
 pub named_nowhere : (ssrc : ℕ) (bytes : List ℕ) → source_at_front bytes ≡ None → names ssrc bytes ≡ false
 named_nowhere ssrc bytes e = names_more ssrc bytes None e

@@ -1,5 +1,5 @@
 -- What a session does with a datagram.
-use Rattle.std.specs.Prelude.{◌≡◌, ◌⊎◌, ℕ, min, ◌+◌, ◌-◌, ◌%◌, ◌^◌, ◌==◌, ◌&&◌, ◌||◌, not, IsErr, nat_lt, if◌then◌else◌, Bool, true, false, List, [], ◌∷◌, ◌++◌, map, Option, Some, None, Result, Ok, Err, length, slice_get, slice_set}
+use Rattle.std.specs.Prelude.{◌≡◌, ◌⊎◌, ℕ, min, ◌+◌, ◌-◌, ◌%◌, ◌^◌, ◌==◌, ◌&&◌, ◌||◌, not, IsErr, is_ok, nat_lt, if◌then◌else◌, Bool, true, false, List, [], ◌∷◌, ◌++◌, map, Option, Some, None, Result, Ok, Err, length, slice_get, slice_set}
 use Rattle.std.specs.Int.{w32, from_be_bytes}
 use Rattle.std.specs.List.{position, remove}
 use Rattle.std.specs.Option.{is_some}
@@ -10,6 +10,8 @@ use Rattle.codec_payload_rtcp.specs.RtcpPackets.{Packet, sender_report, receiver
 use Rattle.codec_payload_rtcp.specs.RtcpReading.{compound_at}
 use Rattle.codec_payload_rtcp.specs.declared.packet.RtcpError.{RtcpError}
 use Rattle.codec_payload_stream.specs.declared.receiver.ReceiveError.{ReceiveError}
+use Rattle.codec_payload_session.specs.Reports.{noted_at}
+use Rattle.codec_payload_session.specs.Changes.{continued, continues}
 use Rattle.codec_payload_session.specs.Streams.{Begins, Takes, is_no_memory, is_of, is_probation, left_when}
 use Rattle.codec_payload_session.specs.declared.formats.Format.{Format}
 use Rattle.codec_payload_session.specs.declared.formats.SessionSettings.{SessionSettings}
@@ -46,6 +48,9 @@ unfoldable pub names : ℕ → List ℕ → Bool
 names ssrc (s3 ∷ s2 ∷ s1 ∷ s0 ∷ ssrcs) = (from_be_bytes w32 (s3 ∷ s2 ∷ s1 ∷ s0 ∷ []) == ssrc) || names ssrc ssrcs
 names ssrc bytes = false
 
+abbrev pub named_in : List ℕ → ℕ → Bool
+named_in ssrcs ssrc = names ssrc ssrcs
+
 -- a BYE among the packets names the SSRC
 abbrev pub says_goodbye : ℕ → Packet → Bool
 says_goodbye ssrc (goodbye g) = names ssrc g.ssrcs
@@ -70,11 +75,10 @@ goodbye_in ssrc (Err e) = false
 abbrev pub goodbye_at : List ℕ → ℕ → Bool
 goodbye_at bytes ssrc = goodbye_in ssrc (compound_at false bytes)
 
--- the streams to end: all streams, the streams of an SSRC, or the streams that a compound packet names
+-- the streams to end: all streams, or the streams of an SSRC
 abbrev pub includes : Who → ℕ → Bool
 includes whos.All ssrc = true
 includes (whos.Of own) ssrc = own == ssrc
-includes (whos.Named bytes) ssrc = goodbye_at bytes.now ssrc
 
 abbrev pub left_if : (ℕ → Bool) → Ending → ℕ → Stream → Stream
 left_if who why at s = left_when (who s.ssrc) why at s
@@ -155,19 +159,26 @@ abbrev pub BeginsOrFeeds : Option ℕ → SessionSettings → ℕ → Format →
 BeginsOrFeeds None settings ssrc f now bytes p answer q = BeginsIf (has_place settings.max_streams p) settings ssrc f now bytes p answer q
 BeginsOrFeeds (Some place) settings ssrc f now bytes p answer q = Feeds settings.probation place now bytes p answer q
 
--- ---- any datagram
+-- ---- a datagram of media
+
+-- its stream receives it; if that stream is announced, the streams that its sender left for this format leave
+pub record TakesMedia (settings : SessionSettings) (ssrc : ℕ) (f : Format) (now : Ticks) (bytes : List ℕ) (p : Port) (answer : Result Arrival AllocError) (q : Port) : Type 0 where
+  pub received : Port
+  pub takes : BeginsOrFeeds (position (is_of ssrc f.payload_type) p.streams) settings ssrc f now bytes p answer received
+  pub left : q ≡ record received { streams = continued (is_ok answer && continues ssrc f received.streams) now.0 settings.bye_wait ssrc f received.streams }
+
+-- ---- any datagram; RTCP ends the streams that its BYE names, and states clocks of streams by its sender reports
 
 abbrev pub has_ssrc : ℕ → Stream → Bool
 has_ssrc ssrc s = s.ssrc == ssrc
 
 abbrev pub TakesInAs : Sorted → SessionSettings → Ticks → List ℕ → Port → Result Arrival AllocError → Port → Type 0
 TakesInAs sorted.Rtcp settings now bytes p answer q =
-    (answer ≡ Ok arrivals.Rtcp) × (q ≡ record p { streams = left_where (goodbye_at bytes) endings.Bye (min (now.0 + settings.bye_wait) (2 ^ 64 - 1)) p.streams })
+    (answer ≡ Ok arrivals.Rtcp) × (q ≡ record p { streams = left_where (goodbye_at bytes) endings.Bye (min (now.0 + settings.bye_wait) (2 ^ 64 - 1)) (noted_at now bytes p.streams) })
 TakesInAs sorted.Malformed settings now bytes p answer q = (answer ≡ Ok arrivals.Malformed) × (q ≡ p)
 TakesInAs sorted.Unknown settings now bytes p answer q = (answer ≡ Ok arrivals.Unknown) × (q ≡ p)
 TakesInAs sorted.Unassociated settings now bytes p answer q = (answer ≡ Ok arrivals.Unassociated) × (q ≡ p)
-TakesInAs (sorted.Media ssrc f) settings now bytes p answer q =
-    BeginsOrFeeds (position (is_of ssrc f.payload_type) p.streams) settings ssrc f now bytes p answer q
+TakesInAs (sorted.Media ssrc f) settings now bytes p answer q = TakesMedia settings ssrc f now bytes p answer q
 TakesInAs (sorted.Retransmission ssrc payload_type) settings now bytes p answer q =
     FeedsIf (position (is_of ssrc payload_type) p.streams) arrivals.Unassociated settings.probation now bytes p answer q
 TakesInAs (sorted.NoMedia ssrc) settings now bytes p answer q =

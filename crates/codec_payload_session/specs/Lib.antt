@@ -1,6 +1,9 @@
 pub mod Arrivals
+pub mod Changes
 pub mod Formats
+pub mod Pairs
 pub mod Ports
+pub mod Reports
 pub mod Requests
 pub mod Sorting
 pub mod Streams

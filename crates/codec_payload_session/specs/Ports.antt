@@ -1,12 +1,14 @@
 -- A session, with a counter for each result of a datagram.
-use Rattle.std.specs.Prelude.{◌≡◌, ◌≤◌, ℕ, ◌+◌, ◌%◌, ◌^◌, ◌==◌, Bool, true, false, List, [], ◌∷◌, Option, Some, None, Result, Ok, Err, length, slice_get}
+use Rattle.std.specs.Prelude.{◌≡◌, ◌≤◌, ℕ, ◌+◌, ◌%◌, ◌^◌, ◌==◌, Bool, true, false, List, [], ◌∷◌, Option, Some, None, Result, Ok, Err, length, slice_get, slice_set}
 use Rattle.std.specs.Option.{option_map}
 use Rattle.std.specs.declared.alloc.AllocError.{AllocError}
 use Rattle.codec_payload_base.specs.declared.wire.Ticks.{Ticks}
 use Rattle.codec_payload_jitter.specs.Receiving.{next}
 use Rattle.codec_payload_session.specs.Arrivals.{Port, TakesIn, left_where}
+use Rattle.codec_payload_session.specs.Reports.{block_of, reported_by}
 use Rattle.codec_payload_session.specs.Streams.{IsInfo, waiting_where}
 use Rattle.codec_payload_jitter.specs.declared.waiting.WaitLimits.{WaitLimits}
+use Rattle.codec_payload_rtcp.specs.declared.items.ReportBlock.{ReportBlock}
 use Rattle.codec_payload_stream.specs.Sessions.{Session as Receiver}
 use Rattle.codec_payload_session.specs.declared.formats.SessionSettings.{SessionSettings}
 use Rattle.codec_payload_session.specs.declared.session.Arrival.{Arrival}
@@ -71,6 +73,18 @@ ends_of ssrc at s = record s { port = record s.port { streams = left_where (λ o
 
 abbrev pub waits_of : ℕ → ℕ → WaitLimits → Session → Session
 waits_of ssrc payload_type limits s = record s { port = record s.port { streams = waiting_where ssrc payload_type limits s.port.streams } }
+
+-- the stream at a place gives its block; no other stream changes
+pub record ReportsOn (place tick_rate now : ℕ) (p : Port) (answer : Option ReportBlock) (q : Port) : Type 0 where
+  pub stream : Stream
+  pub there : slice_get p.streams place ≡ Some stream
+  pub answers : answer ≡ block_of tick_rate now stream
+  pub left : q ≡ record p { streams = slice_set p.streams place (reported_by stream) }
+
+-- without a stream there is no block, and nothing changes
+abbrev pub ReportsIf : Option ℕ → (tick_rate now : ℕ) → Port → Option ReportBlock → Port → Type 0
+ReportsIf None tick_rate now p answer q = (answer ≡ None) × (q ≡ p)
+ReportsIf (Some place) tick_rate now p answer q = ReportsOn place tick_rate now p answer q
 
 abbrev pub everyone : ℕ → Bool
 everyone ssrc = true

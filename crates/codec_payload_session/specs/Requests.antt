@@ -5,6 +5,7 @@ use Rattle.std.specs.Option.{option_map}
 use Rattle.std.specs.declared.alloc.AllocError.{AllocError}
 use Rattle.codec_payload_feedback.specs.Feedback.{IsFeedback, Requests, Source, after_answered, after_feedback, deadline_of, keyframe_is_due, new_requests, numbers_due, updated}
 use Rattle.codec_payload_jitter.specs.Missing.{missing_numbers}
+use Rattle.codec_payload_requests.specs.declared.nack.NackSettings.{NackSettings}
 use Rattle.codec_payload_rtp.specs.RtpPackets.{Packet}
 use Rattle.codec_payload_rtp.specs.RtpReading.{rtp_at}
 use Rattle.codec_payload_rtp.specs.declared.rtp.RtpError.{RtpError}
@@ -39,10 +40,14 @@ range_by first (Some most) (Some least) = Some (record { first = first; least = 
 abbrev pub range_for : FeedbackSettings → Option ℕ → Option WaitRange
 range_for f max_wait = range_by f.nack.first_wait f.longest_wait max_wait
 
+-- two requests of a number are at least one tick apart, so that a loop of polls at one moment ends
+abbrev pub spaced : NackSettings → NackSettings
+spaced n = record n { retry = max 1 n.retry; shortest_retry = max 1 n.shortest_retry; longest_retry = max 1 n.longest_retry }
+
 abbrev pub asking_for : FeedbackSettings → ℕ → Format → Option ℕ → Asking
 asking_for f ssrc format max_wait = record {
   source = source_for f;
-  requests = new_requests ssrc f.nack f.keyframe_interval;
+  requests = new_requests ssrc (spaced f.nack) (max 1 f.keyframe_interval);
   most = if format.nack then f.nack.capacity else 0;
   pli = format.pli;
   silence = f.silence;
@@ -61,7 +66,7 @@ abbrev pub original_number : List ℕ → Option ℕ
 original_number (high ∷ low ∷ payload) = Some (high * 256 + low)
 original_number payload = None
 
--- if retransmissions have a payload type of their own, another packet is no answer: it may only be late
+-- if the format has a payload type of retransmissions, another packet is no answer: it may only be late
 abbrev pub own_number : Option ℕ → ℕ → Option ℕ
 own_number None number = Some number
 own_number (Some payload_type) number = None
@@ -85,7 +90,7 @@ heard_by now number (Some a) = Some (after_number now number a)
 
 -- ---- requests
 
--- the sender is not silent: its latest datagram arrived at most so many ticks ago
+-- the sender is not silent: its latest datagram arrived at most `silence` ago
 abbrev pub is_heard : ℕ → ℕ → Asking → Bool
 is_heard now last a = nat_le (now - last) a.silence
 

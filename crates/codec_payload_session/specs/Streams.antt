@@ -32,7 +32,8 @@ use Rattle.codec_payload_session.specs.declared.stream.StreamInfo.{StreamInfo}
 abbrev pub is_of : ℕ → ℕ → Stream → Bool
 is_of ssrc payload_type s = (s.ssrc == ssrc) && (s.format.payload_type == payload_type)
 
--- a stream without datagrams; its receiver is a new one with the stream's settings, and nothing was requested
+-- a stream without datagrams; its receiver is a new one with the stream's settings, nothing was requested, and no sender report
+-- arrived
 pub record Begins (settings : SessionSettings) (ssrc : ℕ) (f : Format) (s : Stream) : Type 0 where
   pub ssrc_is : s.ssrc ≡ ssrc
   pub format : s.format ≡ f
@@ -42,6 +43,7 @@ pub record Begins (settings : SessionSettings) (ssrc : ℕ) (f : Format) (s : St
   pub accepted : s.accepted ≡ 0
   pub last : s.last ≡ 0
   pub feedback : s.feedback ≡ feedback_by settings.feedback ssrc f (limits_for settings (is_video f.spec.codec)).max_wait
+  pub sender_clock : s.sender_clock ≡ None
   pub depacketizer : DepacketizerState
   pub known : depacketizer_state_for f.spec.codec ≡ Some depacketizer
   pub receiver_settings : Settings
@@ -264,3 +266,4 @@ pub record IsInfo (s : Stream) (i : StreamInfo) : Type 0 where
   pub held : i.held ≡ length s.receiver.packets.buffer.held
   pub packets : i.counters.packets ≡ s.receiver.packets.counters
   pub round_trip : i.round_trip ≡ round_trip_of s.feedback
+  pub sender_clock : i.sender_clock ≡ s.sender_clock

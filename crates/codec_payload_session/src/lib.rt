@@ -1,8 +1,12 @@
 //! Sessions: all streams of one port. A session finds the stream of each datagram, announces when streams begin and end,
-//! returns the units of all streams, and requests what they miss.
+//! returns the units of all streams, requests what they miss, and reports on them.
 #![tactic(auto)]
 
+mod changes;
 pub mod formats;
+mod goodbyes;
+mod pairs;
+pub mod reports;
 mod requests;
 pub mod session;
 mod sort;

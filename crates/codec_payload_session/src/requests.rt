@@ -2,11 +2,12 @@
 
 ghost use Rattle.std.specs.Prelude.{◌≡◌, IfOk, OnOk};
 ghost use Rattle.codec_payload_jitter.specs.Missing.{missing_numbers};
-ghost use Rattle.codec_payload_session.specs.Requests.{Asks, Refreshes, after_number, feedback_by, heard_by, is_heard, number_at, original_number, requests_due, range_for, round_trip_of, source_for, wait_by, wait_of, wait_within};
+ghost use Rattle.codec_payload_session.specs.Requests.{Asks, Refreshes, after_number, feedback_by, heard_by, is_heard, number_at, original_number, requests_due, range_for, round_trip_of, source_for, spaced, wait_by, wait_of, wait_within};
 
 use crate::formats::{FeedbackSettings, Format};
 use codec_payload_base::wire::Ticks;
 use codec_payload_feedback::requests::{FeedbackSource, StreamRequests};
+use codec_payload_requests::nack::NackSettings;
 use codec_payload_rtp::rtp::RtpPacket;
 use codec_payload_stream::receiver::Receiver;
 use std::alloc::{AllocError, Global};
@@ -73,8 +74,8 @@ impl Feedback {
                     requests: StreamRequests::new(
                         alloc,
                         ssrc,
-                        settings.nack,
-                        settings.keyframe_interval,
+                        spaced(settings.nack),
+                        settings.keyframe_interval.max(1),
                     ),
                     most,
                     pli: format.pli,
@@ -194,6 +195,18 @@ fn wait_within(range: WaitRange, round_trip: u64) -> u64
 {
     let wait = round_trip.saturating_mul(4).saturating_add(range.first);
     wait.min(range.most).max(range.least)
+}
+
+/// Returns the settings with at least one tick between two requests of a number, so that a loop of polls at one moment ends.
+fn spaced(nack: NackSettings) -> NackSettings
+    ensures { result ≡ spaced nack }
+{
+    NackSettings {
+        retry: nack.retry.max(1),
+        shortest_retry: nack.shortest_retry.max(1),
+        longest_retry: nack.longest_retry.max(1),
+        ..nack
+    }
 }
 
 /// Returns who sends the requests.

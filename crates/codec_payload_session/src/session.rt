@@ -1,14 +1,18 @@
 //! A session: the datagrams of one port.
 
-ghost use Rattle.std.specs.Prelude.{◌≡◌, ◌≤◌, length, slice_get};
+ghost use Rattle.std.specs.Prelude.{◌≡◌, ◌<◌, ◌≤◌, IfSome, length, slice_get, OnErr, OnOk};
 ghost use Rattle.std.specs.List.{position};
 ghost use Rattle.std.specs.Option.{option_map};
 ghost use Rattle.codec_payload_session.specs.Arrivals.{Port};
-ghost use Rattle.codec_payload_session.specs.Ports.{IsSum, MatchInfo, Receives, counted, counted_if, ends_all, ends_of, new_session, no_counts, receiver_among, taken_in, told_counts, waits_of};
+ghost use Rattle.codec_payload_session.specs.Ports.{IsSum, MatchInfo, Receives, ReportsIf, counted, counted_if, ends_all, ends_of, new_session, no_counts, receiver_among, taken_in, told_counts, waits_of};
+ghost use Rattle.codec_payload_session.specs.Reports.{clock_among};
 ghost use Rattle.codec_payload_session.specs.Streams.{due_in, is_of};
 ghost use Rattle.codec_payload_session.specs.Turns.{TakesTurn};
+ghost use Rattle.codec_payload_session.specs.Pairs.{Pairs, with_pair, without_pair};
 
-use crate::formats::SessionSettings;
+use crate::formats::{SessionSettings, SsrcPair};
+use crate::pairs::remove_pair;
+use crate::reports::SenderClock;
 use crate::stream::{Ending, StreamInfo};
 use crate::streams::{Streams, Who, due_in, place_of};
 use codec_payload_base::error::PacketError;
@@ -16,6 +20,7 @@ use codec_payload_base::wire::Ticks;
 use codec_payload_buffer::buffer::Depacketized;
 use codec_payload_jitter::jitter::WaitLimits;
 use codec_payload_jitter::outcome::Outcome;
+use codec_payload_rtcp::items::ReportBlock;
 use codec_payload_stream::receiver::{ReceiveError, Receiver};
 use std::alloc::{AllocError, Global};
 use std::marker::Model;
@@ -23,7 +28,8 @@ use std::marker::Model;
 /// What a session did with a datagram.
 #[derive(Clone, Copy, Debug, PartialEq, Eq)]
 pub enum Arrival {
-    /// A compound packet of RTCP. The streams that its BYE names end (RFC 3550, section 6.6).
+    /// A compound packet of RTCP. The streams that its BYE names end (RFC 3550, section 6.6), and its sender reports state the
+    /// clocks of streams (section 6.4.1).
     Rtcp,
     /// The datagram is not RTP, and not a valid compound packet of RTCP.
     Malformed,
@@ -148,13 +154,18 @@ impl Session {
     /// The SSRC and the payload type of an RTP packet identify its stream. A packet of media or of RED without a stream begins
     /// one, if there is a place. If all places are taken, the new stream replaces the first stream that is not announced. A
     /// retransmission goes to the stream of its pair, and a packet without media to the first stream of its SSRC. A BYE ends
-    /// streams after `bye_wait` of the settings. A compound packet of RTCP with a fault ends no stream.
+    /// streams after `bye_wait` of the settings. A sender report replaces the clock of each stream of its SSRC
+    /// ([`StreamInfo::sender_clock`]). A compound packet of RTCP with a fault changes no stream. Media of an announced stream ends
+    /// the other streams of its SSRC and kind (audio or video) that took no datagram for `bye_wait`: their sender changed the
+    /// format ([`Ending::Changed`]). Telephone events and comfort noise neither end nor are ended so.
     ///
     /// # Errors
     ///
     /// Out of memory: the datagram is not counted; you can pass it again.
     ///
     /// [`Receiver::receive`]: codec_payload_stream::receiver::Receiver::receive
+    /// [`StreamInfo::sender_clock`]: crate::stream::StreamInfo::sender_clock
+    /// [`Ending::Changed`]: crate::stream::Ending::Changed
     pub fn receive(&mut self, now: Ticks, datagram: &[u8]) -> Result<Arrival, AllocError>
         ensures { Receives now datagram.now self.old result self.new }
     {
@@ -212,6 +223,71 @@ impl Session {
     {
         self.streams
             .set_wait_limits(ssrc, payload_type, wait_limits);
+    }
+
+    /// Returns the block of a receiver report about the sender of the stream with this SSRC and payload type (RFC 3550, section
+    /// 6.4.1). `None`: there is no such stream, or no packet of it counts so far ([`Receiver::report`]). A stream in probation
+    /// has a block too. Put at most 31 blocks into one `ReceiverReport` (crate `codec_payload_rtcp`), and send it.
+    ///
+    /// The next block of the stream starts its fraction here. The last sender report is the one of [`StreamInfo::sender_clock`];
+    /// without one both of its fields are 0. The delay since then is in 1/65,536 s, by `tick_rate` of the settings, and at most
+    /// 18 hours.
+    ///
+    /// [`Receiver::report`]: codec_payload_stream::receiver::Receiver::report
+    /// [`StreamInfo::sender_clock`]: crate::stream::StreamInfo::sender_clock
+    pub fn report(&mut self, now: Ticks, ssrc: u32, payload_type: u8) -> Option<ReportBlock>
+        ensures reports { (port : Port) × ReportsIf (position (is_of ssrc payload_type) self.old.port.streams) self.old.settings.tick_rate now.0 self.old.port result port × (self.new ≡ record self.old { port = port }) }
+        // So the block can be written.
+        ensures fits { IfSome result (λ block. block.cumulative_lost < 16777216) }
+    {
+        self.streams
+            .report(now, self.settings.tick_rate, (ssrc, payload_type))
+    }
+
+    /// Returns what the latest sender report about the stream with this SSRC and payload type says. `None`: there is no such
+    /// stream, or no report arrived since it began. See [`SenderClock::ntp_at`].
+    ///
+    /// [`SenderClock::ntp_at`]: crate::reports::SenderClock::ntp_at
+    pub fn sender_clock(&self, ssrc: u32, payload_type: u8) -> Option<SenderClock>
+        ensures { result ≡ clock_among (position (is_of ssrc payload_type) self.now.port.streams) self.now.port.streams }
+    {
+        match place_of(&self.streams.list, ssrc, payload_type) {
+            Some(place) => self.streams.list[place].sender_clock,
+            None => None,
+        }
+    }
+
+    /// Adds a pair of SSRCs: from now on `retransmission` is the SSRC of the retransmissions of `ssrc`, also for streams that
+    /// exist. Call it when the session description names a sender that joins (`a=ssrc-group:FID`, RFC 5576, section 4.2).
+    ///
+    /// The later pair wins: it replaces an earlier pair with this `ssrc`, and an earlier pair with this `retransmission`. So the
+    /// same description may be read again. A session keeps one pair for each SSRC, 8 bytes, until [`Session::remove_pair`]. The
+    /// cost is one step for each pair and each stream.
+    ///
+    /// # Errors
+    ///
+    /// Out of memory: the session is unchanged.
+    pub fn add_pair(&mut self, ssrc: u32, retransmission: u32) -> Result<(), AllocError>
+        ensures ok { OnOk result (Pairs ssrc (with_pair (record { ssrc = ssrc; retransmission = retransmission }) self.old.settings.pairs.items) self.old self.new) }
+        ensures err { OnErr result (self.new ≡ self.old) }
+    {
+        let pair = SsrcPair {
+            ssrc,
+            retransmission,
+        };
+        let pairs = self.streams.with_pair(&self.settings.pairs, pair)?;
+        self.settings.pairs = pairs;
+        self.streams.pair(ssrc, &self.settings.pairs);
+        Ok(())
+    }
+
+    /// Removes the pairs of this stream's SSRC: later retransmissions of it are unassociated. Without such a pair nothing
+    /// changes. Call it when a sender has left for good: the end of a stream keeps its pair, since the sender may come back.
+    pub fn remove_pair(&mut self, ssrc: u32)
+        ensures { Pairs ssrc (without_pair ssrc self.old.settings.pairs.items) self.old self.new }
+    {
+        remove_pair(&mut self.settings.pairs, ssrc);
+        self.streams.pair(ssrc, &self.settings.pairs);
     }
 
     /// Returns the number of streams, announced or not: at most `max_streams` of the settings.

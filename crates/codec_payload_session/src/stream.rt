@@ -2,10 +2,14 @@
 
 ghost use Rattle.std.specs.Prelude.{◌≡◌, IfOk, IfSome};
 ghost use Rattle.std.specs.Option.{option_map};
+ghost use Rattle.codec_payload_session.specs.Changes.{is_left_behind, is_playing, left_behind, plays};
+ghost use Rattle.codec_payload_session.specs.Pairs.{paired_if};
 ghost use Rattle.codec_payload_session.specs.Requests.{wait_by};
 ghost use Rattle.codec_payload_session.specs.Streams.{Begins, Drains, IsInfo, RequestsBy, RestsBy, Steps, Takes, due_of, earlier, end_of, heard, is_accepted, is_no_memory, is_of, is_probation, left, left_when, step_of, waiting_for, waiting_if, work_deadline};
 
-use crate::formats::{Format, SessionSettings};
+use crate::changes::{are_alike, takes_turns};
+use crate::formats::{Format, SessionSettings, SsrcPair, retransmission_for};
+use crate::reports::SenderClock;
 use crate::requests::{Feedback, hear, requests_due, round_trip, wait_by};
 use codec_payload_base::error::PacketError;
 use codec_payload_base::wire::Ticks;
@@ -25,6 +29,8 @@ pub enum Ending {
     Timeout,
     /// The caller ended it.
     Told,
+    /// Its sender continues in another format under the same SSRC.
+    Changed,
 }
 
 /// The stage of a stream's life.
@@ -56,6 +62,8 @@ pub struct StreamInfo {
     pub counters: Counters,
     /// The measured round-trip time in ticks, once a request of the session was answered.
     pub round_trip: Option<u64>,
+    /// What the latest sender report of its SSRC says, once one arrived after the stream began.
+    pub sender_clock: Option<SenderClock>,
 }
 
 /// A stream of a session.
@@ -74,6 +82,8 @@ pub(crate) struct Stream {
     pub(crate) last: u64,
     /// What it requests. `None`: nothing.
     pub(crate) feedback: Option<Feedback>,
+    /// What the latest sender report says.
+    pub(crate) sender_clock: Option<SenderClock>,
 }
 
 /// A step of a stream: its next event, or nothing.
@@ -117,6 +127,7 @@ impl Stream {
             accepted: 0,
             last: 0,
             feedback,
+            sender_clock: None,
         }))
     }
 
@@ -199,12 +210,49 @@ impl Stream {
         }
     }
 
+    /// Returns whether the stream has this SSRC and payload type, and plays.
+    pub(crate) fn plays(&self, ssrc: u32, payload_type: u8) -> bool
+        ensures { result ≡ plays ssrc payload_type self.now }
+    {
+        self.is_of(ssrc, payload_type) && is_playing(self.stage)
+    }
+
+    /// Returns whether the sender left the stream for this format: it took no datagram for `wait` ticks.
+    fn is_left_behind(&self, now: u64, wait: u64, ssrc: u32, format: &Format) -> bool
+        ensures { result ≡ is_left_behind now wait ssrc format.now self.now }
+    {
+        self.ssrc == ssrc
+            && self.format.payload_type != format.payload_type
+            && !takes_turns(self.format.spec.codec)
+            && are_alike(self.format.spec.codec, format.spec.codec)
+            && is_playing(self.stage)
+            && wait <= now.saturating_sub(self.last)
+    }
+
+    /// Ends the stream if its sender left it for this format.
+    pub(crate) fn leave_behind(&mut self, now: u64, wait: u64, ssrc: u32, format: &Format)
+        ensures { self.new ≡ left_behind now wait ssrc format.now self.old }
+    {
+        let leaves = self.is_left_behind(now, wait, ssrc, format);
+        self.leave_if(leaves, Ending::Changed, now);
+    }
+
     /// Replaces the wait limits, if the stream has this SSRC and payload type.
     pub(crate) fn wait_if(&mut self, ssrc: u32, payload_type: u8, wait_limits: WaitLimits)
         ensures { self.new ≡ waiting_if ssrc payload_type wait_limits self.old }
     {
         if self.is_of(ssrc, payload_type) {
             self.receiver.set_wait_limits(wait_limits);
+        }
+    }
+
+    /// Takes the retransmissions that the stream has by these pairs, if it has this SSRC.
+    pub(crate) fn pair_if(&mut self, ssrc: u32, pairs: &[SsrcPair])
+        ensures { self.new ≡ paired_if ssrc pairs.now self.old }
+    {
+        if self.ssrc == ssrc {
+            let retransmission = retransmission_for(pairs, self.ssrc, self.format.retransmission);
+            self.receiver.set_retransmission(retransmission);
         }
     }
 
@@ -312,6 +360,7 @@ impl Stream {
             held: self.receiver.held(),
             counters: self.receiver.counters(),
             round_trip: round_trip(&self.feedback),
+            sender_clock: self.sender_clock,
         }
     }
 }
@@ -321,6 +370,13 @@ fn is_probation(stage: Stage) -> bool
     ensures { result ≡ is_probation stage }
 {
     matches!(stage, Stage::Probation)
+}
+
+/// Returns whether a stream at this stage plays.
+fn is_playing(stage: Stage) -> bool
+    ensures { result ≡ is_playing stage }
+{
+    matches!(stage, Stage::Playing)
 }
 
 /// Returns the step of a stream with these requests.

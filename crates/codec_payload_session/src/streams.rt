@@ -6,20 +6,25 @@ ghost use Rattle.std.specs.Option.{is_some};
 ghost use Rattle.codec_payload_base.specs.Answers.{Finds};
 ghost use Rattle.codec_payload_rtcp.specs.RtcpReading.{compound_at, packets_left};
 ghost use Rattle.codec_payload_rtcp.specs.RtcpValues.{packet_of};
+ghost use Rattle.codec_payload_session.specs.Reports.{noted_at};
 ghost use Rattle.codec_payload_session.specs.Streams.{due_in, is_of, waiting_if, waiting_where};
 ghost use Rattle.codec_payload_session.specs.Turns.{StepsFirst, TakesTurn, after_step, is_nothing, told_by};
-ghost use Rattle.codec_payload_session.specs.Arrivals.{BeginsIf, BeginsOrFeeds, Feeds, TakesIn, added, goodbye_in, has_place, has_ssrc, includes, leaving, left_if, left_where, names, on_probation, removed, say_goodbye, says_goodbye, source_at_front};
-ghost use Rattle.codec_payload_session.specs.Ports.{everyone, no_port};
+ghost use Rattle.codec_payload_session.specs.Arrivals.{BeginsIf, BeginsOrFeeds, Feeds, TakesIn, added, goodbye_at, has_place, has_ssrc, includes, leaving, left_if, left_where, on_probation, removed, TakesMedia};
+ghost use Rattle.codec_payload_session.specs.Ports.{ReportsIf, ReportsOn, everyone, no_port};
 ghost use Rattle.codec_payload_session.specs.declared.stream.Ending.TheVariants as endings;
+ghost use Rattle.codec_payload_session.specs.Pairs.{paired_where, with_pair};
 
-use crate::formats::{Format, SessionSettings};
+use crate::changes::{continues, leave_behind};
+use crate::formats::{Format, SessionSettings, SsrcPair};
+use crate::goodbyes::leave_by_name;
+use crate::pairs::{pair, with_pair};
+use crate::reports::note_reports;
 use crate::session::{Arrival, Event};
 use crate::sort::{Sorted, sort};
 use crate::stream::{Ending, Step, Stream, earlier, is_no_memory};
-use codec_payload_base::wire::Ticks;
+use codec_payload_base::wire::{Frequency, Ticks};
 use codec_payload_jitter::jitter::WaitLimits;
-use codec_payload_rtcp::compound::{CompoundRule, Packets, read_compound};
-use codec_payload_rtcp::packet::RtcpPacket;
+use codec_payload_rtcp::items::ReportBlock;
 use std::alloc::{AllocError, Global};
 use std::marker::Model;
 
@@ -43,12 +48,10 @@ pub(crate) struct Turn {
 
 /// The streams to end.
 #[derive(Clone, Copy, Debug)]
-pub(crate) enum Who<'a> {
+pub(crate) enum Who {
     All,
     /// The streams of this SSRC.
     Of(u32),
-    /// The streams that a BYE in this compound packet names.
-    Named(&'a [u8]),
 }
 
 impl Model for Streams {
@@ -83,15 +86,16 @@ impl Streams {
     {
         match sort(settings, datagram) {
             Sorted::Rtcp => {
+                self.note_reports(now, datagram);
                 let at = now.0.saturating_add(settings.bye_wait);
-                self.leave(Who::Named(datagram), Ending::Bye, at);
+                self.leave_by_name(datagram, at);
                 Ok(Arrival::Rtcp)
             }
             Sorted::Malformed => Ok(Arrival::Malformed),
             Sorted::Unknown => Ok(Arrival::Unknown),
             Sorted::Unassociated => Ok(Arrival::Unassociated),
             Sorted::Media(ssrc, format) => {
-                self.feed_or_begin(settings, (ssrc, format), now, datagram)
+                self.take_media(settings, (ssrc, format), now, datagram)
             }
             Sorted::Retransmission(ssrc, payload_type) => {
                 match place_of(&self.list, ssrc, payload_type) {
@@ -104,6 +108,24 @@ impl Streams {
                 None => Ok(Arrival::Unknown),
             },
         }
+    }
+
+    /// Passes a datagram of media to its stream, or begins one with it. If that stream is announced, the streams that the
+    /// sender left for it leave.
+    fn take_media(
+        &mut self,
+        settings: &SessionSettings,
+        of: (u32, Format),
+        now: Ticks,
+        datagram: &[u8],
+    ) -> Result<Arrival, AllocError>
+        ensures { TakesMedia settings.now of.0 of.1 now datagram.now self.old result self.new }
+    {
+        let answer = self.feed_or_begin(settings, of, now, datagram);
+        if answer.is_ok() && continues(&self.list, of.0, &of.1) {
+            leave_behind(&mut self.list, now.0, settings.bye_wait, of);
+        }
+        answer
     }
 
     /// Passes a datagram to its stream, or begins a stream with it.
@@ -253,10 +275,24 @@ impl Streams {
     }
 
     /// Ends these streams at that time.
-    pub(crate) fn leave(&mut self, who: Who<'_>, why: Ending, at: u64)
-        ensures { self.new ≡ record self.old { streams = left_where (includes who.entry) why at self.old.streams } }
+    pub(crate) fn leave(&mut self, who: Who, why: Ending, at: u64)
+        ensures { self.new ≡ record self.old { streams = left_where (includes who) why at self.old.streams } }
     {
         leave(&mut self.list, who, why, at);
+    }
+
+    /// Ends the streams that a BYE of the compound packet names, at that time.
+    fn leave_by_name(&mut self, compound: &[u8], at: u64)
+        ensures { self.new ≡ record self.old { streams = left_where (goodbye_at compound.now) endings.Bye at self.old.streams } }
+    {
+        leave_by_name(&mut self.list, compound, at);
+    }
+
+    /// Notes the sender reports of a compound packet.
+    fn note_reports(&mut self, now: Ticks, compound: &[u8])
+        ensures { self.new ≡ record self.old { streams = noted_at now compound.now self.old.streams } }
+    {
+        note_reports(&mut self.list, now, compound);
     }
 
     /// Replaces the wait limits of the stream with this SSRC and payload type.
@@ -264,6 +300,49 @@ impl Streams {
         ensures { self.new ≡ record self.old { streams = waiting_where ssrc payload_type wait_limits self.old.streams } }
     {
         set_wait_limits(&mut self.list, ssrc, payload_type, wait_limits);
+    }
+
+    /// Returns the report block about the sender of the stream with this SSRC and payload type.
+    pub(crate) fn report(
+        &mut self,
+        now: Ticks,
+        tick_rate: Frequency,
+        of: (u32, u8),
+    ) -> Option<ReportBlock>
+        ensures reports { ReportsIf (position (is_of of.0 of.1) self.old.streams) tick_rate now.0 self.old result self.new }
+        ensures fits { IfSome result (λ block. block.cumulative_lost < 16777216) }
+    {
+        match place_of(&self.list, of.0, of.1) {
+            Some(place) => self.report_at(place, now, tick_rate),
+            None => None,
+        }
+    }
+
+    /// Returns the report block about the sender of the stream at this place.
+    fn report_at(&mut self, place: usize, now: Ticks, tick_rate: Frequency) -> Option<ReportBlock>
+        requires { place < length self.old.streams }
+        ensures reports { ReportsOn place tick_rate now.0 self.old result self.new }
+        ensures fits { IfSome result (λ block. block.cumulative_lost < 16777216) }
+    {
+        self.list[place].report(now, tick_rate)
+    }
+
+    /// Returns the pairs and one more, which replaces those that have one of its SSRCs in the same place.
+    pub(crate) fn with_pair(
+        &self,
+        pairs: &[SsrcPair],
+        pair: SsrcPair,
+    ) -> Result<Vec<SsrcPair>, AllocError>
+        ensures { IfOk result (λ named. named.items ≡ with_pair pair pairs.now) }
+    {
+        with_pair(self.alloc, pairs, pair)
+    }
+
+    /// Gives the streams of this SSRC the retransmissions that they have by these pairs.
+    pub(crate) fn pair(&mut self, ssrc: u32, pairs: &[SsrcPair])
+        ensures { self.new ≡ record self.old { streams = paired_where ssrc pairs.now self.old.streams } }
+    {
+        pair(&mut self.list, ssrc, pairs);
     }
 
     /// Ends all streams at that time, and refuses new ones from now on.
@@ -343,8 +422,8 @@ pub(crate) fn due_in(streams: &[Stream], idle_timeout: u64) -> Option<u64>
 }
 
 /// Ends these streams at that time.
-fn leave(streams: &mut [Stream], who: Who<'_>, why: Ending, at: u64)
-    ensures { streams.new ≡ left_where (includes who.entry) why at streams.old }
+pub(crate) fn leave(streams: &mut [Stream], who: Who, why: Ending, at: u64)
+    ensures { streams.new ≡ left_where (includes who) why at streams.old }
 {
     for place in 0..streams.len() {
         leave_if(&mut streams[place], who, why, at);
@@ -352,8 +431,8 @@ fn leave(streams: &mut [Stream], who: Who<'_>, why: Ending, at: u64)
 }
 
 /// Ends the stream at that time, if it is one of `who`.
-fn leave_if(stream: &mut Stream, who: Who<'_>, why: Ending, at: u64)
-    ensures { stream.new ≡ left_if (includes who.entry) why at stream.old }
+fn leave_if(stream: &mut Stream, who: Who, why: Ending, at: u64)
+    ensures { stream.new ≡ left_if (includes who) why at stream.old }
 {
     let leaves = includes(who, stream.ssrc);
     stream.leave_if(leaves, why, at);
@@ -369,69 +448,11 @@ fn set_wait_limits(streams: &mut [Stream], ssrc: u32, payload_type: u8, wait_lim
 }
 
 /// Returns whether the stream is one of `who`.
-fn includes(who: Who<'_>, ssrc: u32) -> bool
-    ensures { result ≡ includes who.entry ssrc }
+fn includes(who: Who, ssrc: u32) -> bool
+    ensures { result ≡ includes who ssrc }
 {
     match who {
         Who::All => true,
         Who::Of(own) => own == ssrc,
-        Who::Named(compound) => says_goodbye(compound, ssrc),
     }
-}
-
-/// Returns whether a BYE of the compound packet names the SSRC.
-fn says_goodbye(compound: &[u8], ssrc: u32) -> bool
-    ensures { result ≡ goodbye_in ssrc (compound_at false compound.now) }
-{
-    match read_compound(CompoundRule::ReducedSize, compound) {
-        Ok(packets) => any_says_goodbye(packets, ssrc),
-        Err(_) => false,
-    }
-}
-
-/// Returns whether a BYE among the packets names the SSRC.
-fn any_says_goodbye(mut packets: Packets<'_>, ssrc: u32) -> bool
-    ensures { result ≡ say_goodbye ssrc (packets_left packets.entry) }
-{
-    while let Some(packet) = packets.next() {
-        if is_goodbye(&packet, ssrc) {
-            return true;
-        }
-    }
-    false
-}
-
-/// Returns whether the packet is a BYE that names the SSRC.
-fn is_goodbye(packet: &RtcpPacket<'_>, ssrc: u32) -> bool
-    ensures { result ≡ says_goodbye ssrc (packet_of packet.now) }
-{
-    match packet {
-        RtcpPacket::Goodbye(goodbye) => names(goodbye.ssrcs, ssrc),
-        _ => false,
-    }
-}
-
-/// Returns the SSRC at the front, and the SSRCs after it.
-#[tactic(auto, unfolding(crate::specs::Arrivals::source_at_front))]
-fn front_source(ssrcs: &[u8]) -> Option<(u32, &[u8])>
-    ensures { Finds (λ x. (x.0, x.1.now)) result (source_at_front ssrcs.now) }
-{
-    let [s3, s2, s1, s0, rest @ ..] = ssrcs else {
-        return None;
-    };
-    Some((u32::from_be_bytes([*s3, *s2, *s1, *s0]), rest))
-}
-
-/// Returns whether the SSRC is in the list.
-fn names(ssrcs: &[u8], ssrc: u32) -> bool
-    ensures { result ≡ names ssrc ssrcs.now }
-{
-    let mut rest = ssrcs;
-    while let Some((named, others)) = front_source(rest) {
-        if named == ssrc {
-            return true;
-        }
-        rest = others;
-    }
-    false
 }

@@ -292,6 +292,13 @@ impl Stream {
         self.retransmission = under(self.retransmission, ssrc);
     }
 
+    /// Replaces the SSRC and payload type of retransmissions.
+    pub(crate) fn set_retransmission(&mut self, retransmission: Option<Retransmission>)
+        ensures { self.new ≡ record self.old { retransmission = retransmission } }
+    {
+        self.retransmission = retransmission;
+    }
+
     /// Returns the RED receiver for this payload type, if it is the one of RED.
     fn red_of(&self, payload_type: u8) -> Option<RedReceiver>
         ensures { result ≡ red_of self.now.red payload_type }

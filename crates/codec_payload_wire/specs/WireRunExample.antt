@@ -1,4 +1,5 @@
--- A run over datagrams that meets the premises: three frames of Opus, whose datagrams arrive in another order, and one of them twice.
+-- A run over datagrams that meets the premises: three frames of Opus, whose datagrams arrive in another order, one of them twice, and a
+-- frame of AV1.
 use Rattle.std.specs.Global.{Vec}
 use Rattle.std.specs.Prelude.{◌≡◌, ℕ, List, [], ◌∷◌, Some, None, true, false}
 use Rattle.codec_payload_base.specs.Extensions.{no_values}

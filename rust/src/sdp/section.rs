@@ -129,6 +129,27 @@ pub(super) fn inherit(media: &mut Media<'_>, session: &mut Media<'_>) {
     }
 }
 
+/// Adds the ids of another section of the same port. An id that differs is the error.
+pub(super) fn join_ids(all: &mut Media<'_>, section: &Media<'_>) -> Result<(), u8> {
+    let mut section = Media {
+        extension_ids: section.extension_ids,
+        other_ids: section.other_ids,
+        ..Media::default()
+    };
+    for place in 0..URIS.len() {
+        let Some(id) = *id_of(&mut section, place) else {
+            continue;
+        };
+        let known = *id_of(all, place);
+        match known {
+            Some(known) if known == id => {}
+            None if !has_id(all, id) => *id_of(all, place) = Some(id),
+            _ => return Err(id),
+        }
+    }
+    Ok(())
+}
+
 /// The format of a name.
 fn described(payload_type: u8, name: &str, rate: Option<Frequency>, channels: u8) -> Format<'_> {
     let is = |other: &str| name.eq_ignore_ascii_case(other);

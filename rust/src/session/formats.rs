@@ -56,9 +56,9 @@ pub struct FeedbackSettings {
     /// Whether each packet begins with an empty receiver report, as RFC 3550, section 6.1, asks. Else it has reduced size
     /// (RFC 5506).
     pub has_report: bool,
-    /// When missing packets are requested.
+    /// When missing packets are requested. Two requests of a number are at least one tick apart, whatever it says.
     pub nack: NackSettings,
-    /// The least number of ticks between two requests of a stream for a keyframe.
+    /// The least number of ticks between two requests of a stream for a keyframe. 0 counts as 1.
     pub keyframe_interval: u64,
     /// A stream requests nothing once its latest datagram arrived more than this number of ticks ago: its sender is silent, or
     /// continues in another stream, and cannot answer.
@@ -77,7 +77,10 @@ pub struct SessionSettings {
     pub formats: Vec<Format>,
     /// Payload types without media that share the SSRC and the numbers of a stream: telephone events, comfort noise.
     pub no_media: Vec<u8>,
-    /// The SSRCs of retransmissions. A retransmission under any other SSRC is counted as unassociated.
+    /// The SSRCs of retransmissions. A retransmission under any other SSRC is counted as unassociated. Pairs that become known
+    /// later: [`Session::add_pair`].
+    ///
+    /// [`Session::add_pair`]: crate::session::sessions::Session::add_pair
     pub pairs: Vec<SsrcPair>,
     /// The ids of the header extensions to read.
     pub extension_ids: ExtensionIds,
@@ -99,7 +102,8 @@ pub struct SessionSettings {
     pub probation: u64,
     /// A stream ends once this number of ticks has passed since its last datagram.
     pub idle_timeout: u64,
-    /// A stream still takes packets for this number of ticks after its BYE, since packets may arrive after it.
+    /// A stream still takes packets for this number of ticks after its BYE, since packets may arrive after it. The same time
+    /// after its last datagram it leaves, if its sender continues in another format.
     pub bye_wait: u64,
     /// Ticks per second of your clock.
     pub tick_rate: Frequency,
@@ -249,12 +253,12 @@ fn is_among(payload_type: u8, types: &[u8]) -> bool {
 }
 
 /// Returns whether frames of this codec are video.
-fn is_video(codec: Codec) -> bool {
+pub(crate) fn is_video(codec: Codec) -> bool {
     matches!(codec, Codec::Vp8 | Codec::Vp9 | Codec::Av1)
 }
 
 /// Returns the SSRC and payload type of the retransmissions of a stream, if both are known.
-fn retransmission_for(
+pub(crate) fn retransmission_for(
     pairs: &[SsrcPair],
     ssrc: u32,
     payload_type: Option<u8>,

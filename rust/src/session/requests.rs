@@ -4,6 +4,7 @@
 
 use crate::feedback::requests::{FeedbackSource, StreamRequests};
 use crate::memory::{AllocError, TryVec};
+use crate::requests::nack::NackSettings;
 use crate::rtp::packet::RtpPacket;
 use crate::session::formats::{FeedbackSettings, Format};
 use crate::stream::receiver::Receiver;
@@ -57,7 +58,11 @@ impl Feedback {
                 };
                 Ok(Some(Feedback {
                     source,
-                    requests: StreamRequests::new(ssrc, settings.nack, settings.keyframe_interval),
+                    requests: StreamRequests::new(
+                        ssrc,
+                        spaced(settings.nack),
+                        settings.keyframe_interval.max(1),
+                    ),
                     most,
                     pli: format.pli,
                     silence: settings.silence,
@@ -161,6 +166,16 @@ fn wait_range(settings: &FeedbackSettings, max_wait: Option<u64>) -> Option<Wait
 fn wait_within(range: WaitRange, round_trip: u64) -> u64 {
     let wait = round_trip.saturating_mul(4).saturating_add(range.first);
     wait.min(range.most).max(range.least)
+}
+
+/// Returns the settings with at least one tick between two requests of a number, so that a loop of polls at one moment ends.
+fn spaced(nack: NackSettings) -> NackSettings {
+    NackSettings {
+        retry: nack.retry.max(1),
+        shortest_retry: nack.shortest_retry.max(1),
+        longest_retry: nack.longest_retry.max(1),
+        ..nack
+    }
 }
 
 /// Returns who sends the requests.

@@ -7,7 +7,10 @@ use crate::error::PacketError;
 use crate::jitter::jitter_buffer::WaitLimits;
 use crate::jitter::outcome::Outcome;
 use crate::memory::AllocError;
-use crate::session::formats::SessionSettings;
+use crate::rtcp::items::ReportBlock;
+use crate::session::formats::{SessionSettings, SsrcPair};
+use crate::session::pairs::remove_pair;
+use crate::session::reports::SenderClock;
 use crate::session::stream::{Ending, StreamInfo};
 use crate::session::streams::{Streams, Who, due_in, place_of};
 use crate::stream::receiver::{ReceiveError, Receiver};
@@ -17,7 +20,8 @@ use alloc::vec::Vec;
 /// What a session did with a datagram.
 #[derive(Clone, Copy, Debug, PartialEq, Eq)]
 pub enum Arrival {
-    /// A compound packet of RTCP. The streams that its BYE names end (RFC 3550, section 6.6).
+    /// A compound packet of RTCP. The streams that its BYE names end (RFC 3550, section 6.6), and its sender reports state the
+    /// clocks of streams (section 6.4.1).
     Rtcp,
     /// The datagram is not RTP, and not a valid compound packet of RTCP.
     Malformed,
@@ -127,13 +131,18 @@ impl Session {
     /// The SSRC and the payload type of an RTP packet identify its stream. A packet of media or of RED without a stream begins
     /// one, if there is a place. If all places are taken, the new stream replaces the first stream that is not announced. A
     /// retransmission goes to the stream of its pair, and a packet without media to the first stream of its SSRC. A BYE ends
-    /// streams after `bye_wait` of the settings. A compound packet of RTCP with a fault ends no stream.
+    /// streams after `bye_wait` of the settings. A sender report replaces the clock of each stream of its SSRC
+    /// ([`StreamInfo::sender_clock`]). A compound packet of RTCP with a fault changes no stream. Media of an announced stream ends
+    /// the other streams of its SSRC and kind (audio or video) that took no datagram for `bye_wait`: their sender changed the
+    /// format ([`Ending::Changed`]). Telephone events and comfort noise neither end nor are ended so.
     ///
     /// # Errors
     ///
     /// Out of memory: the datagram is not counted; you can pass it again.
     ///
     /// [`Receiver::receive`]: crate::stream::receiver::Receiver::receive
+    /// [`StreamInfo::sender_clock`]: crate::session::stream::StreamInfo::sender_clock
+    /// [`Ending::Changed`]: crate::session::stream::Ending::Changed
     pub fn receive(&mut self, now: Ticks, datagram: &[u8]) -> Result<Arrival, AllocError> {
         let answer = self.streams.take_in(&self.settings, now, datagram);
         self.counts = self.counts.with_answer(&answer);
@@ -179,6 +188,60 @@ impl Session {
     pub fn set_wait_limits(&mut self, ssrc: u32, payload_type: u8, wait_limits: WaitLimits) {
         self.streams
             .set_wait_limits(ssrc, payload_type, wait_limits);
+    }
+
+    /// Returns the block of a receiver report about the sender of the stream with this SSRC and payload type (RFC 3550, section
+    /// 6.4.1). `None`: there is no such stream, or no packet of it counts so far ([`Receiver::report`]). A stream in probation
+    /// has a block too. Put at most 31 blocks into one `ReceiverReport` (crate `codec_payload_rtcp`), and send it.
+    ///
+    /// The next block of the stream starts its fraction here. The last sender report is the one of [`StreamInfo::sender_clock`];
+    /// without one both of its fields are 0. The delay since then is in 1/65,536 s, by `tick_rate` of the settings, and at most
+    /// 18 hours.
+    ///
+    /// [`Receiver::report`]: crate::stream::receiver::Receiver::report
+    /// [`StreamInfo::sender_clock`]: crate::session::stream::StreamInfo::sender_clock
+    pub fn report(&mut self, now: Ticks, ssrc: u32, payload_type: u8) -> Option<ReportBlock> {
+        self.streams
+            .report(now, self.settings.tick_rate, (ssrc, payload_type))
+    }
+
+    /// Returns what the latest sender report about the stream with this SSRC and payload type says. `None`: there is no such
+    /// stream, or no report arrived since it began. See [`SenderClock::ntp_at`].
+    ///
+    /// [`SenderClock::ntp_at`]: crate::session::reports::SenderClock::ntp_at
+    pub fn sender_clock(&self, ssrc: u32, payload_type: u8) -> Option<SenderClock> {
+        match place_of(&self.streams.list, ssrc, payload_type) {
+            Some(place) => self.streams.list[place].sender_clock,
+            None => None,
+        }
+    }
+
+    /// Adds a pair of SSRCs: from now on `retransmission` is the SSRC of the retransmissions of `ssrc`, also for streams that
+    /// exist. Call it when the session description names a sender that joins (`a=ssrc-group:FID`, RFC 5576, section 4.2).
+    ///
+    /// The later pair wins: it replaces an earlier pair with this `ssrc`, and an earlier pair with this `retransmission`. So the
+    /// same description may be read again. A session keeps one pair for each SSRC, 8 bytes, until [`Session::remove_pair`]. The
+    /// cost is one step for each pair and each stream.
+    ///
+    /// # Errors
+    ///
+    /// Out of memory: the session is unchanged.
+    pub fn add_pair(&mut self, ssrc: u32, retransmission: u32) -> Result<(), AllocError> {
+        let pair = SsrcPair {
+            ssrc,
+            retransmission,
+        };
+        let pairs = self.streams.with_pair(&self.settings.pairs, pair)?;
+        self.settings.pairs = pairs;
+        self.streams.pair(ssrc, &self.settings.pairs);
+        Ok(())
+    }
+
+    /// Removes the pairs of this stream's SSRC: later retransmissions of it are unassociated. Without such a pair nothing
+    /// changes. Call it when a sender has left for good: the end of a stream keeps its pair, since the sender may come back.
+    pub fn remove_pair(&mut self, ssrc: u32) {
+        remove_pair(&mut self.settings.pairs, ssrc);
+        self.streams.pair(ssrc, &self.settings.pairs);
     }
 
     /// Returns the number of streams, announced or not: at most `max_streams` of the settings.

@@ -8,7 +8,9 @@ use crate::error::PacketError;
 use crate::jitter::jitter_buffer::WaitLimits;
 use crate::jitter::outcome::Outcome;
 use crate::memory::AllocError;
-use crate::session::formats::{Format, SessionSettings};
+use crate::session::changes::{are_alike, takes_turns};
+use crate::session::formats::{Format, SessionSettings, SsrcPair, retransmission_for};
+use crate::session::reports::SenderClock;
 use crate::session::requests::{Feedback, hear, requests_due, round_trip, wait_by};
 use crate::stream::receiver::{Counters, ReceiveError, Receiver};
 use crate::wire::Ticks;
@@ -23,6 +25,8 @@ pub enum Ending {
     Timeout,
     /// The caller ended it.
     Told,
+    /// Its sender continues in another format under the same SSRC.
+    Changed,
 }
 
 /// The stage of a stream's life.
@@ -54,6 +58,8 @@ pub struct StreamInfo {
     pub counters: Counters,
     /// The measured round-trip time in ticks, once a request of the session was answered.
     pub round_trip: Option<u64>,
+    /// What the latest sender report of its SSRC says, once one arrived after the stream began.
+    pub sender_clock: Option<SenderClock>,
 }
 
 /// A stream of a session.
@@ -72,6 +78,8 @@ pub(crate) struct Stream {
     pub(crate) last: u64,
     /// What it requests. `None`: nothing.
     pub(crate) feedback: Option<Feedback>,
+    /// What the latest sender report says.
+    pub(crate) sender_clock: Option<SenderClock>,
 }
 
 /// A step of a stream: its next event, or nothing.
@@ -112,6 +120,7 @@ impl Stream {
             accepted: 0,
             last: 0,
             feedback,
+            sender_clock: None,
         }))
     }
 
@@ -180,10 +189,39 @@ impl Stream {
         }
     }
 
+    /// Returns whether the stream has this SSRC and payload type, and plays.
+    pub(crate) fn plays(&self, ssrc: u32, payload_type: u8) -> bool {
+        self.is_of(ssrc, payload_type) && is_playing(self.stage)
+    }
+
+    /// Returns whether the sender left the stream for this format: it took no datagram for `wait` ticks.
+    fn is_left_behind(&self, now: u64, wait: u64, ssrc: u32, format: &Format) -> bool {
+        self.ssrc == ssrc
+            && self.format.payload_type != format.payload_type
+            && !takes_turns(self.format.spec.codec)
+            && are_alike(self.format.spec.codec, format.spec.codec)
+            && is_playing(self.stage)
+            && wait <= now.saturating_sub(self.last)
+    }
+
+    /// Ends the stream if its sender left it for this format.
+    pub(crate) fn leave_behind(&mut self, now: u64, wait: u64, ssrc: u32, format: &Format) {
+        let leaves = self.is_left_behind(now, wait, ssrc, format);
+        self.leave_if(leaves, Ending::Changed, now);
+    }
+
     /// Replaces the wait limits, if the stream has this SSRC and payload type.
     pub(crate) fn wait_if(&mut self, ssrc: u32, payload_type: u8, wait_limits: WaitLimits) {
         if self.is_of(ssrc, payload_type) {
             self.receiver.set_wait_limits(wait_limits);
+        }
+    }
+
+    /// Takes the retransmissions that the stream has by these pairs, if it has this SSRC.
+    pub(crate) fn pair_if(&mut self, ssrc: u32, pairs: &[SsrcPair]) {
+        if self.ssrc == ssrc {
+            let retransmission = retransmission_for(pairs, self.ssrc, self.format.retransmission);
+            self.receiver.set_retransmission(retransmission);
         }
     }
 
@@ -275,6 +313,7 @@ impl Stream {
             held: self.receiver.held(),
             counters: self.receiver.counters(),
             round_trip: round_trip(&self.feedback),
+            sender_clock: self.sender_clock,
         }
     }
 }
@@ -282,6 +321,11 @@ impl Stream {
 /// Returns whether the stage is probation.
 fn is_probation(stage: Stage) -> bool {
     matches!(stage, Stage::Probation)
+}
+
+/// Returns whether a stream at this stage plays.
+fn is_playing(stage: Stage) -> bool {
+    matches!(stage, Stage::Playing)
 }
 
 /// Returns the step of a stream with these requests.

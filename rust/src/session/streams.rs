@@ -4,13 +4,16 @@
 
 use crate::jitter::jitter_buffer::WaitLimits;
 use crate::memory::{AllocError, TryVec};
-use crate::rtcp::compound::{CompoundRule, Packets, read_compound};
-use crate::rtcp::packet::RtcpPacket;
-use crate::session::formats::{Format, SessionSettings};
+use crate::rtcp::items::ReportBlock;
+use crate::session::changes::{continues, leave_behind};
+use crate::session::formats::{Format, SessionSettings, SsrcPair};
+use crate::session::goodbyes::leave_by_name;
+use crate::session::pairs::{pair, with_pair};
+use crate::session::reports::note_reports;
 use crate::session::sessions::{Arrival, Event};
 use crate::session::sort::{Sorted, sort};
 use crate::session::stream::{Ending, Step, Stream, earlier, is_no_memory};
-use crate::wire::Ticks;
+use crate::wire::{Frequency, Ticks};
 use alloc::vec::Vec;
 
 /// The streams of a session.
@@ -32,12 +35,10 @@ pub(crate) struct Turn {
 
 /// The streams to end.
 #[derive(Clone, Copy, Debug)]
-pub(crate) enum Who<'a> {
+pub(crate) enum Who {
     All,
     /// The streams of this SSRC.
     Of(u32),
-    /// The streams that a BYE in this compound packet names.
-    Named(&'a [u8]),
 }
 
 impl Streams {
@@ -59,16 +60,15 @@ impl Streams {
     ) -> Result<Arrival, AllocError> {
         match sort(settings, datagram) {
             Sorted::Rtcp => {
+                self.note_reports(now, datagram);
                 let at = now.0.saturating_add(settings.bye_wait);
-                self.leave(Who::Named(datagram), Ending::Bye, at);
+                self.leave_by_name(datagram, at);
                 Ok(Arrival::Rtcp)
             }
             Sorted::Malformed => Ok(Arrival::Malformed),
             Sorted::Unknown => Ok(Arrival::Unknown),
             Sorted::Unassociated => Ok(Arrival::Unassociated),
-            Sorted::Media(ssrc, format) => {
-                self.feed_or_begin(settings, (ssrc, format), now, datagram)
-            }
+            Sorted::Media(ssrc, format) => self.take_media(settings, (ssrc, format), now, datagram),
             Sorted::Retransmission(ssrc, payload_type) => {
                 match place_of(&self.list, ssrc, payload_type) {
                     Some(place) => self.feed(place, settings.probation, now, datagram),
@@ -80,6 +80,22 @@ impl Streams {
                 None => Ok(Arrival::Unknown),
             },
         }
+    }
+
+    /// Passes a datagram of media to its stream, or begins one with it. If that stream is announced, the streams that the
+    /// sender left for it leave.
+    fn take_media(
+        &mut self,
+        settings: &SessionSettings,
+        of: (u32, Format),
+        now: Ticks,
+        datagram: &[u8],
+    ) -> Result<Arrival, AllocError> {
+        let answer = self.feed_or_begin(settings, of, now, datagram);
+        if answer.is_ok() && continues(&self.list, of.0, &of.1) {
+            leave_behind(&mut self.list, now.0, settings.bye_wait, of);
+        }
+        answer
     }
 
     /// Passes a datagram to its stream, or begins a stream with it.
@@ -208,13 +224,55 @@ impl Streams {
     }
 
     /// Ends these streams at that time.
-    pub(crate) fn leave(&mut self, who: Who<'_>, why: Ending, at: u64) {
+    pub(crate) fn leave(&mut self, who: Who, why: Ending, at: u64) {
         leave(&mut self.list, who, why, at);
+    }
+
+    /// Ends the streams that a BYE of the compound packet names, at that time.
+    fn leave_by_name(&mut self, compound: &[u8], at: u64) {
+        leave_by_name(&mut self.list, compound, at);
+    }
+
+    /// Notes the sender reports of a compound packet.
+    fn note_reports(&mut self, now: Ticks, compound: &[u8]) {
+        note_reports(&mut self.list, now, compound);
     }
 
     /// Replaces the wait limits of the stream with this SSRC and payload type.
     pub(crate) fn set_wait_limits(&mut self, ssrc: u32, payload_type: u8, wait_limits: WaitLimits) {
         set_wait_limits(&mut self.list, ssrc, payload_type, wait_limits);
+    }
+
+    /// Returns the report block about the sender of the stream with this SSRC and payload type.
+    pub(crate) fn report(
+        &mut self,
+        now: Ticks,
+        tick_rate: Frequency,
+        of: (u32, u8),
+    ) -> Option<ReportBlock> {
+        match place_of(&self.list, of.0, of.1) {
+            Some(place) => self.report_at(place, now, tick_rate),
+            None => None,
+        }
+    }
+
+    /// Returns the report block about the sender of the stream at this place.
+    fn report_at(&mut self, place: usize, now: Ticks, tick_rate: Frequency) -> Option<ReportBlock> {
+        self.list[place].report(now, tick_rate)
+    }
+
+    /// Returns the pairs and one more, which replaces those that have one of its SSRCs in the same place.
+    pub(crate) fn with_pair(
+        &self,
+        pairs: &[SsrcPair],
+        pair: SsrcPair,
+    ) -> Result<Vec<SsrcPair>, AllocError> {
+        with_pair(pairs, pair)
+    }
+
+    /// Gives the streams of this SSRC the retransmissions that they have by these pairs.
+    pub(crate) fn pair(&mut self, ssrc: u32, pairs: &[SsrcPair]) {
+        pair(&mut self.list, ssrc, pairs);
     }
 
     /// Ends all streams at that time, and refuses new ones from now on.
@@ -274,14 +332,14 @@ pub(crate) fn due_in(streams: &[Stream], idle_timeout: u64) -> Option<u64> {
 }
 
 /// Ends these streams at that time.
-fn leave(streams: &mut [Stream], who: Who<'_>, why: Ending, at: u64) {
+pub(crate) fn leave(streams: &mut [Stream], who: Who, why: Ending, at: u64) {
     for place in 0..streams.len() {
         leave_if(&mut streams[place], who, why, at);
     }
 }
 
 /// Ends the stream at that time, if it is one of `who`.
-fn leave_if(stream: &mut Stream, who: Who<'_>, why: Ending, at: u64) {
+fn leave_if(stream: &mut Stream, who: Who, why: Ending, at: u64) {
     let leaves = includes(who, stream.ssrc);
     stream.leave_if(leaves, why, at);
 }
@@ -294,56 +352,9 @@ fn set_wait_limits(streams: &mut [Stream], ssrc: u32, payload_type: u8, wait_lim
 }
 
 /// Returns whether the stream is one of `who`.
-fn includes(who: Who<'_>, ssrc: u32) -> bool {
+fn includes(who: Who, ssrc: u32) -> bool {
     match who {
         Who::All => true,
         Who::Of(own) => own == ssrc,
-        Who::Named(compound) => says_goodbye(compound, ssrc),
     }
-}
-
-/// Returns whether a BYE of the compound packet names the SSRC.
-fn says_goodbye(compound: &[u8], ssrc: u32) -> bool {
-    match read_compound(CompoundRule::ReducedSize, compound) {
-        Ok(packets) => any_says_goodbye(packets, ssrc),
-        Err(_) => false,
-    }
-}
-
-/// Returns whether a BYE among the packets names the SSRC.
-fn any_says_goodbye(mut packets: Packets<'_>, ssrc: u32) -> bool {
-    while let Some(packet) = packets.next() {
-        if is_goodbye(&packet, ssrc) {
-            return true;
-        }
-    }
-    false
-}
-
-/// Returns whether the packet is a BYE that names the SSRC.
-fn is_goodbye(packet: &RtcpPacket<'_>, ssrc: u32) -> bool {
-    match packet {
-        RtcpPacket::Goodbye(goodbye) => names(goodbye.ssrcs, ssrc),
-        _ => false,
-    }
-}
-
-/// Returns the SSRC at the front, and the SSRCs after it.
-fn front_source(ssrcs: &[u8]) -> Option<(u32, &[u8])> {
-    let [s3, s2, s1, s0, rest @ ..] = ssrcs else {
-        return None;
-    };
-    Some((u32::from_be_bytes([*s3, *s2, *s1, *s0]), rest))
-}
-
-/// Returns whether the SSRC is in the list.
-fn names(ssrcs: &[u8], ssrc: u32) -> bool {
-    let mut rest = ssrcs;
-    while let Some((named, others)) = front_source(rest) {
-        if named == ssrc {
-            return true;
-        }
-        rest = others;
-    }
-    false
 }

@@ -236,6 +236,11 @@ impl Stream {
         self.retransmission = under(self.retransmission, ssrc);
     }
 
+    /// Replaces the SSRC and payload type of retransmissions.
+    pub(crate) fn set_retransmission(&mut self, retransmission: Option<Retransmission>) {
+        self.retransmission = retransmission;
+    }
+
     /// Returns the RED receiver for this payload type, if it is the one of RED.
     fn red_of(&self, payload_type: u8) -> Option<RedReceiver> {
         match self.red {

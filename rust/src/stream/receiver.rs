@@ -549,6 +549,12 @@ impl<B: Depacketizer> Receiver<B> {
         self.begin_anew(Some(ssrc));
     }
 
+    /// Replaces the SSRC and payload type of retransmissions; `None`: no stream of retransmissions. No packet has a payload type
+    /// above 127.
+    pub fn set_retransmission(&mut self, retransmission: Option<Retransmission>) {
+        self.stream.set_retransmission(retransmission);
+    }
+
     /// Restarts the stream, with this SSRC if it is known.
     fn begin_anew(&mut self, ssrc: Option<u32>) {
         let waiting = self.choice.candidates.len();

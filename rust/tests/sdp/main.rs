@@ -2,6 +2,7 @@
 //! of each was written by hand after the RFCs, as was the table of faults.
 
 mod dump;
+mod session;
 
 use codec_payload::sdp::{self, ErrorKind, MAX_MEDIA, MAX_SOURCES};
 use dump::{changed, dump};

@@ -8,19 +8,21 @@ mod input;
 mod media;
 mod packets;
 mod receiver;
+mod session;
 
 use input::Input;
 use std::sync::OnceLock;
 
 type Target = fn(&mut Input);
 
-const TARGETS: [(&str, Target); 8] = [
+const TARGETS: [(&str, Target); 9] = [
     ("depacketize", formats::depacketize),
     ("units", formats::units),
     ("red", formats::red),
     ("vp8", formats::vp8),
     ("packets", packets::packets),
     ("receiver", receiver::receiver),
+    ("session", session::session),
     ("buffer", buffer::buffer),
     ("media", media::media),
 ];

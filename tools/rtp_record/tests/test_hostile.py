@@ -3,8 +3,8 @@
 
   tests/test_hostile.py [PROGRAM]     a program built with sanitizers (make sanitized); ./rtp_record-sanitized where none is named
 
-Each of 200 captures is cut at another place, and of each of 1,000 one to eight bytes are changed, of headers too. The last line is
-`N passed, N failed`."""
+Each of 200 captures is cut at another place, and of each of 1,000 one to eight bytes are changed, of headers too. Every second round
+over the captures has their SDPs, which name RED and retransmissions. The last line is `N passed, N failed`."""
 
 import os
 import random
@@ -18,10 +18,10 @@ CAPTURES = os.path.join(HERE, "..", "captures")
 CUTS, CHANGES, SECONDS = 200, 1000, 20
 
 
-def fault_of(program, path, out):
+def fault_of(program, path, out, words):
     """What is wrong with a run: it ends with 0 or 1, in time, and no sanitizer speaks."""
     try:
-        ran = subprocess.run([program, path, "-o", out], capture_output=True, check=False, timeout=SECONDS)
+        ran = subprocess.run([program, *words, path, "-o", out], capture_output=True, check=False, timeout=SECONDS)
     except subprocess.TimeoutExpired:
         return f"no end after {SECONDS} seconds"
     if ran.returncode not in (0, 1):
@@ -48,7 +48,7 @@ def cut(data, folder):
         path = f"{folder}/cut-{case}.pcap"
         with open(path, "wb") as file:
             file.write(data[:size])
-        yield f"cut at {size}", path
+        yield f"cut at {size}", path, []
 
 
 def changed(names, folder):
@@ -63,7 +63,9 @@ def changed(names, folder):
         path = f"{folder}/changed-{case}.pcap"
         with open(path, "wb") as file:
             file.write(data)
-        yield f"{name} changed, {case}", path
+        sdp = f"{CAPTURES}/{name.removesuffix('.pcap')}.sdp"
+        has_sdp = case // len(names) % 2 == 1 and os.path.exists(sdp)
+        yield f"{name} changed, {case}", path, ["--sdp", sdp] if has_sdp else []
 
 
 def main():
@@ -75,10 +77,10 @@ def main():
             data = file.read()
         whole = [line.split(",")[5].strip() for line in open(f"{CAPTURES}/vp8.md5", encoding="ascii") if line[0] != "#"]
         before = 0
-        for what, path in [*cut(data, folder), *changed(names, folder)]:
+        for what, path, words in [*cut(data, folder), *changed(names, folder)]:
             out = path.removesuffix(".pcap")
             os.mkdir(out)
-            fault = fault_of(program, path, out)
+            fault = fault_of(program, path, out, words)
             if not fault and what.startswith("cut"):
                 found = frames_in(out)
                 if found != whole[: len(found)] or len(found) < before:

@@ -1,6 +1,6 @@
 #!/usr/bin/env python3
-"""What options change: the file that is named, --mux by sender reports, --all, --keep-undecodable, --fill, --map, and RED and
-events of Chromium.
+"""What options change: the file that is named, --mux by sender reports, --all, --keep-undecodable, --fill, --map, and RED,
+retransmissions and events of Chromium; a sender that comes back.
 
   tests/test_options.py [PROGRAM]
 
@@ -17,7 +17,7 @@ from dataclasses import replace
 import capture
 import conditions
 from checks import PROGRAM, check, status_of_checks
-from recorded import CAPTURES, all_streams
+from recorded import CAPTURES, all_streams, primary_of
 from test_captures import AMR_WB_MAGIC, faults_of_file, found_in, md5s_in, words
 
 STREAMS = {stream.title: stream for stream in all_streams()}
@@ -235,6 +235,63 @@ def red(folder):
     check(md5s_in(f"{folder}/r.webm") == stream.all_wanted(), "RED whose inner type is not signalled")
 
 
+def red_later(folder):
+    """A sender that begins without RED and then goes over to it: all frames are in one file, and later losses are filled in."""
+    stream = STREAMS["chromium-red audio"]
+    packets = stream.packets()
+    media = [place for place, packet in enumerate(packets) if stream.is_media(packet)]
+    begun = [in_opus(packet) if packet.media else packet for packet in packets[:40]] + packets[40:]
+    lost = set(media[60:180:7])
+    come = [packet for place, packet in enumerate(begun) if place not in lost]
+    told = run(*stream.words, source_of(stream, folder, come), "-o", f"{folder}/r.webm")["streams"]
+    check(len(told) == 1 and told[0]["recovered"] == len(lost), f"RED that begins later: {told}")
+    check(md5s_in(f"{folder}/r.webm") == stream.all_wanted(), "RED that begins later: all frames are there")
+
+
+def in_opus(packet):
+    """The packet of Opus that a packet in RED is without the blocks that it repeats."""
+    head = packet.payload[: len(packet.payload) - len(packet.media)]
+    return replace(packet, payload=head[:1] + bytes([head[1] & 0x80 | 111]) + head[2:] + primary_of(packet.media))
+
+
+def retransmissions(folder):
+    """Lost packets that are retransmitted (RFC 4588) under the SSRC and the payload type of the SDP go in where they are missing."""
+    stream = STREAMS["chromium-vp8 video"]
+    packets = stream.packets()
+    media = [place for place, packet in enumerate(packets) if stream.is_media(packet)]
+    lost = set(media[3::5])
+    again = [retransmitted(packets[place], number) for number, place in enumerate(sorted(lost))]
+    come = [packet for place, packet in enumerate(packets) if place not in lost]
+    path = source_of(stream, folder, sorted(come + again, key=lambda packet: packet.time))
+    told = {it["ssrc"]: it for it in run(*stream.words, path, "-o", f"{folder}/again.webm")["streams"]}
+    check(md5s_in(f"{folder}/again.webm") == stream.all_wanted(), "retransmissions: all frames are there")
+    found, beside = told[f"{stream.ssrc:08x}"], told[f"{RTX_SSRC:08x}"]
+    check((found["retransmitted"], found["undecodable"]) == (len(lost), 0), f"retransmissions: counted: {found}")
+    check(beside["codec"] == "rtx" and beside["packets"] == len(lost) and "file" not in beside, f"retransmissions: listed: {beside}")
+    found = run("--map", "96=VP8/90000", path, "-o", f"{folder}/again.webm")["streams"][0]
+    check(found.get("frames", 0) < len(stream.all_wanted()), f"retransmissions: not known without an SDP: {found}")
+
+
+RTX_SSRC, RTX_TYPE = 1915424868, 97  # of captures/chromium-vp8.sdp
+
+
+def retransmitted(packet, number):
+    """A packet again, a tenth of a second later (RFC 4588, section 4): the payload is its number, and what it had."""
+    head = struct.pack(">BBHII", 0x80, packet.payload[1] & 0x80 | RTX_TYPE, number, packet.timestamp, RTX_SSRC)
+    return replace(packet, time=packet.time + 10**8, payload=head + struct.pack(">H", packet.number) + packet.media)
+
+
+def comes_back(folder):
+    """A sender that says BYE (RFC 3550, section 6.6), is silent for a minute, and comes back under its SSRC continues in its file."""
+    stream = STREAMS["opus"]
+    packets = stream.packets()
+    goodbye = replace(packets[100], payload=struct.pack(">BBHI", 0x81, 203, 1, stream.ssrc))
+    later = [replace(packet, time=packet.time + 60 * 10**9) for packet in packets[100:]]
+    told = run(*stream.words, source_of(stream, folder, [*packets[:100], goodbye, *later]), "-o", f"{folder}/back.webm")
+    check(len(told["streams"]) == 1 and told["rtcp"] == 1, f"a sender that comes back is one stream: {told}")
+    check(md5s_in(f"{folder}/back.webm") == stream.all_wanted(), "a sender that comes back: all frames are in its file")
+
+
 def keys(folder):
     """The keys that the page pressed, one behind the other, each for a tenth of a second."""
     for name, pressed in [("chromium-keys", "1234#"), ("chromium-g722", "19")]:
@@ -260,7 +317,8 @@ def guesses(folder):
 
 def main():
     with tempfile.TemporaryDirectory() as folder:
-        for test in [named_files, two_flows, reports, call, keyframe_lost, undecodable, malformed, layers, fill, red, keys, guesses]:
+        for test in [named_files, two_flows, reports, call, keyframe_lost, undecodable, malformed, layers, fill, red, red_later,
+                     retransmissions, comes_back, keys, guesses]:
             test(folder)
     return status_of_checks()
 

@@ -30,6 +30,14 @@ unsafe extern "C" {
         room: usize,
         count: *mut usize,
     ) -> u32;
+    fn twin_session_report(
+        it: *mut c_void,
+        now: u64,
+        ssrc: u32,
+        payload_type: u8,
+        block: *mut u32,
+    ) -> u32;
+    fn twin_session_add_pair(it: *mut c_void, ssrc: u32, rtx_ssrc: u32) -> u32;
     fn twin_session_counts(it: *mut c_void, counts: *mut u64) -> u32;
     fn twin_session_free(it: *mut c_void);
 }
@@ -96,6 +104,19 @@ impl Session {
         assert!(status == 0 || status == NONE);
         numbers.truncate(count);
         (status == 0).then_some(numbers)
+    }
+
+    /// SSRC, fraction lost, lost, highest number, jitter, last sender report, delay since.
+    pub fn report(&mut self, now: u64, ssrc: u32, payload_type: u8) -> Option<[u32; 7]> {
+        let mut block = [0; 7];
+        let status =
+            unsafe { twin_session_report(self.0, now, ssrc, payload_type, block.as_mut_ptr()) };
+        assert!(status == 0 || status == NONE);
+        (status == 0).then_some(block)
+    }
+
+    pub fn add_pair(&mut self, ssrc: u32, rtx_ssrc: u32) {
+        assert_eq!(unsafe { twin_session_add_pair(self.0, ssrc, rtx_ssrc) }, 0);
     }
 
     /// Received, RTCP, malformed, unknown, refused, unassociated, ended, streams.

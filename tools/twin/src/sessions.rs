@@ -77,6 +77,12 @@ fn datagram(how: u8, numbers: &mut [u16; 5], input: &mut Input) -> Vec<u8> {
     if ssrc > 5 {
         return input.some().to_vec();
     }
+    if ssrc == 6 {
+        // A sender report (RFC 3550, section 6.4.1).
+        let mut bytes = vec![0x80, 200, 0, 6, 0, 0, 0, input.byte() % 5];
+        bytes.extend((0..10).flat_map(|_| input.word().to_be_bytes()));
+        return bytes;
+    }
     if ssrc == 5 {
         return vec![0x81, 203, 0, 1, 0, 0, 0, input.byte() % 5];
     }
@@ -131,6 +137,7 @@ fn told(event: Event) -> ([u64; 11], Vec<u8>, Option<String>) {
                 Ending::Bye => 0,
                 Ending::Timeout => 1,
                 Ending::Told => 2,
+                Ending::Changed => 3,
             };
         }
         Event::Unit {
@@ -236,7 +243,27 @@ pub fn sessions(input: &mut Input, compared: &mut Compared) {
         let how = input.byte();
         match how >> 3 {
             0..4 => while poll(&mut ours, &mut theirs, now, compared) {},
+            4 if how & 7 == 7 => {
+                let (ssrc, rtx_ssrc) = (u32::from(input.byte() % 4), u32::from(input.byte() % 8));
+                ours.add_pair(ssrc, rtx_ssrc).expect("there is memory");
+                theirs.add_pair(ssrc, rtx_ssrc);
+            }
             4 => now += u64::from(input.byte()),
+            5 if how & 4 != 0 => {
+                let ssrc = u32::from(how & 3);
+                let block = ours.report(Ticks(now), ssrc, 96).map(|it| {
+                    [
+                        it.ssrc,
+                        it.fraction_lost.into(),
+                        it.cumulative_lost,
+                        it.highest_sequence_number,
+                        it.jitter,
+                        it.last_sender_report,
+                        it.delay_since_sender_report,
+                    ]
+                });
+                assert_eq!(block, theirs.report(now, ssrc, 96));
+            }
             5 => {
                 let (ssrc, most) = (u32::from(how & 3), usize::from(input.byte()));
                 let missing = ours

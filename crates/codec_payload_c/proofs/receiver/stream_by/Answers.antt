@@ -12,8 +12,8 @@ returns-clause-ok c = (
     by = depacketizer_state_of c.args.depacketizer;
     depacketizer_is = refl;
     made = sym c.new.ensures ∙ c.in-Ok.is;
-    waiting = refl;
-    taken = refl;
+    waiting = c.new-waiting.ensures;
+    taken = c.new-taken.ensures;
   },
   sym (ok_settings c.args.settings.now _ c.in-Some.settings _ c.in-Some.ensures.settings c.in-Some.ensures.made) ∙ ap is_ok (sym c.new.ensures ∙ c.in-Ok.is),
 )

@@ -17,6 +17,7 @@ returns c = record {
   feedback =
       c.in_ok-feedback.ensures
       ∙ ap (λ (l : WaitLimits). feedback_by c.args.settings.now.feedback c.args.ssrc c.args.format.now l.max_wait) c.limits-max_wait.ensures;
+  sender_clock = refl;
   depacketizer = depacketizer_state_of c.in-Some.depacketizer;
   known = sym c.in-Some.ensures;
   receiver_settings = c.in_ok-settings.settings;

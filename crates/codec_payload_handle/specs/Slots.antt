@@ -1,0 +1,31 @@
+-- A unit in memory that is used again.
+use Rattle.std.specs.Prelude.{◌≡◌, ℕ, Bool, nat_le, Option, Some, None, Result, Ok, Err, List, length, ⊤}
+use Rattle.codec_payload_core.specs.Release.{Release}
+use Rattle.codec_payload_core.specs.declared.error.PacketError.{PacketError}
+use Rattle.codec_payload_handle.specs.Bytes.{filled}
+use Rattle.codec_payload_handle.specs.Popping.{Answer}
+use Rattle.codec_payload_handle.specs.Units.{TellsUnit, TellsValues}
+use Rattle.codec_payload_handle.specs.declared.extension_values.ExtensionValues.{ExtensionValues as CValues}
+use Rattle.codec_payload_handle.specs.declared.unit.Unit.{Unit as CUnit}
+
+-- `Popped`: a pop gave this answer. Its unit, if there is one, is in the slot afterwards; otherwise the slot has none
+abbrev pub PopsTo : (Popped : Answer → Type 0) → Option (Result ⊤ PacketError) → Option Release → Type 0
+PopsTo Popped None slot = Popped None × (slot ≡ None)
+PopsTo Popped (Some (Err fault)) slot = Popped (Some (Err fault)) × (slot ≡ None)
+PopsTo Popped (Some (Ok _)) slot = (u : Release) × (slot ≡ Some u) × Popped (Some (Ok u))
+
+-- the unit is described, and its bytes are at the front of the output buffer, if that has room for them
+pub record IsWrittenTo (u : Release) (has_room : Bool) (unit : CUnit) (before bytes : List ℕ) : Type 0 where
+  pub tells : TellsUnit u unit
+  pub room : has_room ≡ nat_le (length u.bytes) (length before)
+  pub writes : bytes ≡ filled u.bytes before
+
+abbrev pub IsWritten : Option Release → Bool → CUnit → (before bytes : List ℕ) → Type 0
+IsWritten None has_room unit before bytes = Unit {0}
+IsWritten (Some u) has_room unit before bytes = IsWrittenTo u has_room unit before bytes
+
+-- the values of the unit, if there is one
+abbrev pub TellsValuesOf : Option Release → Option CValues → Type 0
+TellsValuesOf None values = values ≡ None
+TellsValuesOf (Some u) (Some values) = TellsValues u.metas values
+TellsValuesOf (Some u) None = ⊥

@@ -1,0 +1,11 @@
+use Rattle.std.proofs.Common.{◌≡◌, length}
+use Rattle.codec_payload_rtcp.specs.RtcpReading.{packets_left}
+use Rattle.codec_payload_session.specs.Reports.{noted_where}
+use Rattle.codec_payload_session.proofs.reports.note_packets.Given as goal
+
+-- the packets so far, and then the others
+abbrev pub invariant-loop-packet : goal.invariant-loop-packet
+invariant-loop-packet l = noted_where l.now (packets_left l.packets) l.streams ≡ noted_where l.now (packets_left l.initial.packets) l.initial.streams
+
+abbrev pub decreases-loop-packet : goal.decreases-loop-packet
+decreases-loop-packet l = length (packets_left l.packets)

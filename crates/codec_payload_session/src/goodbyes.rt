@@ -1,0 +1,62 @@
+//! BYEs of RTCP (RFC 3550, section 6.6): the streams that they name leave.
+
+ghost use Rattle.std.specs.Prelude.{◌≡◌};
+ghost use Rattle.codec_payload_base.specs.Answers.{Finds};
+ghost use Rattle.codec_payload_rtcp.specs.RtcpReading.{compound_at, packets_left};
+ghost use Rattle.codec_payload_rtcp.specs.RtcpValues.{packet_of};
+ghost use Rattle.codec_payload_session.specs.Arrivals.{goodbye_at, left_where, named_in, say_goodbye, says_goodbye, source_at_front};
+ghost use Rattle.codec_payload_session.specs.declared.stream.Ending.TheVariants as endings;
+
+use crate::stream::{Ending, Stream};
+use crate::streams::{Who, leave};
+use codec_payload_rtcp::compound::{CompoundRule, Packets, read_compound};
+use codec_payload_rtcp::packet::RtcpPacket;
+
+/// Ends the streams that a BYE of the compound packet names, at that time. The packet is read once, whatever its streams.
+pub(crate) fn leave_by_name(streams: &mut [Stream], compound: &[u8], at: u64)
+    ensures { streams.new ≡ left_where (goodbye_at compound.now) endings.Bye at streams.old }
+{
+    if let Ok(packets) = read_compound(CompoundRule::ReducedSize, compound) {
+        leave_by_packets(streams, packets, at);
+    }
+}
+
+/// Ends the streams that a BYE among the packets names.
+fn leave_by_packets(streams: &mut [Stream], mut packets: Packets<'_>, at: u64)
+    ensures { streams.new ≡ left_where (λ ssrc. say_goodbye ssrc (packets_left packets.entry)) endings.Bye at streams.old }
+{
+    while let Some(packet) = packets.next() {
+        leave_by_packet(streams, &packet, at);
+    }
+}
+
+/// Ends the streams that the packet names, if it is a BYE.
+fn leave_by_packet(streams: &mut [Stream], packet: &RtcpPacket<'_>, at: u64)
+    ensures { streams.new ≡ left_where (λ ssrc. says_goodbye ssrc (packet_of packet.now)) endings.Bye at streams.old }
+{
+    if let RtcpPacket::Goodbye(goodbye) = packet {
+        leave_each(streams, goodbye.ssrcs, at);
+    }
+}
+
+/// Ends the streams of the SSRCs in the list.
+fn leave_each(streams: &mut [Stream], ssrcs: &[u8], at: u64)
+    ensures { streams.new ≡ left_where (named_in ssrcs.now) endings.Bye at streams.old }
+{
+    let mut rest = ssrcs;
+    while let Some((ssrc, others)) = front_source(rest) {
+        leave(streams, Who::Of(ssrc), Ending::Bye, at);
+        rest = others;
+    }
+}
+
+/// Returns the SSRC at the front, and the SSRCs after it.
+#[tactic(auto, unfolding(crate::specs::Arrivals::source_at_front))]
+fn front_source(ssrcs: &[u8]) -> Option<(u32, &[u8])>
+    ensures { Finds (λ x. (x.0, x.1.now)) result (source_at_front ssrcs.now) }
+{
+    let [s3, s2, s1, s0, rest @ ..] = ssrcs else {
+        return None;
+    };
+    Some((u32::from_be_bytes([*s3, *s2, *s1, *s0]), rest))
+}

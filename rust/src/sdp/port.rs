@@ -1,0 +1,219 @@
+//! The settings of a session from the sections of a port.
+
+use super::section::join_ids;
+use super::{Kind, Media, Role};
+use crate::jitter::WaitLimits;
+use crate::memory::{AllocError, TryVec};
+use crate::session::{Format, SessionSettings, SsrcPair};
+use core::fmt;
+
+/// The highest number of pairs of SSRCs in the settings of a session.
+pub const MAX_PAIRS: usize = 1_024;
+
+const PAYLOAD_TYPES: usize = 128;
+
+/// Why the sections of a port give no settings of a session.
+#[derive(Clone, Copy, Debug, PartialEq, Eq)]
+#[non_exhaustive]
+pub enum SessionError {
+    /// No section has media of a codec of this crate.
+    NoMedia,
+    /// This payload type is above 127, or two sections use it differently.
+    PayloadType(u8),
+    /// Two sections use this id for different header extensions, or another id for the same one.
+    ExtensionId(u8),
+    /// More than [`MAX_PAIRS`] pairs of SSRCs.
+    TooManyPairs,
+    /// Out of memory; only with the feature `fallible`.
+    OutOfMemory,
+}
+
+impl fmt::Display for SessionError {
+    fn fmt(&self, f: &mut fmt::Formatter<'_>) -> fmt::Result {
+        match self {
+            SessionError::NoMedia => f.write_str("no media of a supported codec"),
+            SessionError::PayloadType(it) => {
+                write!(f, "payload type {it} exceeds 127 or has two uses")
+            }
+            SessionError::ExtensionId(it) => {
+                write!(f, "header extension id {it} differs between sections")
+            }
+            SessionError::TooManyPairs => f.write_str("more than 1024 pairs of SSRCs"),
+            SessionError::OutOfMemory => f.write_str("out of memory"),
+        }
+    }
+}
+
+impl core::error::Error for SessionError {}
+
+impl From<AllocError> for SessionError {
+    fn from(_: AllocError) -> Self {
+        SessionError::OutOfMemory
+    }
+}
+
+/// Returns settings of a session that receives these sections on one port: all sections of a bundle (RFC 9143), or the one section
+/// of a port of its own. Leave out sections that were refused. Sections that are not RTP are ignored.
+///
+/// - Formats: those of [`Media::session_format`], in the order of the sections. If two sections have a payload type, packets or
+///   keyframes of it are requested only if both agree on that.
+/// - Types without media: telephone events, comfort noise, error correction.
+/// - Pairs of SSRCs: those of [`pairs`].
+/// - Ids of header extensions: those of all sections.
+/// - Wait limits: for live audio and video, with retransmission if a format of the kind has `nack`.
+/// - All else is as in [`SessionSettings::live`]. Nothing is requested until you set `feedback`.
+///
+/// The cost is a step for each format and each SSRC.
+///
+/// # Errors
+///
+/// - `NoMedia`: no section has media of a codec of this crate.
+/// - `PayloadType`: two sections use a payload type differently, so that a packet does not say what it is.
+/// - `ExtensionId`: the sections use the ids of header extensions differently.
+/// - `TooManyPairs`: more than [`MAX_PAIRS`] pairs.
+/// - `OutOfMemory`: only with the feature `fallible`.
+///
+/// ```
+/// use codec_payload::sdp;
+///
+/// # fn main() -> Result<(), Box<dyn std::error::Error>> {
+/// let text = "v=0\r\nm=audio 9 RTP/AVP 0\r\nm=video 9 RTP/AVP 96 97\r\na=rtpmap:96 VP8/90000\r\na=rtcp-fb:96 nack\r\n\
+///     a=rtpmap:97 rtx/90000\r\na=fmtp:97 apt=96\r\na=ssrc-group:FID 7 9\r\n";
+/// let settings = sdp::session_settings(&sdp::read(text)?)?;
+/// assert_eq!(settings.formats[1].retransmission, Some(97));
+/// assert_eq!((settings.pairs[0].ssrc, settings.pairs[0].retransmission), (7, 9));
+/// # Ok(())
+/// # }
+/// ```
+pub fn session_settings(media: &[Media<'_>]) -> Result<SessionSettings, SessionError> {
+    let mut port = Port {
+        settings: SessionSettings::live(),
+        roles: [None; PAYLOAD_TYPES],
+        ids: Media::default(),
+    };
+    (port.settings.audio, port.settings.video) = (WaitLimits::live(), WaitLimits::live());
+    for section in media.iter().filter(|section| section.is_rtp) {
+        port.add(section)?;
+    }
+    let mut settings = port.settings;
+    if settings.formats.is_empty() {
+        return Err(SessionError::NoMedia);
+    }
+    for pair in pairs(media) {
+        if settings.pairs.len() == MAX_PAIRS {
+            return Err(SessionError::TooManyPairs);
+        }
+        settings.pairs.try_push(pair)?;
+    }
+    settings.extension_ids = port.ids.extension_ids;
+    Ok(settings)
+}
+
+/// Returns the pairs of SSRCs of these sections (`a=ssrc-group:FID`), in order. If a later description has others, pass each to
+/// [`Session::add_pair`].
+///
+/// [`Session::add_pair`]: crate::session::Session::add_pair
+pub fn pairs<'m>(media: &'m [Media<'_>]) -> impl Iterator<Item = SsrcPair> + 'm {
+    let sources = media.iter().flat_map(|section| &section.sources);
+    sources.filter_map(|source| {
+        Some(SsrcPair {
+            ssrc: source.ssrc,
+            retransmission: source.retransmission?,
+        })
+    })
+}
+
+impl Media<'_> {
+    /// Returns the format of a session for a payload type of media, or `None` if the section has no media of it.
+    ///
+    /// - RED: the RED format over the payload type. RED that names no payload type is over the first format of media of its
+    ///   section: a session finds the stream of a RED packet by its payload type alone. The step is that of
+    ///   [`Media::receiver_settings`].
+    /// - Retransmissions: the first format of RTX whose `apt` is the payload type.
+    /// - `nack` and `pli`: by `a=rtcp-fb`.
+    #[must_use]
+    pub fn session_format(&self, payload_type: u8) -> Option<Format> {
+        let format = self.format(payload_type)?;
+        let Role::Media(spec) = format.role else {
+            return None;
+        };
+        let is_first = self.first_media() == Some(payload_type);
+        let red = self.red_settings(payload_type, spec.clock_rate, is_first);
+        Some(Format {
+            red,
+            retransmission: self.retransmission_type(payload_type),
+            nack: format.feedback.nack,
+            pli: format.feedback.pli,
+            ..Format::new(payload_type, spec)
+        })
+    }
+
+    fn first_media(&self) -> Option<u8> {
+        let mut formats = self.formats.iter();
+        let first = formats.find(|format| matches!(format.role, Role::Media(_)));
+        first.map(|format| format.payload_type)
+    }
+}
+
+/// The sections so far.
+struct Port {
+    settings: SessionSettings,
+    /// What each payload type is for.
+    roles: [Option<Role>; PAYLOAD_TYPES],
+    /// The ids of header extensions.
+    ids: Media<'static>,
+}
+
+impl Port {
+    fn add(&mut self, section: &Media<'_>) -> Result<(), SessionError> {
+        join_ids(&mut self.ids, section).map_err(SessionError::ExtensionId)?;
+        for format in &section.formats {
+            let payload_type = format.payload_type;
+            let fault = SessionError::PayloadType(payload_type);
+            let known = self.roles.get_mut(usize::from(payload_type));
+            let known = known.ok_or(fault)?;
+            match known {
+                Some(role) if *role != format.role => return Err(fault),
+                Some(_) => self.join(section, payload_type),
+                None => {
+                    *known = Some(format.role);
+                    self.add_type(section, payload_type, format.role)?;
+                }
+            }
+        }
+        Ok(())
+    }
+
+    /// Adds a payload type that no earlier section has.
+    fn add_type(
+        &mut self,
+        section: &Media<'_>,
+        payload_type: u8,
+        role: Role,
+    ) -> Result<(), AllocError> {
+        if let Role::TelephoneEvents | Role::ComfortNoise | Role::ErrorCorrection = role {
+            self.settings.no_media.try_push(payload_type)?;
+        }
+        let Some(format) = section.session_format(payload_type) else {
+            return Ok(());
+        };
+        match section.kind {
+            Kind::Video if format.nack => self.settings.video = WaitLimits::live_video_with_nack(),
+            Kind::Audio if format.nack => self.settings.audio = WaitLimits::live_with_nack(),
+            _ => {}
+        }
+        self.settings.formats.try_push(format)
+    }
+
+    /// Joins a format with the same one of an earlier section.
+    fn join(&mut self, section: &Media<'_>, payload_type: u8) {
+        let mut formats = self.settings.formats.iter_mut();
+        let earlier = formats.find(|format| format.payload_type == payload_type);
+        if let (Some(format), Some(other)) = (earlier, section.session_format(payload_type)) {
+            format.red = format.red.or(other.red);
+            format.retransmission = format.retransmission.or(other.retransmission);
+            format.nack &= other.nack;
+            format.pli &= other.pli;
+        }
+    }
+}

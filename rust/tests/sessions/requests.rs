@@ -1,0 +1,349 @@
+//! What a session requests by itself: which packets, when, and of which streams.
+
+use crate::Fail;
+use crate::datagrams::*;
+use codec_payload::rtcp::{CompoundRule, RtcpPacket, read_compound};
+use codec_payload::session::*;
+use codec_payload::*;
+
+const OWN: u32 = 0x0102_0304;
+
+/// A session that requests packets of both formats, and keyframes of VP8. Its streams wait for a second.
+fn session(change: impl Fn(&mut SessionSettings)) -> Session {
+    let mut settings = SessionSettings::live();
+    settings.formats = vec![answered_vp8(), answered_opus()];
+    settings.pairs.push(SsrcPair {
+        ssrc: 5,
+        retransmission: 50,
+    });
+    for limits in [&mut settings.audio, &mut settings.video] {
+        (limits.start, limits.max_wait) = (0, Some(1_000));
+    }
+    settings.feedback = Some(FeedbackSettings::live(OWN));
+    change(&mut settings);
+    Session::new(settings)
+}
+
+/// A request: the SSRC of the stream, the numbers of its NACKs, and how many PLIs it has.
+type Request = (u32, Vec<u16>, usize);
+
+fn read(packet: &[u8]) -> Request {
+    let (mut to, mut numbers, mut pictures) = (0, Vec::new(), 0);
+    for packet in read_compound(CompoundRule::ReducedSize, packet).unwrap() {
+        match packet {
+            RtcpPacket::Nack(nack) => {
+                assert_eq!(nack.sender_ssrc, OWN);
+                to = nack.media_ssrc;
+                numbers.extend(nack.numbers());
+            }
+            RtcpPacket::PictureLoss(picture) => {
+                assert_eq!(picture.sender_ssrc, OWN);
+                to = picture.media_ssrc;
+                pictures += 1;
+            }
+            _ => {}
+        }
+    }
+    (to, numbers, pictures)
+}
+
+/// The requests of a poll.
+fn requested(session: &mut Session, now: u64) -> Vec<Request> {
+    let mut requests = Vec::new();
+    while let Some(event) = session.poll(Ticks(now)) {
+        if let Event::Feedback { ssrc, packet, .. } = event {
+            let request = read(&packet.unwrap());
+            assert_eq!(request.0, ssrc);
+            requests.push(request);
+        }
+    }
+    requests
+}
+
+/// The times at which numbers are requested until `end`, by a caller who polls at each deadline only.
+fn requested_until(session: &mut Session, end: u64) -> Vec<(u64, Vec<u16>)> {
+    let mut all = Vec::new();
+    while let Some(at) = session.next_deadline().filter(|at| at.0 < end) {
+        for (_, numbers, _) in requested(session, at.0) {
+            all.push((at.0, numbers));
+        }
+    }
+    all
+}
+
+#[test]
+fn a_lost_packet_is_requested_at_the_stated_times() -> Result<(), Fail> {
+    let mut session = session(|s| {
+        s.audio.max_wait = Some(10_000);
+        s.feedback.as_mut().unwrap().nack.tries = 3;
+    });
+    for number in [1, 2, 4] {
+        session.receive(Ticks(0), &opus(7, number))?;
+    }
+    assert_eq!(requested(&mut session, 0), []);
+    assert_eq!(session.next_deadline(), Some(Ticks(10)));
+    assert_eq!(requested(&mut session, 9), []);
+    // First after 10 ms, then each 100 ms, and three times in all.
+    assert_eq!(
+        requested_until(&mut session, 9_000),
+        [(10, vec![3]), (110, vec![3]), (210, vec![3])]
+    );
+    Ok(())
+}
+
+#[test]
+fn a_number_that_came_is_not_requested() -> Result<(), Fail> {
+    let mut session = session(|_| {});
+    for number in [1, 2, 4, 6] {
+        session.receive(Ticks(0), &opus(7, number))?;
+    }
+    assert_eq!(requested(&mut session, 0), []);
+    session.receive(Ticks(5), &opus(7, 3))?;
+    assert_eq!(requested(&mut session, 5), []);
+    assert_eq!(requested(&mut session, 10), [(7, vec![5], 0)]);
+    session.receive(Ticks(20), &opus(7, 5))?;
+    assert_eq!(requested_until(&mut session, 5_000), []);
+    Ok(())
+}
+
+#[test]
+fn a_number_behind_a_released_frame_is_not_requested() -> Result<(), Fail> {
+    let mut session = session(|s| s.audio.max_wait = Some(50));
+    for number in [1, 2, 4] {
+        session.receive(Ticks(0), &opus(7, number))?;
+    }
+    assert_eq!(
+        requested_until(&mut session, 5_000),
+        [(10, vec![3])],
+        "the frame behind the gap is released after 50 ms"
+    );
+    Ok(())
+}
+
+#[test]
+fn a_keyframe_is_requested_once_an_interval() -> Result<(), Fail> {
+    let mut session = session(|s| s.video.max_wait = Some(20));
+    for number in [1, 2, 4] {
+        session.receive(Ticks(0), &vp8(5, number, number == 1))?;
+    }
+    let mut times = Vec::new();
+    for now in 0..1_600 {
+        if now % 33 == 0 {
+            let number = 5 + (now / 33) as u16;
+            session.receive(Ticks(now), &vp8(5, number, false))?;
+        }
+        for (_, _, pictures) in requested(&mut session, now) {
+            times.extend((0..pictures).map(|_| now));
+        }
+    }
+    assert_eq!(times, [20, 520, 1_020, 1_520]);
+    session.receive(Ticks(1_600), &vp8(5, 54, true))?;
+    assert_eq!(requested(&mut session, 1_600), []);
+    session.receive(Ticks(2_100), &vp8(5, 55, false))?;
+    assert_eq!(requested(&mut session, 2_100), []);
+    Ok(())
+}
+
+#[test]
+fn two_streams_have_their_own_requests() -> Result<(), Fail> {
+    let mut session = session(|_| {});
+    for number in [1, 2, 4] {
+        session.receive(Ticks(0), &opus(7, number))?;
+        session.receive(Ticks(0), &opus(8, 10 * number))?;
+    }
+    assert_eq!(requested(&mut session, 0), []);
+    let numbers = |low: u16, high: u16| (low..high).collect::<Vec<_>>();
+    let others = [numbers(11, 20), numbers(21, 40)].concat();
+    assert_eq!(
+        requested(&mut session, 10),
+        [(7, vec![3], 0), (8, others, 0)]
+    );
+    Ok(())
+}
+
+#[test]
+fn a_stream_in_probation_requests_nothing() -> Result<(), Fail> {
+    let mut session = session(|s| s.probation = 3);
+    for number in [1, 3] {
+        session.receive(Ticks(0), &opus(7, number))?;
+    }
+    assert_eq!(requested_until(&mut session, 1_000), []);
+    session.receive(Ticks(100), &opus(7, 4))?;
+    assert!(matches!(
+        session.poll(Ticks(100)),
+        Some(Event::Begun { ssrc: 7, .. })
+    ));
+    assert_eq!(requested(&mut session, 100), []);
+    assert_eq!(requested(&mut session, 110), [(7, vec![2], 0)]);
+    Ok(())
+}
+
+#[test]
+fn a_stream_that_leaves_requests_nothing() -> Result<(), Fail> {
+    let mut session = session(|s| s.audio.max_wait = Some(10_000));
+    for number in [1, 2, 4] {
+        session.receive(Ticks(0), &opus(7, number))?;
+    }
+    assert_eq!(requested(&mut session, 0), []);
+    // A BYE (RFC 3550, section 6.6): the stream takes packets for 200 ms more.
+    session.receive(Ticks(5), &[0x81, 203, 0, 1, 0, 0, 0, 7])?;
+    assert_eq!(session.next_deadline(), Some(Ticks(205)));
+    for now in 5..300 {
+        assert_eq!(requested(&mut session, now), []);
+    }
+    assert_eq!(session.stream_count(), 0);
+    Ok(())
+}
+
+#[test]
+fn formats_say_what_is_requested() -> Result<(), Fail> {
+    for (nack, pli) in [(false, false), (false, true), (true, false), (true, true)] {
+        let mut session = session(|s| {
+            (s.formats[0].nack, s.formats[0].pli) = (nack, pli);
+            s.video.max_wait = Some(20);
+        });
+        for number in [1, 2, 4] {
+            session.receive(Ticks(0), &vp8(5, number, number == 1))?;
+        }
+        let (mut numbers, mut pictures) = (0, 0);
+        for now in 0..100 {
+            for request in requested(&mut session, now) {
+                numbers += request.1.len();
+                pictures += request.2;
+            }
+        }
+        assert_eq!((numbers, pictures), (usize::from(nack), usize::from(pli)));
+    }
+    Ok(())
+}
+
+#[test]
+fn without_settings_nothing_is_requested() -> Result<(), Fail> {
+    let mut session = session(|s| s.feedback = None);
+    for number in [1, 2, 4] {
+        session.receive(Ticks(0), &opus(7, number))?;
+    }
+    assert_eq!(requested(&mut session, 0), []);
+    assert_eq!(session.next_deadline(), Some(Ticks(1_000)));
+    assert_eq!(requested_until(&mut session, 9_000), []);
+    Ok(())
+}
+
+/// A request is answered after 40 ms, by a retransmission under its own SSRC or by the packet itself. So the next number is requested
+/// each 9/8 of that, and 5 ms more.
+#[test]
+fn an_answer_measures_the_round_trip() -> Result<(), Fail> {
+    let retransmitted = packet(RTX, 50, 900, 9_000, &[&[0, 3], vp8_frame(false)].concat());
+    for (retransmission, answer) in [(Some(RTX), retransmitted), (None, vp8(5, 3, false))] {
+        let mut session = session(|s| {
+            s.formats[0].retransmission = retransmission;
+            s.video.max_wait = Some(10_000);
+        });
+        for number in [1, 2, 4] {
+            session.receive(Ticks(0), &vp8(5, number, number == 1))?;
+        }
+        assert_eq!(requested(&mut session, 0), []);
+        assert_eq!(requested(&mut session, 10), [(5, vec![3], 0)]);
+        session.receive(Ticks(50), &answer)?;
+        session.receive(Ticks(50), &vp8(5, 6, false))?;
+        assert_eq!(requested(&mut session, 50), []);
+        let times: Vec<u64> = requested_until(&mut session, 200)
+            .iter()
+            .map(|request| request.0)
+            .collect();
+        assert_eq!(times, [60, 110, 160]);
+    }
+    Ok(())
+}
+
+/// Number 3 is requested and comes by itself 2 ms later, since the network overtook it. Its sender would answer under the payload
+/// type of retransmissions, so this says nothing about the round trip.
+#[test]
+fn a_late_packet_is_no_answer() -> Result<(), Fail> {
+    let mut session = session(|_| {});
+    for number in [1, 2, 4] {
+        session.receive(Ticks(0), &vp8(5, number, number == 1))?;
+    }
+    assert_eq!(requested(&mut session, 0), []);
+    assert_eq!(requested(&mut session, 10), [(5, vec![3], 0)]);
+    session.receive(Ticks(12), &vp8(5, 3, false))?;
+    assert_eq!(requested(&mut session, 12), []);
+    assert_eq!(session.stream_at(0).unwrap().round_trip, None);
+    Ok(())
+}
+
+/// A decoder needs a keyframe, and the sender stops at 0 ms: it is asked each 500 ms, for 2 s.
+#[test]
+fn a_silent_sender_is_not_asked() -> Result<(), Fail> {
+    let mut session = session(|s| s.video.max_wait = Some(20));
+    for number in [1, 2, 4] {
+        session.receive(Ticks(0), &vp8(5, number, number == 1))?;
+    }
+    let mut times = Vec::new();
+    while let Some(at) = session.next_deadline().filter(|at| at.0 < 20_000) {
+        for (_, _, pictures) in requested(&mut session, at.0) {
+            times.extend((0..pictures).map(|_| at.0));
+        }
+    }
+    assert_eq!(times, [20, 520, 1_020, 1_520]);
+    // It is asked again once it sends.
+    session.receive(Ticks(20_000), &vp8(5, 5, false))?;
+    assert_eq!(requested(&mut session, 20_000), [(5, vec![], 1)]);
+    Ok(())
+}
+
+/// Number 3 is requested at 10 ms and answered at `answered`. So a frame behind the next gap waits for four round trips and 10 ms,
+/// within the session's limit of 200 ms and the longest wait of 500 ms.
+#[test]
+fn waiting_follows_the_round_trip() -> Result<(), Fail> {
+    let cases = [
+        (Some(500), 20, 200),
+        (Some(500), 80, 290),
+        (Some(500), 190, 500),
+        (Some(100), 80, 200),
+        (None, 80, 200),
+    ];
+    for (longest_wait, answered, wait) in cases {
+        let mut session = session(|s| {
+            s.formats[0].retransmission = None;
+            s.video.max_wait = Some(200);
+            s.feedback.as_mut().unwrap().longest_wait = longest_wait;
+        });
+        for number in [1, 2, 4] {
+            session.receive(Ticks(0), &vp8(5, number, number == 1))?;
+        }
+        assert_eq!(requested(&mut session, 0), []);
+        assert_eq!(requested(&mut session, 10), [(5, vec![3], 0)]);
+        session.receive(Ticks(answered), &vp8(5, 3, false))?;
+        assert_eq!(
+            session.stream_at(0).unwrap().round_trip,
+            Some(answered - 10)
+        );
+        let limits = session.receiver_of(5, VP8).unwrap().wait_limits();
+        assert_eq!(limits.max_wait, Some(wait));
+        assert_eq!(limits.start, 0);
+    }
+    Ok(())
+}
+
+/// RFC 3550, sections 6.4.2 and 6.5: an empty report and the name come first, and of a long name 255 bytes.
+#[test]
+fn packets_carry_a_report_and_a_name() -> Result<(), Fail> {
+    let mut session = session(|s| {
+        let feedback = s.feedback.as_mut().unwrap();
+        (feedback.has_report, feedback.cname) = (true, vec![b'n'; 300]);
+    });
+    for number in [1, 2, 4] {
+        session.receive(Ticks(0), &opus(7, number))?;
+    }
+    requested(&mut session, 0);
+    let Some(Event::Feedback { packet, .. }) = session.poll(Ticks(10)) else {
+        panic!("number 3 is due");
+    };
+    let packet = packet?;
+    // An empty receiver report (type 201), then a description (202) of 66 words with one chunk: SSRC, CNAME (1), length, name.
+    assert_eq!(packet[..8], [0x80, 201, 0, 1, 1, 2, 3, 4]);
+    assert_eq!(packet[8..19], [0x81, 202, 0, 66, 1, 2, 3, 4, 1, 255, b'n']);
+    assert_eq!(read(&packet), (7, vec![3], 0));
+    Ok(())
+}

@@ -1,0 +1,129 @@
+//! A session under any settings, datagrams, times and calls.
+
+mod datagrams;
+mod watch;
+
+use crate::formats::spec;
+use crate::input::Input;
+use codec_payload::jitter::WaitLimits;
+use codec_payload::keyframes::FromKeyframe;
+use codec_payload::requests::NackSettings;
+use codec_payload::session::{FeedbackSettings, Format, SessionSettings, SsrcPair};
+use codec_payload::stream::RedSettings;
+use codec_payload::{Codec, CodecSpec, Frequency};
+use watch::Watch;
+
+/// The SSRC of the session.
+pub const OWN: u32 = 77;
+
+/// A format with RED and retransmissions, Opus, and two formats that can begin no stream: RED has its own payload type, or
+/// step 0.
+fn formats(input: &mut Input) -> Vec<Format> {
+    let how = input.byte();
+    let opus = CodecSpec {
+        codec: Codec::Opus,
+        clock_rate: Frequency::FORTY_EIGHT_KHZ,
+        octet_align: false,
+    };
+    let red = |payload_type, step| Some(RedSettings { payload_type, step });
+    let format = |payload_type, spec, red| Format {
+        red,
+        nack: how & 1 == 0,
+        pli: how & 2 == 0,
+        ..Format::new(payload_type, spec)
+    };
+    let mut first = format(96, spec(input), red(63, 90));
+    first.retransmission = (how & 4 == 0).then_some(98);
+    vec![
+        first,
+        format(100, opus, None),
+        format(102, opus, red(102, 90)),
+        format(103, opus, red(64, 0)),
+    ]
+}
+
+fn wait_limits(input: &mut Input) -> WaitLimits {
+    let how = input.byte();
+    WaitLimits {
+        hold_back: (how & 1 != 0).then_some(usize::from(how >> 4)),
+        start: usize::from(how >> 1 & 3),
+        max_wait: (how & 8 == 0).then(|| u64::from(input.byte())),
+    }
+}
+
+/// Requests with any times, at most 7 of a number, and at least a tick between two of a keyframe.
+fn feedback(input: &mut Input) -> FeedbackSettings {
+    let how = input.byte();
+    FeedbackSettings {
+        cname: vec![b'n'; usize::from(how >> 4) * 20],
+        has_report: how & 1 != 0,
+        nack: NackSettings {
+            first_wait: (input.byte() % 32).into(),
+            retry: input.byte().into(),
+            shortest_retry: input.byte().into(),
+            longest_retry: input.byte().into(),
+            tries: (how >> 1 & 7).into(),
+            capacity: input.byte().into(),
+        },
+        keyframe_interval: input.byte().into(),
+        silence: input.word().into(),
+        longest_wait: (how & 8 == 0).then(|| input.word().into()),
+        ..FeedbackSettings::live(OWN)
+    }
+}
+
+fn settings(input: &mut Input) -> SessionSettings {
+    let how = input.byte();
+    SessionSettings {
+        formats: formats(input),
+        no_media: vec![97, 13],
+        pairs: vec![SsrcPair {
+            ssrc: 1,
+            retransmission: 2,
+        }],
+        audio: wait_limits(input),
+        video: wait_limits(input),
+        from_keyframe: [FromKeyframe::Off, FromKeyframe::Mark, FromKeyframe::Drop]
+            [usize::from(how & 3) % 3],
+        limit: if how & 4 == 0 {
+            4_096
+        } else {
+            1 + usize::from(input.byte() % 16)
+        },
+        max_streams: usize::from(how >> 3 & 3) + usize::from(how & 128 == 0),
+        probation: (how >> 5 & 3).into(),
+        idle_timeout: input.word().into(),
+        bye_wait: input.byte().into(),
+        feedback: (input.byte() < 192).then(|| feedback(input)),
+        ..SessionSettings::live()
+    }
+}
+
+/// Any calls of a session, and the properties that [`Watch`] checks after each.
+pub fn session(input: &mut Input) {
+    let settings = settings(input);
+    let begin = if input.byte() == 255 {
+        u64::MAX - 9_999
+    } else {
+        0
+    };
+    let mut watch = Watch::new(settings, begin);
+    let mut numbers = [0, 0, 65_500, 0, 0];
+    while !input.is_empty() {
+        let how = input.byte();
+        match how >> 3 {
+            0..5 => watch.drain(),
+            5 => watch.wait(input.byte().into()),
+            6 => watch.wait(input.word().into()),
+            7 => watch.wait_for_deadline(),
+            8 if how & 7 == 0 => watch.set_wait_limits(wait_limits(input)),
+            8 if how & 7 == 7 && input.byte() < 8 => watch.finish(),
+            8 => watch.end((how & 7).into()),
+            9 => watch.receive(input.some()),
+            10..13 => watch.receive(&datagrams::rtcp(input)),
+            _ => watch.receive(&datagrams::rtp(how % 5, &mut numbers, input)),
+        }
+        watch.assert_counts();
+    }
+    watch.finish_all();
+}
