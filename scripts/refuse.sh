@@ -236,60 +236,61 @@ refuse_each "$work/input" "$work/whole" "opus in RED"
 
 # Each call of the library for C, the most allocations that it makes, its output with all memory, and its possible outputs after
 # fault 17. `packetize` cuts a frame twice, and `depacketize` reads a payload after the earlier ones, and after a fault once
-# more; tools/refused describes the others. The part after "then" runs with all memory.
+# more; tools/refused describes the others. A new object takes two allocations: its handle, and the box of its kind. The part
+# after "then" runs with all memory.
 program=$work/calls
 input=$work/nothing
 while IFS='|' read -r name most whole after; do
     words=$name
     refuse_call "$name" "$whole" "$after" "$most"
 done <<'END'
-packetize opus|7|packetize 9090 90, then 9090 90|packetize fault 17, then 9090 90
-packetize pcmu|7|packetize 9090 90, then 9090 90|packetize fault 17, then 9090 90
-packetize g722|7|packetize 9090 90, then 9090 90|packetize fault 17, then 9090 90
-packetize cn|5|packetize 2a8040, then 2a8040|packetize fault 17, then 2a8040
-packetize amrwb|5|packetize f740, then f740|packetize fault 17, then f740
-packetize amrwb-octet|5|packetize f074, then f074|packetize fault 17, then f074
-packetize tele|5|packetize 058a0320060a0140, then 058a0320060a0140|packetize fault 17, then 058a0320060a0140
-packetize vp8|9|packetize 1090 0090 0090, then 1090 0090 0090|packetize fault 17, then 1090 0090 0090
-packetize vp8-id|7|packetize 9080209090 80802090, then 9080219090 80802190|packetize fault 17, then 9080209090 80802090
-packetize vp9|7|packetize aa92341001008249 a49234100183, then aa92351002008249 a49235100283|packetize fault 17, then aa92341001008249 a49234100183
-packetize vp9-flex|7|packetize 9892348249 94923483, then 9892358249 94923583|packetize fault 17, then 9892348249 94923483
-packetize av1|9|packetize 1808aa 5030bb 90cc, then 1808aa 5030bb 90cc|packetize fault 17, then 1808aa 5030bb 90cc
-packetize null|5|packetize 909090, then 909090|packetize fault 17, then 909090
-depacketize opus|2|depacketize ok, then 909090|
-depacketize pcmu|2|depacketize ok, then 909090|
-depacketize g722|2|depacketize ok, then 909090|
-depacketize cn|2|depacketize ok, then 2a8040|depacketize fault 17, then 2a8040
-depacketize amrwb|2|depacketize ok, then 74|depacketize fault 17, then 74
-depacketize amrwb-octet|2|depacketize ok, then 74|depacketize fault 17, then 74
-depacketize tele|2|depacketize ok, then 058a0320|depacketize fault 17, then 058a0320
-depacketize vp8|2|depacketize ok, then 909090|
-depacketize vp8-id|2|depacketize ok, then 909090|
-depacketize vp9|2|depacketize ok, then 824983|
-depacketize vp9-flex|2|depacketize ok, then 824983|
-depacketize av1|5|depacketize ok, then 0a01aa3202bbcc|depacketize fault 17, then 0a01aa
-depacketize null|2|depacketize ok, then 909090|depacketize fault 17, then 909090
-pop opus|12|pop unit 0 0 1 9090 held 1 ready 1, then unit 1 1 1 90|pop fault 17 held 2 ready 2, then unit 0 0 1 9090 unit 1 1 1 90
-pop pcmu|12|pop unit 0 0 1 9090 held 1 ready 1, then unit 1 1 1 90|pop fault 17 held 2 ready 2, then unit 0 0 1 9090 unit 1 1 1 90
-pop g722|12|pop unit 0 0 1 9090 held 1 ready 1, then unit 1 1 1 90|pop fault 17 held 2 ready 2, then unit 0 0 1 9090 unit 1 1 1 90
-pop cn|8|pop unit 0 0 1 2a8040 held 0 ready 0, then|pop fault 17 held 1 ready 1, then unit 0 0 1 2a8040
-pop amrwb|8|pop unit 0 0 1 74 held 0 ready 0, then|pop fault 17 held 1 ready 1, then unit 0 0 1 74
-pop amrwb-octet|8|pop unit 0 0 1 74 held 0 ready 0, then|pop fault 17 held 1 ready 1, then unit 0 0 1 74
-pop tele|8|pop unit 0 0 1 058a0320 held 0 ready 0, then|pop fault 17 held 1 ready 1, then unit 0 0 1 058a0320
-pop vp8|12|pop unit 0 2 1 909090 held 0 ready 0, then|pop fault 17 held 3 ready 1, then unit 0 2 1 909090
-pop vp8-id|10|pop unit 0 1 1 909090 held 0 ready 0, then|pop fault 17 held 2 ready 1, then unit 0 1 1 909090
-pop vp9|10|pop unit 0 1 1 824983 held 0 ready 0, then|pop fault 17 held 2 ready 1, then unit 0 1 1 824983
-pop vp9-flex|10|pop unit 0 1 1 824983 held 0 ready 0, then|pop fault 17 held 2 ready 1, then unit 0 1 1 824983
-pop av1|13|pop unit 0 2 1 0a01aa3202bbcc held 0 ready 0, then|pop fault 17 held 3 ready 1, then unit 0 2 1 0a01aa3202bbcc
-pop null|8|pop unit 0 0 1 909090 held 0 ready 0, then|pop fault 17 held 1 ready 1, then unit 0 0 1 909090
-pop-skipping|14|pop unit 3 3 1 01 held 0 ready 0, then|pop fault 17 held 2 ready 2, then unit 3 3 1 01|pop fault 17 held 1 ready 1, then unit 3 3 1 01
-push|18|push ok held 5 ready 1, then unit 1 5 1 9091919192|push fault 17 held 4 ready 0, then unit 1 5 1 9091919192
-push-evicting|25|push ok held 4 ready 4, then unit 2 2 0 90 unit 3 3 1 90 unit 4 4 1 90 unit 5 5 1 91|push fault 17 held 4 ready 4, then unit 1 1 1 90 unit 2 2 1 90 unit 3 3 1 90 unit 4 4 1 90
+packetize opus|8|packetize 9090 90, then 9090 90|packetize fault 17, then 9090 90
+packetize pcmu|8|packetize 9090 90, then 9090 90|packetize fault 17, then 9090 90
+packetize g722|8|packetize 9090 90, then 9090 90|packetize fault 17, then 9090 90
+packetize cn|6|packetize 2a8040, then 2a8040|packetize fault 17, then 2a8040
+packetize amrwb|6|packetize f740, then f740|packetize fault 17, then f740
+packetize amrwb-octet|6|packetize f074, then f074|packetize fault 17, then f074
+packetize tele|6|packetize 058a0320060a0140, then 058a0320060a0140|packetize fault 17, then 058a0320060a0140
+packetize vp8|10|packetize 1090 0090 0090, then 1090 0090 0090|packetize fault 17, then 1090 0090 0090
+packetize vp8-id|8|packetize 9080209090 80802090, then 9080219090 80802190|packetize fault 17, then 9080209090 80802090
+packetize vp9|8|packetize aa92341001008249 a49234100183, then aa92351002008249 a49235100283|packetize fault 17, then aa92341001008249 a49234100183
+packetize vp9-flex|8|packetize 9892348249 94923483, then 9892358249 94923583|packetize fault 17, then 9892348249 94923483
+packetize av1|10|packetize 1808aa 5030bb 90cc, then 1808aa 5030bb 90cc|packetize fault 17, then 1808aa 5030bb 90cc
+packetize null|6|packetize 909090, then 909090|packetize fault 17, then 909090
+depacketize opus|3|depacketize ok, then 909090|
+depacketize pcmu|3|depacketize ok, then 909090|
+depacketize g722|3|depacketize ok, then 909090|
+depacketize cn|3|depacketize ok, then 2a8040|depacketize fault 17, then 2a8040
+depacketize amrwb|3|depacketize ok, then 74|depacketize fault 17, then 74
+depacketize amrwb-octet|3|depacketize ok, then 74|depacketize fault 17, then 74
+depacketize tele|3|depacketize ok, then 058a0320|depacketize fault 17, then 058a0320
+depacketize vp8|3|depacketize ok, then 909090|
+depacketize vp8-id|3|depacketize ok, then 909090|
+depacketize vp9|3|depacketize ok, then 824983|
+depacketize vp9-flex|3|depacketize ok, then 824983|
+depacketize av1|6|depacketize ok, then 0a01aa3202bbcc|depacketize fault 17, then 0a01aa
+depacketize null|3|depacketize ok, then 909090|depacketize fault 17, then 909090
+pop opus|11|pop unit 0 0 1 9090 held 1 ready 1, then unit 1 1 1 90|pop fault 17 held 2 ready 2, then unit 0 0 1 9090 unit 1 1 1 90
+pop pcmu|11|pop unit 0 0 1 9090 held 1 ready 1, then unit 1 1 1 90|pop fault 17 held 2 ready 2, then unit 0 0 1 9090 unit 1 1 1 90
+pop g722|11|pop unit 0 0 1 9090 held 1 ready 1, then unit 1 1 1 90|pop fault 17 held 2 ready 2, then unit 0 0 1 9090 unit 1 1 1 90
+pop cn|9|pop unit 0 0 1 2a8040 held 0 ready 0, then|pop fault 17 held 1 ready 1, then unit 0 0 1 2a8040
+pop amrwb|9|pop unit 0 0 1 74 held 0 ready 0, then|pop fault 17 held 1 ready 1, then unit 0 0 1 74
+pop amrwb-octet|9|pop unit 0 0 1 74 held 0 ready 0, then|pop fault 17 held 1 ready 1, then unit 0 0 1 74
+pop tele|9|pop unit 0 0 1 058a0320 held 0 ready 0, then|pop fault 17 held 1 ready 1, then unit 0 0 1 058a0320
+pop vp8|13|pop unit 0 2 1 909090 held 0 ready 0, then|pop fault 17 held 3 ready 1, then unit 0 2 1 909090
+pop vp8-id|11|pop unit 0 1 1 909090 held 0 ready 0, then|pop fault 17 held 2 ready 1, then unit 0 1 1 909090
+pop vp9|11|pop unit 0 1 1 824983 held 0 ready 0, then|pop fault 17 held 2 ready 1, then unit 0 1 1 824983
+pop vp9-flex|11|pop unit 0 1 1 824983 held 0 ready 0, then|pop fault 17 held 2 ready 1, then unit 0 1 1 824983
+pop av1|14|pop unit 0 2 1 0a01aa3202bbcc held 0 ready 0, then|pop fault 17 held 3 ready 1, then unit 0 2 1 0a01aa3202bbcc
+pop null|9|pop unit 0 0 1 909090 held 0 ready 0, then|pop fault 17 held 1 ready 1, then unit 0 0 1 909090
+pop-skipping|14|pop unit 3 3 1 0102030405060708090a0b0c0d0e0f1011 held 0 ready 0, then|pop fault 17 held 2 ready 2, then unit 3 3 1 0102030405060708090a0b0c0d0e0f1011|pop fault 17 held 1 ready 1, then unit 3 3 1 0102030405060708090a0b0c0d0e0f1011
+push|19|push ok held 5 ready 1, then unit 1 5 1 9091919192|push fault 17 held 4 ready 0, then unit 1 5 1 9091919192
+push-evicting|19|push ok held 4 ready 4, then unit 2 2 0 90 unit 3 3 1 90 unit 4 4 1 90 unit 5 5 1 91|push fault 17 held 4 ready 4, then unit 1 1 1 90 unit 2 2 1 90 unit 3 3 1 90 unit 4 4 1 90
 encode|4|encode e00f0002600909010203|encode fault 17
 decode|1|decode 96 960 0909 96 0 010203|decode fault 17
 recover|2|recover 11 1920 0909|recover fault 17
-wrap|14|wrap ef2d0001ef0f00016f01032a, then ef2d0001ef0f00016f022a2b|wrap fault 17, then ef3c0001ef1e00016f01032b
-wrap-again|46|wrap ef2d0001ef0f00016f11132a, then ef2d0001ef0f00016f122a2b|wrap fault 17, then ef3c0001ef1e00016f11132b
+wrap|15|wrap ef2d0001ef0f00016f01032a, then ef2d0001ef0f00016f022a2b|wrap fault 17, then ef3c0001ef1e00016f01032b
+wrap-again|47|wrap ef2d0001ef0f00016f11132a, then ef2d0001ef0f00016f122a2b|wrap fault 17, then ef3c0001ef1e00016f11132b
 END
 
 # The same of payload_hostile, which reads the name of the call.

@@ -170,14 +170,14 @@ static void pops_frame(const example *it) {
     pops();
 }
 
-/* Pops after a frame that is older than the one before, by its picture id. */
+/* Pops after a frame that is older than the one before, by its picture id. Each frame is longer than the memory of the last. */
 static void pops_after_skipping(void) {
     cpay_unit unit;
     new_buffer(CPAY_VP8, 4096);
     check(push(1, 1, true, BYTES("\x90\xe0\x0a\x05\0\1")));
     check(cpay_buffer_pop(&buffer, &unit, space, sizeof space));
-    check(push(2, 2, true, BYTES("\x90\xe0\x09\x05\0\1")));
-    check(push(3, 3, true, BYTES("\x90\xe0\x0b\x06\0\1")));
+    check(push(2, 2, true, BYTES("\x90\xe0\x09\x05\0\1\2\3\4\5\6\7\x08\x09")));
+    check(push(3, 3, true, BYTES("\x90\xe0\x0b\x06\0\1\2\3\4\5\6\7\x08\x09\x0a\x0b\x0c\x0d\x0e\x0f\x10\x11")));
     pops();
 }
 
