@@ -101,6 +101,9 @@ impl ExtensionIds {
     /// The values in the extension of a packet: for each, the first element with its id. A value whose length is not that of its
     /// format is absent. Reads the elements once for each id, and does not allocate.
     pub fn values(&self, extension: &Option<HeaderExtension<'_>>) -> ExtensionValues {
+        if extension.is_none() {
+            return ExtensionValues::default();
+        }
         let level = byte_of(bytes_for(self.audio_level, extension));
         ExtensionValues {
             abs_capture_time: capture_time_of(bytes_for(self.abs_capture_time, extension)),
