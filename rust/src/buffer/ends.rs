@@ -8,11 +8,13 @@ use super::frames::{CompleteFrame, frame_of};
 use super::held_packet::{HeldPacket, Packet};
 use super::packets::take_lowest;
 use super::rows::{Row, frame_of_left, join, meets, shorten};
+use super::search::put_at;
 use crate::memory::One;
 use alloc::collections::VecDeque;
 use alloc::vec::Vec;
 
 /// Returns the row from `first` to the packet at `place`, which is its last.
+#[inline(always)]
 fn row_to(packets: &VecDeque<HeldPacket>, first: u64, place: usize) -> Row {
     let last = &packets[place];
     Row {
@@ -30,6 +32,7 @@ fn is_next(earlier: u64, later: u64) -> bool {
 }
 
 /// Joins a row with the row that begins at `place`, if they meet.
+#[inline(always)]
 fn join_next(packets: &VecDeque<HeldPacket>, place: usize, row: Row) -> Row {
     if place == packets.len() {
         return row;
@@ -48,6 +51,7 @@ fn join_next(packets: &VecDeque<HeldPacket>, place: usize, row: Row) -> Row {
 }
 
 /// Joins a row with the row that ends in front of `place`, if they meet.
+#[inline(always)]
 fn join_previous(packets: &VecDeque<HeldPacket>, place: usize, row: Row) -> Row {
     if place == 0 {
         return row;
@@ -65,6 +69,7 @@ fn join_previous(packets: &VecDeque<HeldPacket>, place: usize, row: Row) -> Row 
 }
 
 /// Returns the row of a new packet once it is at its place: `row` is the packet alone.
+#[inline(always)]
 pub(super) fn row_with(packets: &VecDeque<HeldPacket>, place: usize, row: Row) -> Row {
     let row = join_next(packets, place, row);
     join_previous(packets, place, row)
@@ -77,6 +82,7 @@ fn mark(entry: &mut HeldPacket, other_end: u64, row_head: Option<u64>) {
 }
 
 /// Notes the other end of a row, and its head, in the packet at `place`.
+#[inline(always)]
 fn set_mark(
     packets: &mut VecDeque<HeldPacket>,
     place: usize,
@@ -87,6 +93,7 @@ fn set_mark(
 }
 
 /// Notes a row at both of its ends, the packets at `from` and `to`.
+#[inline(always)]
 fn set_ends(packets: &mut VecDeque<HeldPacket>, from: usize, to: usize, row: Row) {
     set_mark(packets, from, row.last, None);
     set_mark(packets, to, row.first, row.head);
@@ -94,6 +101,7 @@ fn set_ends(packets: &mut VecDeque<HeldPacket>, from: usize, to: usize, row: Row
 
 /// Inserts a packet at its place; `row` is its row after that. The caller has reserved the room. At the end of the queue
 /// nothing moves.
+#[inline(always)]
 pub(super) fn place_at(
     packets: &mut VecDeque<HeldPacket>,
     place: usize,
@@ -101,7 +109,7 @@ pub(super) fn place_at(
     row: Row,
 ) {
     let number = packet.number;
-    packets.insert(place, packet);
+    put_at(packets, place, packet);
     let from = place - (number - row.first) as usize;
     let to = place + (row.last - number) as usize;
     set_ends(packets, from, to, row);

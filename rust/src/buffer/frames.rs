@@ -3,7 +3,7 @@
 //! The complete frames among the held packets: an ordered list that is updated when packets arrive and leave.
 
 use super::rows::Row;
-use super::search::place_of_number;
+use super::search::{place_of_number, put_at};
 use alloc::collections::VecDeque;
 
 /// A complete frame: the sequence numbers of its first and last packet.
@@ -30,13 +30,14 @@ fn find_end(complete_frames: &VecDeque<CompleteFrame>, last: u64) -> usize {
 }
 
 /// Adds a frame to the list, or replaces the frame with the same end. The caller has reserved the room.
+#[inline(always)]
 pub(super) fn note(complete_frames: &mut VecDeque<CompleteFrame>, frame: Option<CompleteFrame>) {
     if let Some(frame) = frame {
         let place = find_end(complete_frames, frame.last);
         if place < complete_frames.len() && complete_frames[place].last == frame.last {
             complete_frames[place] = frame;
         } else {
-            complete_frames.insert(place, frame);
+            put_at(complete_frames, place, frame);
         }
     }
 }

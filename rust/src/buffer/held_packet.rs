@@ -39,6 +39,7 @@ const _: () = assert!(size_of::<Packet>() <= 128);
 
 impl Packet {
     /// Makes a packet that is a row by itself. Allocates only for rare values.
+    #[inline(always)]
     pub(super) fn of(
         meta: RtpMeta,
         bytes: Vec<u8>,
@@ -64,6 +65,7 @@ pub(super) trait Tells<T> {
 
 /// Returns the metadata of the packet, as users see it.
 impl Tells<RtpMeta> for HeldPacket {
+    #[inline(always)]
     fn tell(&self) -> RtpMeta {
         self.packet.known.meta()
     }

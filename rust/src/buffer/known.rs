@@ -71,6 +71,7 @@ impl Rare {
 
 impl Known {
     /// Stores the metadata of a packet. Allocates only for rare values.
+    #[inline(always)]
     pub(super) fn of(meta: RtpMeta) -> Result<Self, AllocError> {
         let rare = Rare::of(&meta)?;
         let header = &meta.header;
@@ -113,7 +114,17 @@ impl Known {
     }
 
     /// Returns the metadata of the packet, as users see it.
+    #[inline(always)]
     pub(super) fn meta(&self) -> RtpMeta {
+        match &self.rare {
+            Some(rare) => self.meta_with(self.values_with(rare), rare.last_sender_info),
+            None => self.meta_with(self.plain_values(), None),
+        }
+    }
+
+    /// Returns the metadata with these values and this sender report.
+    #[inline(always)]
+    fn meta_with(&self, values: ExtensionValues, last_sender_info: Option<SenderInfo>) -> RtpMeta {
         RtpMeta {
             received: self.received,
             time: self.time,
@@ -124,18 +135,16 @@ impl Known {
                 timestamp: self.timestamp,
                 ssrc: self.ssrc,
                 marker: self.marker,
-                ext_vals: self.values(),
+                ext_vals: values,
             },
-            last_sender_info: match &self.rare {
-                Some(rare) => rare.last_sender_info,
-                None => None,
-            },
+            last_sender_info,
         }
     }
 
-    /// Returns the values of its header extensions.
-    fn values(&self) -> ExtensionValues {
-        let plain = ExtensionValues {
+    /// Returns the values of its header extensions that are not rare.
+    #[inline(always)]
+    fn plain_values(&self) -> ExtensionValues {
+        ExtensionValues {
             abs_capture_time: None,
             video_orientation: self.video_orientation,
             video_content_type: self.video_content_type,
@@ -143,15 +152,16 @@ impl Known {
             layers_allocation: None,
             audio_level: self.audio_level,
             voice_activity: self.voice_activity,
-        };
-        match &self.rare {
-            Some(rare) => ExtensionValues {
-                abs_capture_time: rare.abs_capture_time,
-                video_timing: rare.video_timing,
-                layers_allocation: rare.layers(),
-                ..plain
-            },
-            None => plain,
+        }
+    }
+
+    /// Returns the values of its header extensions, with these rare ones.
+    fn values_with(&self, rare: &Rare) -> ExtensionValues {
+        ExtensionValues {
+            abs_capture_time: rare.abs_capture_time,
+            video_timing: rare.video_timing,
+            layers_allocation: rare.layers(),
+            ..self.plain_values()
         }
     }
 }

@@ -18,6 +18,7 @@ use alloc::vec::Vec;
 const KEPT_BLOCKS: usize = 16;
 
 /// Puts a packet in a memory block, a kept one if there is one.
+#[inline(always)]
 fn in_block(spare: &mut Vec<One<Packet>>, packet: Packet) -> Result<One<Packet>, AllocError> {
     if let Some(mut block) = spare.pop() {
         *block = packet;
@@ -40,6 +41,7 @@ fn keep(spare: &mut Vec<One<Packet>>, block: One<Packet>) {
 }
 
 /// Makes a packet for the queue. Allocates for its memory block and metadata.
+#[inline(always)]
 pub(super) fn hold(spare: &mut Vec<One<Packet>>, packet: Packet) -> Result<HeldPacket, AllocError> {
     let number = packet.known.number();
     Ok(HeldPacket {
@@ -101,6 +103,7 @@ pub(super) fn frame_range(packets: &VecDeque<HeldPacket>, frame: CompleteFrame) 
 }
 
 /// Appends the fields of an item.
+#[inline(always)]
 fn push_told<T, I: Tells<T>>(all: &mut Vec<T>, item: &I) -> Result<(), AllocError> {
     all.try_push(item.tell())?;
     Ok(())

@@ -24,12 +24,23 @@ impl Numbered for CompleteFrame {
     }
 }
 
-/// Returns how many items have a lower number. It inspects the first item, and then goes back from the last item in steps that
-/// double. So the cost grows with the logarithm of the distance from the end, and not with the length of the queue.
+/// Returns how many items have a lower number. It inspects the first and the last item, and then goes back from the last item in
+/// steps that double. So the cost grows with the logarithm of the distance from the end, and not with the length of the queue.
+#[inline(always)]
 pub(super) fn place_of_number<T: Numbered>(items: &VecDeque<T>, number: u64) -> usize {
-    if items.is_empty() || number <= items[0].number() {
+    let len = items.len();
+    if len == 0 || number <= items[0].number() {
         return 0;
     }
+    if items[len - 1].number() < number {
+        return len;
+    }
+    place_inside(items, number)
+}
+
+/// Does the same, by a search.
+#[inline(never)]
+fn place_inside<T: Numbered>(items: &VecDeque<T>, number: u64) -> usize {
     let (low, high) = look_back(items, number);
     search_between(items, number, low, high)
 }
@@ -58,4 +69,13 @@ fn search_between<T: Numbered>(items: &VecDeque<T>, number: u64, low: usize, hig
         }
     }
     low
+}
+
+/// Inserts an item at this place. The caller has reserved the room. At the end of the queue nothing moves.
+pub(super) fn put_at<T>(items: &mut VecDeque<T>, place: usize, item: T) {
+    if place == items.len() {
+        items.push_back(item);
+    } else {
+        items.insert(place, item);
+    }
 }

@@ -15,9 +15,11 @@ use super::frames::{CompleteFrame, frame_of};
 use super::held_packet::{HeldPacket, Packet};
 use super::packets::take_lowest;
 use super::rows::{Row, frame_of_left, join, meets, shorten};
+use super::search::put_at;
 use std::collections::VecDeque;
 
 /// Returns the row from `first` to the packet at `place`, which is its last.
+#[inline(always)]
 fn row_to(packets: &VecDeque<HeldPacket>, first: u64, place: usize) -> Row
     requires { place < deque_len packets.now }
     ensures { (x : Entry) × (x ≡ slice_index_or packets.now.items place x) × (result ≡ row_ending first x) }
@@ -40,6 +42,7 @@ fn is_next(earlier: u64, later: u64) -> bool
 }
 
 /// Joins a row with the row that begins at `place`, if they meet.
+#[inline(always)]
 fn join_next(packets: &VecDeque<HeldPacket>, place: usize, row: Row) -> Row
     requires rises { Rises (map held_of packets.now.items) }
     requires told { AreTold (rows (map held_of packets.now.items)) (map mark_of packets.now.items) }
@@ -64,6 +67,7 @@ fn join_next(packets: &VecDeque<HeldPacket>, place: usize, row: Row) -> Row
 }
 
 /// Joins a row with the row that ends in front of `place`, if they meet.
+#[inline(always)]
 fn join_previous(packets: &VecDeque<HeldPacket>, place: usize, row: Row) -> Row
     requires rises { Rises (map held_of packets.now.items) }
     requires told { AreTold (rows (map held_of packets.now.items)) (map mark_of packets.now.items) }
@@ -87,6 +91,7 @@ fn join_previous(packets: &VecDeque<HeldPacket>, place: usize, row: Row) -> Row
 }
 
 /// Returns the row of a new packet once it is at its place: `row` is the packet alone.
+#[inline(always)]
 pub(super) fn row_with(packets: &VecDeque<HeldPacket>, place: usize, row: Row) -> Row
     requires rises { Rises (map held_of packets.now.items) }
     requires told { AreTold (rows (map held_of packets.now.items)) (map mark_of packets.now.items) }
@@ -109,6 +114,7 @@ fn mark(entry: &mut HeldPacket, other_end: u64, row_head: Option<u64>)
 }
 
 /// Notes the other end of a row, and its head, in the packet at `place`.
+#[inline(always)]
 fn set_mark(packets: &mut VecDeque<HeldPacket>, place: usize, other_end: u64, row_head: Option<u64>)
     requires { place < deque_len packets.old }
     ensures held { map held_of packets.new.items ≡ map held_of packets.old.items }
@@ -119,6 +125,7 @@ fn set_mark(packets: &mut VecDeque<HeldPacket>, place: usize, other_end: u64, ro
 }
 
 /// Notes a row at both of its ends, the packets at `from` and `to`.
+#[inline(always)]
 fn set_ends(packets: &mut VecDeque<HeldPacket>, from: usize, to: usize, row: Row)
     requires rises { Rises (map held_of packets.old.items) }
     requires from { from ≡ place_of row.first (map held_of packets.old.items) }
@@ -136,6 +143,7 @@ fn set_ends(packets: &mut VecDeque<HeldPacket>, from: usize, to: usize, row: Row
 
 /// Inserts a packet at its place; `row` is its row after that. The caller has reserved the room. At the end of the queue
 /// nothing moves.
+#[inline(always)]
 pub(super) fn place_at(
     packets: &mut VecDeque<HeldPacket>,
     place: usize,
@@ -153,7 +161,7 @@ pub(super) fn place_at(
     ensures capacity { deque_capacity packets.old ≤ deque_capacity packets.new }
 {
     let number = packet.number;
-    packets.insert(place, packet).unwrap();
+    put_at(packets, place, packet);
     let from = place - (number - row.first) as usize;
     let to = place + (row.last - number) as usize;
     set_ends(packets, from, to, row);

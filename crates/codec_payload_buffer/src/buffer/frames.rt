@@ -5,7 +5,7 @@ ghost use Rattle.std.specs.VecDeque.{deque_len, deque_capacity};
 ghost use Rattle.codec_payload_buffer.specs.Rows.{EndsRise, frame_of_row, frame_place, noted_if, first_mended};
 
 use super::rows::Row;
-use super::search::place_of_number;
+use super::search::{place_of_number, put_at};
 use std::collections::VecDeque;
 
 /// A complete frame: the sequence numbers of its first and last packet.
@@ -37,6 +37,7 @@ fn find_end(complete_frames: &VecDeque<CompleteFrame>, last: u64) -> usize
 }
 
 /// Adds a frame to the list, or replaces the frame with the same end. The caller has reserved the room.
+#[inline(always)]
 pub(super) fn note(complete_frames: &mut VecDeque<CompleteFrame>, frame: Option<CompleteFrame>)
     requires rises { EndsRise complete_frames.old.items }
     requires room { deque_len complete_frames.old < deque_capacity complete_frames.old }
@@ -49,7 +50,7 @@ pub(super) fn note(complete_frames: &mut VecDeque<CompleteFrame>, frame: Option<
         if place < complete_frames.len() && complete_frames[place].last == frame.last {
             complete_frames[place] = frame;
         } else {
-            complete_frames.insert(place, frame).unwrap();
+            put_at(complete_frames, place, frame);
         }
     }
 }

@@ -39,6 +39,7 @@ const _: () = prove!(size_of::<Packet>() <= 128);
 
 impl Packet {
     /// Makes a packet that is a row by itself. Allocates only for rare values.
+    #[inline(always)]
     pub(super) fn of(
         alloc: Global,
         meta: RtpMeta,
@@ -77,6 +78,7 @@ pub(super) trait Tells<T> {
 impl Tells<RtpMeta> for HeldPacket {
     ghost told = { λ entry. entry.packet.value.known };
 
+    #[inline(always)]
     fn tell(&self) -> RtpMeta {
         self.packet.known.meta()
     }

@@ -1,6 +1,6 @@
 //! The metadata of a held packet.
 
-ghost use Rattle.std.specs.Prelude.{◌≡◌, IfOk};
+ghost use Rattle.std.specs.Prelude.{◌≡◌, IfOk, Option};
 ghost use Rattle.std.specs.Option.{option_map};
 ghost use Rattle.codec_payload_buffer.specs.Rare.{capture_of, timing_of, layers_of, sender_info_of};
 
@@ -112,6 +112,7 @@ impl Model for Known {
 
 impl Known {
     /// Stores the metadata of a packet. Allocates only for rare values.
+    #[inline(always)]
     pub(super) fn of(alloc: Global, meta: RtpMeta) -> Result<Self, AllocError>
         ensures { IfOk result (λ known. known ≡ meta) }
     {
@@ -162,8 +163,20 @@ impl Known {
     }
 
     /// Returns the metadata of the packet, as users see it.
+    #[inline(always)]
     pub(super) fn meta(&self) -> RtpMeta
         ensures { result ≡ self.now }
+    {
+        match &self.rare {
+            Some(rare) => self.meta_with(self.values_with(rare), rare.last_sender_info),
+            None => self.meta_with(self.plain_values(), None),
+        }
+    }
+
+    /// Returns the metadata with these values and this sender report.
+    #[inline(always)]
+    fn meta_with(&self, values: ExtensionValues, last_sender_info: Option<SenderInfo>) -> RtpMeta
+        ensures { result ≡ record self.now { header = record self.now.header { ext_vals = values }; last_sender_info = last_sender_info } }
     {
         RtpMeta {
             received: self.received,
@@ -175,20 +188,18 @@ impl Known {
                 timestamp: self.timestamp,
                 ssrc: self.ssrc,
                 marker: self.marker,
-                ext_vals: self.values(),
+                ext_vals: values,
             },
-            last_sender_info: match &self.rare {
-                Some(rare) => rare.last_sender_info,
-                None => None,
-            },
+            last_sender_info,
         }
     }
 
-    /// Returns the values of its header extensions.
-    fn values(&self) -> ExtensionValues
-        ensures { result ≡ self.now.header.ext_vals }
+    /// Returns the values of its header extensions that are not rare.
+    #[inline(always)]
+    fn plain_values(&self) -> ExtensionValues
+        ensures { result ≡ record self.now.header.ext_vals { abs_capture_time = Option.None; video_timing = Option.None; layers_allocation = Option.None } }
     {
-        let plain = ExtensionValues {
+        ExtensionValues {
             abs_capture_time: None,
             video_orientation: self.video_orientation,
             video_content_type: self.video_content_type,
@@ -196,15 +207,18 @@ impl Known {
             layers_allocation: None,
             audio_level: self.audio_level,
             voice_activity: self.voice_activity,
-        };
-        match &self.rare {
-            Some(rare) => ExtensionValues {
-                abs_capture_time: rare.abs_capture_time,
-                video_timing: rare.video_timing,
-                layers_allocation: rare.layers(),
-                ..plain
-            },
-            None => plain,
+        }
+    }
+
+    /// Returns the values of its header extensions, with these rare ones.
+    fn values_with(&self, rare: &Rare) -> ExtensionValues
+        ensures { result ≡ record self.now.header.ext_vals { abs_capture_time = rare.now.abs_capture_time; video_timing = rare.now.video_timing; layers_allocation = option_map (λ b. b.value) rare.now.layers_allocation } }
+    {
+        ExtensionValues {
+            abs_capture_time: rare.abs_capture_time,
+            video_timing: rare.video_timing,
+            layers_allocation: rare.layers(),
+            ..self.plain_values()
         }
     }
 }

@@ -1,9 +1,9 @@
 //! Searches in queues that are ordered by a number.
 
-ghost use Rattle.std.specs.Prelude.{◌≡◌, ◌<◌, ◌≤◌, length, ℕ};
-ghost use Rattle.std.specs.List.{AllWithin};
+ghost use Rattle.std.specs.Prelude.{◌≡◌, ◌+◌, ◌<◌, ◌≤◌, length, ℕ};
+ghost use Rattle.std.specs.List.{AllWithin, insert};
 ghost use Rattle.std.specs.List.Sorted.{IsNonDecreasingBy, IsPartitionPoint};
-ghost use Rattle.std.specs.VecDeque.{deque_len};
+ghost use Rattle.std.specs.VecDeque.{deque_capacity, deque_len};
 
 use super::frames::CompleteFrame;
 use super::held_packet::HeldPacket;
@@ -34,16 +34,31 @@ impl Numbered for CompleteFrame {
     }
 }
 
-/// Returns how many items have a lower number. It inspects the first item, and then goes back from the last item in steps that
-/// double. So the cost grows with the logarithm of the distance from the end, and not with the length of the queue.
+/// Returns how many items have a lower number. It inspects the first and the last item, and then goes back from the last item in
+/// steps that double. So the cost grows with the logarithm of the distance from the end, and not with the length of the queue.
+#[inline(always)]
 pub(super) fn place_of_number<T: Numbered>(items: &VecDeque<T>, number: u64) -> usize
     requires { IsNonDecreasingBy T.number_of items.now.items }
     ensures bound { result ≤ deque_len items.now }
     ensures point { IsPartitionPoint (λ x. T.number_of x < number) (λ x. number ≤ T.number_of x) items.now.items result }
 {
-    if items.is_empty() || number <= items[0].number() {
+    let len = items.len();
+    if len == 0 || number <= items[0].number() {
         return 0;
     }
+    if items[len - 1].number() < number {
+        return len;
+    }
+    place_inside(items, number)
+}
+
+/// Does the same, by a search.
+#[inline(never)]
+fn place_inside<T: Numbered>(items: &VecDeque<T>, number: u64) -> usize
+    requires { IsNonDecreasingBy T.number_of items.now.items }
+    ensures bound { result ≤ deque_len items.now }
+    ensures point { IsPartitionPoint (λ x. T.number_of x < number) (λ x. number ≤ T.number_of x) items.now.items result }
+{
     let (low, high) = look_back(items, number);
     search_between(items, number, low, high)
 }
@@ -86,4 +101,19 @@ fn search_between<T: Numbered>(items: &VecDeque<T>, number: u64, low: usize, hig
         }
     }
     low
+}
+
+/// Inserts an item at this place. The caller has reserved the room. At the end of the queue nothing moves.
+pub(super) fn put_at<T>(items: &mut VecDeque<T>, place: usize, item: T)
+    requires place { place ≤ deque_len items.old }
+    requires room { deque_len items.old < deque_capacity items.old }
+    ensures items { items.new.items ≡ insert items.old.items place item }
+    ensures len { deque_len items.new ≡ deque_len items.old + 1 }
+    ensures capacity { deque_capacity items.old ≤ deque_capacity items.new }
+{
+    if place == items.len() {
+        items.push_back(item).unwrap();
+    } else {
+        items.insert(place, item).unwrap();
+    }
 }

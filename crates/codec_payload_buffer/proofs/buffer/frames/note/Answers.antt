@@ -4,8 +4,8 @@ use Rattle.codec_payload_buffer.proofs.FramePlaces.{frame_place_within, note_ove
 use Rattle.codec_payload_buffer.proofs.buffer.frames.note.Goals.{else-place-len-via-then-place-len+else-index-frame, else-place-len-via-else-place-len}
 use Rattle.codec_payload_buffer.proofs.buffer.frames.note.Goals as goal
 
-pub insert-requires : goal.insert-requires
-insert-requires c = omega (arith, c.find_end-place.ensures, frame_place_within c.in-Some.frame.last c.args.complete_frames.now.items, c.args.complete_frames.now.ok.0)
+pub put_at-requires-clause-place : goal.put_at-requires-clause-place
+put_at-requires-clause-place c = omega (arith, c.find_end-place.ensures, frame_place_within c.in-Some.frame.last c.args.complete_frames.now.items, c.args.complete_frames.now.ok.0)
 
 pub returns-then-index-frame-clause-items : goal.returns-then-index-frame-clause-items
 returns-then-index-frame-clause-items c =
@@ -16,7 +16,7 @@ returns-then-index-frame-clause-items c =
 pub returns-else-place-len-clause-items : goal.returns-else-place-len-clause-items
 returns-else-place-len-clause-items c =
     let items = c.args.complete_frames.now.items in
-    let put = on_ok c.insert.result _ _ c.unwrap.ensures c.insert.ensures.items in
+    let put = c.put_at.ensures.items in
     rw c.in-Some.is (put ∙ note_new c.find_end-place.result c.in-Some.frame items c.find_end-place.ensures (λ l. elim c.else-place-len.branch [
       | else-place-len-via-then-place-len+else-index-frame w ↦ (w.index.result.now, w.index.ensures, w.if-index-frame.false)
       | else-place-len-via-else-place-len w ↦
