@@ -81,6 +81,7 @@ pub(crate) fn is_noted(no_media_numbers: &[u64], number: u64) -> bool
 }
 
 /// Moves the cutoff of the buffer past the numbers without media that come right after it, and forgets these numbers.
+#[inline(always)]
 pub(crate) fn pass_no_media_numbers<B: Depacketizer>(
     buffer: &mut DepacketizingBuffer<B>,
     no_media_numbers: &mut Vec<u64>,

@@ -44,6 +44,7 @@ impl NotedTimes {
     }
 
     /// Returns whether the number is noted with another time.
+    #[inline(always)]
     pub(crate) fn contradicts(&self, backward: u16, packet: NotedTime) -> bool
         ensures { result ≡ contradicts backward self.now packet }
     {
@@ -56,6 +57,7 @@ impl NotedTimes {
     }
 
     /// Allocates all places if this packet is the first whose time is noted; otherwise returns an empty list.
+    #[inline(always)]
     pub(crate) fn first_places(
         &self,
         backward: u16,
@@ -73,6 +75,7 @@ impl NotedTimes {
 
     /// Notes the time of a packet, if its number is a multiple of the spacing. `places` comes from
     /// [`NotedTimes::first_places`].
+    #[inline(always)]
     pub(crate) fn note(&mut self, places: Vec<NotedTime>, backward: u16, packet: NotedTime)
         requires { places.items ≡ first_places backward self.old packet }
         ensures { self.new ≡ noted_with backward self.old packet }

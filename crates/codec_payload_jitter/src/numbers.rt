@@ -153,6 +153,7 @@ impl SequenceNumbers {
     }
 
     /// Records the answer for a packet with the low bits `low`.
+    #[inline(always)]
     pub(crate) fn take(&mut self, answer: Extended, low: u16)
         requires far { IfSome (number_in answer) (λ x. self.old.greatest ≡ None → 65536 ≤ x) }
         ensures { self.new ≡ numbering_with self.old answer low }
@@ -258,6 +259,7 @@ pub(crate) fn number_within(answer: Extended) -> Option<u64>
 }
 
 /// Returns the lowest number since the latest restart, with this packet.
+#[inline(always)]
 pub(crate) fn lowest_with(lowest: Option<u64>, answer: Extended) -> Option<u64>
     ensures { result ≡ lowest_with lowest answer }
 {

@@ -424,6 +424,7 @@ impl<B: Depacketizer> JitterBuffer<B> {
     }
 
     /// Stores, keeps or counts a packet, by the answer for its number.
+    #[inline(always)]
     fn receive_as(&mut self, answer: Extended, packet: KeptPacket) -> Result<Outcome, PacketError> {
         match answer {
             Extended::Number(number) => self.store_and_note(number, packet),
@@ -440,6 +441,7 @@ impl<B: Depacketizer> JitterBuffer<B> {
     }
 
     /// Stores a packet under its number, and notes its RTP time. The suspect packet stays.
+    #[inline(always)]
     fn store_and_note(&mut self, number: u64, packet: KeptPacket) -> Result<Outcome, PacketError> {
         let noted = NotedTime {
             number,
@@ -505,6 +507,7 @@ impl<B: Depacketizer> JitterBuffer<B> {
     }
 
     /// Stores a packet under its number, and counts the outcome.
+    #[inline(always)]
     fn accept(&mut self, number: u64, packet: KeptPacket) -> Result<Outcome, PacketError> {
         let outcome = store(&mut self.buffer, self.clock_rate, packet, number)?;
         self.counters = with_outcome(self.counters, outcome);
@@ -542,6 +545,7 @@ impl<B: Depacketizer> JitterBuffer<B> {
 }
 
 /// Stores a packet in the buffer under its number, and returns the outcome.
+#[inline(always)]
 fn store<B: Depacketizer>(
     buffer: &mut DepacketizingBuffer<B>,
     clock_rate: Frequency,
@@ -554,6 +558,7 @@ fn store<B: Depacketizer>(
 }
 
 /// Returns the metadata of a packet with this number.
+#[inline(always)]
 fn meta_for(clock_rate: Frequency, received: Ticks, header: RtpHeader, number: u64) -> RtpMeta {
     RtpMeta {
         received,

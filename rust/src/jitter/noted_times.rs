@@ -30,6 +30,7 @@ impl NotedTimes {
     }
 
     /// Returns whether the number is noted with another time.
+    #[inline(always)]
     pub(crate) fn contradicts(&self, backward: u16, packet: NotedTime) -> bool {
         let place = place_of(backward, packet.number);
         if place >= self.places.len() {
@@ -40,6 +41,7 @@ impl NotedTimes {
     }
 
     /// Allocates all places if this packet is the first whose time is noted; otherwise returns an empty list.
+    #[inline(always)]
     pub(crate) fn first_places(
         &self,
         backward: u16,
@@ -54,6 +56,7 @@ impl NotedTimes {
 
     /// Notes the time of a packet, if its number is a multiple of the spacing. `places` comes from
     /// [`NotedTimes::first_places`].
+    #[inline(always)]
     pub(crate) fn note(&mut self, places: Vec<NotedTime>, backward: u16, packet: NotedTime) {
         if !is_noted(backward, packet.number) {
             return;

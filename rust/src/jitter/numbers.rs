@@ -128,6 +128,7 @@ impl SequenceNumbers {
     }
 
     /// Records the answer for a packet with the low bits `low`.
+    #[inline(always)]
     pub(crate) fn take(&mut self, answer: Extended, low: u16) {
         match answer {
             Extended::Number(number) => self.raise_to(number),
@@ -210,6 +211,7 @@ pub(crate) fn number_within(answer: Extended) -> Option<u64> {
 }
 
 /// Returns the lowest number since the latest restart, with this packet.
+#[inline(always)]
 pub(crate) fn lowest_with(lowest: Option<u64>, answer: Extended) -> Option<u64> {
     match answer {
         Extended::Number(number) => Some(match lowest {

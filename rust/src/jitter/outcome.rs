@@ -104,6 +104,7 @@ pub(crate) fn outcome_of(placed: Placed) -> Outcome {
 }
 
 /// Counts one more packet with this outcome, without `pushed`.
+#[inline(always)]
 fn count_outcome(mut counters: PacketCounters, outcome: Outcome) -> PacketCounters {
     match outcome {
         Outcome::Held
@@ -121,6 +122,7 @@ fn count_outcome(mut counters: PacketCounters, outcome: Outcome) -> PacketCounte
 }
 
 /// Counts one more pushed packet with this outcome.
+#[inline(always)]
 pub(crate) fn with_outcome(counters: PacketCounters, outcome: Outcome) -> PacketCounters {
     let mut counters = count_outcome(counters, outcome);
     counters.pushed = counters.pushed.wrapping_add(1);
@@ -161,6 +163,7 @@ pub(crate) fn is_stored(outcome: Outcome) -> bool {
 }
 
 /// Counts one pop: `units` units with `released` packets were released, and `left` packets were discarded.
+#[inline(always)]
 pub(crate) fn with_pop(
     mut counters: PacketCounters,
     units: u64,
