@@ -231,6 +231,7 @@ pub fn is_rtcp(bytes: &[u8]) -> bool {
 }
 
 /// `count` bytes from the front, and the bytes after them.
+#[inline(always)]
 fn cut_front(count: usize, fault: RtpError, bytes: &[u8]) -> Result<(&[u8], &[u8]), RtpError> {
     if bytes.len() < count {
         return Err(fault);
@@ -239,6 +240,7 @@ fn cut_front(count: usize, fault: RtpError, bytes: &[u8]) -> Result<(&[u8], &[u8
 }
 
 /// The extension at the front, if present, and the bytes after it.
+#[inline(always)]
 fn read_extension(
     there: bool,
     bytes: &[u8],
@@ -256,6 +258,7 @@ fn read_extension(
 }
 
 /// The bytes before the padding, and the number of padding bytes.
+#[inline(always)]
 fn remove_padding(there: bool, bytes: &[u8]) -> Result<(&[u8], u8), RtpError> {
     if !there {
         return Ok((bytes, 0));
@@ -275,6 +278,7 @@ fn remove_padding(there: bool, bytes: &[u8]) -> Result<(&[u8], u8), RtpError> {
 }
 
 /// The header at the front, whether P is set, and the bytes after it.
+#[inline(always)]
 fn read_header(packet: &[u8]) -> Result<(PacketHeader<'_>, bool, &[u8]), RtpError> {
     let [
         first,
@@ -323,6 +327,7 @@ fn write_padding(padding: u8, out: &mut Vec<u8>) -> Result<(), AllocError> {
 
 impl<'a> RtpPacket<'a> {
     /// Reads a packet, from left to right.
+    #[inline(always)]
     fn read(packet: &'a [u8]) -> Result<RtpPacket<'a>, RtpError> {
         let (header, padded, rest) = read_header(packet)?;
         let (payload, padding) = remove_padding(padded, rest)?;
