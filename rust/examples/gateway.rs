@@ -73,6 +73,7 @@ fn main() -> Result<(), Box<dyn Error>> {
     settings.red = Some(RedSettings {
         payload_type: RED_TYPE,
         step: STEP,
+        retransmission: None,
     });
     // A missing frame is waited for 100 ms: five packets, more than the largest distance.
     settings.wait_limits = WaitLimits::live();

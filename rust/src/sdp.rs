@@ -268,7 +268,7 @@ impl<'a> Media<'a> {
     ///
     /// - Wait limits: for live audio or video, with retransmission if `a=rtcp-fb` has nack for the payload type.
     /// - RED: the RED format over the payload type, or one that names no payload type. The step is `a=ptime`, 20 ms by default, in
-    ///   ticks of the RTP clock, 1 to 16,383.
+    ///   ticks of the RTP clock, 1 to 16,383. Its retransmissions have the first format of RTX whose `apt` is the RED format.
     /// - If the section has exactly one SSRC of media, it is the SSRC of the stream. If it has retransmissions, and a format of
     ///   RTX has the payload type as `apt`, they are set too.
     /// - Types without media: telephone events, comfort noise, error correction. Ids of header extensions.
@@ -325,6 +325,7 @@ impl<'a> Media<'a> {
         Some(RedSettings {
             payload_type: format.payload_type,
             step: self.red_step(clock_rate),
+            retransmission: self.retransmission_type(format.payload_type),
         })
     }
 

@@ -37,6 +37,7 @@ fn receiver() -> Result<Receiver, Box<dyn Error>> {
     settings.red = Some(RedSettings {
         payload_type: RED,
         step: STEP,
+        retransmission: None,
     });
     let depacketizer = CodecDepacketizer::from_codec(Codec::Opus).ok_or("no depacketizer")?;
     Ok(Receiver::new(depacketizer, settings)?)

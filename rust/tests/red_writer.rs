@@ -103,6 +103,7 @@ fn a_receiver_recovers_lost_packets() -> Result<(), Fail> {
         red: Some(RedSettings {
             payload_type: 63,
             step: 960,
+            retransmission: None,
         }),
         ..ReceiverSettings::for_stream(111, RATE)
     };

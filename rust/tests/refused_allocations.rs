@@ -308,6 +308,7 @@ fn datagrams() {
         settings.red = Some(RedSettings {
             payload_type: 63,
             step: 960,
+            retransmission: None,
         });
         Receiver::new(depacketizer(Codec::Vp8), settings).unwrap()
     };

@@ -85,5 +85,5 @@ ok_settings s types t d a h =
     ∙ (λ i. nat_le (a.payload_type i) 127 && ((nat_le 1 (a.limit i) && nat_le (a.limit i) 65536) && (retransmission_fits (a.retransmission i)
     && (is_ok (red_within (a.payload_type i) (a.red i)) && ((nat_lt 0 (a.forward i) && nat_le (a.forward i) 32768) && nat_lt (a.backward i) (a.forward i))))))
     ∙ (λ i. nat_le s.payload_type 127 && ((nat_le 1 s.limit && nat_le s.limit 65536) && (fits_if s.has_rtx (record { ssrc = s.rtx_ssrc; payload_type = s.rtx_payload_type }) i
-    && (ok_red_if s.payload_type s.has_red (record { payload_type = s.red_payload_type; step = s.red_step }) i && ((nat_lt 0 s.forward && nat_le s.forward 32768) && nat_lt s.backward s.forward)))))
+    && (ok_red_if s.payload_type s.has_red (record { payload_type = s.red_payload_type; step = s.red_step; retransmission = None }) i && ((nat_lt 0 s.forward && nat_le s.forward 32768) && nat_lt s.backward s.forward)))))
     ∙ in_order (nat_le s.payload_type 127) (nat_le 1 s.limit) (nat_le s.limit 65536) (rtx_in_range s) (red_in_range s) (nat_lt 0 s.forward) (nat_le s.forward 32768) (nat_lt s.backward s.forward) (nat_lt 0 s.tick_rate) (nat_le s.from_keyframe 2) h

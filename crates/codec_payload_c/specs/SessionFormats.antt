@@ -46,7 +46,7 @@ abbrev pub format_with : SessionFormat → Format
 format_with f = record {
   payload_type = f.payload_type;
   spec = record { codec = codec_numbered f.spec.codec; clock_rate = f.spec.rate; octet_align = f.spec.octet_align };
-  red = if f.has_red then Some (record { payload_type = f.red_payload_type; step = f.red_step }) else None;
+  red = if f.has_red then Some (record { payload_type = f.red_payload_type; step = f.red_step; retransmission = None }) else None;
   retransmission = given_if f.has_rtx f.rtx_payload_type;
   nack = f.nack;
   pli = f.pli;

@@ -61,7 +61,7 @@ abbrev pub wait_limits_given : CWaitLimits → WaitLimits
 wait_limits_given p = record { hold_back = bound_given p.hold_back; start = p.start; max_wait = given_if p.has_max_wait p.max_wait }
 
 abbrev pub red_set : ReceiverSettings → Option RedSettings
-red_set s = if s.has_red then Some (record { payload_type = s.red_payload_type; step = s.red_step }) else None
+red_set s = if s.has_red then Some (record { payload_type = s.red_payload_type; step = s.red_step; retransmission = None }) else None
 
 abbrev pub rtx_set : ReceiverSettings → Option Retransmission
 rtx_set s = if s.has_rtx then Some (record { ssrc = s.rtx_ssrc; payload_type = s.rtx_payload_type }) else None

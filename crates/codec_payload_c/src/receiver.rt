@@ -152,6 +152,7 @@ fn red_of(settings: &ReceiverSettings) -> Option<RedSettings>
     Some(RedSettings {
         payload_type: settings.red_payload_type,
         step: settings.red_step,
+        retransmission: None,
     })
 }
 

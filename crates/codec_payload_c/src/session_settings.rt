@@ -156,6 +156,7 @@ fn format_of(alloc: Global, format: &SessionFormat) -> Option<Format>
             Some(RedSettings {
                 payload_type: format.red_payload_type,
                 step: format.red_step,
+                retransmission: None,
             })
         } else {
             None

@@ -36,9 +36,19 @@ is_red_type (Some red) payload_type = red.payload_type == payload_type
 abbrev pub has_type : Format → ℕ → Bool
 has_type f payload_type = if f.payload_type == payload_type then true else is_red_type f.red payload_type
 
--- packets of this type are retransmissions of the format
+-- packets of this type are retransmissions of RED packets
+abbrev pub resends_red : Option RedSettings → ℕ → Bool
+resends_red None payload_type = false
+resends_red (Some red) payload_type = is_type red.retransmission payload_type
+
+abbrev pub resends_by : Option ℕ → Option RedSettings → ℕ → Bool
+resends_by None red payload_type = false
+resends_by (Some own) red payload_type = if own == payload_type then true else resends_red red payload_type
+
+-- packets of this type are retransmissions of the format, whose original packets were RED or not; a format without a type of
+-- retransmissions has none of RED
 abbrev pub resends : Format → ℕ → Bool
-resends f payload_type = is_type f.retransmission payload_type
+resends f payload_type = resends_by f.retransmission f.red payload_type
 
 -- by the first format that names the type, or by the types without media
 abbrev pub role_by : List Format → List ℕ → ℕ → Role

@@ -1,7 +1,7 @@
 //! The payload types of a port, and the settings of its streams.
 
 ghost use Rattle.std.specs.Prelude.{◌≡◌, IfOk};
-ghost use Rattle.codec_payload_session.specs.Formats.{HasSettings, IsLive, IsLiveFeedback, has_type, is_video, limits_for, plain_format, resends, retransmission_for, retransmission_of, role_by, role_of, stream_of};
+ghost use Rattle.codec_payload_session.specs.Formats.{HasSettings, IsLive, IsLiveFeedback, has_type, is_type, is_video, limits_for, plain_format, resends, resends_red, retransmission_for, retransmission_of, role_by, role_of, stream_of};
 ghost use Rattle.codec_payload_stream.specs.Kinds.{is_among};
 
 use codec_payload_base::wire::{Codec, CodecSpec, Frequency};
@@ -27,7 +27,8 @@ pub struct Format {
     /// The payload type, 0 to 127.
     pub payload_type: u8,
     pub spec: CodecSpec,
-    /// The payload type and the step of RED (RFC 2198) over this format, if RED is used.
+    /// The payload type and the step of RED (RFC 2198) over this format, if RED is used, and the payload type of its
+    /// retransmissions (`apt`), which are read only if there is a `retransmission` too.
     pub red: Option<RedSettings>,
     /// The payload type of its retransmissions (RFC 4588, `apt`), 0 to 127, if there are any.
     pub retransmission: Option<u8>,
@@ -256,9 +257,30 @@ impl Format {
         ensures { result ≡ resends self.now payload_type }
     {
         match self.retransmission {
-            Some(own) => own == payload_type,
+            Some(own) if own == payload_type => true,
+            Some(_) => self.resends_red(payload_type),
             None => false,
         }
+    }
+
+    /// Returns whether packets of this payload type are retransmissions of RED packets of this format.
+    fn resends_red(&self, payload_type: u8) -> bool
+        ensures { result ≡ resends_red self.now.red payload_type }
+    {
+        match self.red {
+            Some(red) => is_type(red.retransmission, payload_type),
+            None => false,
+        }
+    }
+}
+
+/// Returns whether this payload type is given.
+fn is_type(given: Option<u8>, payload_type: u8) -> bool
+    ensures { result ≡ is_type given payload_type }
+{
+    match given {
+        Some(own) => own == payload_type,
+        None => false,
     }
 }
 

@@ -9,12 +9,13 @@ use Rattle.codec_payload_jitter.specs.Receiving.{Receiving, Arrival, ReceivesAs,
 use Rattle.codec_payload_jitter.specs.declared.numbers.Extended.{Extended}
 use Rattle.codec_payload_jitter.specs.declared.numbers.Extended.TheVariants as extended
 use Rattle.codec_payload_jitter.specs.declared.outcome.Outcome.{Outcome}
-use Rattle.codec_payload_stream.specs.Kinds.{Kinds, Carrier, RtcpPacket, Malformed, OfOthers, WithoutMedia, WithMedia, InRed, Again, AgainEmpty, header_for, original_header}
+use Rattle.codec_payload_jitter.specs.declared.outcome.Outcome.TheVariants as outcomes
+use Rattle.codec_payload_stream.specs.Kinds.{Kinds, Carrier, RtcpPacket, Malformed, OfOthers, WithoutMedia, WithMedia, InRed, Again, AgainInRed, AgainEmpty, header_for, original_header}
 use Rattle.codec_payload_stream.specs.RedOnce.{AreListed, AreStoredByRule, HasNoBlock, IsForgotten, ReceivesByRule, block_at, packet_with, repeats, seen_after, seen_since}
 use Rattle.codec_payload_stream.specs.SeenTimes.{Seen, has_block, is_seen, none_seen}
-use Rattle.codec_payload_stream.specs.Sessions.{Holding, block_seen, RecoversAll, RecoversUnless, RecoversUnseen, TakesAgain, TakesDatagram, TakesMedia, TakesPrimaryIf, all_carried, is_own_media, is_repeat, is_restart, is_suspect, packet_seen}
+use Rattle.codec_payload_stream.specs.Sessions.{Holding, NotesAgain, block_seen, RecoversAll, RecoversUnless, RecoversUnseen, TakesAgain, TakesDatagram, TakesMedia, TakesPrimaryAgain, TakesPrimaryIf, all_carried, is_own_media, is_repeat, is_restart, is_suspect, packet_seen}
 use Rattle.codec_payload_stream.proofs.BlockTimeLemmas.{new_has_no_block, packet_has_no_block}
-use Rattle.codec_payload_stream.proofs.SessionLemmas.{Balance, accepts_balance, media_balance, primary_balance, sent_again_balance}
+use Rattle.codec_payload_stream.proofs.SessionLemmas.{Balance, accepts_balance, media_balance, primary_again_balance, primary_balance, sent_again_balance}
 
 -- Truth values
 
@@ -139,6 +140,12 @@ again_as_running (Some n) a r t o running got = ap (λ (x : Receiving). x.is_res
 
 -- Blocks
 
+going_on : (r : Holding) → r.packets.is_restarting ≡ false → IsForgotten r
+going_on r running is = absurd (not_both (sym is ∙ running))
+
+same_forgotten : (r t : Holding) → IsForgotten r → t.seen ≡ r.seen → t.packets.is_restarting ≡ r.packets.is_restarting → IsForgotten t
+same_forgotten r t forgotten seen same is time = ap (λ (x : Seen). has_block time x.places) seen ∙ forgotten (sym same ∙ is) time
+
 -- the stored blocks among them
 pub record Stored (r t : Holding) : Type 0 where
   pub blocks : List ℕ
@@ -146,9 +153,17 @@ pub record Stored (r t : Holding) : Type 0 where
   pub seen : t.seen ≡ seen_after r.seen (map block_at blocks)
   pub recovered : t.packets.counters.recovered % 2 ^ 64 ≡ (r.packets.counters.recovered + length blocks) % 2 ^ 64
   pub running : r.packets.is_restarting ≡ false → t.packets.is_restarting ≡ false
+  pub forgotten : IsForgotten r → IsForgotten t
 
 none_stored : (r t : Holding) → t.seen ≡ r.seen → t.packets.counters.recovered ≡ r.packets.counters.recovered → t.packets.is_restarting ≡ r.packets.is_restarting → Stored r t
-none_stored r t seen recovered running = record { blocks = []; by_rule = tt; seen = seen; recovered = omega (arith, recovered); running = λ is. running ∙ is }
+none_stored r t seen recovered running = record {
+  blocks = [];
+  by_rule = tt;
+  seen = seen;
+  recovered = omega (arith, recovered);
+  running = λ is. running ∙ is;
+  forgotten = λ before. same_forgotten r t before seen running;
+}
 
 nothing_stored : (r t : Holding) → t ≡ r → Stored r t
 nothing_stored r t same =
@@ -181,6 +196,7 @@ one_more false time r mid t unseen counts seen rest = record {
   seen = rest.seen ∙ ap (λ (s : Seen). seen_after s (map block_at rest.blocks)) seen;
   recovered = omega (arith, rest.recovered, counts.0);
   running = λ is. rest.running (counts.1 ∙ is);
+  forgotten = λ before. rest.forgotten (same_forgotten r mid before seen counts.1);
 }
 one_more true time r mid t unseen counts seen rest = record {
   blocks = time ∷ rest.blocks;
@@ -188,6 +204,7 @@ one_more true time r mid t unseen counts seen rest = record {
   seen = rest.seen ∙ ap (λ (s : Seen). seen_after s (map block_at rest.blocks)) seen;
   recovered = omega (arith, rest.recovered, counts.0);
   running = λ is. rest.running counts.1;
+  forgotten = λ before. rest.forgotten (going_on mid counts.1);
 }
 
 one_then : (b : Bool) (a : Arrival) (r mid t : Holding) → is_seen a.header.timestamp r.seen.places ≡ b → RecoversUnseen b a r mid → Stored mid t → Stored r t
@@ -217,9 +234,6 @@ free_of s r time low o red forgotten new going stored = by_test r.packets.is_res
     by_test : (b : Bool) → r.packets.is_restarting ≡ b → has_block time r.seen.places ≡ false
     by_test true is = forgotten is time
     by_test false is = unrepeated s r.seen r.packets time low red (new is stored).1 (new is stored).0
-
-going_on : (r : Holding) → r.packets.is_restarting ≡ false → IsForgotten r
-going_on r running is = absurd (not_both (sym is ∙ running))
 
 -- a packet, and the blocks after it
 packet_listed : (o : Outcome) (time : ℕ) (r mid t : Holding) → (is_restart o ≡ false → is_stored o ≡ true → has_block time r.seen.places ≡ false)
@@ -314,8 +328,58 @@ red_listed s now c r t o whole red forgotten got = by_media (is_own_media s c) g
           },
         )
 
-same_forgotten : (r t : Holding) → IsForgotten r → t.seen ≡ r.seen → t.packets.is_restarting ≡ r.packets.is_restarting → IsForgotten t
-same_forgotten r t forgotten seen same is time = ap (λ (x : Seen). has_block time x.places) seen ∙ forgotten (sym same ∙ is) time
+-- a retransmitted RED packet
+
+notes_again_running : (b : Bool) (low : ℕ) (r t : Receiving) (o : Outcome) → NotesAgain b low r o t → r.is_restarting ≡ false → t.is_restarting ≡ false
+notes_again_running true low r t o got running = ap (λ (x : Receiving). x.is_restarting) got.1.2
+notes_again_running false low r t o got running = ap (λ (x : Receiving). x.is_restarting) got.1 ∙ running
+
+-- without media no time is noted
+notes_again_forgotten : (b : Bool) (low : ℕ) (r t : Holding) (o : Outcome) → IsForgotten r → NotesAgain b low r.packets o t.packets → t.seen ≡ r.seen → IsForgotten t
+notes_again_forgotten b low r t o forgotten got seen = by_test r.packets.is_restarting refl
+  where
+    by_test : (restarting : Bool) → r.packets.is_restarting ≡ restarting → IsForgotten t
+    by_test true is = λ still time. ap (λ (x : Seen). has_block time x.places) seen ∙ forgotten is time
+    by_test false is = going_on t (notes_again_running b low r.packets t.packets o got is)
+
+notes_again_is : (b : Bool) (low : ℕ) (r t : Receiving) (o : Outcome) → NotesAgain b low r o t → o ≡ outcomes.NoMedia
+notes_again_is true low r t o got = got.0
+notes_again_is false low r t o got = got.0
+
+red_again_listed : (s : Kinds) (now : Ticks) (c : Carrier) (r t : Holding) (o : Outcome) (whole : Bool) → is_some s.red ≡ true → IsForgotten r → TakesDatagram s now (AgainInRed c) r o whole t
+    → IsForgotten t × AreListed (is_own_media s c) o c.header.timestamp r t
+red_again_listed s now c r t o whole red forgotten got = by_media (is_own_media s c) got.1 got.2
+  where
+    by_media : (own : Bool) → TakesPrimaryAgain own s now c r.seen r.packets o got.0
+        → RecoversAll whole (all_carried s now c) (record { packets = got.0; seen = packet_seen own o c.header.timestamp r.seen }) t
+        → IsForgotten t × AreListed own o c.header.timestamp r t
+    by_media true primary blocks =
+        let a : Arrival = record { now = now; header = header_for s c.header; bytes = c.primary.payload } in
+        let mid : Holding = record { packets = got.0; seen = packet_seen true o c.header.timestamp r.seen } in
+        let repeated : Bool = is_repeat s r.seen r.packets c.header.timestamp c.header.sequence_number in
+        let rest : Stored mid t = all_stored whole (all_carried s now c) mid t blocks in
+        let kept : IsForgotten mid =
+        again_forgotten repeated a r mid o forgotten primary (λ is. packet_has_no_block true o c.header.timestamp r.seen (forgotten is)) in (
+          rest.forgotten kept,
+          packet_listed o c.header.timestamp r mid t
+              (free_of s r c.header.timestamp c.header.sequence_number o red forgotten (λ running stored. sent_again_stored repeated a r.packets got.0 o primary stored)) refl
+              (ap (λ (b : Balance). b.recovered) (sent_again_balance repeated a r.packets got.0 o primary)) rest,
+        )
+    by_media false primary blocks =
+        let mid : Holding = record { packets = got.0; seen = r.seen } in
+        let rest : Stored mid t = all_stored whole (all_carried s now c) mid t blocks in
+        let would : Bool = would_store r.packets c.header.sequence_number in
+        let none : o ≡ outcomes.NoMedia = notes_again_is would c.header.sequence_number r.packets got.0 o primary in
+        let since : seen_since o r.seen ≡ r.seen = ap (λ (x : Outcome). seen_since x r.seen) none in
+        let same : got.0.counters.recovered ≡ r.packets.counters.recovered = ap (λ (b : Balance). b.recovered) (primary_again_balance false s now c r.seen r.packets got.0 o primary) in (
+          rest.forgotten (notes_again_forgotten would c.header.sequence_number r mid o forgotten primary refl),
+          record {
+            blocks = rest.blocks;
+            by_rule = subst (λ (x : Seen). AreStoredByRule x (map block_at rest.blocks)) (sym since) rest.by_rule;
+            seen = rest.seen ∙ ap (λ (x : Seen). seen_after x (map block_at rest.blocks)) (sym since);
+            recovered = omega (arith, rest.recovered, same);
+          },
+        )
 
 unchanged_by : (r t : Holding) → IsForgotten r → t ≡ r → IsForgotten t × (t.seen ≡ r.seen)
 unchanged_by r t forgotten same = (subst IsForgotten (sym same) forgotten, ap (λ (x : Holding). x.seen) same)
@@ -330,6 +394,7 @@ stored_by_rule s now (WithMedia p) r t o whole red forgotten got =
 stored_by_rule s now (InRed c) r t o whole red forgotten got = red_listed s now c r t o whole red forgotten got
 stored_by_rule s now (Again it) r t o whole red forgotten got =
     again_listed s it.number (record { now = now; header = original_header s it; bytes = it.bytes }) r t o red forgotten refl got.0 got.1
+stored_by_rule s now (AgainInRed c) r t o whole red forgotten got = red_again_listed s now c r t o whole red forgotten got
 stored_by_rule s now AgainEmpty r t o whole red forgotten got =
     let seen : t.seen ≡ r.seen = ap (λ (x : Holding). x.seen) got.1 in
     (same_forgotten r t forgotten seen (ap (λ (x : Holding). x.packets.is_restarting) got.1), seen)

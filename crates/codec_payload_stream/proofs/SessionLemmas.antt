@@ -1,7 +1,7 @@
 -- Every datagram is accounted for.
 use Rattle.std.proofs.Common.{◌≡◌, ◌⊎◌, ◌∙◌, refl, ap, sym, subst, inl, inr, cond, ℕ, ◌+◌, ◌%◌, ◌^◌, List, [], ◌∷◌, Bool, true, false, Option, Some, None, Result, Ok, Err, arith, ◌&&◌, not}
 use Rattle.codec_payload_base.specs.declared.wire.Ticks.{Ticks}
-use Rattle.codec_payload_jitter.specs.Receiving.{Receiving, Arrival, Confirms, GoesOn, ReceivesAs, ReceivesAgainAs, RecoversAs, RecoversIf, NotesAs}
+use Rattle.codec_payload_jitter.specs.Receiving.{Receiving, Arrival, Confirms, GoesOn, ReceivesAs, ReceivesAgainAs, RecoversAs, RecoversIf, NotesAs, would_store}
 use Rattle.codec_payload_jitter.specs.Receiving.{Accepts, counted, counted_again, counted_in_again, is_stored, may_recover, next, number_again}
 use Rattle.codec_payload_jitter.specs.declared.numbers.Extended.{Extended}
 use Rattle.codec_payload_jitter.specs.declared.numbers.Extended.TheVariants as extended
@@ -9,9 +9,9 @@ use Rattle.codec_payload_jitter.specs.declared.outcome.Outcome.{Outcome}
 use Rattle.codec_payload_jitter.specs.declared.outcome.Outcome.TheVariants as outcomes
 use Rattle.codec_payload_jitter.specs.declared.outcome.PacketCounters.{PacketCounters}
 use Rattle.codec_payload_stream.specs.Choice.{latest_after, origin_of}
-use Rattle.codec_payload_stream.specs.Kinds.{Kinds, Carrier, Datagram, RtcpPacket, Malformed, OfOthers, WithoutMedia, WithMedia, InRed, Again, AgainEmpty}
+use Rattle.codec_payload_stream.specs.Kinds.{Kinds, Carrier, Datagram, RtcpPacket, Malformed, OfOthers, WithoutMedia, WithMedia, InRed, Again, AgainInRed, AgainEmpty}
 use Rattle.codec_payload_stream.specs.SeenTimes.{Seen, is_seen}
-use Rattle.codec_payload_stream.specs.Sessions.{Holding, Session, TakesAgain, TakesDatagram, TakesMedia, TakesPrimaryIf, RecoversOne, RecoversUnseen, RecoversAll, RecoversUnless, AnswersFor}
+use Rattle.codec_payload_stream.specs.Sessions.{Holding, NotesAgain, Session, TakesAgain, TakesDatagram, TakesMedia, TakesPrimaryAgain, TakesPrimaryIf, RecoversOne, RecoversUnseen, RecoversAll, RecoversUnless, AnswersFor}
 use Rattle.codec_payload_stream.specs.Sessions.{Heard, IsSorted, all_carried, arrived_with, ssrc_after, is_own_media, is_repeat, is_suspect, error_of, observed_in, told_of_red}
 use Rattle.codec_payload_stream.specs.declared.datagram.Malformation.{Malformation}
 use Rattle.codec_payload_stream.specs.declared.datagram.Malformation.TheVariants as malformations
@@ -125,6 +125,15 @@ pub sent_again_balance : (b : Bool) (a : Arrival) (r t : Receiving) (o : Outcome
 sent_again_balance false a r t o got = receives_again_balance _ _ r t o got
 sent_again_balance true a r t o got = ap balance_of got.1.2 ∙ notes_as_balance _ r got.1.0 got.1.1
 
+notes_again_balance : (b : Bool) (low : ℕ) (r t : Receiving) (o : Outcome) → NotesAgain b low r o t → balance_of t ≡ one_pushed (balance_of r)
+notes_again_balance true low r t o got = ap balance_of got.1.2 ∙ notes_as_balance _ r got.1.0 got.1.1
+notes_again_balance false low r t o got = ap balance_of got.1
+
+pub primary_again_balance : (b : Bool) (s : Kinds) (now : Ticks) (c : Carrier) (seen : Seen) (r t : Receiving) (o : Outcome) → TakesPrimaryAgain b s now c seen r o t
+    → balance_of t ≡ one_pushed (balance_of r)
+primary_again_balance true s now c seen r t o got = sent_again_balance (is_repeat s seen r c.header.timestamp c.header.sequence_number) _ r t o got
+primary_again_balance false s now c seen r t o got = notes_again_balance (would_store r c.header.sequence_number) c.header.sequence_number r t o got
+
 -- Every datagram is accounted for
 
 -- the same, by the balance
@@ -176,6 +185,9 @@ takes_balanced s now a (InRed c) r t o whole got kept =
     (primary_balance (is_own_media s c && not (is_repeat s r.seen r.packets c.header.timestamp c.header.sequence_number)) s now c r.packets got.0 o got.1) kept)
 takes_balanced s now a (Again it) r t o whole got kept =
     pushed_balanced a r.packets t.packets (sent_again_balance (is_repeat s r.seen r.packets it.header.timestamp it.number) _ r.packets t.packets o got.0) kept
+takes_balanced s now a (AgainInRed c) r t o whole got kept =
+    all_balanced (record a { received = next a.received }) whole (all_carried s now c) _ t got.2
+    (pushed_balanced a r.packets got.0 (primary_again_balance (is_own_media s c) s now c r.seen r.packets got.0 o got.1) kept)
 takes_balanced s now a AgainEmpty r t o whole got kept = pushed_balanced a r.packets t.packets (ap (λ (x : Holding). balance_of x.packets) got.1) kept
 
 -- Answers
@@ -197,6 +209,7 @@ not_memory (WithoutMedia h) o whole is = cc
 not_memory (WithMedia p) o whole is = cc
 not_memory (InRed c) o whole is = not_memory_in_red whole o (sym is)
 not_memory (Again it) o whole is = cc
+not_memory (AgainInRed c) o whole is = not_memory_in_red whole o (sym is)
 not_memory AgainEmpty o whole is = cc
 
 pub heard : (now : Ticks) (d : Datagram) (s t : Session) (o : Outcome) (whole : Bool) (packets : Receiving) (seen : Seen) (answer : Result Outcome ReceiveError)

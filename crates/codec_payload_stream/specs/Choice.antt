@@ -2,7 +2,7 @@
 use Rattle.std.specs.Prelude.{◌≡◌, ℕ, ◌+◌, ◌-◌, ◌%◌, ◌==◌, ◌&&◌, ◌||◌, nat_le, nat_lt, if◌then◌else◌, Bool, true, false, List, [], ◌∷◌, ◌++◌, Option, Some, None, length, refl}
 use Rattle.std.specs.List.{position, remove}
 use Rattle.codec_payload_base.specs.declared.wire.Ticks.{Ticks}
-use Rattle.codec_payload_stream.specs.Kinds.{Datagram, RtcpPacket, Malformed, OfOthers, WithoutMedia, WithMedia, InRed, Again, AgainEmpty}
+use Rattle.codec_payload_stream.specs.Kinds.{Datagram, RtcpPacket, Malformed, OfOthers, WithoutMedia, WithMedia, InRed, Again, AgainInRed, AgainEmpty}
 use Rattle.codec_payload_stream.specs.declared.choice.Candidate.{Candidate}
 use Rattle.codec_payload_stream.specs.declared.choice.Origin.{Origin}
 use Rattle.codec_payload_stream.specs.declared.choice.Verdict.{Verdict}
@@ -27,6 +27,7 @@ origin_of RtcpPacket = None
 origin_of (Malformed e) = None
 origin_of OfOthers = None
 origin_of (Again o) = None
+origin_of (AgainInRed c) = None
 origin_of AgainEmpty = None
 
 -- two 16-bit numbers are 1 to 100 apart, in either order

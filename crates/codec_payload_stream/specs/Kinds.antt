@@ -37,7 +37,8 @@ pub record Original : Type 0 where
   pub ssrc : ℕ
   pub bytes : List ℕ
 
--- a RED packet: its header, the receiver that numbers its blocks, the primary block, and the redundant blocks
+-- a RED packet: its header, the receiver that numbers its blocks, the primary block, and the redundant blocks. A retransmitted
+-- one has the original number and SSRC in its header
 pub record Carrier : Type 0 where
   pub header : Header
   pub receiver : Receiver
@@ -53,13 +54,14 @@ pub data Datagram : Type 0 where
   WithMedia : Packet → Datagram
   InRed : Carrier → Datagram
   Again : Original → Datagram
+  AgainInRed : Carrier → Datagram
   AgainEmpty : Datagram
 
 abbrev pub original_of : LentSentAgain → Original
 original_of s = record { header = header_of s.header; number = s.number; ssrc = s.ssrc; bytes = s.payload.now }
 
 abbrev pub carrier_of : RedPacket → Carrier
-carrier_of r = record { header = header_of r.packet.header; receiver = r.receiver; primary = block_of r.primary; older = blocks_of r.older.items }
+carrier_of r = record { header = header_of r.header; receiver = r.receiver; primary = block_of r.primary; older = blocks_of r.older.items }
 
 abbrev pub datagram_of : LentDatagram → Datagram
 datagram_of lent.Rtcp = RtcpPacket
@@ -69,6 +71,7 @@ datagram_of (lent.NoMedia p) = WithoutMedia (header_of p.header)
 datagram_of (lent.Media p) = WithMedia (packet_of p)
 datagram_of (lent.Red r) = InRed (carrier_of r)
 datagram_of (lent.SentAgain s) = Again (original_of s)
+datagram_of (lent.RedAgain r) = AgainInRed (carrier_of r)
 datagram_of lent.Nothing = AgainEmpty
 
 -- the type is in the list
@@ -100,9 +103,13 @@ red_of (Some red) payload_type = if red.payload_type == payload_type then Some r
 abbrev pub primary_of : Red → Block
 primary_of r = record { pt = r.pt; timestamp_offset = 0; payload = r.primary; is_primary = true }
 
+-- the blocks of a payload, under this header
+abbrev pub carrier_with : Receiver → Header → Red → Carrier
+carrier_with receiver h r = record { header = h; receiver = receiver; primary = primary_of r; older = map older r.redundant }
+
 abbrev pub red_read : Receiver → Header → Option Red → Datagram
 red_read receiver h None = Malformed malformations.Red
-red_read receiver h (Some r) = InRed (record { header = h; receiver = receiver; primary = primary_of r; older = map older r.redundant })
+red_read receiver h (Some r) = InRed (carrier_with receiver h r)
 
 abbrev pub red_kind : Receiver → Packet → Datagram
 red_kind receiver p = if is_padding_only p then WithoutMedia p.header else red_read receiver p.header (red_at p.payload)
@@ -136,6 +143,34 @@ again_read known h (high ∷ low ∷ bytes) = Again (record { header = h; number
 abbrev pub again_kind : Option ℕ → Packet → Datagram
 again_kind known p = again_read known p.header p.payload
 
+-- Retransmissions of RED packets: the RED payload comes after the original number
+
+abbrev pub is_the_type : Option ℕ → ℕ → Bool
+is_the_type None payload_type = false
+is_the_type (Some own) payload_type = own == payload_type
+
+-- the RED receiver for a packet with the SSRC of retransmissions, if its payload type is the one of retransmitted RED
+abbrev pub red_again_of : Option Retransmission → Option RedStream → Header → Option Receiver
+red_again_of None red h = None
+red_again_of (Some r) None h = None
+red_again_of (Some r) (Some red) h = if (r.ssrc == h.ssrc) && is_the_type red.retransmission h.payload_type then Some red.receiver else None
+
+-- the header of the original packet: only number and SSRC differ
+abbrev pub repeated_header : Option ℕ → Header → ℕ → Header
+repeated_header known h number = record h { sequence_number = number; ssrc = ssrc_or known h.ssrc }
+
+abbrev pub red_again_read : Receiver → Header → Option Red → Datagram
+red_again_read receiver h None = Malformed malformations.Red
+red_again_read receiver h (Some r) = AgainInRed (carrier_with receiver h r)
+
+abbrev pub red_again_parts : Receiver → Option ℕ → Header → List ℕ → Datagram
+red_again_parts receiver known h [] = AgainEmpty
+red_again_parts receiver known h (high ∷ []) = Malformed malformations.Retransmission
+red_again_parts receiver known h (high ∷ low ∷ bytes) = red_again_read receiver (repeated_header known h (high * 256 + low)) (red_at bytes)
+
+abbrev pub red_again_kind : Receiver → Option ℕ → Packet → Datagram
+red_again_kind receiver known p = red_again_parts receiver known p.header p.payload
+
 -- Any datagram
 
 -- a packet with the payload type of the stream, of RED, without media, or of another type
@@ -143,13 +178,24 @@ abbrev pub own_kind : Kinds → Option Receiver → Packet → Datagram
 own_kind s (Some receiver) p = red_kind receiver p
 own_kind s None p = if is_among p.header.payload_type s.no_media then WithoutMedia p.header else OfOthers
 
--- by SSRC and payload type
+-- a packet of the sender that is no retransmission
+abbrev pub first_kind : Kinds → Option ℕ → Packet → Datagram
+first_kind s ssrc p =
+    if is_other ssrc p.header.ssrc then OfOthers
+    else (if p.header.payload_type == s.payload_type then media_kind p
+    else own_kind s (red_of s.red p.header.payload_type) p)
+
+-- a retransmission of a RED packet, or none
+abbrev pub kind_beside : Kinds → Option ℕ → Option Receiver → Packet → Datagram
+kind_beside s ssrc None p = first_kind s ssrc p
+kind_beside s ssrc (Some receiver) p = red_again_kind receiver ssrc p
+
+-- by SSRC and payload type: a packet with the payload type of the stream is no retransmission of RED
 abbrev pub kind_for : Kinds → Option ℕ → Packet → Datagram
 kind_for s ssrc p =
     if is_sent_again s.retransmission p.header then again_kind ssrc p
-    else (if is_other ssrc p.header.ssrc then OfOthers
-    else (if p.header.payload_type == s.payload_type then media_kind p
-    else own_kind s (red_of s.red p.header.payload_type) p))
+    else (if p.header.payload_type == s.payload_type then first_kind s ssrc p
+    else kind_beside s ssrc (red_again_of s.retransmission s.red p.header) p)
 
 abbrev pub kind_read : Kinds → Option ℕ → Result Packet RtpError → Datagram
 kind_read s ssrc (Err e) = Malformed (malformations.Rtp e)

@@ -4,7 +4,7 @@ use Rattle.std.specs.Option.{is_some}
 use Rattle.codec_payload_base.specs.declared.wire.Ticks.{Ticks}
 use Rattle.codec_payload_jitter.specs.Receiving.{is_stored}
 use Rattle.codec_payload_jitter.specs.declared.outcome.Outcome.{Outcome}
-use Rattle.codec_payload_stream.specs.Kinds.{Kinds, Datagram, RtcpPacket, Malformed, OfOthers, WithoutMedia, WithMedia, InRed, Again, AgainEmpty}
+use Rattle.codec_payload_stream.specs.Kinds.{Kinds, Datagram, RtcpPacket, Malformed, OfOthers, WithoutMedia, WithMedia, InRed, Again, AgainInRed, AgainEmpty}
 use Rattle.codec_payload_stream.specs.SeenTimes.{Seen, has_block, is_seen, none_seen, seen_with}
 use Rattle.codec_payload_stream.specs.Sessions.{Holding, TakesDatagram, is_own_media, is_restart}
 use Rattle.codec_payload_stream.specs.declared.seen_times.SeenTime.{SeenTime}
@@ -67,6 +67,7 @@ abbrev pub FollowsRule : Kinds → Datagram → Outcome → Holding → Holding 
 FollowsRule s (WithMedia p) o r t = AreListed true o p.header.timestamp r t
 FollowsRule s (Again it) o r t = AreListed true o it.header.timestamp r t
 FollowsRule s (InRed c) o r t = AreListed (is_own_media s c) o c.header.timestamp r t
+FollowsRule s (AgainInRed c) o r t = AreListed (is_own_media s c) o c.header.timestamp r t
 FollowsRule s RtcpPacket o r t = t.seen ≡ r.seen
 FollowsRule s (Malformed e) o r t = t.seen ≡ r.seen
 FollowsRule s OfOthers o r t = t.seen ≡ r.seen

@@ -22,7 +22,7 @@ use Rattle.codec_payload_jitter.specs.declared.outcome.Outcome.TheVariants as ou
 use Rattle.codec_payload_jitter.specs.declared.outcome.PacketCounters.{PacketCounters}
 use Rattle.codec_payload_keyframes.specs.UnitGates.{Gating, new_gating, with_skip}
 use Rattle.codec_payload_stream.specs.Choice.{Choosing, IsCandidate, is_silent, latest_after, leaving, no_choice, origin_of, verdict_of, waiting_with}
-use Rattle.codec_payload_stream.specs.Kinds.{Kinds, Carrier, Datagram, RtcpPacket, Malformed, OfOthers, WithoutMedia, WithMedia, InRed, Again, AgainEmpty, block_header, datagram_at, header_for, original_header}
+use Rattle.codec_payload_stream.specs.Kinds.{Kinds, Carrier, Datagram, RtcpPacket, Malformed, OfOthers, WithoutMedia, WithMedia, InRed, Again, AgainInRed, AgainEmpty, block_header, datagram_at, header_for, original_header}
 use Rattle.codec_payload_stream.specs.SeenTimes.{Seen, has_block, is_seen, none_seen, seen_with}
 use Rattle.codec_payload_stream.specs.Reports.{Reception, no_reception, observed}
 use Rattle.codec_payload_stream.specs.declared.blocks.BlockCopy.{BlockCopy}
@@ -71,6 +71,7 @@ arrived_with a (WithoutMedia h) = record a { received = next a.received }
 arrived_with a (WithMedia p) = record a { received = next a.received }
 arrived_with a (InRed c) = record a { received = next a.received }
 arrived_with a (Again o) = record a { received = next a.received }
+arrived_with a (AgainInRed c) = record a { received = next a.received }
 arrived_with a AgainEmpty = record a { received = next a.received }
 
 -- each datagram is RTCP, malformed, of another stream, waiting for the choice, or was pushed; recovered packets were pushed too
@@ -97,6 +98,7 @@ ssrc_after ssrc RtcpPacket = ssrc
 ssrc_after ssrc (Malformed e) = ssrc
 ssrc_after ssrc OfOthers = ssrc
 ssrc_after ssrc (Again o) = ssrc
+ssrc_after ssrc (AgainInRed c) = ssrc
 ssrc_after ssrc AgainEmpty = ssrc
 
 -- the numbers of blocks are counted from the number of the packet; 65,536 is added, so that earlier numbers are above 0
@@ -207,6 +209,25 @@ TakesRed s now c r outcome whole t =
     (mid : Receiving) × TakesPrimary s now c r.seen r.packets outcome mid
     × RecoversUnless (is_suspect outcome) whole (all_carried s now c) (record { packets = mid; seen = packet_seen (is_own_media s c) outcome c.header.timestamp r.seen }) t
 
+-- the number of a retransmission without media is noted, unless a packet with it would not be stored: it is late, held, or
+-- outside of the windows
+abbrev pub NotesAgain : Bool → ℕ → Receiving → Outcome → Receiving → Type 0
+NotesAgain true low r outcome t = (outcome ≡ outcomes.NoMedia) × Notes low r t
+NotesAgain false low r outcome t = (outcome ≡ outcomes.NoMedia) × (t ≡ record r { counters = counted r.counters outcomes.NoMedia })
+
+-- the primary block of a retransmitted RED packet is stored as a retransmission, if it is media of the stream and repeats no
+-- block
+abbrev pub TakesPrimaryAgain : Bool → Kinds → Ticks → Carrier → Seen → Receiving → Outcome → Receiving → Type 0
+TakesPrimaryAgain true s now c seen r outcome t =
+    TakesAgain (is_repeat s seen r c.header.timestamp c.header.sequence_number) (record { now = now; header = header_for s c.header; bytes = c.primary.payload }) r outcome t
+TakesPrimaryAgain false s now c seen r outcome t = NotesAgain (would_store r c.header.sequence_number) c.header.sequence_number r outcome t
+
+-- a retransmitted RED packet: its redundant blocks are those of the original packet
+abbrev pub TakesRedAgain : Kinds → Ticks → Carrier → Holding → Outcome → Bool → Holding → Type 0
+TakesRedAgain s now c r outcome whole t =
+    (mid : Receiving) × TakesPrimaryAgain (is_own_media s c) s now c r.seen r.packets outcome mid
+    × RecoversAll whole (all_carried s now c) (record { packets = mid; seen = packet_seen (is_own_media s c) outcome c.header.timestamp r.seen }) t
+
 -- the jitter buffer stores a datagram of its stream; whole: memory did not run out for a redundant block
 abbrev pub TakesDatagram : Kinds → Ticks → Datagram → Holding → Outcome → Bool → Holding → Type 0
 TakesDatagram s now RtcpPacket r outcome whole t = (outcome ≡ outcomes.Rtcp) × (t ≡ r)
@@ -220,6 +241,7 @@ TakesDatagram s now (InRed c) r outcome whole t = TakesRed s now c r outcome who
 TakesDatagram s now (Again o) r outcome whole t =
     TakesAgain (is_repeat s r.seen r.packets o.header.timestamp o.number) (record { now = now; header = original_header s o; bytes = o.bytes }) r.packets outcome t.packets
     × (t.seen ≡ packet_seen (is_some s.red) outcome o.header.timestamp r.seen)
+TakesDatagram s now (AgainInRed c) r outcome whole t = TakesRedAgain s now c r outcome whole t
 TakesDatagram s now AgainEmpty r outcome whole t =
     (outcome ≡ outcomes.NoMedia) × (t ≡ record r { packets = record r.packets { counters = counted r.packets.counters outcomes.NoMedia } })
 
@@ -242,6 +264,7 @@ AnswersFor (WithoutMedia h) outcome whole answer = answer ≡ Ok outcome
 AnswersFor (WithMedia p) outcome whole answer = answer ≡ Ok outcome
 AnswersFor (InRed c) outcome whole answer = answer ≡ told_of_red whole outcome
 AnswersFor (Again o) outcome whole answer = answer ≡ Ok outcome
+AnswersFor (AgainInRed c) outcome whole answer = answer ≡ told_of_red whole outcome
 AnswersFor AgainEmpty outcome whole answer = answer ≡ Ok outcome
 
 -- packets of the stream's sender are counted for reports as they arrive; retransmissions in their own stream are not
@@ -253,6 +276,7 @@ observed_in r now RtcpPacket = r
 observed_in r now (Malformed e) = r
 observed_in r now OfOthers = r
 observed_in r now (Again o) = r
+observed_in r now (AgainInRed c) = r
 observed_in r now AgainEmpty = r
 
 -- a datagram is received, and its outcome reported
@@ -398,7 +422,7 @@ abbrev pub red_by : ℕ → RedSettings → Result (Option RedStream) SettingsEr
 red_by payload_type red =
     if nat_le red.payload_type 127 && not (red.payload_type == payload_type)
     then (if nat_lt 0 red.step && nat_le red.step 16383 then Ok
-    (Some (record { payload_type = red.payload_type; receiver = record { primary_pt = payload_type % 128; step = red.step } })) else Err settings.RedStep)
+    (Some (record { payload_type = red.payload_type; receiver = record { primary_pt = payload_type % 128; step = red.step }; retransmission = red.retransmission })) else Err settings.RedStep)
     else Err settings.RedPayloadType
 
 abbrev pub red_within : ℕ → Option RedSettings → Result (Option RedStream) SettingsError

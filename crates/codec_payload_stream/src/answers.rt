@@ -33,7 +33,9 @@ pub(crate) fn answer_for(datagram: &Datagram<'_>, taken: Taken) -> Result<Outcom
 {
     match datagram {
         Datagram::Malformed(malformation) => Err(error_of(*malformation)),
-        Datagram::Red(_) if !taken.whole => Err(ReceiveError::BlocksOutOfMemory),
+        Datagram::Red(_) | Datagram::RedAgain(_) if !taken.whole => {
+            Err(ReceiveError::BlocksOutOfMemory)
+        }
         _ => Ok(taken.outcome),
     }
 }

@@ -63,7 +63,7 @@ fn copy_block(
 ) -> Result<Option<BlockCopy>, AllocError>
     ensures { IfOk result (λ copy. (now : Ticks) → option_map (copied now) copy ≡ carried stream.now now (carrier_of red.now) (block_of block.now)) }
 {
-    let header = &red.packet.header;
+    let header = &red.header;
     let number = SeqNo(65_536 + u64::from(header.sequence_number));
     match red.receiver.recover_block(number, header.timestamp, block) {
         Some(recovered) => {

@@ -164,7 +164,7 @@ fn origin_of(datagram: &Datagram<'_>) -> Option<Origin>
 {
     let header = match datagram {
         Datagram::NoMedia(packet) | Datagram::Media(packet) => packet.header,
-        Datagram::Red(red) => red.packet.header,
+        Datagram::Red(red) => red.header,
         _ => return None,
     };
     Some(Origin {

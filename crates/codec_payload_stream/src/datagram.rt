@@ -1,14 +1,16 @@
 //! Which datagrams belong to a stream, and how they reach its jitter buffer.
 
 ghost use Rattle.std.specs.Prelude.{◌≡◌, IfOk, OnErr, IfErr, true, false};
+ghost use Rattle.std.specs.Option.{option_map};
 ghost use Rattle.codec_payload_base.specs.declared.error.PacketError.TheVariants.{OutOfMemory};
+ghost use Rattle.codec_payload_red.specs.RedReading.{red_at};
 ghost use Rattle.codec_payload_red.specs.RedRecovery.{packet_of as recovered_of};
 ghost use Rattle.codec_payload_rtp.specs.RtpValues.{header_of, packet_of};
 ghost use Rattle.codec_payload_codec.specs.Depacketizers.{is_built_in_depacketizer};
 ghost use Rattle.codec_payload_jitter.specs.OwnReceiving.{OwnStores};
-ghost use Rattle.codec_payload_jitter.specs.Receiving.{Receives, ReceivesAgain};
-ghost use Rattle.codec_payload_stream.specs.Kinds.{again_kind, block_header, carrier_of, datagram_at, datagram_of, header_for, is_among, is_other, is_padding_only, is_sent_again, kind_for, media_kind, original_header, original_of, red_kind, red_of, retransmitted_under, ssrc_or, under};
-ghost use Rattle.codec_payload_stream.specs.Sessions.{TakesAgain, TakesDatagram, TakesMedia, TakesPrimary, TakesRed, is_own_media, is_repeat, is_restart, is_suspect, observed_in, packet_seen, ssrc_after};
+ghost use Rattle.codec_payload_jitter.specs.Receiving.{Receives, ReceivesAgain, would_store};
+ghost use Rattle.codec_payload_stream.specs.Kinds.{again_kind, block_header, carrier_of, carrier_with, datagram_at, datagram_of, first_kind, header_for, is_among, is_other, is_padding_only, is_sent_again, is_the_type, kind_for, media_kind, original_header, original_of, red_again_kind, red_again_of, red_kind, red_of, repeated_header, retransmitted_under, ssrc_or, under};
+ghost use Rattle.codec_payload_stream.specs.Sessions.{NotesAgain, TakesAgain, TakesDatagram, TakesMedia, TakesPrimary, TakesPrimaryAgain, TakesRed, TakesRedAgain, is_own_media, is_repeat, is_restart, is_suspect, observed_in, packet_seen, ssrc_after};
 
 use crate::blocks::{copy_blocks, recover_all};
 use crate::receiver::Retransmission;
@@ -35,10 +37,10 @@ pub(crate) enum Malformation {
     Retransmission,
 }
 
-/// A RED packet.
+/// A RED packet. A retransmitted one has the original sequence number and SSRC in its header.
 #[derive(Debug, Drop)]
 pub(crate) struct RedPacket<'a> {
-    pub(crate) packet: RtpPacket<'a>,
+    pub(crate) header: RtpHeader<'a>,
     pub(crate) receiver: RedReceiver,
     primary: RedBlock<'a>,
     pub(crate) older: Vec<RedBlock<'a>>,
@@ -67,6 +69,8 @@ pub(crate) enum Datagram<'a> {
     Media(RtpPacket<'a>),
     Red(RedPacket<'a>),
     SentAgain(SentAgain<'a>),
+    /// A retransmission of a RED packet.
+    RedAgain(RedPacket<'a>),
     /// A retransmission without payload.
     Nothing,
 }
@@ -76,6 +80,8 @@ pub(crate) enum Datagram<'a> {
 pub(crate) struct RedStream {
     pub(crate) payload_type: u8,
     pub(crate) receiver: RedReceiver,
+    /// The payload type of retransmitted RED packets.
+    pub(crate) retransmission: Option<u8>,
 }
 
 /// The result of receiving a datagram.
@@ -221,20 +227,98 @@ fn red_kind<'a>(
     if is_padding_only(&packet) {
         return Ok(Datagram::NoMedia(packet));
     }
-    let mut blocks = match RedDecoder::decode(alloc, packet.payload) {
-        Ok(blocks) => blocks,
-        Err(PacketError::OutOfMemory) => return Err(PacketError::OutOfMemory),
-        Err(_) => return Ok(Datagram::Malformed(Malformation::Red)),
-    };
-    let Some(primary) = blocks.pop() else {
+    let Some(red) = read_red(alloc, receiver, packet.header, packet.payload)? else {
         return Ok(Datagram::Malformed(Malformation::Red));
     };
-    Ok(Datagram::Red(RedPacket {
-        packet,
+    Ok(Datagram::Red(red))
+}
+
+/// Reads the blocks of a RED payload, for a packet with this header. Returns `None` if it is not valid RED.
+fn read_red<'a>(
+    alloc: Global,
+    receiver: RedReceiver,
+    header: RtpHeader<'a>,
+    payload: &'a [u8],
+) -> Result<Option<RedPacket<'a>>, PacketError>
+    ensures ok { IfOk result (λ red. option_map carrier_of red ≡ option_map (carrier_with receiver (header_of header.entry)) (red_at payload.now)) }
+    ensures fault { IfErr result (λ f. f ≡ OutOfMemory) }
+{
+    let mut blocks = match RedDecoder::decode(alloc, payload) {
+        Ok(blocks) => blocks,
+        Err(PacketError::OutOfMemory) => return Err(PacketError::OutOfMemory),
+        Err(_) => return Ok(None),
+    };
+    let Some(primary) = blocks.pop() else {
+        return Ok(None);
+    };
+    Ok(Some(RedPacket {
+        header,
         receiver,
         primary,
         older: blocks,
     }))
+}
+
+/// Returns whether this payload type is given.
+fn is_the_type(given: Option<u8>, payload_type: u8) -> bool
+    ensures { result ≡ is_the_type given payload_type }
+{
+    match given {
+        Some(own) => own == payload_type,
+        None => false,
+    }
+}
+
+/// Returns the RED receiver for retransmitted RED packets, if the packet is one.
+fn red_again_of(
+    retransmission: Option<Retransmission>,
+    red: Option<RedStream>,
+    header: &RtpHeader<'_>,
+) -> Option<RedReceiver>
+    ensures { result ≡ red_again_of retransmission red (header_of header.now) }
+{
+    match (retransmission, red) {
+        (Some(it), Some(red))
+            if it.ssrc == header.ssrc && is_the_type(red.retransmission, header.payload_type) => {
+            Some(red.receiver)
+        }
+        _ => None,
+    }
+}
+
+/// Returns the header of the original packet of a retransmission, which has this number.
+fn repeated_header<'a>(known: Option<u32>, header: RtpHeader<'a>, number: u16) -> RtpHeader<'a>
+    ensures { header_of result ≡ repeated_header known (header_of header.entry) number }
+{
+    RtpHeader {
+        sequence_number: number,
+        ssrc: ssrc_or(known, header.ssrc),
+        ..header
+    }
+}
+
+/// Sorts a retransmission of a RED packet: the RED payload comes after the original number.
+fn red_again_kind<'a>(
+    alloc: Global,
+    receiver: RedReceiver,
+    known: Option<u32>,
+    packet: RtpPacket<'a>,
+) -> Result<Datagram<'a>, PacketError>
+    ensures ok { IfOk result (λ d. datagram_of d ≡ red_again_kind receiver known (packet_of packet.entry)) }
+    ensures fault { IfErr result (λ f. f ≡ OutOfMemory) }
+{
+    match packet.payload {
+        [] => Ok(Datagram::Nothing),
+        [_] => Ok(Datagram::Malformed(Malformation::Retransmission)),
+        [high, low, payload @ ..] => {
+            let number = u16::from(*high) * 256 + u16::from(*low);
+            let header = repeated_header(known, packet.header, number);
+            match read_red(alloc, receiver, header, payload)? {
+                Some(red) => Ok(Datagram::RedAgain(red)),
+                None => Ok(Datagram::Malformed(Malformation::Red)),
+            }
+        }
+    }
 }
 
 impl Stream {
@@ -265,10 +349,28 @@ impl Stream {
         ensures ok { IfOk result (λ d. datagram_of d ≡ kind_for self.now ssrc (packet_of packet.entry)) }
         ensures fault { IfErr result (λ f. f ≡ OutOfMemory) }
     {
-        let payload_type = packet.header.payload_type;
         if is_sent_again(self.retransmission, &packet.header) {
             return Ok(again_kind(ssrc, packet));
         }
+        if packet.header.payload_type == self.payload_type {
+            return self.first_kind(ssrc, packet);
+        }
+        match red_again_of(self.retransmission, self.red, &packet.header) {
+            Some(receiver) => red_again_kind(self.alloc, receiver, ssrc, packet),
+            None => self.first_kind(ssrc, packet),
+        }
+    }
+
+    /// Sorts an RTP packet that is not a retransmission.
+    fn first_kind<'a>(
+        &self,
+        ssrc: Option<u32>,
+        packet: RtpPacket<'a>,
+    ) -> Result<Datagram<'a>, PacketError>
+        ensures ok { IfOk result (λ d. datagram_of d ≡ first_kind self.now ssrc (packet_of packet.entry)) }
+        ensures fault { IfErr result (λ f. f ≡ OutOfMemory) }
+    {
+        let payload_type = packet.header.payload_type;
         if is_other(ssrc, packet.header.ssrc) {
             return Ok(Datagram::OtherStream);
         }
@@ -394,7 +496,7 @@ impl Stream {
         ensures fault { IfErr result (λ f. f ≡ OutOfMemory) }
         ensures own { is_built_in_depacketizer packets.old.buffer.depacketizer ≡ false → OwnStores B.is_head B.is_tail packets.old.buffer packets.new.buffer }
     {
-        let header = &red.packet.header;
+        let header = &red.header;
         let (time, number) = (header.timestamp, header.sequence_number);
         if self.is_own_media(red) && !self.is_repeat(seen, packets, time, number) {
             self.push_packet(packets, now, header, red.primary.payload)
@@ -434,12 +536,7 @@ impl Stream {
     {
         let copies = copy_blocks(self, red)?;
         let outcome = self.push_primary(packets, seen, now, red)?;
-        note_packet(
-            seen,
-            self.is_own_media(red),
-            outcome,
-            red.packet.header.timestamp,
-        );
+        note_packet(seen, self.is_own_media(red), outcome, red.header.timestamp);
         if outcome == Outcome::Suspect {
             return Ok(Taken::whole(outcome));
         }
@@ -490,6 +587,56 @@ impl Stream {
         self.push_retransmitted(packets, now, sent)
     }
 
+    /// Stores the primary block of a retransmitted RED packet under the original number, by the same rule. If it is not media
+    /// of the stream, the packet has no media.
+    fn push_primary_again<B: Depacketizer>(
+        &self,
+        packets: &mut JitterBuffer<B>,
+        seen: &SeenTimes,
+        now: Ticks,
+        red: &RedPacket<'_>,
+    ) -> Result<Outcome, PacketError>
+        ensures ok { IfOk result (λ outcome. TakesPrimaryAgain (is_own_media self.now (carrier_of red.now)) self.now now (carrier_of red.now) seen.now packets.old outcome packets.new) }
+        ensures err { OnErr result (packets.new ≡ packets.old) }
+        ensures fault { IfErr result (λ f. f ≡ OutOfMemory) }
+        ensures own { is_built_in_depacketizer packets.old.buffer.depacketizer ≡ false → OwnStores B.is_head B.is_tail packets.old.buffer packets.new.buffer }
+    {
+        if !self.is_own_media(red) {
+            return note_again(packets, red.header.sequence_number);
+        }
+        let sent = SentAgain {
+            header: red.header,
+            number: red.header.sequence_number,
+            ssrc: red.header.ssrc,
+            payload: red.primary.payload,
+        };
+        self.push_again(packets, seen, now, &sent)
+    }
+
+    /// Stores a retransmitted RED packet: its primary block, and its redundant blocks. The payloads of the blocks are copied
+    /// first.
+    fn push_red_again<B: Depacketizer>(
+        &self,
+        packets: &mut JitterBuffer<B>,
+        seen: &mut SeenTimes,
+        now: Ticks,
+        red: &RedPacket<'_>,
+    ) -> Result<Taken, PacketError>
+        ensures ok { IfOk result (λ taken. TakesRedAgain self.now now (carrier_of red.now) (record { packets = packets.old; seen = seen.old }) taken.outcome taken.whole (record { packets = packets.new; seen = seen.new })) }
+        ensures err { OnErr result ((packets.new ≡ packets.old) × (seen.new ≡ seen.old)) }
+        ensures fault { IfErr result (λ f. f ≡ OutOfMemory) }
+        ensures own { is_built_in_depacketizer packets.old.buffer.depacketizer ≡ false → OwnStores B.is_head B.is_tail packets.old.buffer packets.new.buffer }
+    {
+        let copies = copy_blocks(self, red)?;
+        let outcome = self.push_primary_again(packets, seen, now, red)?;
+        note_packet(seen, self.is_own_media(red), outcome, red.header.timestamp);
+        let is_whole = recover_all(packets, seen, now, copies);
+        Ok(Taken {
+            outcome,
+            whole: is_whole,
+        })
+    }
+
     /// Stores a datagram of the stream in the jitter buffer, or counts it there.
     pub(crate) fn take<B: Depacketizer>(
         &self,
@@ -505,6 +652,7 @@ impl Stream {
     {
         let outcome = match datagram {
             Datagram::Red(red) => return self.push_red(packets, seen, now, red),
+            Datagram::RedAgain(red) => return self.push_red_again(packets, seen, now, red),
             Datagram::Rtcp | Datagram::Malformed(_) => Outcome::Rtcp,
             Datagram::OtherStream => Outcome::OtherStream,
             Datagram::NoMedia(packet) => {
@@ -528,6 +676,24 @@ impl Stream {
         };
         Ok(Taken::whole(outcome))
     }
+}
+
+/// Notes the number of a retransmission without media, if a packet with it would be stored.
+fn note_again<B: Depacketizer>(
+    packets: &mut JitterBuffer<B>,
+    number: u16,
+) -> Result<Outcome, PacketError>
+    ensures ok { IfOk result (λ outcome. NotesAgain (would_store packets.old number) number packets.old outcome packets.new) }
+    ensures err { OnErr result (packets.new ≡ packets.old) }
+    ensures fault { IfErr result (λ f. f ≡ OutOfMemory) }
+    ensures own { is_built_in_depacketizer packets.old.buffer.depacketizer ≡ false → OwnStores B.is_head B.is_tail packets.old.buffer packets.new.buffer }
+{
+    if !packets.would_store(number) {
+        packets.push_nothing();
+        return Ok(Outcome::NoMedia);
+    }
+    packets.push_no_media(number)?;
+    Ok(Outcome::NoMedia)
 }
 
 /// Returns whether the sender restarted.
@@ -559,7 +725,7 @@ pub(crate) fn ssrc_after(ssrc: Option<u32>, datagram: &Datagram<'_>) -> Option<u
 {
     match datagram {
         Datagram::NoMedia(packet) | Datagram::Media(packet) => Some(packet.header.ssrc),
-        Datagram::Red(red) => Some(red.packet.header.ssrc),
+        Datagram::Red(red) => Some(red.header.ssrc),
         _ => ssrc,
     }
 }
@@ -574,7 +740,7 @@ pub(crate) fn observe(statistics: &mut ReceptionStatistics, now: Ticks, datagram
             statistics.observe(now, header.sequence_number, header.timestamp);
         }
         Datagram::Red(red) => {
-            let header = &red.packet.header;
+            let header = &red.header;
             statistics.observe(now, header.sequence_number, header.timestamp);
         }
         _ => {}

@@ -130,6 +130,7 @@ fn setting_of(fields: &[&str]) -> Option<Setting> {
         ["red", payload_type, step] => Some(Setting::Red(RedSettings {
             payload_type: byte(payload_type)?,
             step: word(step)?,
+            retransmission: None,
         })),
         ["again", ssrc, payload_type] => Some(Setting::Again(Retransmission {
             ssrc: word(ssrc)?,

@@ -129,7 +129,7 @@ impl Media<'_> {
     /// - RED: the RED format over the payload type. RED that names no payload type is over the first format of media of its
     ///   section: a session finds the stream of a RED packet by its payload type alone. The step is that of
     ///   [`Media::receiver_settings`].
-    /// - Retransmissions: the first format of RTX whose `apt` is the payload type.
+    /// - Retransmissions: the first format of RTX whose `apt` is the payload type, and for RED the first one whose `apt` is RED's.
     /// - `nack` and `pli`: by `a=rtcp-fb`.
     #[must_use]
     pub fn session_format(&self, payload_type: u8) -> Option<Format> {

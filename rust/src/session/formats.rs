@@ -26,7 +26,8 @@ pub struct Format {
     /// The payload type, 0 to 127.
     pub payload_type: u8,
     pub spec: CodecSpec,
-    /// The payload type and the step of RED (RFC 2198) over this format, if RED is used.
+    /// The payload type and the step of RED (RFC 2198) over this format, if RED is used, and the payload type of its
+    /// retransmissions (`apt`), which are read only if there is a `retransmission` too.
     pub red: Option<RedSettings>,
     /// The payload type of its retransmissions (RFC 4588, `apt`), 0 to 127, if there are any.
     pub retransmission: Option<u8>,
@@ -236,9 +237,26 @@ impl Format {
     /// Returns whether packets of this payload type are retransmissions of this format.
     pub(crate) fn resends(&self, payload_type: u8) -> bool {
         match self.retransmission {
-            Some(own) => own == payload_type,
+            Some(own) if own == payload_type => true,
+            Some(_) => self.resends_red(payload_type),
             None => false,
         }
+    }
+
+    /// Returns whether packets of this payload type are retransmissions of RED packets of this format.
+    fn resends_red(&self, payload_type: u8) -> bool {
+        match self.red {
+            Some(red) => is_type(red.retransmission, payload_type),
+            None => false,
+        }
+    }
+}
+
+/// Returns whether this payload type is given.
+fn is_type(given: Option<u8>, payload_type: u8) -> bool {
+    match given {
+        Some(own) => own == payload_type,
+        None => false,
     }
 }
 

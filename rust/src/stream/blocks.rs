@@ -51,7 +51,7 @@ fn copy_block(
     red: &RedPacket<'_>,
     block: &RedBlock<'_>,
 ) -> Result<Option<BlockCopy>, AllocError> {
-    let header = &red.packet.header;
+    let header = &red.header;
     let number = SeqNo(65_536 + u64::from(header.sequence_number));
     match red.receiver.recover_block(number, header.timestamp, block) {
         Some(recovered) => {

@@ -130,7 +130,7 @@ impl Choice {
 fn origin_of(datagram: &Datagram<'_>) -> Option<Origin> {
     let header = match datagram {
         Datagram::NoMedia(packet) | Datagram::Media(packet) => packet.header,
-        Datagram::Red(red) => red.packet.header,
+        Datagram::Red(red) => red.header,
         _ => return None,
     };
     Some(Origin {

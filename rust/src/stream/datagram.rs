@@ -27,10 +27,10 @@ pub(crate) enum Malformation {
     Retransmission,
 }
 
-/// A RED packet.
+/// A RED packet. A retransmitted one has the original sequence number and SSRC in its header.
 #[derive(Debug)]
 pub(crate) struct RedPacket<'a> {
-    pub(crate) packet: RtpPacket<'a>,
+    pub(crate) header: PacketHeader<'a>,
     pub(crate) receiver: RedReceiver,
     primary: RedBlock<'a>,
     pub(crate) older: Vec<RedBlock<'a>>,
@@ -59,6 +59,8 @@ pub(crate) enum Datagram<'a> {
     Media(RtpPacket<'a>),
     Red(RedPacket<'a>),
     SentAgain(SentAgain<'a>),
+    /// A retransmission of a RED packet.
+    RedAgain(RedPacket<'a>),
     /// A retransmission without payload.
     Nothing,
 }
@@ -68,6 +70,8 @@ pub(crate) enum Datagram<'a> {
 pub(crate) struct RedStream {
     pub(crate) payload_type: u8,
     pub(crate) receiver: RedReceiver,
+    /// The payload type of retransmitted RED packets.
+    pub(crate) retransmission: Option<u8>,
 }
 
 /// The result of receiving a datagram.
@@ -173,20 +177,89 @@ fn red_kind<'a>(receiver: RedReceiver, packet: RtpPacket<'a>) -> Result<Datagram
     if is_padding_only(&packet) {
         return Ok(Datagram::NoMedia(packet));
     }
-    let mut blocks = match RedDecoder::decode(packet.payload) {
-        Ok(blocks) => blocks,
-        Err(PacketError::OutOfMemory) => return Err(PacketError::OutOfMemory),
-        Err(_) => return Ok(Datagram::Malformed(Malformation::Red)),
-    };
-    let Some(primary) = blocks.pop() else {
+    let Some(red) = read_red(receiver, packet.header, packet.payload)? else {
         return Ok(Datagram::Malformed(Malformation::Red));
     };
-    Ok(Datagram::Red(RedPacket {
-        packet,
+    Ok(Datagram::Red(red))
+}
+
+/// Reads the blocks of a RED payload, for a packet with this header. Returns `None` if it is not valid RED.
+fn read_red<'a>(
+    receiver: RedReceiver,
+    header: PacketHeader<'a>,
+    payload: &'a [u8],
+) -> Result<Option<RedPacket<'a>>, PacketError> {
+    let mut blocks = match RedDecoder::decode(payload) {
+        Ok(blocks) => blocks,
+        Err(PacketError::OutOfMemory) => return Err(PacketError::OutOfMemory),
+        Err(_) => return Ok(None),
+    };
+    let Some(primary) = blocks.pop() else {
+        return Ok(None);
+    };
+    Ok(Some(RedPacket {
+        header,
         receiver,
         primary,
         older: blocks,
     }))
+}
+
+/// Returns whether this payload type is given.
+fn is_the_type(given: Option<u8>, payload_type: u8) -> bool {
+    match given {
+        Some(own) => own == payload_type,
+        None => false,
+    }
+}
+
+/// Returns the RED receiver for retransmitted RED packets, if the packet is one.
+fn red_again_of(
+    retransmission: Option<Retransmission>,
+    red: Option<RedStream>,
+    header: &PacketHeader<'_>,
+) -> Option<RedReceiver> {
+    match (retransmission, red) {
+        (Some(it), Some(red))
+            if it.ssrc == header.ssrc && is_the_type(red.retransmission, header.payload_type) =>
+        {
+            Some(red.receiver)
+        }
+        _ => None,
+    }
+}
+
+/// Returns the header of the original packet of a retransmission, which has this number.
+fn repeated_header<'a>(
+    known: Option<u32>,
+    header: PacketHeader<'a>,
+    number: u16,
+) -> PacketHeader<'a> {
+    PacketHeader {
+        sequence_number: number,
+        ssrc: ssrc_or(known, header.ssrc),
+        ..header
+    }
+}
+
+/// Sorts a retransmission of a RED packet: the RED payload comes after the original number.
+fn red_again_kind<'a>(
+    receiver: RedReceiver,
+    known: Option<u32>,
+    packet: RtpPacket<'a>,
+) -> Result<Datagram<'a>, PacketError> {
+    match packet.payload {
+        [] => Ok(Datagram::Nothing),
+        [_] => Ok(Datagram::Malformed(Malformation::Retransmission)),
+        [high, low, payload @ ..] => {
+            let number = u16::from(*high) * 256 + u16::from(*low);
+            let header = repeated_header(known, packet.header, number);
+            match read_red(receiver, header, payload)? {
+                Some(red) => Ok(Datagram::RedAgain(red)),
+                None => Ok(Datagram::Malformed(Malformation::Red)),
+            }
+        }
+    }
 }
 
 impl Stream {
@@ -211,10 +284,25 @@ impl Stream {
         ssrc: Option<u32>,
         packet: RtpPacket<'a>,
     ) -> Result<Datagram<'a>, PacketError> {
-        let payload_type = packet.header.payload_type;
         if is_sent_again(self.retransmission, &packet.header) {
             return Ok(again_kind(ssrc, packet));
         }
+        if packet.header.payload_type == self.payload_type {
+            return self.first_kind(ssrc, packet);
+        }
+        match red_again_of(self.retransmission, self.red, &packet.header) {
+            Some(receiver) => red_again_kind(receiver, ssrc, packet),
+            None => self.first_kind(ssrc, packet),
+        }
+    }
+
+    /// Sorts an RTP packet that is not a retransmission.
+    fn first_kind<'a>(
+        &self,
+        ssrc: Option<u32>,
+        packet: RtpPacket<'a>,
+    ) -> Result<Datagram<'a>, PacketError> {
+        let payload_type = packet.header.payload_type;
         if is_other(ssrc, packet.header.ssrc) {
             return Ok(Datagram::OtherStream);
         }
@@ -313,7 +401,7 @@ impl Stream {
         now: Ticks,
         red: &RedPacket<'_>,
     ) -> Result<Outcome, PacketError> {
-        let header = &red.packet.header;
+        let header = &red.header;
         let (time, number) = (header.timestamp, header.sequence_number);
         if self.is_own_media(red) && !self.is_repeat(seen, packets, time, number) {
             self.push_packet(packets, now, header, red.primary.payload)
@@ -346,12 +434,7 @@ impl Stream {
     ) -> Result<Taken, PacketError> {
         let copies = copy_blocks(self, red)?;
         let outcome = self.push_primary(packets, seen, now, red)?;
-        note_packet(
-            seen,
-            self.is_own_media(red),
-            outcome,
-            red.packet.header.timestamp,
-        );
+        note_packet(seen, self.is_own_media(red), outcome, red.header.timestamp);
         if outcome == Outcome::Suspect {
             return Ok(Taken::whole(outcome));
         }
@@ -390,6 +473,46 @@ impl Stream {
         self.push_retransmitted(packets, now, sent)
     }
 
+    /// Stores the primary block of a retransmitted RED packet under the original number, by the same rule. If it is not media
+    /// of the stream, the packet has no media.
+    fn push_primary_again<B: Depacketizer>(
+        &self,
+        packets: &mut JitterBuffer<B>,
+        seen: &SeenTimes,
+        now: Ticks,
+        red: &RedPacket<'_>,
+    ) -> Result<Outcome, PacketError> {
+        if !self.is_own_media(red) {
+            return note_again(packets, red.header.sequence_number);
+        }
+        let sent = SentAgain {
+            header: red.header,
+            number: red.header.sequence_number,
+            ssrc: red.header.ssrc,
+            payload: red.primary.payload,
+        };
+        self.push_again(packets, seen, now, &sent)
+    }
+
+    /// Stores a retransmitted RED packet: its primary block, and its redundant blocks. The payloads of the blocks are copied
+    /// first.
+    fn push_red_again<B: Depacketizer>(
+        &self,
+        packets: &mut JitterBuffer<B>,
+        seen: &mut SeenTimes,
+        now: Ticks,
+        red: &RedPacket<'_>,
+    ) -> Result<Taken, PacketError> {
+        let copies = copy_blocks(self, red)?;
+        let outcome = self.push_primary_again(packets, seen, now, red)?;
+        note_packet(seen, self.is_own_media(red), outcome, red.header.timestamp);
+        let is_whole = recover_all(packets, seen, now, copies);
+        Ok(Taken {
+            outcome,
+            whole: is_whole,
+        })
+    }
+
     /// Stores a datagram of the stream in the jitter buffer, or counts it there.
     pub(crate) fn take<B: Depacketizer>(
         &self,
@@ -400,6 +523,7 @@ impl Stream {
     ) -> Result<Taken, PacketError> {
         let outcome = match datagram {
             Datagram::Red(red) => return self.push_red(packets, seen, now, red),
+            Datagram::RedAgain(red) => return self.push_red_again(packets, seen, now, red),
             Datagram::Rtcp | Datagram::Malformed(_) => Outcome::Rtcp,
             Datagram::OtherStream => Outcome::OtherStream,
             Datagram::NoMedia(packet) => {
@@ -425,6 +549,19 @@ impl Stream {
     }
 }
 
+/// Notes the number of a retransmission without media, if a packet with it would be stored.
+fn note_again<B: Depacketizer>(
+    packets: &mut JitterBuffer<B>,
+    number: u16,
+) -> Result<Outcome, PacketError> {
+    if !packets.would_store(number) {
+        packets.push_nothing();
+        return Ok(Outcome::NoMedia);
+    }
+    packets.push_no_media(number)?;
+    Ok(Outcome::NoMedia)
+}
+
 /// Returns whether the sender restarted.
 fn is_restart(outcome: Outcome) -> bool {
     matches!(outcome, Outcome::Restarted(_))
@@ -448,7 +585,7 @@ fn note_packet(seen: &mut SeenTimes, is_media: bool, outcome: Outcome, time: u32
 pub(crate) fn ssrc_after(ssrc: Option<u32>, datagram: &Datagram<'_>) -> Option<u32> {
     match datagram {
         Datagram::NoMedia(packet) | Datagram::Media(packet) => Some(packet.header.ssrc),
-        Datagram::Red(red) => Some(red.packet.header.ssrc),
+        Datagram::Red(red) => Some(red.header.ssrc),
         _ => ssrc,
     }
 }
@@ -461,7 +598,7 @@ pub(crate) fn observe(statistics: &mut ReceptionStatistics, now: Ticks, datagram
             statistics.observe(now, header.sequence_number, header.timestamp);
         }
         Datagram::Red(red) => {
-            let header = &red.packet.header;
+            let header = &red.header;
             statistics.observe(now, header.sequence_number, header.timestamp);
         }
         _ => {}

@@ -9,13 +9,13 @@ use crate::jitter::jitter_buffer::{JitterBuffer, Outcome, PacketCounters, WaitLi
 use crate::jitter::missing::MissingNumbers;
 use crate::jitter::numbers::{SequenceNumbers, WindowError};
 use crate::keyframes::unit_gate::{FromKeyframe, UnitGate};
-use crate::red::RedReceiver;
 use crate::rtp::packet::RtpError;
 use crate::rtp::times::RtpTimes;
 use crate::rtp::values::ExtensionIds;
 use crate::stream::answers::{answer_for, is_out_of_memory};
+use crate::stream::checks::{packets_at_once, red_of, retransmission_fits};
 use crate::stream::choice::{Choice, Origin, Verdict};
-use crate::stream::datagram::{Datagram, RedStream, Stream, observe, ssrc_after};
+use crate::stream::datagram::{Datagram, Stream, observe, ssrc_after};
 use crate::stream::gated::{follow, follow_into, gate_for};
 use crate::stream::reports::{ReceptionReport, ReceptionStatistics};
 use crate::stream::seen_times::SeenTimes;
@@ -25,12 +25,6 @@ use alloc::vec::Vec;
 use core::fmt;
 use core::mem;
 
-/// Places that are kept free with RED: for the primary block of a packet, a suspect packet, and eight redundant blocks.
-const RED_AT_ONCE: usize = 10;
-
-/// Places that are kept free without RED: for the packet itself, and a suspect packet.
-const AT_ONCE: usize = 2;
-
 /// How a stream uses RED (RFC 2198): each packet repeats some of the earlier payloads.
 #[derive(Clone, Copy, Debug, PartialEq, Eq)]
 pub struct RedSettings {
@@ -39,6 +33,10 @@ pub struct RedSettings {
     /// The RTP timestamp difference between successive packets, 1 to 16,383: 960 is 20 ms at 48 kHz. A block carries its age as
     /// a time, and no number.
     pub step: u32,
+    /// The payload type of retransmitted RED packets, 0 to 127: the one whose `apt` (RFC 4588, section 8.1) is the payload type
+    /// of RED. Their SSRC is that of [`ReceiverSettings::retransmission`], and without such settings there are none. It differs from the
+    /// payload type of retransmissions there, which is read first. `None`: retransmitted RED is not read.
+    pub retransmission: Option<u8>,
 }
 
 /// The SSRC and payload type of retransmissions (RFC 4588).
@@ -287,7 +285,9 @@ impl<B: Depacketizer> Receiver<B> {
     /// primary block; if the primary block has another payload type, the packet has no media. Redundant blocks are stored if
     /// their packets are missing, and are counted as recovered. No block of a suspect packet is stored. A packet that repeats a
     /// stored block under another number has no media. A retransmission is stored under its original number; see
-    /// [`JitterBuffer::push_retransmitted`].
+    /// [`JitterBuffer::push_retransmitted`]. A retransmitted RED packet is read as the RED packet of its original number: its
+    /// primary block is stored as a retransmission, and its redundant blocks if their packets are missing. If the primary block
+    /// has another payload type, the original number has no media, if it is missing.
     ///
     /// If the settings name no SSRC, the first packet of each SSRC waits ([`Outcome::Undecided`]), at most four packets. The
     /// first two packets of one SSRC whose numbers are 1 to 100 apart, in either order, choose the stream. The packet that
@@ -619,39 +619,6 @@ impl Arrived {
             malformed: 0,
             other_streams: 0,
         }
-    }
-}
-
-/// Returns whether the payload type of retransmissions has 7 bits.
-fn retransmission_fits(retransmission: Option<Retransmission>) -> bool {
-    match retransmission {
-        Some(it) => it.payload_type <= 127,
-        None => true,
-    }
-}
-
-/// Returns how many places are kept free for the packets of one datagram.
-fn packets_at_once(red: &Option<RedStream>) -> usize {
-    match red {
-        Some(_) => RED_AT_ONCE,
-        None => AT_ONCE,
-    }
-}
-
-/// Returns how a stream with this payload type uses RED, if it does.
-fn red_of(payload_type: u8, red: Option<RedSettings>) -> Result<Option<RedStream>, SettingsError> {
-    let Some(red) = red else {
-        return Ok(None);
-    };
-    if red.payload_type > 127 || red.payload_type == payload_type {
-        return Err(SettingsError::RedPayloadType);
-    }
-    match RedReceiver::new(payload_type, red.step) {
-        Some(receiver) => Ok(Some(RedStream {
-            payload_type: red.payload_type,
-            receiver,
-        })),
-        None => Err(SettingsError::RedStep),
     }
 }
 

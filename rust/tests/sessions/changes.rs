@@ -26,6 +26,7 @@ fn session() -> Session {
     let red = Some(RedSettings {
         payload_type: RED,
         step: 960,
+        retransmission: None,
     });
     settings.formats = vec![
         requested(VP8, Codec::Vp8, Frequency::NINETY_KHZ),

@@ -65,6 +65,7 @@ pub fn answered_formats() -> Vec<Format> {
     let red = RedSettings {
         payload_type: RED,
         step: 960,
+        retransmission: None,
     };
     vec![
         answered_vp8(),

@@ -59,6 +59,7 @@ struct Rules {
 const RED_OVER_OPUS: RedSettings = RedSettings {
     payload_type: RED,
     step: 960,
+    retransmission: None,
 };
 
 fn session(rules: Rules) -> Session {

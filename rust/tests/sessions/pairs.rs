@@ -155,10 +155,9 @@ fn pairs_at_the_edge() -> Result<(), Fail> {
 }
 
 /// Video in RED (RFC 2198), as Chromium and GStreamer send it with error correction: a retransmission of RED has a payload type of its
-/// own, whose `apt` is RED's. It is not read: its payload would be a RED header and a frame. The session counts it as unknown, and
-/// the retransmission of the media itself goes to the stream.
+/// own, whose `apt` is RED's. It goes to the stream as the RED packet that was lost, as the retransmission of the media itself does.
 #[test]
-fn retransmissions_of_red_are_unknown() -> Result<(), Fail> {
+fn retransmissions_of_red() -> Result<(), Fail> {
     let text = include_str!("../../../c/sdp/gstreamer.sdp");
     let mut settings = codec_payload::sdp::session_settings(&codec_payload::sdp::read(text)?)?;
     settings.video.start = 0;
@@ -166,7 +165,7 @@ fn retransmissions_of_red_are_unknown() -> Result<(), Fail> {
     let (vp8, red, rtx, rtx_of_red) = (96, 98, 100, 101);
     let (ssrc, again) = (1_111, 3_396_958_610);
     let mut session = Session::new(settings);
-    for number in [1, 2, 4] {
+    for number in [1, 2, 5] {
         // One block: the last bit of its header is 0, and 7 bits are the payload type.
         let payload = [vp8, 0x10, number];
         let number = u16::from(number);
@@ -175,11 +174,34 @@ fn retransmissions_of_red_are_unknown() -> Result<(), Fail> {
     }
     assert_eq!(units(&mut session, 0), [(ssrc, 1), (ssrc, 2)]);
     let of_red = packet(rtx_of_red, again, 7, 9_000, &[0, 3, vp8, 0x10, 3]);
-    assert_eq!(session.receive(Ticks(0), &of_red)?, Arrival::Unknown);
-    assert_eq!(units(&mut session, 0), []);
-    let of_media = packet(rtx, again, 8, 9_000, &[0, 3, 0x10, 3]);
-    let arrival = session.receive(Ticks(0), &of_media)?;
-    assert!(matches!(arrival, Arrival::Stream { answer: Ok(_), .. }));
-    assert_eq!(units(&mut session, 0), [(ssrc, 3), (ssrc, 4)]);
+    let of_media = packet(rtx, again, 8, 12_000, &[0, 4, 0x10, 4]);
+    for (of, released) in [
+        (of_red, &[(ssrc, 3)][..]),
+        (of_media, &[(ssrc, 4), (ssrc, 5)]),
+    ] {
+        let arrival = session.receive(Ticks(0), &of)?;
+        let held = Ok(codec_payload::jitter::Outcome::Held);
+        assert!(matches!(arrival, Arrival::Stream { answer, .. } if answer == held));
+        assert_eq!(units(&mut session, 0), released);
+    }
+    Ok(())
+}
+
+/// The same without a payload type of retransmissions of the media, or under an SSRC without a pair: it is not for a stream.
+#[test]
+fn retransmissions_of_red_alone() -> Result<(), Fail> {
+    let text = include_str!("../../../c/sdp/gstreamer.sdp");
+    let sections = codec_payload::sdp::read(text)?;
+    let mut without = codec_payload::sdp::session_settings(&sections)?;
+    without.formats[0].retransmission = None;
+    let mut session = Session::new(without);
+    let of_red = |ssrc| packet(101, ssrc, 7, 9_000, &[0, 3, 96, 0x10, 3]);
+    let arrival = session.receive(Ticks(0), &of_red(3_396_958_610))?;
+    assert_eq!(arrival, Arrival::Unknown);
+    let mut session = Session::new(codec_payload::sdp::session_settings(&sections)?);
+    assert_eq!(
+        session.receive(Ticks(0), &of_red(5))?,
+        Arrival::Unassociated
+    );
     Ok(())
 }

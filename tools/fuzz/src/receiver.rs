@@ -15,6 +15,7 @@ fn receiver_of(input: &mut Input) -> Option<Receiver> {
     settings.red = (how & 2 != 0).then(|| RedSettings {
         payload_type: 63,
         step: 1 + u32::from(input.byte()),
+        retransmission: (how & 8 != 0).then_some(99),
     });
     settings.retransmission = (how & 4 != 0).then_some(Retransmission {
         ssrc: 2,

@@ -25,7 +25,13 @@ fn formats(input: &mut Input) -> Vec<Format> {
         clock_rate: Frequency::FORTY_EIGHT_KHZ,
         octet_align: false,
     };
-    let red = |payload_type, step| Some(RedSettings { payload_type, step });
+    let red = |payload_type, step| {
+        Some(RedSettings {
+            payload_type,
+            step,
+            retransmission: Some(99),
+        })
+    };
     let format = |payload_type, spec, red| Format {
         red,
         nack: how & 1 == 0,

@@ -211,6 +211,7 @@ fn settings(spec: &CodecSpec, input: &mut Input) -> (ReceiverSettings, [u64; 9])
     ours.red = (step > 0).then_some(RedSettings {
         payload_type: 63,
         step,
+        retransmission: None,
     });
     ours.retransmission = (retransmission > 0).then_some(Retransmission {
         ssrc: 2,

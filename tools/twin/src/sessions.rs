@@ -27,6 +27,7 @@ fn formats(spec: CodecSpec) -> Vec<Format> {
     let red = RedSettings {
         payload_type: 63,
         step: 90,
+        retransmission: None,
     };
     vec![
         format(96, spec, Some(red), Some(98)),
