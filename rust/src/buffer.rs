@@ -199,6 +199,7 @@ impl<B: Depacketizer> DepacketizingBuffer<B> {
     }
 
     /// Returns the time at which the last packet of the first complete frame arrived, or `None` if no frame is complete.
+    #[inline(always)]
     pub fn ready_since(&self) -> Option<Ticks> {
         let frame = *self.complete_frames.front()?;
         received_at(&self.packets, frame.last)
@@ -230,6 +231,7 @@ impl<B: Depacketizer> DepacketizingBuffer<B> {
     }
 
     /// Returns the frame that is due, if there is one.
+    #[inline(always)]
     fn due(&self) -> Option<CompleteFrame> {
         let frame = *self.complete_frames.front()?;
         if starts_next(self.cutoff, frame.first) || self.complete_frames.len() > self.hold_back {
@@ -241,6 +243,7 @@ impl<B: Depacketizer> DepacketizingBuffer<B> {
 
     /// Takes the frame that is due, and skips it if its picture ids are too old. It allocates all memory before it changes
     /// anything except the depacketizer. Unless memory ran out, `metas` then has one item for each packet of the frame.
+    #[inline(always)]
     fn take_frame(
         &mut self,
         frame: CompleteFrame,
@@ -279,6 +282,7 @@ impl<B: Depacketizer> DepacketizingBuffer<B> {
     }
 
     /// Removes the frame that is due and all packets below it, the first `count` packets.
+    #[inline(always)]
     fn leave(&mut self, frame: CompleteFrame, count: usize) {
         drop_front(&mut self.packets, &mut self.spare, count);
         self.complete_frames.pop_front();

@@ -5,6 +5,7 @@ use Rattle.codec_payload_base.specs.declared.wire.SenderInfo.{SenderInfo}
 use Rattle.codec_payload_base.specs.declared.wire.extension.AbsCaptureTime.{AbsCaptureTime}
 use Rattle.codec_payload_base.specs.declared.wire.extension.VideoTiming.{VideoTiming}
 use Rattle.codec_payload_buffer.specs.declared.buffer.known.Rare.{Rare}
+use Rattle.codec_payload_buffer.specs.declared.buffer.unit.RtpMeta.{RtpMeta}
 
 -- the capture time, if there is one
 abbrev pub capture_of : Option Rare → Option AbsCaptureTime
@@ -25,3 +26,10 @@ layers_of (Some r) = option_map (λ b. b.value) r.layers_allocation
 abbrev pub sender_info_of : Option Rare → Option SenderInfo
 sender_info_of None = None
 sender_info_of (Some r) = r.last_sender_info
+
+-- the metadata of a packet without its rare values
+abbrev pub plain_meta : RtpMeta → RtpMeta
+plain_meta m = record m {
+  header = record m.header { ext_vals = record m.header.ext_vals { abs_capture_time = None; video_timing = None; layers_allocation = None } };
+  last_sender_info = None;
+}

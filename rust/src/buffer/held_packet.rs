@@ -58,14 +58,27 @@ impl Packet {
     }
 }
 
-/// A type that returns a value about itself, made new on each call.
+/// A type that returns a value about itself, made new on each call. A plain value costs less.
 pub(super) trait Tells<T> {
+    fn is_plain(&self) -> bool;
+
+    fn tell_plain(&self) -> T;
+
     fn tell(&self) -> T;
 }
 
 /// Returns the metadata of the packet, as users see it.
 impl Tells<RtpMeta> for HeldPacket {
     #[inline(always)]
+    fn is_plain(&self) -> bool {
+        self.packet.known.is_plain()
+    }
+
+    #[inline(always)]
+    fn tell_plain(&self) -> RtpMeta {
+        self.packet.known.plain_meta()
+    }
+
     fn tell(&self) -> RtpMeta {
         self.packet.known.meta()
     }

@@ -113,12 +113,26 @@ impl Known {
         self.received
     }
 
-    /// Returns the metadata of the packet, as users see it.
+    /// Returns whether the packet has no rare values.
     #[inline(always)]
+    pub(super) fn is_plain(&self) -> bool {
+        match &self.rare {
+            Some(_) => false,
+            None => true,
+        }
+    }
+
+    /// Returns the metadata without rare values.
+    #[inline(always)]
+    pub(super) fn plain_meta(&self) -> RtpMeta {
+        self.meta_with(self.plain_values(), None)
+    }
+
+    /// Returns the metadata of the packet, as users see it.
     pub(super) fn meta(&self) -> RtpMeta {
         match &self.rare {
             Some(rare) => self.meta_with(self.values_with(rare), rare.last_sender_info),
-            None => self.meta_with(self.plain_values(), None),
+            None => self.plain_meta(),
         }
     }
 

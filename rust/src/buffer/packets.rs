@@ -31,6 +31,7 @@ fn in_block(spare: &mut Vec<One<Packet>>, packet: Packet) -> Result<One<Packet>,
 }
 
 /// Keeps the memory block of a packet that has left, and frees the payload and rare values of the packet. Allocates nothing.
+#[inline(always)]
 fn keep(spare: &mut Vec<One<Packet>>, block: One<Packet>) {
     if spare.len() < KEPT_BLOCKS && spare.len() < spare.capacity() {
         let mut block = block;
@@ -74,6 +75,7 @@ pub(super) fn is_at(packets: &VecDeque<HeldPacket>, place: usize, number: u64) -
 }
 
 /// Returns the time at which the packet with this number arrived, if it is held.
+#[inline(always)]
 pub(super) fn received_at(packets: &VecDeque<HeldPacket>, number: u64) -> Option<Ticks> {
     let place = find_place(packets, number);
     if place >= packets.len() {
@@ -97,6 +99,7 @@ pub(super) fn take_lowest(packets: &mut VecDeque<HeldPacket>, spare: &mut Vec<On
 
 /// Returns the places at which the packets of a frame begin and end. The numbers of a frame are consecutive, so only its first
 /// packet is searched.
+#[inline(always)]
 pub(super) fn frame_range(packets: &VecDeque<HeldPacket>, frame: CompleteFrame) -> (usize, usize) {
     let from = find_place(packets, frame.first);
     (from, from + (frame.last - frame.first) as usize + 1)
@@ -105,11 +108,16 @@ pub(super) fn frame_range(packets: &VecDeque<HeldPacket>, frame: CompleteFrame) 
 /// Appends the fields of an item.
 #[inline(always)]
 fn push_told<T, I: Tells<T>>(all: &mut Vec<T>, item: &I) -> Result<(), AllocError> {
-    all.try_push(item.tell())?;
+    if item.is_plain() {
+        all.try_push(item.tell_plain())?;
+    } else {
+        all.try_push(item.tell())?;
+    }
     Ok(())
 }
 
 /// Writes the metadata of the packets between two places to `metas`, and replaces the earlier contents.
+#[inline(always)]
 pub(super) fn copy_metas(
     metas: &mut Vec<RtpMeta>,
     packets: &VecDeque<HeldPacket>,
@@ -125,6 +133,7 @@ pub(super) fn copy_metas(
 }
 
 /// Returns the number of payload bytes of these packets, at most `usize::MAX`.
+#[inline(always)]
 fn payload_size(packets: &VecDeque<HeldPacket>, from: usize, to: usize) -> usize {
     let mut size = 0usize;
     for packet in packets.range(from..to) {
@@ -134,6 +143,7 @@ fn payload_size(packets: &VecDeque<HeldPacket>, from: usize, to: usize) -> usize
 }
 
 /// Starts an empty unit, with room for the payload bytes of these packets, as the depacketizer expects it.
+#[inline(always)]
 pub(super) fn make_room<B: Depacketizer>(
     bytes: &mut Vec<u8>,
     depacketizer: &CodecDepacketizer<B>,
@@ -149,6 +159,7 @@ pub(super) fn make_room<B: Depacketizer>(
 }
 
 /// Passes the payloads of these packets to the depacketizer, in order, up to the first payload that it refuses.
+#[inline(always)]
 pub(super) fn unpack<B: Depacketizer>(
     depacketizer: &mut CodecDepacketizer<B>,
     packets: &VecDeque<HeldPacket>,
@@ -171,6 +182,7 @@ const KEPT_ENTRIES: usize = 64;
 
 /// Shrinks a queue that is at most a quarter full to twice its contents, or to 64 entries. So a call that moves entries comes
 /// after at least as many packets that left. If the smaller memory cannot be allocated, the queue stays as it is.
+#[inline(always)]
 pub(super) fn give_back<T>(queue: &mut VecDeque<T>) {
     if queue.capacity() > KEPT_ENTRIES && queue.len() <= queue.capacity() / 4 {
         queue.shrink_if_possible((2 * queue.len()).max(KEPT_ENTRIES));
@@ -178,6 +190,7 @@ pub(super) fn give_back<T>(queue: &mut VecDeque<T>) {
 }
 
 /// Removes the first `count` packets.
+#[inline(always)]
 pub(super) fn drop_front(
     packets: &mut VecDeque<HeldPacket>,
     spare: &mut Vec<One<Packet>>,

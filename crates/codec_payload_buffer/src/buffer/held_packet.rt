@@ -1,6 +1,7 @@
 //! A packet in the queue of a buffer.
 
-ghost use Rattle.std.specs.Prelude.{◌≡◌, IfOk, Option, if◌then◌else◌};
+ghost use Rattle.std.specs.Prelude.{◌≡◌, IfOk, Option, if◌then◌else◌, true};
+ghost use Rattle.codec_payload_buffer.specs.Rare.{plain_meta};
 
 use super::known::Known;
 use super::unit::RtpMeta;
@@ -66,9 +67,17 @@ impl Packet {
     }
 }
 
-/// A type that returns a value about itself, made new on each call.
+/// A type that returns a value about itself, made new on each call. A plain value costs less.
 pub(super) trait Tells<T> {
     ghost told: { Self → T };
+
+    ghost plain: { Self → T };
+
+    fn is_plain(&self) -> bool
+        ensures { result ≡ true → plain self.now ≡ told self.now };
+
+    fn tell_plain(&self) -> T
+        ensures { result ≡ plain self.now };
 
     fn tell(&self) -> T
         ensures { result ≡ told self.now };
@@ -78,7 +87,18 @@ pub(super) trait Tells<T> {
 impl Tells<RtpMeta> for HeldPacket {
     ghost told = { λ entry. entry.packet.value.known };
 
+    ghost plain = { λ entry. plain_meta entry.packet.value.known };
+
     #[inline(always)]
+    fn is_plain(&self) -> bool {
+        self.packet.known.is_plain()
+    }
+
+    #[inline(always)]
+    fn tell_plain(&self) -> RtpMeta {
+        self.packet.known.plain_meta()
+    }
+
     fn tell(&self) -> RtpMeta {
         self.packet.known.meta()
     }

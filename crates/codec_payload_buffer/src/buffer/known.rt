@@ -1,8 +1,8 @@
 //! The metadata of a held packet.
 
-ghost use Rattle.std.specs.Prelude.{◌≡◌, IfOk, Option};
+ghost use Rattle.std.specs.Prelude.{◌≡◌, IfOk, Option, true};
 ghost use Rattle.std.specs.Option.{option_map};
-ghost use Rattle.codec_payload_buffer.specs.Rare.{capture_of, timing_of, layers_of, sender_info_of};
+ghost use Rattle.codec_payload_buffer.specs.Rare.{capture_of, timing_of, layers_of, plain_meta, sender_info_of};
 
 use super::unit::RtpMeta;
 use codec_payload_base::wire::{
@@ -162,14 +162,32 @@ impl Known {
         self.received
     }
 
-    /// Returns the metadata of the packet, as users see it.
+    /// Returns whether the packet has no rare values.
     #[inline(always)]
+    pub(super) fn is_plain(&self) -> bool
+        ensures { result ≡ true → plain_meta self.now ≡ self.now }
+    {
+        match &self.rare {
+            Some(_) => false,
+            None => true,
+        }
+    }
+
+    /// Returns the metadata without rare values.
+    #[inline(always)]
+    pub(super) fn plain_meta(&self) -> RtpMeta
+        ensures { result ≡ plain_meta self.now }
+    {
+        self.meta_with(self.plain_values(), None)
+    }
+
+    /// Returns the metadata of the packet, as users see it.
     pub(super) fn meta(&self) -> RtpMeta
         ensures { result ≡ self.now }
     {
         match &self.rare {
             Some(rare) => self.meta_with(self.values_with(rare), rare.last_sender_info),
-            None => self.meta_with(self.plain_values(), None),
+            None => self.plain_meta(),
         }
     }
 
