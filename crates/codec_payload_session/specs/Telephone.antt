@@ -26,8 +26,11 @@ empty_queue = record { waiting = []; dropped = 0 }
 
 -- ---- which datagrams are packets of telephone events
 
+abbrev pub telephone_if : SessionSettings → Packet → Option Packet
+telephone_if s p = if is_telephone s p.header.payload_type then Some p else None
+
 abbrev pub telephone_of : SessionSettings → Result Packet RtpError → Option Packet
-telephone_of s (Ok p) = if is_telephone s p.header.payload_type then Some p else None
+telephone_of s (Ok p) = telephone_if s p
 telephone_of s (Err e) = None
 
 -- the packet of telephone events that the bytes are

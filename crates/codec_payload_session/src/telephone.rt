@@ -3,7 +3,7 @@
 ghost use Rattle.std.specs.Prelude.{◌≡◌, IfOk, OnErr};
 ghost use Rattle.std.specs.Option.{option_map};
 ghost use Rattle.codec_payload_rtp.specs.RtpValues.{packet_of};
-ghost use Rattle.codec_payload_session.specs.Telephone.{Gives, IsCopy, MayLackMemory, Notes, empty_queue, event_of, is_quiet, is_without_media, settled, telephone_at};
+ghost use Rattle.codec_payload_session.specs.Telephone.{Gives, IsCopy, MayLackMemory, Notes, empty_queue, event_of, is_quiet, is_without_media, settled, telephone_at, telephone_if};
 
 use crate::formats::SessionSettings;
 use crate::session::{Arrival, Event};
@@ -163,8 +163,19 @@ fn packet_in<'a>(settings: &SessionSettings, datagram: &'a [u8]) -> Option<RtpPa
         return None;
     }
     match RtpPacket::parse(datagram) {
-        Ok(packet) if settings.is_telephone(packet.header.payload_type) => Some(packet),
-        _ => None,
+        Ok(packet) => if_telephone(settings, packet),
+        Err(_) => None,
+    }
+}
+
+/// Returns the packet, if its payload type is one of telephone events.
+fn if_telephone<'a>(settings: &SessionSettings, packet: RtpPacket<'a>) -> Option<RtpPacket<'a>>
+    ensures { option_map (λ packet. packet_of packet) result ≡ telephone_if settings.now (packet_of packet.entry) }
+{
+    if settings.is_telephone(packet.header.payload_type) {
+        Some(packet)
+    } else {
+        None
     }
 }
 
