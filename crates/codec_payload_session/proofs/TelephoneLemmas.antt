@@ -1,9 +1,20 @@
 -- What a datagram does to the packets of telephone events that wait.
-use Rattle.std.proofs.Common.{◌≡◌, ◌≤◌, ◌<◌, ◌∙◌, ℕ, suc, ◌+◌, ◌-◌, List, [], ◌∷◌, ◌++◌, take, length, length-append, Bool, true, false, Option, Some, None, ap, refl, subst, sym, arith, nat_lt}
+use Rattle.std.proofs.Common.{◌≡◌, ◌≤◌, ◌<◌, ◌∙◌, ℕ, suc, ◌+◌, ◌-◌, ◌%◌, List, [], ◌∷◌, ◌++◌, take, length, length-append, Bool, true, false, Option, Some, None, Result, Ok, Err, ap, refl, subst, sym, arith, nat_lt}
 use Rattle.std.proofs.Math.Seq.{take-append_seam}
 use Rattle.std.proofs.lemmas.Bool.Decides.{nat_tests}
-use Rattle.codec_payload_rtp.specs.RtpPackets.{Packet}
-use Rattle.codec_payload_session.specs.Telephone.{Notes, NotesBy, Queue, QueuesIf, WaitsLast, WaitsOrDrops, has_room, settled, without_last}
+use Rattle.codec_payload_base.specs.Flags.{AreBytes}
+use Rattle.codec_payload_base.specs.declared.wire.Ticks.{Ticks}
+use Rattle.codec_payload_rtp.specs.RtpPackets.{IsRtp, Packet, bit_if}
+use Rattle.codec_payload_rtp.specs.RtpReading.{rtp_at}
+use Rattle.codec_payload_rtp.specs.declared.rtp.RtpError.{RtpError}
+use Rattle.codec_payload_rtp.proofs.RtpGrammar.{rtp_takes}
+use Rattle.codec_payload_stream.specs.Kinds.{is_among}
+use Rattle.codec_payload_session.specs.Arrivals.{Port}
+use Rattle.codec_payload_session.specs.Ports.{Polls, PollsAfter, Session}
+use Rattle.codec_payload_session.specs.Telephone.{Gives, GivesFrom, Notes, NotesBy, Queue, QueuesIf, WaitsLast, WaitsOrDrops, has_room, names_telephone, settled, telephone_of, without_last}
+use Rattle.codec_payload_session.specs.Turns.{TakesTurn}
+use Rattle.codec_payload_session.specs.declared.formats.SessionSettings.{SessionSettings}
+use Rattle.codec_payload_session.specs.declared.session.Event.{Event}
 use Rattle.codec_payload_session.specs.declared.telephone.Noted.{Noted}
 use Rattle.codec_payload_session.specs.declared.telephone.Noted.TheVariants as noteds
 use Rattle.codec_payload_session.specs.declared.telephone.TelephonePacket.{TelephonePacket}
@@ -45,3 +56,55 @@ pub stay_few : (taken : Bool) (o : Option Packet) (q r : Queue) → QueuesIf tak
 stay_few taken None q r got few = subst (λ (x : Queue). length x.waiting ≤ 32) (sym got) few
 stay_few false (Some p) q r got few = subst (λ (x : Queue). length x.waiting ≤ 32) (sym got) few
 stay_few true (Some p) q r got few = few_by (has_room q) p q r refl got few
+
+-- ---- which datagrams are packets of telephone events
+
+second_is : (marker : Bool) (n : ℕ) → n < 128 → (bit_if marker 128 + n) % 128 ≡ n
+second_is true n small = omega arith
+second_is false n small = omega arith
+
+is_named : (s : SessionSettings) (bytes : List ℕ) (p : Packet) → IsRtp bytes p → names_telephone s bytes ≡ is_among p.header.payload_type s.telephone_events.items
+is_named s bytes p is =
+    subst (λ (l : List ℕ). names_telephone s l ≡ is_among p.header.payload_type s.telephone_events.items) (sym is.is)
+    (ap (λ (n : ℕ). is_among n s.telephone_events.items) (second_is p.header.marker p.header.payload_type is.fits.payload_type))
+
+not_named_by : (s : SessionSettings) (bytes : List ℕ) (r : Result Packet RtpError) → AreBytes bytes → rtp_at bytes ≡ r → names_telephone s bytes ≡ false → telephone_of s r ≡ None
+not_named_by s bytes (Ok p) are is no =
+    let other : is_among p.header.payload_type s.telephone_events.items ≡ false = sym (is_named s bytes p (rtp_takes bytes p are is)) ∙ no in
+    rw other refl
+not_named_by s bytes (Err e) are is no = refl
+
+-- a datagram whose second byte has another payload type is none
+pub not_named : (s : SessionSettings) (bytes : List ℕ) → AreBytes bytes → names_telephone s bytes ≡ false → telephone_of s (rtp_at bytes) ≡ None
+not_named s bytes are no = not_named_by s bytes (rtp_at bytes) are refl no
+
+-- ---- polls
+
+first_by : (ws : List TelephonePacket) (now : Ticks) (s : Session) (event : Event) (r : Queue) → GivesFrom ws s.telephone (Some event) r
+    → PollsAfter ws now s (Some event) (record s { telephone = r })
+first_by [] now s event r got = let no : None ≡ Some event = sym got.0 in absurd (cc)
+first_by (w ∷ ws) now s event r got = (got.0, ap (λ (x : Queue). record s { telephone = x }) got.1)
+
+-- a packet that waits comes first
+pub polls_first : (now : Ticks) (s : Session) (event : Event) (r : Queue) → Gives s.telephone (Some event) r → Polls now s (Some event) (record s { telephone = r })
+polls_first now s event r got = first_by s.telephone.waiting now s event r got
+
+turn_by : (ws : List TelephonePacket) (now : Ticks) (s : Session) (event : Option Event) (port : Port) (r : Queue) → GivesFrom ws s.telephone None r
+    → TakesTurn now s.settings.idle_timeout s.port event port → PollsAfter ws now s event (record s { port = port; telephone = r })
+turn_by [] now s event port r got turn = (port, turn, ap (λ (x : Queue). record s { port = port; telephone = x }) got.1)
+turn_by (w ∷ ws) now s event port r got turn = absurd (cc (got.0))
+
+-- without one the streams have their turn
+pub polls_turn : (now : Ticks) (s : Session) (event : Option Event) (port : Port) (r : Queue) → Gives s.telephone None r → TakesTurn now s.settings.idle_timeout s.port event port
+    → Polls now s event (record s { port = port; telephone = r })
+polls_turn now s event port r got turn = turn_by s.telephone.waiting now s event port r got turn
+
+fewer_by : (ws : List TelephonePacket) (q : Queue) (event : Option Event) (r : Queue) → q.waiting ≡ ws → GivesFrom ws q event r → length q.waiting ≤ 32 → length r.waiting ≤ 32
+fewer_by [] q event r is got few = subst (λ (x : Queue). length x.waiting ≤ 32) (sym got.1) few
+fewer_by (w ∷ ws) q event r is got few =
+    let before : length q.waiting ≡ length (w ∷ ws) = ap (λ (l : List TelephonePacket). length l) is in
+    let after : length r.waiting ≡ length ws = ap (λ (x : Queue). length x.waiting) got.1 in
+    omega (arith, before, after, few)
+
+pub stay_fewer : (q : Queue) (event : Option Event) (r : Queue) → Gives q event r → length q.waiting ≤ 32 → length r.waiting ≤ 32
+stay_fewer q event r got few = fewer_by q.waiting q event r refl got few

@@ -284,7 +284,7 @@ impl Format {
 }
 
 /// Returns whether the payload type is in the list.
-fn is_among(payload_type: u8, types: &[u8]) -> bool
+pub(crate) fn is_among(payload_type: u8, types: &[u8]) -> bool
     ensures { result ≡ is_among payload_type types.now }
 {
     for t in types {

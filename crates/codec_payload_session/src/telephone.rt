@@ -3,9 +3,9 @@
 ghost use Rattle.std.specs.Prelude.{◌≡◌, IfOk, OnErr};
 ghost use Rattle.std.specs.Option.{option_map};
 ghost use Rattle.codec_payload_rtp.specs.RtpValues.{packet_of};
-ghost use Rattle.codec_payload_session.specs.Telephone.{Gives, IsCopy, MayLackMemory, Notes, empty_queue, event_of, is_quiet, is_without_media, settled, telephone_at, telephone_if};
+ghost use Rattle.codec_payload_session.specs.Telephone.{Gives, IsCopy, MayLackMemory, Notes, empty_queue, event_of, is_quiet, is_without_media, names_telephone, settled, telephone_at, telephone_if};
 
-use crate::formats::SessionSettings;
+use crate::formats::{SessionSettings, is_among};
 use crate::session::{Arrival, Event};
 use codec_payload_jitter::outcome::Outcome;
 use codec_payload_rtp::rtp::{RtpPacket, is_rtcp};
@@ -162,9 +162,22 @@ fn packet_in<'a>(settings: &SessionSettings, datagram: &'a [u8]) -> Option<RtpPa
     if is_rtcp(datagram) {
         return None;
     }
+    if !names_telephone(settings, datagram) {
+        return None;
+    }
     match RtpPacket::parse(datagram) {
         Ok(packet) => if_telephone(settings, packet),
         Err(_) => None,
+    }
+}
+
+/// Returns whether the payload type in the second byte is in `telephone_events`: few datagrams need be read.
+fn names_telephone(settings: &SessionSettings, datagram: &[u8]) -> bool
+    ensures { result ≡ names_telephone settings.now datagram.now }
+{
+    match datagram {
+        [_, second, ..] => is_among(*second % 128, &settings.telephone_events),
+        _ => false,
     }
 }
 

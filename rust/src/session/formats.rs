@@ -262,7 +262,7 @@ impl Format {
 }
 
 /// Returns whether the payload type is in the list.
-fn is_among(payload_type: u8, types: &[u8]) -> bool {
+pub(crate) fn is_among(payload_type: u8, types: &[u8]) -> bool {
     for t in types {
         if *t == payload_type {
             return true;
