@@ -39,6 +39,16 @@ waits false true p q noted r room got =
     (ap (λ (n : Noted). settled n true r) got.0 ∙ ap (λ (x : Queue). settled noteds.NoPlace true x) got.1)
 waits false false p q noted r room got = ap (λ (n : Noted). settled n false r) got.0 ∙ got.1
 
+noted_by : (b : Bool) (p : Packet) (q r : Queue) → has_room q ≡ b → b ≡ true → WaitsLast p q r → NotesBy b p q noteds.Waits r
+noted_by true p q r room is got = (refl, got)
+noted_by false p q r room is got = absurd cc
+
+-- a packet with a place is noted
+pub waits_noted : (o : Option Packet) (p : Packet) (q r : Queue) → o ≡ Some p → length q.waiting < 32 → WaitsLast p q r → Notes o q noteds.Waits r
+waits_noted o p q r is free got =
+    let room : has_room q ≡ true = grind (arith, nat_tests) in
+    subst (λ (x : Option Packet). Notes x q noteds.Waits r) (sym is) (noted_by (has_room q) p q r refl room got)
+
 -- a datagram that was noted, and settled by the answer of the streams
 pub queues : (taken : Bool) (o : Option Packet) (q : Queue) (noted : Noted) (r : Queue) → Notes o q noted r → QueuesIf taken o q (settled noted taken r)
 queues taken None q noted r got = ap (λ (n : Noted). settled n taken r) got.0 ∙ got.1
@@ -69,20 +79,20 @@ is_named s bytes p is =
     (ap (λ (n : ℕ). is_among n s.telephone_events.items) (second_is p.header.marker p.header.payload_type is.fits.payload_type))
 
 not_named_by : (s : SessionSettings) (bytes : List ℕ) (r : Result Packet RtpError) → AreBytes bytes → rtp_at bytes ≡ r → names_telephone s bytes ≡ false → telephone_of s r ≡ None
-not_named_by s bytes (Ok p) are is no =
-    let other : is_among p.header.payload_type s.telephone_events.items ≡ false = sym (is_named s bytes p (rtp_takes bytes p are is)) ∙ no in
+not_named_by s bytes (Ok p) are is else_named =
+    let other : is_among p.header.payload_type s.telephone_events.items ≡ false = sym (is_named s bytes p (rtp_takes bytes p are is)) ∙ else_named in
     rw other refl
-not_named_by s bytes (Err e) are is no = refl
+not_named_by s bytes (Err e) are is else_named = refl
 
 -- a datagram whose second byte has another payload type is none
 pub not_named : (s : SessionSettings) (bytes : List ℕ) → AreBytes bytes → names_telephone s bytes ≡ false → telephone_of s (rtp_at bytes) ≡ None
-not_named s bytes are no = not_named_by s bytes (rtp_at bytes) are refl no
+not_named s bytes are else_named = not_named_by s bytes (rtp_at bytes) are refl else_named
 
 -- ---- polls
 
 first_by : (ws : List TelephonePacket) (now : Ticks) (s : Session) (event : Event) (r : Queue) → GivesFrom ws s.telephone (Some event) r
     → PollsAfter ws now s (Some event) (record s { telephone = r })
-first_by [] now s event r got = let no : None ≡ Some event = sym got.0 in absurd (cc)
+first_by [] now s event r got = absurd (cc (got.0))
 first_by (w ∷ ws) now s event r got = (got.0, ap (λ (x : Queue). record s { telephone = x }) got.1)
 
 -- a packet that waits comes first
@@ -108,3 +118,6 @@ fewer_by (w ∷ ws) q event r is got few =
 
 pub stay_fewer : (q : Queue) (event : Option Event) (r : Queue) → Gives q event r → length q.waiting ≤ 32 → length r.waiting ≤ 32
 stay_fewer q event r got few = fewer_by q.waiting q event r refl got few
+
+pub queues_settled : (taken : Bool) (o : Option Packet) (q : Queue) (noted : Noted) (r t : Queue) → Notes o q noted r → t ≡ settled noted taken r → QueuesIf taken o q t
+queues_settled taken o q noted r t got is = subst (λ (x : Queue). QueuesIf taken o q x) (sym is) (queues taken o q noted r got)

@@ -344,12 +344,7 @@ fn stream_of(pairs: &[SsrcPair], retransmission: u32) -> Option<u32>
 }
 
 /// Returns the role of this payload type, by the first format that names it.
-fn role_in(
-    formats: &[Format],
-    no_media: &[u8],
-    telephone_events: &[u8],
-    payload_type: u8,
-) -> Role
+fn role_in(formats: &[Format], no_media: &[u8], telephone_events: &[u8], payload_type: u8) -> Role
     ensures { result ≡ role_by formats.now no_media.now telephone_events.now payload_type }
 {
     for format in formats {
