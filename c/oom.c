@@ -309,7 +309,7 @@ static int port(int *met) {
     const cpay_session_format format = {.spec = {.codec = CPAY_OPUS, .rate = 48000}, .payload_type = 111, .has_rtx = true,
                                         .rtx_payload_type = 112};
     const cpay_ssrc_pair pair = {.ssrc = 7, .rtx_ssrc = 9};
-    static const uint8_t no_media[1] = {101};
+    static const uint8_t no_media[1] = {101 + CPAY_TELEPHONE};
     cpay_session session = CPAY_INIT;
     cpay_session_counts_info counts = {0};
     cpay_arrival arrival = {0};
@@ -330,6 +330,8 @@ static int port(int *met) {
     ARRIVES(CPAY_HELD, 111, 7, 13, "\x0d", 1);
     ARRIVES(CPAY_HELD, 111, 8, 21, "\x15", 1);
     ARRIVES(CPAY_HELD, 112, 9, 12, "\0\x0c\x0c", 3);
+    ARRIVES(CPAY_NO_MEDIA, 101, 7, 14, "\5\x0a\0\xa0", 4);
+    if (cpay_session_poll(&session, 0, &event, bytes, 4) || event.kind != CPAY_EVENT_TELEPHONE || bytes[0] != 5) return 10;
     AGAIN(status, cpay_session_receive(&session, 0, (const uint8_t *)"\x81\xcb\0\1\0\0\0\x08", 8, &arrival));
     if (status || arrival.kind != CPAY_ARRIVAL_RTCP) return 3;
     for (uint8_t units = 0; units < 6;) {
@@ -341,7 +343,7 @@ static int port(int *met) {
     }
     if (cpay_session_poll(&session, 0, &event, bytes, 1) != CPAY_NONE) return 6;
     if (cpay_session_poll(&session, 200, &event, bytes, 0) || event.kind != CPAY_EVENT_ENDED || event.ssrc != 8) return 7;
-    if (cpay_session_counts(&session, &counts) || counts.received != 7 || counts.ended != 2) return 8;
+    if (cpay_session_counts(&session, &counts) || counts.received != 8 || counts.ended != 2) return 8;
     cpay_session_free(&session);
     return kept == before ? 0 : 9;
 }

@@ -1,10 +1,10 @@
-/* Sessions: two senders and a BYE on one port, losses and retransmissions, RED, faults, output buffers that are too small, and
+/* Sessions: two senders and a BYE on one port, losses and retransmissions, RED, telephone events, faults, output buffers that are too small, and
  * refused settings. Expected results follow the RFCs named here and docs/SESSION.md. */
 #include "any.h"
 #include "check.h"
 #include "codec_payload.h"
 
-enum { AUDIO = 111, VIDEO = 96, RED = 63, RTX = 112, EVENTS = 101 };
+enum { AUDIO = 111, VIDEO = 96, RED = 63, RTX = 112, EVENTS = 101, NOISE = 13 };
 
 static const cpay_session_format FORMATS[2] = {
     {.spec = {.codec = CPAY_OPUS, .rate = 48000},
@@ -16,12 +16,12 @@ static const cpay_session_format FORMATS[2] = {
      .rtx_payload_type = RTX},
     {.spec = {.codec = CPAY_VP8, .rate = 90000}, .payload_type = VIDEO},
 };
-static const uint8_t NO_MEDIA[1] = {EVENTS};
+static const uint8_t NO_MEDIA[2] = {NOISE, EVENTS + CPAY_TELEPHONE};
 static const cpay_ssrc_pair PAIRS[1] = {{.ssrc = 1, .rtx_ssrc = 9}};
 
 static cpay_session session_of(const cpay_session_settings *settings) {
     cpay_session session = CPAY_INIT;
-    CHECK(cpay_session_new(&session, settings, FORMATS, 2, NO_MEDIA, 1, PAIRS, 1) == CPAY_OK);
+    CHECK(cpay_session_new(&session, settings, FORMATS, 2, NO_MEDIA, 2, PAIRS, 1) == CPAY_OK);
     return session;
 }
 
@@ -298,7 +298,7 @@ static void requests(void) {
     cpay_session_free(&session);
 }
 
-/* RED (RFC 2198): a lost packet is recovered from the next one; invalid RED is reported; telephone events carry no media. */
+/* RED (RFC 2198): a lost packet is recovered from the next one; invalid RED is reported; comfort noise carries no media. */
 static void redundant(void) {
     cpay_session session = live();
     opus(&session, 0, 1, 1);
@@ -309,9 +309,9 @@ static void redundant(void) {
     CHECK(happens(&session, 20, "B1:111 U1:1 U1:2 U1:3 U1:4 ."));
     it = sent(&session, 30, RED, 1, 5, "\xff", 1);
     CHECK(it.kind == CPAY_ARRIVAL_STREAM && it.status == CPAY_RED_CORRUPTED && it.outcome == 0);
-    it = sent(&session, 40, EVENTS, 1, 5, "\1\2\3\4", 4);
-    CHECK(it.kind == CPAY_ARRIVAL_STREAM && it.outcome == CPAY_NO_MEDIA);
-    CHECK(sent(&session, 40, EVENTS, 3, 5, "\1\2\3\4", 4).kind == CPAY_ARRIVAL_UNKNOWN);
+    it = sent(&session, 40, NOISE, 1, 5, "\100", 1);
+    CHECK(it.kind == CPAY_ARRIVAL_STREAM && it.outcome == CPAY_NO_MEDIA && happens(&session, 40, "."));
+    CHECK(sent(&session, 40, NOISE, 3, 5, "\100", 1).kind == CPAY_ARRIVAL_UNKNOWN);
     CHECK(sent(&session, 40, 77, 1, 5, "x", 1).kind == CPAY_ARRIVAL_UNKNOWN);
     CHECK(cpay_session_receive(&session, 40, (const uint8_t *)"hello", 5, &it) == CPAY_OK && it.kind == CPAY_ARRIVAL_MALFORMED);
     CHECK(cpay_session_receive(&session, 40, NULL, 0, &it) == CPAY_OK && it.kind == CPAY_ARRIVAL_MALFORMED);
@@ -320,6 +320,40 @@ static void redundant(void) {
     CHECK(cpay_session_receive(&session, 40, cut, 8, &it) == CPAY_OK && it.kind == CPAY_ARRIVAL_MALFORMED);
     cpay_session_counts_info counts = counts_of(&session);
     CHECK(counts.unknown == 2 && counts.malformed == 3 && counts.rtcp == 0 && counts.streams == 1);
+    cpay_session_free(&session);
+}
+
+/* Telephone events beside audio (RFC 4733): they come first and in order, audio does not wait for their numbers, at most 32 wait, and
+ * others are counted. */
+static void telephone(void) {
+    static const uint8_t digit[4] = {5, 0x80 | 10, 1, 0xe0}; /* the digit 5, its end, -10 dBm0, 480 ticks (section 2.3) */
+    cpay_session session = live();
+    cpay_event event = {.kind = 99};
+    uint8_t bytes[8] = {0};
+    uint64_t at = 99;
+    opus(&session, 0, 1, 1);
+    opus(&session, 0, 1, 2);
+    cpay_arrival it = sent(&session, 0, EVENTS | 0x80, 1, 3, digit, 4);
+    CHECK(it.kind == CPAY_ARRIVAL_STREAM && it.payload_type == AUDIO && it.outcome == CPAY_NO_MEDIA);
+    sent(&session, 0, EVENTS, 1, 4, digit, 4);
+    CHECK(sent(&session, 0, EVENTS, 3, 5, digit, 4).kind == CPAY_ARRIVAL_UNKNOWN);
+    opus(&session, 0, 1, 5);
+    CHECK(cpay_session_next_deadline(&session, &at) == CPAY_OK && at == 0);
+    for (int place = 0; place < 2; place++) {
+        CHECK(cpay_session_poll(&session, 0, &event, bytes, 3) == CPAY_TOO_SMALL && event.bytes == 4);
+        memset(&event, 99, sizeof event);
+        CHECK(cpay_session_poll(&session, 0, &event, bytes, sizeof bytes) == CPAY_OK && event.kind == CPAY_EVENT_TELEPHONE);
+        CHECK(event.ssrc == 1 && event.payload_type == EVENTS && event.status == CPAY_OK && event.why == 0 && event.bytes == 4);
+        CHECK(event.unit.rtp_time == 960u * (3u + (unsigned)place) && event.unit.bytes == 4);
+        CHECK(event.unit.starts_talk_spurt == (place == 0) && event.unit.first == 0 && !event.unit.decodable);
+        CHECK(!memcmp(bytes, digit, 4));
+    }
+    CHECK(happens(&session, 0, "B1:111 U1:1 U1:2 U1:5 ."));
+    for (uint16_t number = 6; number < 39; number++) sent(&session, 0, EVENTS, 1, number, digit, 4);
+    CHECK(counts_of(&session).telephone_dropped == 1);
+    for (int place = 0; place < 32; place++)
+        CHECK(cpay_session_poll(&session, 0, &event, bytes, 8) == CPAY_OK && event.kind == CPAY_EVENT_TELEPHONE);
+    CHECK(happens(&session, 0, "."));
     cpay_session_free(&session);
 }
 
@@ -540,6 +574,7 @@ int main(void) {
     change_of_format();
     requests();
     redundant();
+    telephone();
     video();
     reports();
     small_buffers();

@@ -825,9 +825,12 @@ typedef struct {
     { { 100, CPAY_NO_HOLD_BACK, 1, true }, { 200, CPAY_NO_HOLD_BACK, 2, true }, 30000, 200, 2, 4096, 64, 1000, \
       CPAY_KEYFRAME_MARK, false, { 500, 2000, 10, 100, 20, 400, 500, 1024, 6, 0, false, true }, { 0, 0, 0, 0, 0, 0 } }
 
+/** In `no_media` of cpay_session_new: added to the payload type of telephone events (RFC 4733), see CPAY_EVENT_TELEPHONE. */
+#define CPAY_TELEPHONE 128
+
 /** Creates a session in an empty handle, for these payload formats. `no_media` lists payload types that share the SSRC and the
- * numbers of a stream and carry none of its media: telephone events beside audio, comfort noise. `pairs` names the SSRCs of
- * retransmissions. The lists are copied. CPAY_INVALID: unsupported codec, or a rate, payload type, step, `limit`, `max_streams` or
+ * numbers of a stream and carry none of its media: comfort noise, error correction. A payload type plus CPAY_TELEPHONE is one of
+ * telephone events beside audio: polls report its packets. `pairs` names the SSRCs of retransmissions. The lists are copied. CPAY_INVALID: unsupported codec, or a rate, payload type, step, `limit`, `max_streams` or
  * `from_keyframe` out of range. [m] */
 CPAY_CHECKED cpay_status cpay_session_new(cpay_session *session, const cpay_session_settings *settings,
                                           const cpay_session_format *formats, size_t formats_len, const uint8_t *no_media,
@@ -866,8 +869,12 @@ enum {
     CPAY_EVENT_UNIT = 1,  /**< a unit: see `unit`; its bytes are in the output buffer */
     CPAY_EVENT_FAULT = 2, /**< the depacketizer refused a frame, which is discarded: see `status` */
     CPAY_EVENT_ENDED = 3, /**< a stream was removed: the last event of the stream; see `why` */
-    CPAY_EVENT_FEEDBACK = 4 /**< a compound packet of RTCP for the sender of the stream is in the output buffer: send it. It has a
+    CPAY_EVENT_FEEDBACK = 4, /**< a compound packet of RTCP for the sender of the stream is in the output buffer: send it. It has a
                                  NACK of missing packets, and a PLI if a keyframe is needed (RFC 4585, sections 6.2.1, 6.3.1) */
+    CPAY_EVENT_TELEPHONE = 6 /**< a packet of telephone events beside audio (RFC 4733): its payload is in the output buffer, with 4
+                                 bytes for each event (cpay_tele_read). All packets of an event have the same `unit.rtp_time`,
+                                 its last one comes three times, and a network can repeat any of them, so go by that time. It is
+                                 also reported for a stream that is not announced yet */
 };
 
 /** Why a stream ended. */
@@ -883,13 +890,15 @@ typedef struct {
     uint32_t ssrc;        /**< SSRC of the stream */
     uint32_t status;      /**< of CPAY_EVENT_FAULT: the error, 1 to 16; of other events CPAY_OK */
     uint32_t why;         /**< of CPAY_EVENT_ENDED: CPAY_ENDED_BY_BYE and so on; of other events 0 */
-    size_t bytes;         /**< bytes in the output buffer: of the unit, or of the RTCP packet */
-    uint8_t payload_type; /**< payload type of the stream's format, also if the unit came in RED or was retransmitted */
-    cpay_unit unit;       /**< of CPAY_EVENT_UNIT: the unit, as cpay_receiver_pop reports it; of other events all fields are 0 */
+    size_t bytes;         /**< bytes in the output buffer: of the unit, the RTCP packet, or the payload of telephone events */
+    uint8_t payload_type; /**< payload type of the stream's format, also if the unit came in RED or was retransmitted; of
+                               CPAY_EVENT_TELEPHONE the payload type of the packet */
+    cpay_unit unit;       /**< of CPAY_EVENT_UNIT: the unit, as cpay_receiver_pop reports it. Of CPAY_EVENT_TELEPHONE: `rtp_time`,
+                               32 bits as in the packet, `bytes`, and the marker in `starts_talk_spurt`. All other fields are 0 */
 } cpay_event;
 
-/** Reports the next event at time `now`. Call it until CPAY_NONE after each datagram and at each deadline. Streams are asked in the
- * order in which they began; each stream has CPAY_EVENT_BEGUN first, then its units in order, and CPAY_EVENT_ENDED last.
+/** Reports the next event at time `now`. Call it until CPAY_NONE after each datagram and at each deadline. Telephone events that wait
+ * come first, at most 32 of them. Then the streams are asked in the order in which they began; each stream has CPAY_EVENT_BEGUN first, then its units in order, and CPAY_EVENT_ENDED last.
  * CPAY_NONE: there is no event. CPAY_TOO_SMALL: *event is written, and the event waits for the next call: it needs a buffer of
  * `bytes` bytes. CPAY_OUT_OF_MEMORY: the frame or the request stays, and the next call tries it again. [m] */
 CPAY_CHECKED cpay_status cpay_session_poll(cpay_session *session, uint64_t now, cpay_event *event, uint8_t *bytes,
@@ -899,7 +908,8 @@ CPAY_CHECKED cpay_status cpay_session_poll(cpay_session *session, uint64_t now, 
  * CPAY_NONE: no unit was returned yet. Does not allocate. */
 CPAY_CHECKED cpay_status cpay_session_values(cpay_session *session, cpay_extension_values *values);
 
-/** Reports the time at which a poll may have an event although no datagram arrives. CPAY_NONE: only a datagram can help. */
+/** Reports the time at which a poll may have an event although no datagram arrives: 0 while telephone events wait. CPAY_NONE: only a
+ * datagram can help. */
 CPAY_CHECKED cpay_status cpay_session_next_deadline(cpay_session *session, uint64_t *at);
 
 /** Ends the streams of this SSRC at time `now`: polls report their complete units, and then CPAY_EVENT_ENDED. Without such a stream
@@ -920,6 +930,8 @@ typedef struct {
     uint64_t refused;
     uint64_t unassociated;
     uint64_t ended;        /**< datagrams that streams received which were removed since */
+    uint64_t telephone_dropped; /**< packets of telephone events that a stream received and no poll reports, since 32 others waited;
+                                     not part of the sum */
     size_t streams;        /**< streams now, announced or not */
     bool waiting;          /**< an event waits for a larger output buffer */
 } cpay_session_counts_info;

@@ -105,6 +105,7 @@ impl Peer {
                 }
                 Event::Unit { unit: Err(why), .. } => writeln!(out, "fault {why}")?,
                 Event::Feedback { packet, .. } => self.feedback.push(packet?),
+                Event::Telephone { .. } => {}
                 Event::Ended {
                     ssrc, payload_type, ..
                 } => writeln!(out, "ended {ssrc} {payload_type}")?,

@@ -184,7 +184,7 @@ impl ReceivingSide {
                     self.decodable += u64::from(decodable);
                 }
                 Event::Feedback { packet, .. } => back.send(now, &packet?),
-                Event::Begun { .. } | Event::Ended { .. } => {}
+                Event::Begun { .. } | Event::Telephone { .. } | Event::Ended { .. } => {}
             }
         }
         Ok(())

@@ -17,6 +17,7 @@ mod sort;
 #[doc(hidden)]
 pub mod stream;
 mod streams;
+mod telephone;
 
 #[doc(inline)]
 pub use formats::{FeedbackSettings, Format, SessionSettings, SsrcPair};

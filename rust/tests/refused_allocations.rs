@@ -537,7 +537,7 @@ impl Life {
     fn new(left: usize) -> Life {
         let mut settings = SessionSettings::live();
         settings.formats = answered_formats();
-        settings.no_media = vec![EVENTS];
+        settings.telephone_events = vec![EVENTS];
         settings.pairs = vec![SsrcPair {
             ssrc: 5,
             retransmission: 50,
@@ -657,6 +657,34 @@ fn a_session_from_its_first_datagram_to_its_end() {
         assert!(life.left > count, "allocation {place} was not refused");
         assert_eq!(life.events, whole.events, "allocation {place} of {count}");
     }
+}
+
+/// A packet of telephone events that finds no memory is not counted, no stream takes it, and it can be passed again.
+#[test]
+fn telephone_events_of_a_session() {
+    let received = || {
+        let mut settings = SessionSettings::live();
+        settings.formats.push(opus_format());
+        settings.telephone_events.push(EVENTS);
+        let mut session = Session::new(settings);
+        session.receive(Ticks(0), &opus(7, 1)).unwrap();
+        session
+    };
+    let digit = packet(EVENTS, 7, 2, 960, &[1, 10, 0, 160]);
+    let refused = refuse_each("telephone events", received, |session| {
+        let end = match session.receive(Ticks(0), &digit) {
+            Ok(_) => End::Done,
+            Err(AllocError) => End::OutOfMemory,
+        };
+        let waits = matches!(session.poll(Ticks(0)), Some(Event::Telephone { .. }));
+        let taken = session.stream_at(0).unwrap().taken;
+        let counted = session.counts().received == taken;
+        match (end, waits, taken) {
+            (End::Done, true, 2) | (End::OutOfMemory, false, 1) if counted => end,
+            _ => End::OtherFault,
+        }
+    });
+    assert!(refused >= 3, "{refused}");
 }
 
 /// A pair that finds no memory leaves the pairs that were named before.

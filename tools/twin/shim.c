@@ -142,7 +142,7 @@ void twin_receiver_free(void *receiver) {
 void *twin_session(uint32_t codec, uint32_t rate, uint32_t flags, const uint64_t values[8]) {
     cpay_session_settings settings = CPAY_LIVE_SESSION;
     cpay_session_format formats[2] = { { .red_step = 0 }, { .red_step = 0 } };
-    static const uint8_t no_media[] = { 97, 13 };
+    static const uint8_t no_media[] = { 97 + CPAY_TELEPHONE, 13 };
     static const cpay_ssrc_pair pairs[] = { { 1, 2 } };
     formats[0].spec = spec_of(codec, rate, flags, 0);
     formats[0].payload_type = 96;
@@ -179,13 +179,13 @@ uint32_t twin_session_receive(void *session, uint64_t now, const uint8_t *datagr
 }
 
 /* The next event: kind, SSRC, payload type, status, why, and of its unit the first and the last number, the RTP time, whether it is
- * contiguous, decodable and a keyframe; and the number of its bytes. */
-uint32_t twin_session_poll(void *session, uint64_t now, uint8_t *bytes, size_t bytes_len, uint64_t event[12]) {
+ * contiguous, decodable and a keyframe; the number of its bytes, and whether it starts a talk spurt. */
+uint32_t twin_session_poll(void *session, uint64_t now, uint8_t *bytes, size_t bytes_len, uint64_t event[13]) {
     cpay_event it = { 0 };
     cpay_status status = cpay_session_poll(session, now, &it, bytes, bytes_len);
-    uint64_t told[12] = { it.kind, it.ssrc, it.payload_type, it.status, it.why, it.unit.first, it.unit.last, it.unit.rtp_time,
-                          it.unit.contiguous, it.unit.decodable, it.unit.keyframe, it.bytes };
-    for (int place = 0; place < 12; place++) event[place] = told[place];
+    uint64_t told[13] = { it.kind, it.ssrc, it.payload_type, it.status, it.why, it.unit.first, it.unit.last, it.unit.rtp_time,
+                          it.unit.contiguous, it.unit.decodable, it.unit.keyframe, it.bytes, it.unit.starts_talk_spurt };
+    for (int place = 0; place < 13; place++) event[place] = told[place];
     return status;
 }
 
@@ -214,12 +214,13 @@ uint32_t twin_session_add_pair(void *session, uint32_t ssrc, uint32_t rtx_ssrc) 
     return cpay_session_add_pair(session, ssrc, rtx_ssrc);
 }
 
-/* Received, RTCP, malformed, unknown, refused, unassociated, ended, streams. */
-uint32_t twin_session_counts(void *session, uint64_t counts[8]) {
+/* Received, RTCP, malformed, unknown, refused, unassociated, ended, streams, dropped telephone events. */
+uint32_t twin_session_counts(void *session, uint64_t counts[9]) {
     cpay_session_counts_info it = { 0 };
     cpay_status status = cpay_session_counts(session, &it);
-    uint64_t told[8] = { it.received, it.rtcp, it.malformed, it.unknown, it.refused, it.unassociated, it.ended, it.streams };
-    for (int place = 0; place < 8; place++) counts[place] = told[place];
+    uint64_t told[9] = { it.received, it.rtcp, it.malformed, it.unknown, it.refused, it.unassociated, it.ended, it.streams,
+                         it.telephone_dropped };
+    for (int place = 0; place < 9; place++) counts[place] = told[place];
     return status;
 }
 

@@ -1,5 +1,5 @@
 -- New sessions: their settings, payload formats and pairs of SSRCs, from C.
-use Rattle.std.specs.Prelude.{◌≡◌, ℕ, ◌&&◌, ◌||◌, ◌==◌, not, nat_le, nat_lt, if◌then◌else◌, Bool, true, false, Option, Some, None, List, [], is_some, map, filter_map}
+use Rattle.std.specs.Prelude.{◌≡◌, ℕ, ◌-◌, ◌&&◌, ◌||◌, ◌==◌, not, nat_le, nat_lt, if◌then◌else◌, Bool, true, false, Option, Some, None, List, [], is_some, map, filter_map}
 use Rattle.std.specs.List.{list_all}
 use Rattle.codec_payload_handle.specs.Settings.{codec_numbered, depacketizer_set}
 use Rattle.codec_payload_handle.specs.declared.object.Object.{Object}
@@ -59,6 +59,10 @@ format_given f = if format_in_range f then Some (format_with f) else None
 abbrev pub pair_given : SsrcPair → Pair
 pair_given p = record { ssrc = p.ssrc; retransmission = p.rtx_ssrc }
 
+-- a payload type without media plus 128 is one of telephone events; no packet has a payload type above 127
+abbrev pub telephone_given : ℕ → Option ℕ
+telephone_given entry = if nat_lt entry 128 then None else Some (entry - 128)
+
 -- who requests missing packets and keyframes, from C; without a name
 pub record HasFeedback (c : SessionFeedback) (t : FeedbackSettings) : Type 0 where
   pub ssrc_is : t.ssrc ≡ c.ssrc
@@ -97,6 +101,7 @@ pub record AreSessionSettings (s : SessionSettings) (formats : List SessionForma
   pub plain : HasPlainSettings s t
   pub formats_are : t.formats.items ≡ filter_map format_given formats
   pub no_media_are : t.no_media.items ≡ no_media
+  pub telephone_events_are : t.telephone_events.items ≡ filter_map telephone_given no_media
   pub pairs_are : t.pairs.items ≡ map pair_given pairs
 
 -- a new session with these settings

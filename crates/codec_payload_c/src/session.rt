@@ -3,8 +3,9 @@
 ghost use Rattle.std.specs.Prelude.{◌≡◌, ◌≢◌, length, nat_le, Option};
 ghost use Rattle.codec_payload_session.specs.Ports.{ends_all, ends_of};
 ghost use Rattle.codec_payload_session.specs.Streams.{due_in};
+ghost use Rattle.codec_payload_session.specs.Telephone.{due_before};
 ghost use Rattle.codec_payload_c.specs.SessionFormats.{IsPortSessionOf, is_in_range};
-ghost use Rattle.codec_payload_c.specs.Sessions.{Comes, Hands, PollsEvent, ReceivesDatagram, TellsArrival, TellsEvent, TellsJudgedBy, arrived_as, bytes_in, ending_number, event_with, is_no_memory, latest_unit, popped_or};
+ghost use Rattle.codec_payload_c.specs.Sessions.{Comes, Hands, PollsEvent, ReceivesDatagram, TellsArrival, TellsEvent, TellsJudgedBy, arrived_as, bytes_in, ending_number, event_with, is_no_memory, latest_unit, popped_or, telephone_unit};
 ghost use Rattle.codec_payload_c.specs.StreamReceivers.{TellsNumber, TellsTaken};
 ghost use Rattle.codec_payload_handle.specs.Kinds.{Makes, OnPortSession, Refuses, is_port_session};
 
@@ -43,17 +44,18 @@ pub struct Arrival {
 #[repr(C)]
 #[derive(Drop)]
 pub struct Event {
-    /// 0: a stream begins; 1: a unit; 2: a refused frame; 3: the end of a stream; 4: an RTCP packet to send.
+    /// 0: a stream begins; 1: a unit; 2: a refused frame; 3: the end of a stream; 4: an RTCP packet to send; 6: a packet of
+    /// telephone events.
     pub kind: u32,
     pub ssrc: u32,
     /// For a refused frame: the number of its error, 1 to 16.
     pub status: u32,
     /// For the end of a stream. 0: a BYE; 1: the idle timeout; 2: a call.
     pub why: u32,
-    /// The number of bytes in the output buffer: of the unit, or of the RTCP packet.
+    /// The number of bytes in the output buffer: of the unit, the RTCP packet, or the payload of telephone events.
     pub bytes: usize,
     pub payload_type: u8,
-    /// For a unit: its description.
+    /// For a unit: its description. For telephone events: `rtp_time`, `bytes`, and the marker as `starts_talk_spurt`.
     pub unit: Unit,
 }
 
@@ -155,6 +157,18 @@ fn event_with(kind: u32, ssrc: u32, payload_type: u8, unit: Unit) -> Event
     }
 }
 
+/// Describes a packet of telephone events.
+fn telephone_unit(rtp_time: u32, marker: bool, payload: &[u8]) -> Unit
+    ensures { result ≡ telephone_unit rtp_time marker (length payload.now) }
+{
+    Unit {
+        rtp_time: u64::from(rtp_time),
+        bytes: payload.len(),
+        starts_talk_spurt: marker,
+        ..no_unit()
+    }
+}
+
 /// Describes an event for C.
 fn event_of(event: &SessionEvent) -> Event
     ensures { TellsEvent event.now result }
@@ -191,6 +205,16 @@ fn event_of(event: &SessionEvent) -> Event
             bytes: bytes_of(event).len(),
             ..event_with(4, *ssrc, *payload_type, no_unit())
         },
+        SessionEvent::Telephone {
+            ssrc,
+            payload_type,
+            rtp_time,
+            marker,
+            payload,
+        } => {
+            let unit = telephone_unit(*rtp_time, *marker, payload);
+            event_with(6, *ssrc, *payload_type, unit)
+        }
         SessionEvent::Ended {
             ssrc,
             payload_type,
@@ -216,7 +240,7 @@ fn is_no_memory(event: &SessionEvent) -> bool
     }
 }
 
-/// Returns the bytes of an event: those of its unit, or of its RTCP packet.
+/// Returns the bytes of an event: those of its unit, of its RTCP packet, or of its telephone events.
 fn bytes_of(event: &SessionEvent) -> &[u8]
     ensures { result.now ≡ bytes_in event.now }
 {
@@ -226,6 +250,7 @@ fn bytes_of(event: &SessionEvent) -> &[u8]
             packet: Ok(packet),
             ..
         } => packet,
+        SessionEvent::Telephone { payload, .. } => payload,
         _ => &[],
     }
 }
@@ -288,7 +313,8 @@ fn poll(port: &mut PortSession, now: u64, event: &mut Event, bytes: &mut [u8]) -
     }
 }
 
-/// Creates a session with these settings, formats, payload types without media and pairs of SSRCs, in an empty handle.
+/// Creates a session with these settings, formats, payload types without media and pairs of SSRCs, in an empty handle. A payload
+/// type without media plus 128 is one of telephone events.
 #[unsafe(no_mangle)]
 pub extern "C" fn cpay_session_new(
     alloc: Global,
@@ -404,7 +430,7 @@ pub extern "C" fn cpay_session_next_deadline(
     handle: &mut Handle,
     at: &mut u64,
 ) -> u32
-    ensures tells { OnPortSession handle.old.place.value (λ r s. (s ≡ r) × TellsNumber (due_in r.session.settings.idle_timeout r.session.port.streams) result at.old at.new) handle.new.place.value }
+    ensures tells { OnPortSession handle.old.place.value (λ r s. (s ≡ r) × TellsNumber (due_before r.session.telephone (due_in r.session.settings.idle_timeout r.session.port.streams)) result at.old at.new) handle.new.place.value }
     ensures refused { Refuses is_port_session handle.old.place.value result handle.new.place.value }
     ensures unchanged { result ≢ 0 → at.new ≡ at.old }
 {

@@ -3,7 +3,7 @@
 ghost use Rattle.std.specs.Prelude.{◌≡◌, ◌&&◌, is_some, map, filter_map, IfErr, IfOk, IfSome, Option, Bool};
 ghost use Rattle.std.specs.List.{list_all};
 ghost use Rattle.codec_payload_c.specs.Refusals.{RefusesSettings};
-ghost use Rattle.codec_payload_c.specs.SessionFormats.{HasPlainSettings, IsNewSession, MatchFeedback, format_given, format_in_range, is_in_range, pair_given, red_fits, session_in_range, types_fit};
+ghost use Rattle.codec_payload_c.specs.SessionFormats.{HasPlainSettings, IsNewSession, MatchFeedback, format_given, format_in_range, is_in_range, pair_given, red_fits, session_in_range, telephone_given, types_fit};
 
 use crate::extension::{ExtensionIds, ids_of};
 use crate::receiver::{WaitLimits, from_keyframe_of, waiting_for};
@@ -214,6 +214,26 @@ fn pairs_of(alloc: Global, pairs: &[SsrcPair]) -> Result<Vec<Pair>, AllocError>
     pairs.iter().map(|pair| pair_of(pair)).collect(alloc)
 }
 
+/// Returns the payload type of telephone events that this entry is.
+fn telephone_of(entry: u8) -> Option<u8>
+    ensures { result ≡ telephone_given entry }
+{
+    if entry < 128 {
+        return None;
+    }
+    Some(entry - 128)
+}
+
+/// Returns the payload types of telephone events among the types without media.
+fn telephones_of(alloc: Global, no_media: &[u8]) -> Result<Vec<u8>, AllocError>
+    ensures { IfOk result (λ list. list.items ≡ filter_map telephone_given no_media.now) }
+{
+    no_media
+        .iter()
+        .filter_map(|entry| telephone_of(*entry))
+        .collect(alloc)
+}
+
 /// Converts the settings of requests; without a name no source description is sent.
 fn feedback_of(alloc: Global, settings: &SessionSettings) -> Option<FeedbackSettings>
     ensures { MatchFeedback settings.now result }
@@ -268,6 +288,7 @@ fn settings_of(alloc: Global, settings: &SessionSettings) -> Option<Settings>
     Some(Settings {
         formats: Vec::new(alloc),
         no_media: Vec::new(alloc),
+        telephone_events: Vec::new(alloc),
         pairs: Vec::new(alloc),
         extension_ids: ids_of(settings.extension_ids),
         audio: waiting_for(settings.audio),
@@ -300,8 +321,9 @@ pub(crate) fn session_by(
     if !are_in_range(alloc, formats) {
         return Err(status::INVALID);
     }
-    let (Ok(formats), Ok(no_media), Ok(pairs)) = (
+    let (Ok(formats), Ok(telephone_events), Ok(no_media), Ok(pairs)) = (
         formats_of(alloc, formats),
+        telephones_of(alloc, no_media),
         Vec::from_slice(alloc, no_media),
         pairs_of(alloc, pairs),
     ) else {
@@ -309,6 +331,7 @@ pub(crate) fn session_by(
     };
     settings.formats = formats;
     settings.no_media = no_media;
+    settings.telephone_events = telephone_events;
     settings.pairs = pairs;
     Ok(PortSession {
         session: Session::new(alloc, settings),

@@ -25,6 +25,8 @@ pub struct SessionCountsInfo {
     pub unassociated: u64,
     /// Datagrams that the removed streams received.
     pub ended: u64,
+    /// Packets of telephone events that a stream received and that have no event, since 32 others waited.
+    pub telephone_dropped: u64,
     /// The number of streams, announced or not.
     pub streams: usize,
     /// Whether an event waits for a larger output buffer.
@@ -94,6 +96,7 @@ fn counts_of(port: &PortSession) -> SessionCountsInfo
         refused: counts.refused,
         unassociated: counts.unassociated,
         ended: counts.ended,
+        telephone_dropped: counts.telephone_dropped,
         streams: port.session.stream_count(),
         waiting: port.waiting.is_some(),
     }

@@ -5,3 +5,4 @@ mod PairLemmas
 mod QuietLemmas
 mod ReportLemmas
 mod SourceLemmas
+mod TelephoneLemmas

@@ -1,5 +1,5 @@
 -- The payload types of a port, and the settings of its streams.
-use Rattle.std.specs.Prelude.{◌≡◌, ℕ, ◌==◌, if◌then◌else◌, Bool, true, false, List, [], ◌∷◌, Option, Some, None}
+use Rattle.std.specs.Prelude.{◌≡◌, ℕ, ◌==◌, ◌&&◌, ◌||◌, if◌then◌else◌, Bool, true, false, List, [], ◌∷◌, ◌++◌, Option, Some, None}
 use Rattle.codec_payload_base.specs.declared.wire.Codec.{Codec}
 use Rattle.codec_payload_base.specs.declared.wire.Codec.TheVariants as codecs
 use Rattle.codec_payload_jitter.specs.declared.waiting.WaitLimits.{WaitLimits}
@@ -50,14 +50,24 @@ resends_by (Some own) red payload_type = if own == payload_type then true else r
 abbrev pub resends : Format → ℕ → Bool
 resends f payload_type = resends_by f.retransmission f.red payload_type
 
--- by the first format that names the type, or by the types without media
-abbrev pub role_by : List Format → List ℕ → ℕ → Role
-role_by [] no_media payload_type = if is_among payload_type no_media then roles.NoMedia else roles.Unknown
-role_by (f ∷ fs) no_media payload_type =
-    if has_type f payload_type then roles.Media f else (if resends f payload_type then roles.Retransmission f else role_by fs no_media payload_type)
+-- by the first format that names the type, or by the types without media: those that are dropped, and those of telephone events
+abbrev pub role_by : List Format → List ℕ → List ℕ → ℕ → Role
+role_by [] dropped telephone payload_type = if is_among payload_type dropped || is_among payload_type telephone then roles.NoMedia else roles.Unknown
+role_by (f ∷ fs) dropped telephone payload_type =
+    if has_type f payload_type then roles.Media f else (if resends f payload_type then roles.Retransmission f else role_by fs dropped telephone payload_type)
 
 abbrev pub role_of : SessionSettings → ℕ → Role
-role_of s payload_type = role_by s.formats.items s.no_media.items payload_type
+role_of s payload_type = role_by s.formats.items s.no_media.items s.telephone_events.items payload_type
+
+abbrev pub is_no_media : Role → Bool
+is_no_media (roles.Media f) = false
+is_no_media (roles.Retransmission f) = false
+is_no_media roles.NoMedia = true
+is_no_media roles.Unknown = false
+
+-- packets of this type are telephone events beside audio: no format names the type
+abbrev pub is_telephone : SessionSettings → ℕ → Bool
+is_telephone s payload_type = is_among payload_type s.telephone_events.items && is_no_media (role_of s payload_type)
 
 -- ---- pairs of SSRCs
 
@@ -113,7 +123,7 @@ backward_for false = 1000
 -- a stream's receiver has the SSRC and the format of the stream, and the other settings of the session
 pub record HasSettings (s : SessionSettings) (ssrc : ℕ) (f : Format) (r : Settings) : Type 0 where
   pub payload_type : r.payload_type ≡ f.payload_type
-  pub no_media : r.no_media.items ≡ s.no_media.items
+  pub no_media : r.no_media.items ≡ s.no_media.items ++ s.telephone_events.items
   pub ssrc_is : r.ssrc ≡ Some ssrc
   pub red : r.red ≡ f.red
   pub retransmission : r.retransmission ≡ retransmission_for ssrc f.retransmission s.pairs.items
@@ -134,6 +144,7 @@ live_nack = record { first_wait = 10; retry = 100; shortest_retry = 20; longest_
 pub record IsLive (s : SessionSettings) : Type 0 where
   pub formats : s.formats.items ≡ []
   pub no_media : s.no_media.items ≡ []
+  pub telephone_events : s.telephone_events.items ≡ []
   pub pairs : s.pairs.items ≡ []
   pub audio : s.audio ≡ waits_for 1 100
   pub video : s.video ≡ waits_for 2 200

@@ -7,4 +7,5 @@ pub mod Reports
 pub mod Requests
 pub mod Sorting
 pub mod Streams
+pub mod Telephone
 pub mod Turns

@@ -1,5 +1,5 @@
--- A session, with a counter for each result of a datagram.
-use Rattle.std.specs.Prelude.{◌≡◌, ◌≤◌, ℕ, ◌+◌, ◌%◌, ◌^◌, ◌==◌, Bool, true, false, List, [], ◌∷◌, Option, Some, None, Result, Ok, Err, length, slice_get, slice_set}
+-- A session, with a counter for each result of a datagram, and its packets of telephone events.
+use Rattle.std.specs.Prelude.{◌≡◌, ◌⊎◌, ◌≤◌, IsErr, ℕ, ◌+◌, ◌%◌, ◌^◌, ◌==◌, Bool, true, false, List, [], ◌∷◌, Option, Some, None, Result, Ok, Err, length, slice_get, slice_set}
 use Rattle.std.specs.Option.{option_map}
 use Rattle.std.specs.declared.alloc.AllocError.{AllocError}
 use Rattle.codec_payload_base.specs.declared.wire.Ticks.{Ticks}
@@ -7,6 +7,8 @@ use Rattle.codec_payload_jitter.specs.Receiving.{next}
 use Rattle.codec_payload_session.specs.Arrivals.{Port, TakesIn, left_where}
 use Rattle.codec_payload_session.specs.Reports.{block_of, reported_by}
 use Rattle.codec_payload_session.specs.Streams.{IsInfo, waiting_where}
+use Rattle.codec_payload_session.specs.Telephone.{MayLackMemory, Queue, QueuesIf, empty_queue, event_of, is_without_media, telephone_at}
+use Rattle.codec_payload_session.specs.Turns.{TakesTurn}
 use Rattle.codec_payload_jitter.specs.declared.waiting.WaitLimits.{WaitLimits}
 use Rattle.codec_payload_rtcp.specs.declared.items.ReportBlock.{ReportBlock}
 use Rattle.codec_payload_stream.specs.Sessions.{Session as Receiver}
@@ -14,16 +16,19 @@ use Rattle.codec_payload_session.specs.declared.formats.SessionSettings.{Session
 use Rattle.codec_payload_session.specs.declared.session.Arrival.{Arrival}
 use Rattle.codec_payload_session.specs.declared.session.Arrival.TheVariants as arrivals
 use Rattle.codec_payload_session.specs.declared.session.ArrivalCounts.{ArrivalCounts}
+use Rattle.codec_payload_session.specs.declared.session.Event.{Event}
 use Rattle.codec_payload_session.specs.declared.session.SessionCounts.{SessionCounts}
 use Rattle.codec_payload_session.specs.declared.stream.Ending.TheVariants as endings
 use Rattle.codec_payload_session.specs.declared.stream.StreamInfo.{StreamInfo}
 use Rattle.codec_payload_session.specs.declared.stream.Stream.{Stream}
+use Rattle.codec_payload_session.specs.declared.telephone.TelephonePacket.{TelephonePacket}
 
--- the settings, the streams, and the counters of datagrams
+-- the settings, the streams, the counters of datagrams, and the packets of telephone events that wait
 pub record Session : Type 0 where
   pub settings : SessionSettings
   pub port : Port
   pub counts : ArrivalCounts
+  pub telephone : Queue
 
 abbrev pub no_port : Port
 no_port = record { streams = []; finished = false; ended = 0 }
@@ -32,7 +37,7 @@ abbrev pub no_counts : ArrivalCounts
 no_counts = record { received = 0; rtcp = 0; malformed = 0; unknown = 0; refused = 0; unassociated = 0 }
 
 abbrev pub new_session : SessionSettings → Session
-new_session settings = record { settings = settings; port = no_port; counts = no_counts }
+new_session settings = record { settings = settings; port = no_port; counts = no_counts; telephone = empty_queue }
 
 -- one more datagram with this result
 abbrev pub counted : Arrival → ArrivalCounts → ArrivalCounts
@@ -59,12 +64,39 @@ IsAccountedFor c p =
     c.received % 2 ^ 64 ≡ (c.rtcp + c.malformed + c.unknown + c.refused + c.unassociated + p.ended + taken_in p.streams) % 2 ^ 64
 
 -- every datagram is accounted for, and there are at most `max_streams` streams
+pub record IsPort (settings : SessionSettings) (p : Port) (c : ArrivalCounts) : Type 0 where
+  pub accounted : IsAccountedFor c p
+  pub bounded : length p.streams ≤ settings.max_streams
+
+-- and at most 32 packets of telephone events wait
 pub record IsSession (s : Session) : Type 0 where
-  pub accounted : IsAccountedFor s.counts s.port
-  pub bounded : length s.port.streams ≤ s.settings.max_streams
+  pub port : IsPort s.settings s.port s.counts
+  pub few : length s.telephone.waiting ≤ 32
+
+-- the streams receive the datagram, and it waits if it is a packet of telephone events that a stream took without media
+pub record ReceivesIt (now : Ticks) (bytes : List ℕ) (s : Session) (answer : Result Arrival AllocError) (t : Session) : Type 0 where
+  pub port : Port
+  pub telephone : Queue
+  pub takes : TakesIn s.settings now bytes s.port answer port
+  pub queues : QueuesIf (is_without_media answer) (telephone_at s.settings bytes) s.telephone telephone
+  pub left : t ≡ record s { port = port; counts = counted_if answer s.counts; telephone = telephone }
+
+-- memory ran out for a packet of telephone events: nothing has changed
+pub record LacksMemory (bytes : List ℕ) (s : Session) (answer : Result Arrival AllocError) (t : Session) : Type 0 where
+  pub fails : IsErr answer
+  pub telephone : MayLackMemory (telephone_at s.settings bytes)
+  pub left : t ≡ s
 
 abbrev pub Receives : Ticks → List ℕ → Session → Result Arrival AllocError → Session → Type 0
-Receives now bytes s answer t = (port : Port) × TakesIn s.settings now bytes s.port answer port × (t ≡ record s { port = port; counts = counted_if answer s.counts })
+Receives now bytes s answer t = ReceivesIt now bytes s answer t ⊎ LacksMemory bytes s answer t
+
+-- a packet of telephone events that waits comes first; if none waits, the streams have their turn
+abbrev pub PollsAfter : List TelephonePacket → Ticks → Session → Option Event → Session → Type 0
+PollsAfter [] now s event t = (port : Port) × TakesTurn now s.settings.idle_timeout s.port event port × (t ≡ record s { port = port })
+PollsAfter (w ∷ ws) now s event t = (event ≡ Some (event_of w)) × (t ≡ record s { telephone = record s.telephone { waiting = ws } })
+
+abbrev pub Polls : Ticks → Session → Option Event → Session → Type 0
+Polls now s event t = PollsAfter s.telephone.waiting now s event t
 
 -- ---- calls
 
@@ -92,8 +124,8 @@ everyone ssrc = true
 abbrev pub ends_all : ℕ → Session → Session
 ends_all at s = record s { port = record s.port { streams = left_where everyone endings.Told at s.port.streams; finished = true } }
 
-abbrev pub told_counts : ArrivalCounts → ℕ → SessionCounts
-told_counts c ended = record {
+abbrev pub told_counts : ArrivalCounts → ℕ → ℕ → SessionCounts
+told_counts c ended telephone_dropped = record {
   received = c.received;
   rtcp = c.rtcp;
   malformed = c.malformed;
@@ -101,6 +133,7 @@ told_counts c ended = record {
   refused = c.refused;
   unassociated = c.unassociated;
   ended = ended;
+  telephone_dropped = telephone_dropped;
 }
 
 -- the received datagrams are the sum of the counters and of the datagrams that the streams took, modulo 2^64

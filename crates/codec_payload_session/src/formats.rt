@@ -1,7 +1,7 @@
 //! The payload types of a port, and the settings of its streams.
 
 ghost use Rattle.std.specs.Prelude.{◌≡◌, IfOk};
-ghost use Rattle.codec_payload_session.specs.Formats.{HasSettings, IsLive, IsLiveFeedback, has_type, is_type, is_video, limits_for, plain_format, resends, resends_red, retransmission_for, retransmission_of, role_by, role_of, stream_of};
+ghost use Rattle.codec_payload_session.specs.Formats.{HasSettings, IsLive, IsLiveFeedback, has_type, is_no_media, is_telephone, is_type, is_video, limits_for, plain_format, resends, resends_red, retransmission_for, retransmission_of, role_by, role_of, stream_of};
 ghost use Rattle.codec_payload_stream.specs.Kinds.{is_among};
 
 use codec_payload_base::wire::{Codec, CodecSpec, Frequency};
@@ -77,8 +77,15 @@ pub struct FeedbackSettings {
 pub struct SessionSettings {
     /// The payload formats. If two of them have the same payload type, the first counts.
     pub formats: Vec<Format>,
-    /// Payload types without media that share the SSRC and the numbers of a stream: telephone events, comfort noise.
+    /// Payload types without media that share the SSRC and the numbers of a stream: comfort noise, error correction. Their
+    /// payloads are dropped.
     pub no_media: Vec<u8>,
+    /// Payload types of telephone events (RFC 4733) that share the SSRC and the numbers of a stream of audio. They count as
+    /// without media, so audio does not wait for them, and polls return their packets ([`Event::Telephone`]). A format with the
+    /// same payload type has precedence.
+    ///
+    /// [`Event::Telephone`]: crate::session::Event::Telephone
+    pub telephone_events: Vec<u8>,
     /// The SSRCs of retransmissions. A retransmission under any other SSRC is counted as unassociated. Pairs that become known
     /// later: [`Session::add_pair`].
     ///
@@ -120,7 +127,7 @@ pub(crate) enum Role {
     Media(Format),
     /// Retransmissions of the format.
     Retransmission(Format),
-    /// Packets without media.
+    /// Packets without media, telephone events among them.
     NoMedia,
     Unknown,
 }
@@ -155,6 +162,7 @@ impl SessionSettings {
         SessionSettings {
             formats: Vec::new(alloc),
             no_media: Vec::new(alloc),
+            telephone_events: Vec::new(alloc),
             pairs: Vec::new(alloc),
             extension_ids: ExtensionIds::default(),
             audio: WaitLimits::live(),
@@ -174,7 +182,19 @@ impl SessionSettings {
     pub(crate) fn role(&self, payload_type: u8) -> Role
         ensures { result ≡ role_of self.now payload_type }
     {
-        role_in(&self.formats, &self.no_media, payload_type)
+        role_in(
+            &self.formats,
+            &self.no_media,
+            &self.telephone_events,
+            payload_type,
+        )
+    }
+
+    /// Returns whether packets of this payload type are telephone events beside audio.
+    pub(crate) fn is_telephone(&self, payload_type: u8) -> bool
+        ensures { result ≡ is_telephone self.now payload_type }
+    {
+        is_among(payload_type, &self.telephone_events) && is_no_media(self.role(payload_type))
     }
 
     /// Returns the SSRC of the stream whose packets are retransmitted under this SSRC.
@@ -204,7 +224,8 @@ impl SessionSettings {
     ) -> Result<Settings, AllocError>
         ensures { IfOk result (λ settings. HasSettings self.now ssrc format.now settings) }
     {
-        let no_media = Vec::from_slice(alloc, &self.no_media)?;
+        let mut no_media = Vec::from_slice(alloc, &self.no_media)?;
+        no_media.extend_from_slice(&self.telephone_events)?;
         let (payload_type, clock_rate) = (format.payload_type, format.spec.clock_rate);
         let mut settings = if is_video(format.spec.codec) {
             Settings::live_video(alloc, payload_type, clock_rate)
@@ -285,7 +306,7 @@ fn is_type(given: Option<u8>, payload_type: u8) -> bool
 }
 
 /// Returns whether the payload type is in the list.
-fn is_among(payload_type: u8, types: &[u8]) -> bool
+pub(crate) fn is_among(payload_type: u8, types: &[u8]) -> bool
     ensures { result ≡ is_among payload_type types.now }
 {
     for t in types {
@@ -345,8 +366,8 @@ fn stream_of(pairs: &[SsrcPair], retransmission: u32) -> Option<u32>
 }
 
 /// Returns the role of this payload type, by the first format that names it.
-fn role_in(formats: &[Format], no_media: &[u8], payload_type: u8) -> Role
-    ensures { result ≡ role_by formats.now no_media.now payload_type }
+fn role_in(formats: &[Format], no_media: &[u8], telephone_events: &[u8], payload_type: u8) -> Role
+    ensures { result ≡ role_by formats.now no_media.now telephone_events.now payload_type }
 {
     for format in formats {
         if format.has_type(payload_type) {
@@ -356,9 +377,16 @@ fn role_in(formats: &[Format], no_media: &[u8], payload_type: u8) -> Role
             return Role::Retransmission(*format);
         }
     }
-    if is_among(payload_type, no_media) {
+    if is_among(payload_type, no_media) || is_among(payload_type, telephone_events) {
         Role::NoMedia
     } else {
         Role::Unknown
     }
+}
+
+/// Returns whether packets of this role have no media.
+fn is_no_media(role: Role) -> bool
+    ensures { result ≡ is_no_media role }
+{
+    matches!(role, Role::NoMedia)
 }

@@ -12,3 +12,4 @@ pub mod session;
 mod sort;
 pub mod stream;
 mod streams;
+mod telephone;

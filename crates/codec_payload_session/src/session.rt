@@ -4,10 +4,10 @@ ghost use Rattle.std.specs.Prelude.{◌≡◌, ◌<◌, ◌≤◌, IfSome, lengt
 ghost use Rattle.std.specs.List.{position};
 ghost use Rattle.std.specs.Option.{option_map};
 ghost use Rattle.codec_payload_session.specs.Arrivals.{Port};
-ghost use Rattle.codec_payload_session.specs.Ports.{IsSum, MatchInfo, Receives, ReportsIf, counted, counted_if, ends_all, ends_of, new_session, no_counts, receiver_among, taken_in, told_counts, waits_of};
+ghost use Rattle.codec_payload_session.specs.Ports.{IsSum, MatchInfo, Polls, Receives, ReportsIf, counted, counted_if, ends_all, ends_of, new_session, no_counts, receiver_among, taken_in, told_counts, waits_of};
 ghost use Rattle.codec_payload_session.specs.Reports.{clock_among};
 ghost use Rattle.codec_payload_session.specs.Streams.{due_in, is_of};
-ghost use Rattle.codec_payload_session.specs.Turns.{TakesTurn};
+ghost use Rattle.codec_payload_session.specs.Telephone.{due_before};
 ghost use Rattle.codec_payload_session.specs.Pairs.{Pairs, with_pair, without_pair};
 
 use crate::formats::{SessionSettings, SsrcPair};
@@ -15,6 +15,7 @@ use crate::pairs::remove_pair;
 use crate::reports::SenderClock;
 use crate::stream::{Ending, StreamInfo};
 use crate::streams::{Streams, Who, due_in, place_of};
+use crate::telephone::TelephoneQueue;
 use codec_payload_base::error::PacketError;
 use codec_payload_base::wire::Ticks;
 use codec_payload_buffer::buffer::Depacketized;
@@ -80,6 +81,22 @@ pub enum Event {
         payload_type: u8,
         packet: Result<Vec<u8>, AllocError>,
     },
+    /// A packet of telephone events (RFC 4733) that a stream of this SSRC took as one without media: its payload type is one of
+    /// `telephone_events` of the settings. `payload` has a report of 4 bytes for each event ([`TelephoneEvent::parse_all`] reads
+    /// them; a sender may put anything into it), `rtp_time` is the RTP time at which the events began, in ticks of the RTP clock,
+    /// and `marker` is set in the first packet of an event.
+    ///
+    /// All packets of an event have the same RTP time, its last one is sent three times (section 2.5.1), and a network can repeat
+    /// any of them, so go by the RTP time. It is also returned for a stream that is not announced yet.
+    ///
+    /// [`TelephoneEvent::parse_all`]: codec_payload_base::interface::TelephoneEvent::parse_all
+    Telephone {
+        ssrc: u32,
+        payload_type: u8,
+        rtp_time: u32,
+        marker: bool,
+        payload: Vec<u8>,
+    },
     /// A stream was removed. This is the last event of the stream.
     Ended {
         ssrc: u32,
@@ -88,8 +105,8 @@ pub enum Event {
     },
 }
 
-/// Counts of datagrams by result, each modulo 2^64. `received` is the sum of all others and of the datagrams that the existing
-/// streams took.
+/// Counts of datagrams by result, each modulo 2^64. `received` is the sum of all others except `telephone_dropped`, and of the
+/// datagrams that the existing streams took.
 #[derive(Clone, Copy, Debug, PartialEq, Eq)]
 pub struct SessionCounts {
     pub received: u64,
@@ -100,9 +117,11 @@ pub struct SessionCounts {
     pub unassociated: u64,
     /// Datagrams that the removed streams took.
     pub ended: u64,
+    /// Packets of telephone events that a stream took, but that have no event, since 32 others waited.
+    pub telephone_dropped: u64,
 }
 
-/// The same counts, without the removed streams.
+/// The same counts, without the removed streams and telephone events.
 #[derive(Clone, Copy, Debug)]
 pub(crate) struct ArrivalCounts {
     received: u64,
@@ -124,6 +143,7 @@ pub struct Session {
     settings: SessionSettings,
     streams: Streams,
     counts: ArrivalCounts,
+    telephone: TelephoneQueue,
 }
 
 impl Model for Session {
@@ -131,9 +151,9 @@ impl Model for Session {
 
     ghost Value = { Session };
 
-    ghost view = { λ s. record { settings = s.settings; port = s.streams; counts = s.counts } };
+    ghost view = { λ s. record { settings = s.settings; port = s.streams; counts = s.counts; telephone = s.telephone } };
 
-    ghost invariant = { λ s. IsSession (record { settings = s.settings; port = s.streams; counts = s.counts }) };
+    ghost invariant = { λ s. IsSession (record { settings = s.settings; port = s.streams; counts = s.counts; telephone = s.telephone }) };
 }
 
 impl Session {
@@ -145,6 +165,7 @@ impl Session {
             settings,
             streams: Streams::none(alloc),
             counts: ArrivalCounts::none(),
+            telephone: TelephoneQueue::none(alloc),
         }
     }
 
@@ -159,6 +180,9 @@ impl Session {
     /// the other streams of its SSRC and kind (audio or video) that took no datagram for `bye_wait`: their sender changed the
     /// format ([`Ending::Changed`]). Telephone events and comfort noise neither end nor are ended so.
     ///
+    /// A packet of telephone events beside audio (`telephone_events` of the settings) is one without media, and waits for a poll
+    /// once a stream took it ([`Event::Telephone`]). At most 32 of them wait; further ones are dropped and counted.
+    ///
     /// # Errors
     ///
     /// Out of memory: the datagram is not counted; you can pass it again.
@@ -169,29 +193,38 @@ impl Session {
     pub fn receive(&mut self, now: Ticks, datagram: &[u8]) -> Result<Arrival, AllocError>
         ensures { Receives now datagram.now self.old result self.new }
     {
+        let noted = self.telephone.note(&self.settings, datagram)?;
         let answer = self.streams.take_in(&self.settings, now, datagram);
+        self.telephone.settle(noted, &answer);
         self.counts = self.counts.with_answer(&answer);
         answer
     }
 
     /// Returns the next event. Call it until `None` after each datagram and at each deadline.
     ///
-    /// Streams are asked in the order in which they began. The events of a stream are `Begun`, then its units in order, then
-    /// `Ended`. A stream that is not announced has no events.
+    /// Packets of telephone events that wait come first, in the order in which they arrived. Then the streams are asked in the
+    /// order in which they began. The events of a stream are `Begun`, then its units in order, then `Ended`. A stream that is not
+    /// announced has no events.
     ///
     /// With `feedback` of the settings, a stream whose format has `nack` or `pli` also requests what its receiver misses once
     /// no unit is due (`Feedback`), until it leaves. Each request costs one step for each missing number.
     pub fn poll(&mut self, now: Ticks) -> Option<Event>
-        ensures { (port : Port) × TakesTurn now self.old.settings.idle_timeout self.old.port result port × (self.new ≡ record self.old { port = port }) }
+        ensures { Polls now self.old result self.new }
     {
+        if let Some(event) = self.telephone.take() {
+            return Some(event);
+        }
         self.streams.turn(now, self.settings.idle_timeout)
     }
 
-    /// Returns when a poll may have an event without a datagram. `None`: no stream has such a time. The cost is one step for
-    /// each stream.
+    /// Returns when a poll may have an event without a datagram: `Ticks(0)` while telephone events wait. `None`: no stream has
+    /// such a time. The cost is one step for each stream.
     pub fn next_deadline(&self) -> Option<Ticks>
-        ensures { option_map (λ at. at.0) result ≡ due_in self.now.settings.idle_timeout self.now.port.streams }
+        ensures { option_map (λ at. at.0) result ≡ due_before self.now.telephone (due_in self.now.settings.idle_timeout self.now.port.streams) }
     {
+        if !self.telephone.is_empty() {
+            return Some(Ticks(0));
+        }
         match due_in(&self.streams.list, self.settings.idle_timeout) {
             Some(at) => Some(Ticks(at)),
             None => None,
@@ -338,7 +371,7 @@ impl Session {
 
     /// Returns the counters of datagrams by result.
     pub fn counts(&self) -> SessionCounts
-        ensures value { result ≡ told_counts self.now.counts self.now.port.ended }
+        ensures value { result ≡ told_counts self.now.counts self.now.port.ended self.now.telephone.dropped }
         // Every datagram is accounted for.
         ensures accounted { IsSum result (taken_in self.now.port.streams) }
     {
@@ -351,6 +384,7 @@ impl Session {
             refused: counts.refused,
             unassociated: counts.unassociated,
             ended: self.streams.ended,
+            telephone_dropped: self.telephone.dropped(),
         }
     }
 }

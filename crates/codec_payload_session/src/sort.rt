@@ -22,7 +22,7 @@ pub(crate) enum Sorted {
     Media(u32, Format),
     /// A retransmission for the stream with this SSRC and payload type.
     Retransmission(u32, u8),
-    /// A packet without media, under this SSRC.
+    /// A packet without media, under this SSRC: telephone events beside audio among them.
     NoMedia(u32),
 }
 

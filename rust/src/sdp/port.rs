@@ -57,7 +57,8 @@ impl From<AllocError> for SessionError {
 ///
 /// - Formats: those of [`Media::session_format`], in the order of the sections. If two sections have a payload type, packets or
 ///   keyframes of it are requested only if both agree on that.
-/// - Types without media: telephone events, comfort noise, error correction.
+/// - Telephone events: polls return their packets.
+/// - Types without media: comfort noise, error correction.
 /// - Pairs of SSRCs: those of [`pairs`].
 /// - Ids of header extensions: those of all sections.
 /// - Wait limits: for live audio and video, with retransmission if a format of the kind has `nack`.
@@ -191,8 +192,12 @@ impl Port {
         payload_type: u8,
         role: Role,
     ) -> Result<(), AllocError> {
-        if let Role::TelephoneEvents | Role::ComfortNoise | Role::ErrorCorrection = role {
-            self.settings.no_media.try_push(payload_type)?;
+        match role {
+            Role::TelephoneEvents => self.settings.telephone_events.try_push(payload_type)?,
+            Role::ComfortNoise | Role::ErrorCorrection => {
+                self.settings.no_media.try_push(payload_type)?;
+            }
+            _ => {}
         }
         let Some(format) = section.session_format(payload_type) else {
             return Ok(());

@@ -76,8 +76,15 @@ pub struct FeedbackSettings {
 pub struct SessionSettings {
     /// The payload formats. If two of them have the same payload type, the first counts.
     pub formats: Vec<Format>,
-    /// Payload types without media that share the SSRC and the numbers of a stream: telephone events, comfort noise.
+    /// Payload types without media that share the SSRC and the numbers of a stream: comfort noise, error correction. Their
+    /// payloads are dropped.
     pub no_media: Vec<u8>,
+    /// Payload types of telephone events (RFC 4733) that share the SSRC and the numbers of a stream of audio. They count as
+    /// without media, so audio does not wait for them, and polls return their packets ([`Event::Telephone`]). A format with the
+    /// same payload type has precedence.
+    ///
+    /// [`Event::Telephone`]: crate::session::sessions::Event::Telephone
+    pub telephone_events: Vec<u8>,
     /// The SSRCs of retransmissions. A retransmission under any other SSRC is counted as unassociated. Pairs that become known
     /// later: [`Session::add_pair`].
     ///
@@ -119,7 +126,7 @@ pub(crate) enum Role {
     Media(Format),
     /// Retransmissions of the format.
     Retransmission(Format),
-    /// Packets without media.
+    /// Packets without media, telephone events among them.
     NoMedia,
     Unknown,
 }
@@ -150,6 +157,7 @@ impl SessionSettings {
         SessionSettings {
             formats: Vec::new(),
             no_media: Vec::new(),
+            telephone_events: Vec::new(),
             pairs: Vec::new(),
             extension_ids: ExtensionIds::default(),
             audio: WaitLimits::live(),
@@ -167,7 +175,17 @@ impl SessionSettings {
 
     /// Returns the role of this payload type.
     pub(crate) fn role(&self, payload_type: u8) -> Role {
-        role_in(&self.formats, &self.no_media, payload_type)
+        role_in(
+            &self.formats,
+            &self.no_media,
+            &self.telephone_events,
+            payload_type,
+        )
+    }
+
+    /// Returns whether packets of this payload type are telephone events beside audio.
+    pub(crate) fn is_telephone(&self, payload_type: u8) -> bool {
+        is_among(payload_type, &self.telephone_events) && is_no_media(self.role(payload_type))
     }
 
     /// Returns the SSRC of the stream whose packets are retransmitted under this SSRC.
@@ -190,7 +208,8 @@ impl SessionSettings {
         ssrc: u32,
         format: &Format,
     ) -> Result<ReceiverSettings, AllocError> {
-        let no_media = Vec::try_from_slice(&self.no_media)?;
+        let mut no_media = Vec::try_from_slice(&self.no_media)?;
+        no_media.try_extend(&self.telephone_events)?;
         let (payload_type, clock_rate) = (format.payload_type, format.spec.clock_rate);
         let mut settings = if is_video(format.spec.codec) {
             ReceiverSettings::live_video(payload_type, clock_rate)
@@ -261,7 +280,7 @@ fn is_type(given: Option<u8>, payload_type: u8) -> bool {
 }
 
 /// Returns whether the payload type is in the list.
-fn is_among(payload_type: u8, types: &[u8]) -> bool {
+pub(crate) fn is_among(payload_type: u8, types: &[u8]) -> bool {
     for t in types {
         if *t == payload_type {
             return true;
@@ -311,7 +330,7 @@ fn stream_of(pairs: &[SsrcPair], retransmission: u32) -> Option<u32> {
 }
 
 /// Returns the role of this payload type, by the first format that names it.
-fn role_in(formats: &[Format], no_media: &[u8], payload_type: u8) -> Role {
+fn role_in(formats: &[Format], no_media: &[u8], telephone_events: &[u8], payload_type: u8) -> Role {
     for format in formats {
         if format.has_type(payload_type) {
             return Role::Media(*format);
@@ -320,9 +339,14 @@ fn role_in(formats: &[Format], no_media: &[u8], payload_type: u8) -> Role {
             return Role::Retransmission(*format);
         }
     }
-    if is_among(payload_type, no_media) {
+    if is_among(payload_type, no_media) || is_among(payload_type, telephone_events) {
         Role::NoMedia
     } else {
         Role::Unknown
     }
+}
+
+/// Returns whether packets of this role have no media.
+fn is_no_media(role: Role) -> bool {
+    matches!(role, Role::NoMedia)
 }

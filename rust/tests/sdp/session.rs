@@ -3,7 +3,7 @@
 use crate::dump::changed;
 use codec_payload::rtp::ExtensionIds;
 use codec_payload::sdp::{self, MAX_PAIRS, SessionError};
-use codec_payload::session::{Arrival, Format, Session, SessionSettings, SsrcPair};
+use codec_payload::session::{Arrival, Event, Format, Session, SessionSettings, SsrcPair};
 use codec_payload::{Codec, CodecSpec, Frequency, Ticks};
 use std::fmt::Write;
 
@@ -34,6 +34,7 @@ fn dump(text: &str) -> Vec<String> {
     let settings = settings(text).unwrap();
     let mut lines: Vec<String> = settings.formats.iter().map(line).collect();
     lines.push(format!("no media {:?}", settings.no_media));
+    lines.push(format!("telephone events {:?}", settings.telephone_events));
     for pair in &settings.pairs {
         lines.push(format!("pair {} {}", pair.ssrc, pair.retransmission));
     }
@@ -54,7 +55,8 @@ fn chromium() {
         "45 Av1/90000 rtx 46 nack pli",
         "98 Vp9/90000 rtx 99 nack pli",
         "100 Vp9/90000 rtx 101 nack pli",
-        "no media [13, 110, 126, 120]",
+        "no media [13, 120]",
+        "telephone events [110, 126]",
         "pair 27689401 1659217349",
         "wait 100 200",
     ];
@@ -81,7 +83,8 @@ fn firefox() {
         "120 Vp8/90000 red 122/1800 rtx 124 nack pli",
         "121 Vp9/90000 rtx 125 nack pli",
         "99 Av1/90000 rtx 100 nack pli",
-        "no media [101, 123]",
+        "no media [123]",
+        "telephone events [101]",
         "pair 3310425182 44369015",
         "wait 100 200",
     ];
@@ -94,6 +97,7 @@ fn gstreamer() {
         "96 Vp8/90000 red 98/1800 rtx 100 nack pli",
         "97 Opus/48000 red 102/960 rtx 104 nack",
         "no media [99, 103]",
+        "telephone events []",
         "pair 1111 3396958610",
         "pair 2222 178515863",
         "wait 200 200",
@@ -112,6 +116,7 @@ fn pion() {
         "98 Vp9/90000 rtx 99 nack pli",
         "100 Vp9/90000 rtx 101 nack pli",
         "no media [116]",
+        "telephone events []",
         "wait 100 200",
     ];
     assert_eq!(dump(include_str!("../../../c/sdp/pion.sdp")), wanted);
@@ -153,6 +158,10 @@ fn a_session_of_chromium() -> Result<(), Fail> {
     assert_eq!(stream(&mut session, &red)?, Some((audio, 111)));
     let events = packet(110, audio, 2, &[1, 0, 0, 1]);
     assert_eq!(stream(&mut session, &events)?, Some((audio, 111)));
+    let Some(Event::Telephone { ssrc, payload, .. }) = session.poll(Ticks(0)) else {
+        return Err("telephone events come out".into());
+    };
+    assert_eq!((ssrc, payload), (audio, vec![1, 0, 0, 1]));
     assert_eq!(stream(&mut session, &packet(102, 1, 1, &[1]))?, None);
     assert_eq!(session.counts().unknown, 1);
     Ok(())
@@ -229,6 +238,7 @@ fn sections_are_joined() {
     let wanted = [
         "96 Vp8/90000 rtx 97 nack",
         "no media []",
+        "telephone events []",
         "pair 1 2",
         "pair 3 4",
         "wait 100 200",

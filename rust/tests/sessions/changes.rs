@@ -6,8 +6,6 @@ use codec_payload::session::*;
 use codec_payload::stream::RedSettings;
 use codec_payload::*;
 
-const NOISE: u8 = 13;
-
 /// A format whose packets and keyframes are requested.
 fn requested(payload_type: u8, codec: Codec, clock_rate: Frequency) -> Format {
     Format {
@@ -68,6 +66,7 @@ fn told(session: &mut Session, now: u64) -> Vec<String> {
             Event::Begun { payload_type, .. } => format!("begun {payload_type}"),
             Event::Unit { payload_type, .. } => format!("unit {payload_type}"),
             Event::Feedback { payload_type, .. } => format!("feedback {payload_type}"),
+            Event::Telephone { payload_type, .. } => format!("telephone {payload_type}"),
             Event::Ended {
                 payload_type, why, ..
             } => format!("ended {payload_type} {why:?}"),

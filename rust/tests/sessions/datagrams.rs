@@ -15,6 +15,8 @@ pub const OPUS: u8 = 111;
 pub const RED: u8 = 63;
 /// Telephone events.
 pub const EVENTS: u8 = 126;
+/// Comfort noise (RFC 3389).
+pub const NOISE: u8 = 13;
 
 /// A format of audio or video without retransmissions.
 pub fn format(payload_type: u8, codec: Codec, clock_rate: Frequency) -> Format {

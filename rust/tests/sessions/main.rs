@@ -1,4 +1,4 @@
-//! Sessions: which stream a datagram is of, what is requested and reported, many sessions at once, and a session beside a plain model.
+//! Sessions: which stream a datagram is of, what is requested and reported, telephone events, many sessions at once, and a session beside a plain model.
 
 mod changes;
 mod datagrams;
@@ -8,6 +8,7 @@ mod pairs;
 mod reports;
 mod requests;
 mod streams;
+mod telephone;
 
 use std::alloc::{GlobalAlloc, Layout, System};
 use std::cell::Cell;

@@ -5,7 +5,7 @@ use codec_payload::jitter::Outcome;
 use codec_payload::session::*;
 use codec_payload::stream::{Receiver, ReceiverSettings, RedSettings, Retransmission};
 use codec_payload::*;
-use std::collections::BTreeMap;
+use std::collections::{BTreeMap, VecDeque};
 
 /// What a datagram is, as who made it knows.
 enum Sent {
@@ -13,8 +13,10 @@ enum Sent {
     Media(u32, u8),
     /// A retransmission of VP8 under an SSRC.
     Again(u32),
-    /// A telephone event under an SSRC.
+    /// Comfort noise under an SSRC.
     Beside(u32),
+    /// Telephone events under an SSRC, at an RTP time.
+    Telephone(u32, u32),
     /// A BYE of these sources.
     Goodbye(Vec<u32>),
     Malformed,
@@ -46,6 +48,8 @@ struct Model {
     finished: bool,
     /// How many datagrams had each answer, and how many the removed streams took.
     counts: BTreeMap<&'static str, u64>,
+    /// The telephone events that wait.
+    waiting: VecDeque<(u32, u32)>,
 }
 
 #[derive(Clone, Copy)]
@@ -75,7 +79,8 @@ fn session(rules: Rules) -> Session {
         },
         pcmu_format(),
     ];
-    settings.no_media.push(EVENTS);
+    settings.no_media.push(NOISE);
+    settings.telephone_events.push(EVENTS);
     settings.pairs.push(SsrcPair {
         ssrc: 1,
         retransmission: 2,
@@ -112,7 +117,7 @@ fn receiver(ssrc: u32, payload_type: u8) -> Receiver {
         settings.red = red;
         (spec.codec, settings)
     };
-    settings.no_media.push(EVENTS);
+    settings.no_media.extend([EVENTS, NOISE]);
     settings.ssrc = Some(ssrc);
     let depacketizer = CodecDepacketizer::from_codec(codec).expect("it is supported");
     Receiver::new(depacketizer, settings).expect("the settings are in range")
@@ -151,6 +156,7 @@ impl Model {
             rules,
             finished: false,
             counts: BTreeMap::new(),
+            waiting: VecDeque::new(),
         }
     }
 
@@ -217,7 +223,9 @@ impl Model {
                 let known = self.place_of(|it| (Some(it.ssrc), it.payload_type) == (ssrc, VP8));
                 (known, "unassociated")
             }
-            Sent::Beside(ssrc) => (self.place_of(|it| it.ssrc == *ssrc), "unknown"),
+            Sent::Beside(ssrc) | Sent::Telephone(ssrc, _) => {
+                (self.place_of(|it| it.ssrc == *ssrc), "unknown")
+            }
             Sent::Goodbye(ssrcs) => {
                 self.leave(ssrcs, Ending::Bye, now + self.rules.bye_wait);
                 (None, "rtcp")
@@ -229,6 +237,13 @@ impl Model {
         match place {
             Some(place) => self.streams[place].receive(now, self.rules.probation, bytes),
             None => self.count(otherwise, 1),
+        }
+        match (place, sent) {
+            (Some(_), Sent::Telephone(..)) if self.waiting.len() == 32 => {
+                self.count("telephone_dropped", 1);
+            }
+            (Some(_), Sent::Telephone(ssrc, time)) => self.waiting.push_back((*ssrc, *time)),
+            _ => {}
         }
         if let Sent::Media(ssrc, payload_type) = sent {
             self.change(now, *ssrc, *payload_type);
@@ -256,6 +271,9 @@ impl Model {
     }
 
     fn poll(&mut self, now: u64) -> Option<String> {
+        if let Some(packet) = self.waiting.pop_front() {
+            return Some(format!("{packet:?} telephone"));
+        }
         for place in 0..self.streams.len() {
             let stream = &mut self.streams[place];
             let key = (stream.ssrc, stream.payload_type);
@@ -284,6 +302,9 @@ impl Model {
     }
 
     fn deadline(&self) -> Option<u64> {
+        if !self.waiting.is_empty() {
+            return Some(0);
+        }
         let playing = self.streams.iter().filter(|it| it.plays);
         let due = playing.map(|it| {
             let unit = it.receiver.next_deadline().map_or(u64::MAX, |at| at.0);
@@ -312,6 +333,7 @@ fn line(event: Event) -> String {
             payload_type,
             why,
         } => format!("{:?} ends {why:?}", (ssrc, payload_type)),
+        Event::Telephone { ssrc, rtp_time, .. } => format!("{:?} telephone", (ssrc, rtp_time)),
         Event::Feedback { .. } => panic!("nothing is requested"),
     }
 }
@@ -327,6 +349,15 @@ fn number(dice: &mut Dice, latest: &mut u16) -> u16 {
     *latest
 }
 
+/// A packet of telephone events.
+fn telephone(dice: &mut Dice, latest: &mut [u16; 6]) -> (Sent, Vec<u8>) {
+    let ssrc = 1 + dice.below(5);
+    let number = number(dice, &mut latest[ssrc as usize]);
+    let time = 960 * u32::from(number);
+    let bytes = packet(EVENTS, ssrc, number, time, &[1, 2, 3, 4]);
+    (Sent::Telephone(ssrc, time), bytes)
+}
+
 /// A datagram, and what it is. SSRC 2 retransmits what SSRC 1 sends.
 fn datagram(dice: &mut Dice, latest: &mut [u16; 6]) -> (Sent, Vec<u8>) {
     let ssrc = 1 + dice.below(5);
@@ -339,14 +370,15 @@ fn datagram(dice: &mut Dice, latest: &mut [u16; 6]) -> (Sent, Vec<u8>) {
         1 => (Sent::Malformed, vec![0x81, 203, 0, 4, 0, 0, 0, ssrc as u8]),
         2 => (Sent::Malformed, opus(ssrc, 1)[..11].to_vec()),
         3 => (Sent::Unknown, rtp(100, &[1], dice)),
-        4..8 => (Sent::Beside(ssrc), rtp(EVENTS, &[1, 2, 3, 4], dice)),
-        8..16 => {
+        4..6 => (Sent::Beside(ssrc), rtp(NOISE, &[64], dice)),
+        6..12 => telephone(dice, latest),
+        12..20 => {
             let original = latest[1].wrapping_sub(dice.below(6) as u16).to_be_bytes();
             let payload = [&original[..], vp8_frame(false)].concat();
             let from = 2 + dice.below(2);
             (Sent::Again(from), packet(RTX, from, 1, 0, &payload))
         }
-        16..30 => {
+        20..30 => {
             let payload = [0x80 | OPUS, 0x0f, 0, 2, OPUS, 9, 7, 10, 7];
             let end = if dice.below(10) == 0 { 3 } else { 9 };
             (Sent::Media(ssrc, OPUS), rtp(RED, &payload[..end], dice))
@@ -384,6 +416,7 @@ fn assert_same(session: &Session, model: &Model) {
         ("refused", counts.refused),
         ("unassociated", counts.unassociated),
         ("ended", counts.ended),
+        ("telephone_dropped", counts.telephone_dropped),
     ] {
         assert_eq!(count, *model.counts.get(name).unwrap_or(&0), "{name}");
     }
@@ -426,13 +459,23 @@ impl Both {
                 self.model.leave(&[ssrc], Ending::Told, self.now);
             }
             1 => self.now += u64::from(self.dice.below(1_500)),
+            2 => {
+                for _ in 0..40 {
+                    let packet = telephone(&mut self.dice, &mut self.latest);
+                    self.receive(packet);
+                }
+            }
             _ => {
-                let (sent, bytes) = datagram(&mut self.dice, &mut self.latest);
-                let arrival = self.session.receive(Ticks(self.now), &bytes);
-                assert!(arrival.is_ok());
-                self.model.receive(self.now, &sent, &bytes);
+                let packet = datagram(&mut self.dice, &mut self.latest);
+                self.receive(packet);
             }
         }
+    }
+
+    fn receive(&mut self, (sent, bytes): (Sent, Vec<u8>)) {
+        let arrival = self.session.receive(Ticks(self.now), &bytes);
+        assert!(arrival.is_ok());
+        self.model.receive(self.now, &sent, &bytes);
     }
 
     fn finish(&mut self) {
@@ -482,6 +525,8 @@ fn a_session_is_its_plain_model() {
         "refused",
         "unassociated",
         "ended",
+        "telephone",
+        "telephone_dropped",
     ];
     for name in frequent {
         assert!(

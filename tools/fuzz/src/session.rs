@@ -82,7 +82,8 @@ fn settings(input: &mut Input) -> SessionSettings {
     let how = input.byte();
     SessionSettings {
         formats: formats(input),
-        no_media: vec![97, 13],
+        no_media: vec![13],
+        telephone_events: vec![97],
         pairs: vec![SsrcPair {
             ssrc: 1,
             retransmission: 2,

@@ -66,8 +66,8 @@ impl Session {
 
     /// The fields of the event and of its unit, and its bytes. The first call has no room for bytes, so the event of a unit that has
     /// bytes waits.
-    pub fn poll(&mut self, now: u64) -> Option<([u64; 11], Vec<u8>)> {
-        let (mut bytes, mut event) = (vec![0; ROOM], [0; 12]);
+    pub fn poll(&mut self, now: u64) -> Option<([u64; 12], Vec<u8>)> {
+        let (mut bytes, mut event) = (vec![0; ROOM], [0; 13]);
         let mut poll = |room| unsafe {
             twin_session_poll(self.0, now, bytes.as_mut_ptr(), room, event.as_mut_ptr())
         };
@@ -80,7 +80,8 @@ impl Session {
         }
         assert_eq!(status, 0);
         bytes.truncate(event[11] as usize);
-        Some((event[..11].try_into().unwrap(), bytes))
+        event[11] = event[12];
+        Some((event[..12].try_into().unwrap(), bytes))
     }
 
     pub fn next_deadline(&mut self) -> Option<u64> {
@@ -119,9 +120,9 @@ impl Session {
         assert_eq!(unsafe { twin_session_add_pair(self.0, ssrc, rtx_ssrc) }, 0);
     }
 
-    /// Received, RTCP, malformed, unknown, refused, unassociated, ended, streams.
-    pub fn counts(&mut self) -> [u64; 8] {
-        let mut counts = [0; 8];
+    /// Received, RTCP, malformed, unknown, refused, unassociated, ended, streams, dropped telephone events.
+    pub fn counts(&mut self) -> [u64; 9] {
+        let mut counts = [0; 9];
         let status = unsafe { twin_session_counts(self.0, counts.as_mut_ptr()) };
         assert_eq!(status, 0);
         counts

@@ -41,7 +41,8 @@ fn settings(spec: CodecSpec, input: &mut Input) -> (SessionSettings, [u64; 8]) {
     let max_wait = u64::from(input.byte());
     let start = input.byte() % 4;
     ours.formats = formats(spec);
-    ours.no_media = vec![97, 13];
+    ours.no_media = vec![13];
+    ours.telephone_events = vec![97];
     ours.pairs = vec![SsrcPair {
         ssrc: 1,
         retransmission: 2,
@@ -113,8 +114,8 @@ fn datagram(how: u8, numbers: &mut [u16; 5], input: &mut Input) -> Vec<u8> {
 }
 
 /// The fields of an event and of its unit, and its bytes. The error of a frame is its text.
-fn told(event: Event) -> ([u64; 11], Vec<u8>, Option<String>) {
-    let mut it = [0; 11];
+fn told(event: Event) -> ([u64; 12], Vec<u8>, Option<String>) {
+    let mut it = [0; 12];
     let mut stream = |kind: u64, ssrc: u32, payload_type: u8| {
         (it[0], it[1], it[2]) = (kind, ssrc.into(), payload_type.into());
     };
@@ -127,6 +128,17 @@ fn told(event: Event) -> ([u64; 11], Vec<u8>, Option<String>) {
         } => {
             stream(4, ssrc, payload_type);
             return (it, packet.expect("there is memory"), None);
+        }
+        Event::Telephone {
+            ssrc,
+            payload_type,
+            rtp_time,
+            marker,
+            payload,
+        } => {
+            stream(6, ssrc, payload_type);
+            (it[7], it[11]) = (rtp_time.into(), marker.into());
+            return (it, payload, None);
         }
         Event::Ended {
             ssrc,
@@ -163,6 +175,7 @@ fn told(event: Event) -> ([u64; 11], Vec<u8>, Option<String>) {
                     unit.contiguous.into(),
                     decodable.into(),
                     keyframe.into(),
+                    unit.start_of_talkspurt().into(),
                 ]);
                 return (it, unit.bytes, None);
             }
@@ -220,7 +233,7 @@ fn receive(
     assert_eq!(wanted, found);
 }
 
-fn counts(ours: &Session) -> [u64; 8] {
+fn counts(ours: &Session) -> [u64; 9] {
     let it = ours.counts();
     [
         it.received,
@@ -231,6 +244,7 @@ fn counts(ours: &Session) -> [u64; 8] {
         it.unassociated,
         it.ended,
         ours.stream_count() as u64,
+        it.telephone_dropped,
     ]
 }
 

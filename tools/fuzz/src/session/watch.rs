@@ -2,7 +2,7 @@
 
 use super::OWN;
 use codec_payload::Ticks;
-use codec_payload::jitter::WaitLimits;
+use codec_payload::jitter::{Outcome, WaitLimits};
 use codec_payload::rtcp::{CompoundRule, RtcpPacket, read_compound};
 use codec_payload::session::*;
 use std::collections::BTreeMap;
@@ -21,6 +21,8 @@ pub struct Watch {
     announced: BTreeMap<Key, Option<u64>>,
     /// The datagrams by what `receive` answered; `ended` counts those that streams took.
     counts: SessionCounts,
+    /// How many packets of telephone events wait.
+    telephone: usize,
     /// Whether the latest call was a poll that returned `None`.
     is_drained: bool,
 }
@@ -41,6 +43,7 @@ impl Watch {
             },
             announced: BTreeMap::new(),
             counts: session.counts(),
+            telephone: 0,
             is_drained: true,
             session,
         }
@@ -50,7 +53,9 @@ impl Watch {
         self.is_drained = false;
         self.counts.received += 1;
         let arrival = self.session.receive(Ticks(self.now), datagram);
-        *match arrival.expect("there is memory") {
+        let arrival = arrival.expect("there is memory");
+        self.note_telephone(&arrival, datagram);
+        *match arrival {
             Arrival::Rtcp => &mut self.counts.rtcp,
             Arrival::Malformed => &mut self.counts.malformed,
             Arrival::Unknown => &mut self.counts.unknown,
@@ -60,9 +65,25 @@ impl Watch {
         } += 1;
     }
 
+    /// A packet of telephone events that a stream took without media waits, if fewer than 32 wait.
+    fn note_telephone(&mut self, arrival: &Arrival, datagram: &[u8]) {
+        let answer = match arrival {
+            Arrival::Stream { answer, .. } => answer,
+            _ => return,
+        };
+        if *answer == Ok(Outcome::NoMedia) && datagram[1] & 0x7f == 97 {
+            if self.telephone < 32 {
+                self.telephone += 1;
+            } else {
+                self.counts.telephone_dropped += 1;
+            }
+        }
+    }
+
     /// Polls until there is no event: at most one for each held packet, and a few for each stream.
     pub fn drain(&mut self) {
-        let most = 16 * self.streams().count() + self.streams().map(|it| it.held).sum::<usize>();
+        let held = self.streams().map(|it| it.held).sum::<usize>();
+        let most = 16 * self.streams().count() + held + self.telephone;
         let mut count = 0;
         while let Some(event) = self.session.poll(Ticks(self.now)) {
             self.check(event);
@@ -70,6 +91,7 @@ impl Watch {
             assert!(count <= most, "{count} events of {most}");
         }
         self.is_drained = true;
+        assert_eq!(self.telephone, 0);
         let deadline = self.session.next_deadline();
         assert!(
             deadline.is_none_or(|at| self.now < at.0),
@@ -170,6 +192,10 @@ impl Watch {
                     assert!(last.is_none_or(|last| last < range.start().0));
                     *last = Some(range.end().0);
                 }
+            }
+            Event::Telephone { payload_type, .. } => {
+                assert_eq!(payload_type, 97);
+                self.telephone -= 1;
             }
             Event::Feedback {
                 ssrc,

@@ -6,9 +6,9 @@ use Rattle.codec_payload_c.proofs.session_settings.session_by.Goals as goal
 pub returns-clause-ok : goal.returns-clause-ok
 returns-clause-ok c =
     let plain = c.in-Some.ensures.settings in
-    let lists = c.in-Ok-Ok-Ok in (
+    let lists = c.in-Ok-Ok-Ok-Ok in (
       record {
-        settings = record c.in-Some.settings { formats = lists.formats; no_media = lists.no_media; pairs = lists.pairs };
+        settings = record c.in-Some.settings { formats = lists.formats; no_media = lists.no_media; telephone_events = lists.telephone_events; pairs = lists.pairs };
         are = record {
           plain = record {
             ids = plain.ids;
@@ -24,8 +24,9 @@ returns-clause-ok c =
             feedback = plain.feedback;
           };
           formats_are = lists.ensures;
-          no_media_are = lists.ensures'.items;
-          pairs_are = lists.ensures'';
+          no_media_are = lists.ensures''.items;
+          telephone_events_are = lists.ensures';
+          pairs_are = lists.ensures''';
         };
         made = c.new.ensures;
         waiting = refl;

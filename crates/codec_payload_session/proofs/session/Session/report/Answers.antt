@@ -7,11 +7,13 @@ use Rattle.codec_payload_session.proofs.AccountLemmas.{reports_keep}
 use Rattle.codec_payload_session.proofs.session.Session.report.Goals as goal
 
 pub invariant_of-self : goal.invariant_of-self
-invariant_of-self c =
-    reports_keep c.self.inside.settings c.self.inside.counts _ _ _ _ c.self.inside.streams c.report.new.self c.report.ensures.reports c.self.invariant
+invariant_of-self c = record {
+  port = reports_keep c.self.inside.settings c.self.inside.counts _ _ _ _ c.self.inside.streams c.report.new.self c.report.ensures.reports c.self.invariant.port;
+  few = c.self.invariant.few;
+}
 
 pub returns-clause-reports : goal.returns-clause-reports
 returns-clause-reports c =
-    let t : Session = record { settings = c.self.inside.settings; port = c.report.new.self; counts = c.self.inside.counts } in
+    let t : Session = record { settings = c.self.inside.settings; port = c.report.new.self; counts = c.self.inside.counts; telephone = c.self.inside.telephone } in
     subst (λ (s : Session). (x : Port) × ReportsIf (position (is_of c.args.ssrc c.args.payload_type) s.port.streams) s.settings.tick_rate c.args.now.0 s.port c.report.result x × (t ≡ record s { port = x })) c.self.view_is
     (c.report.new.self, c.report.ensures.reports, refl)

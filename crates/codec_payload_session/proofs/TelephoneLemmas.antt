@@ -1,0 +1,123 @@
+-- What a datagram does to the packets of telephone events that wait.
+use Rattle.std.proofs.Common.{◌≡◌, ◌≤◌, ◌<◌, ◌∙◌, ℕ, suc, ◌+◌, ◌-◌, ◌%◌, List, [], ◌∷◌, ◌++◌, take, length, length-append, Bool, true, false, Option, Some, None, Result, Ok, Err, ap, refl, subst, sym, arith, nat_lt}
+use Rattle.std.proofs.Math.Seq.{take-append_seam}
+use Rattle.std.proofs.lemmas.Bool.Decides.{nat_tests}
+use Rattle.codec_payload_base.specs.Flags.{AreBytes}
+use Rattle.codec_payload_base.specs.declared.wire.Ticks.{Ticks}
+use Rattle.codec_payload_rtp.specs.RtpPackets.{IsRtp, Packet, bit_if}
+use Rattle.codec_payload_rtp.specs.RtpReading.{rtp_at}
+use Rattle.codec_payload_rtp.specs.declared.rtp.RtpError.{RtpError}
+use Rattle.codec_payload_rtp.proofs.RtpGrammar.{rtp_takes}
+use Rattle.codec_payload_stream.specs.Kinds.{is_among}
+use Rattle.codec_payload_session.specs.Arrivals.{Port}
+use Rattle.codec_payload_session.specs.Ports.{Polls, PollsAfter, Session}
+use Rattle.codec_payload_session.specs.Telephone.{Gives, GivesFrom, Notes, NotesBy, Queue, QueuesIf, WaitsLast, WaitsOrDrops, has_room, names_telephone, settled, telephone_of, without_last}
+use Rattle.codec_payload_session.specs.Turns.{TakesTurn}
+use Rattle.codec_payload_session.specs.declared.formats.SessionSettings.{SessionSettings}
+use Rattle.codec_payload_session.specs.declared.session.Event.{Event}
+use Rattle.codec_payload_session.specs.declared.telephone.Noted.{Noted}
+use Rattle.codec_payload_session.specs.declared.telephone.Noted.TheVariants as noteds
+use Rattle.codec_payload_session.specs.declared.telephone.TelephonePacket.{TelephonePacket}
+
+-- the last packet, which was put in, is taken out again
+taken_out : (ws : List TelephonePacket) (w : TelephonePacket) → take (length (ws ++ w ∷ []) - 1) (ws ++ w ∷ []) ≡ ws
+taken_out ws w =
+    let one : length (ws ++ w ∷ []) - 1 ≡ length ws = omega (arith, length-append ws (w ∷ [])) in
+    ap (λ (n : ℕ). take n (ws ++ w ∷ [])) one ∙ take-append_seam ws (w ∷ [])
+
+puts_back : (p : Packet) (q r : Queue) → WaitsLast p q r → without_last r ≡ q
+puts_back p q r got =
+    ap (λ (x : Queue). without_last x) got.left ∙ ap (λ (ws : List TelephonePacket). record q { waiting = ws }) (taken_out q.waiting got.packet)
+
+waits : (b taken : Bool) (p : Packet) (q : Queue) (noted : Noted) (r : Queue) → has_room q ≡ b → NotesBy b p q noted r → QueuesIf taken (Some p) q (settled noted taken r)
+waits true true p q noted r room got =
+    subst (λ (b : Bool). WaitsOrDrops b p q (settled noted true r)) (sym room)
+    (subst (λ (n : Noted). WaitsLast p q (settled n true r)) (sym got.0) got.1)
+waits true false p q noted r room got = ap (λ (n : Noted). settled n false r) got.0 ∙ puts_back p q r got.1
+waits false true p q noted r room got =
+    subst (λ (b : Bool). WaitsOrDrops b p q (settled noted true r)) (sym room)
+    (ap (λ (n : Noted). settled n true r) got.0 ∙ ap (λ (x : Queue). settled noteds.NoPlace true x) got.1)
+waits false false p q noted r room got = ap (λ (n : Noted). settled n false r) got.0 ∙ got.1
+
+noted_by : (b : Bool) (p : Packet) (q r : Queue) → has_room q ≡ b → b ≡ true → WaitsLast p q r → NotesBy b p q noteds.Waits r
+noted_by true p q r room is got = (refl, got)
+noted_by false p q r room is got = absurd cc
+
+-- a packet with a place is noted
+pub waits_noted : (o : Option Packet) (p : Packet) (q r : Queue) → o ≡ Some p → length q.waiting < 32 → WaitsLast p q r → Notes o q noteds.Waits r
+waits_noted o p q r is free got =
+    let room : has_room q ≡ true = grind (arith, nat_tests) in
+    subst (λ (x : Option Packet). Notes x q noteds.Waits r) (sym is) (noted_by (has_room q) p q r refl room got)
+
+-- a datagram that was noted, and settled by the answer of the streams
+pub queues : (taken : Bool) (o : Option Packet) (q : Queue) (noted : Noted) (r : Queue) → Notes o q noted r → QueuesIf taken o q (settled noted taken r)
+queues taken None q noted r got = ap (λ (n : Noted). settled n taken r) got.0 ∙ got.1
+queues taken (Some p) q noted r got = waits (has_room q) taken p q noted r refl got
+
+few_by : (b : Bool) (p : Packet) (q r : Queue) → has_room q ≡ b → WaitsOrDrops b p q r → length q.waiting ≤ 32 → length r.waiting ≤ 32
+few_by true p q r room got few =
+    let free : length q.waiting < 32 = grind (arith, nat_tests, room) in
+    let long : length r.waiting ≡ length (q.waiting ++ got.packet ∷ []) = ap (λ (x : Queue). length x.waiting) got.left in
+    omega (arith, free, long, length-append q.waiting (got.packet ∷ []))
+few_by false p q r room got few = subst (λ (x : Queue). length x.waiting ≤ 32) (sym got) few
+
+-- at most 32 packets wait
+pub stay_few : (taken : Bool) (o : Option Packet) (q r : Queue) → QueuesIf taken o q r → length q.waiting ≤ 32 → length r.waiting ≤ 32
+stay_few taken None q r got few = subst (λ (x : Queue). length x.waiting ≤ 32) (sym got) few
+stay_few false (Some p) q r got few = subst (λ (x : Queue). length x.waiting ≤ 32) (sym got) few
+stay_few true (Some p) q r got few = few_by (has_room q) p q r refl got few
+
+-- ---- which datagrams are packets of telephone events
+
+second_is : (marker : Bool) (n : ℕ) → n < 128 → (bit_if marker 128 + n) % 128 ≡ n
+second_is true n small = omega arith
+second_is false n small = omega arith
+
+is_named : (s : SessionSettings) (bytes : List ℕ) (p : Packet) → IsRtp bytes p → names_telephone s bytes ≡ is_among p.header.payload_type s.telephone_events.items
+is_named s bytes p is =
+    subst (λ (l : List ℕ). names_telephone s l ≡ is_among p.header.payload_type s.telephone_events.items) (sym is.is)
+    (ap (λ (n : ℕ). is_among n s.telephone_events.items) (second_is p.header.marker p.header.payload_type is.fits.payload_type))
+
+not_named_by : (s : SessionSettings) (bytes : List ℕ) (r : Result Packet RtpError) → AreBytes bytes → rtp_at bytes ≡ r → names_telephone s bytes ≡ false → telephone_of s r ≡ None
+not_named_by s bytes (Ok p) are is else_named =
+    let other : is_among p.header.payload_type s.telephone_events.items ≡ false = sym (is_named s bytes p (rtp_takes bytes p are is)) ∙ else_named in
+    rw other refl
+not_named_by s bytes (Err e) are is else_named = refl
+
+-- a datagram whose second byte has another payload type is none
+pub not_named : (s : SessionSettings) (bytes : List ℕ) → AreBytes bytes → names_telephone s bytes ≡ false → telephone_of s (rtp_at bytes) ≡ None
+not_named s bytes are else_named = not_named_by s bytes (rtp_at bytes) are refl else_named
+
+-- ---- polls
+
+first_by : (ws : List TelephonePacket) (now : Ticks) (s : Session) (event : Event) (r : Queue) → GivesFrom ws s.telephone (Some event) r
+    → PollsAfter ws now s (Some event) (record s { telephone = r })
+first_by [] now s event r got = absurd (cc (got.0))
+first_by (w ∷ ws) now s event r got = (got.0, ap (λ (x : Queue). record s { telephone = x }) got.1)
+
+-- a packet that waits comes first
+pub polls_first : (now : Ticks) (s : Session) (event : Event) (r : Queue) → Gives s.telephone (Some event) r → Polls now s (Some event) (record s { telephone = r })
+polls_first now s event r got = first_by s.telephone.waiting now s event r got
+
+turn_by : (ws : List TelephonePacket) (now : Ticks) (s : Session) (event : Option Event) (port : Port) (r : Queue) → GivesFrom ws s.telephone None r
+    → TakesTurn now s.settings.idle_timeout s.port event port → PollsAfter ws now s event (record s { port = port; telephone = r })
+turn_by [] now s event port r got turn = (port, turn, ap (λ (x : Queue). record s { port = port; telephone = x }) got.1)
+turn_by (w ∷ ws) now s event port r got turn = absurd (cc (got.0))
+
+-- without one the streams have their turn
+pub polls_turn : (now : Ticks) (s : Session) (event : Option Event) (port : Port) (r : Queue) → Gives s.telephone None r → TakesTurn now s.settings.idle_timeout s.port event port
+    → Polls now s event (record s { port = port; telephone = r })
+polls_turn now s event port r got turn = turn_by s.telephone.waiting now s event port r got turn
+
+fewer_by : (ws : List TelephonePacket) (q : Queue) (event : Option Event) (r : Queue) → q.waiting ≡ ws → GivesFrom ws q event r → length q.waiting ≤ 32 → length r.waiting ≤ 32
+fewer_by [] q event r is got few = subst (λ (x : Queue). length x.waiting ≤ 32) (sym got.1) few
+fewer_by (w ∷ ws) q event r is got few =
+    let before : length q.waiting ≡ length (w ∷ ws) = ap (λ (l : List TelephonePacket). length l) is in
+    let after : length r.waiting ≡ length ws = ap (λ (x : Queue). length x.waiting) got.1 in
+    omega (arith, before, after, few)
+
+pub stay_fewer : (q : Queue) (event : Option Event) (r : Queue) → Gives q event r → length q.waiting ≤ 32 → length r.waiting ≤ 32
+stay_fewer q event r got few = fewer_by q.waiting q event r refl got few
+
+pub queues_settled : (taken : Bool) (o : Option Packet) (q : Queue) (noted : Noted) (r t : Queue) → Notes o q noted r → t ≡ settled noted taken r → QueuesIf taken o q t
+queues_settled taken o q noted r t got is = subst (λ (x : Queue). QueuesIf taken o q x) (sym is) (queues taken o q noted r got)
