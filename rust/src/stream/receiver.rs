@@ -34,8 +34,8 @@ pub struct RedSettings {
     /// a time, and no number.
     pub step: u32,
     /// The payload type of retransmitted RED packets, 0 to 127: the one whose `apt` (RFC 4588, section 8.1) is the payload type
-    /// of RED. Their SSRC is that of [`ReceiverSettings::retransmission`], and without such settings there are none. It differs from the
-    /// payload type of retransmissions there, which is read first. `None`: retransmitted RED is not read.
+    /// of RED. Their SSRC is that of [`ReceiverSettings::retransmission`], and without such settings there are none. It differs from all
+    /// other payload types of the settings. `None`: retransmitted RED is not read.
     pub retransmission: Option<u8>,
 }
 
