@@ -19,7 +19,7 @@ use Rattle.codec_payload_rtcp.specs.declared.packet.RtcpError.{RtcpError}
 use Rattle.codec_payload_session.proofs.QuietLemmas.{quiet_length}
 use Rattle.codec_payload_session.proofs.ReportLemmas.{noted_length}
 use Rattle.codec_payload_session.specs.Arrivals.{Arrives, BeginsIf, BeginsOrFeeds, BeginsWith, Feeds, FeedsIf, Port, StaysEmpty, TakesIn, TakesInAs, added, has_place, left_if, left_where, on_probation, taken_of, without, TakesMedia}
-use Rattle.codec_payload_session.specs.Ports.{IsSession, ReportsIf, Session, counted_if, taken_in}
+use Rattle.codec_payload_session.specs.Ports.{IsSession, ReportsIf, counted_if, taken_in}
 use Rattle.codec_payload_session.specs.Reports.{noted_at, noted_in, reported_by}
 use Rattle.codec_payload_session.proofs.ChangeLemmas.{length_continued, taken_continued}
 use Rattle.codec_payload_session.specs.Changes.{continues}
@@ -115,19 +115,16 @@ takes_taken now probation bytes s told t got = ap (λ (x : Stream). x.taken) got
     by_test true = same
     by_test false = ap next same
 
-abbrev with_all : SessionSettings → Port → ArrivalCounts → Session
-with_all settings p c = record { settings = settings; port = p; counts = c }
-
 -- the port after the datagram, with this result
 abbrev Keeps : SessionSettings → ArrivalCounts → Port → Result Arrival AllocError → Type 0
-Keeps settings c q answer = IsSession (with_all settings q (counted_if answer c))
+Keeps settings c q answer = IsSession settings q (counted_if answer c)
 
 keeps_by : (settings : SessionSettings) (c : ArrivalCounts) (p q : Port) (answer told : Result Arrival AllocError) → answer ≡ told → q ≡ p → Keeps settings c p told → Keeps settings c q answer
 keeps_by settings c p q answer told is same kept =
     subst (λ (a : Result Arrival AllocError). Keeps settings c q a) (sym is) (subst (λ (x : Port). Keeps settings c x told) (sym same) kept)
 
 feeds_keep : (settings : SessionSettings) (c : ArrivalCounts) (place : ℕ) (now : Ticks) (bytes : List ℕ) (p : Port) (answer : Result Arrival AllocError) (q : Port)
-    → Feeds settings.probation place now bytes p answer q → IsSession (with_all settings p c) → Keeps settings c q answer
+    → Feeds settings.probation place now bytes p answer q → IsSession settings p c → Keeps settings c q answer
 feeds_keep settings c place now bytes p answer q got kept =
     subst (λ (x : Port). Keeps settings c x answer) (sym got.left)
     (by_test (is_no_memory got.told) answer got.arrives (takes_taken now settings.probation bytes got.stream got.told got.after got.takes))
@@ -152,7 +149,7 @@ taken_noted now (Err e) ss = refl
 taken_noted now (Ok ps) [] = refl
 taken_noted now (Ok ps) (s ∷ ss) = ap (λ (n : ℕ). s.taken + n) (taken_noted now (Ok ps) ss)
 
-rtcp_keeps : (settings : SessionSettings) (c : ArrivalCounts) (now : Ticks) (bytes : List ℕ) (who : ℕ → Bool) (why : Ending) (at : ℕ) (p : Port) → IsSession (with_all settings p c)
+rtcp_keeps : (settings : SessionSettings) (c : ArrivalCounts) (now : Ticks) (bytes : List ℕ) (who : ℕ → Bool) (why : Ending) (at : ℕ) (p : Port) → IsSession settings p c
     → Keeps settings c (record p { streams = left_where who why at (noted_at now bytes p.streams) }) (Ok arrivals.Rtcp)
 rtcp_keeps settings c now bytes who why at p kept =
     let noted_taken : taken_in (noted_at now bytes p.streams) ≡ taken_in p.streams = taken_noted now (compound_at false bytes) p.streams in
@@ -162,16 +159,16 @@ rtcp_keeps settings c now bytes who why at p kept =
       bounded = omega (arith, kept.bounded, noted_count, length_left who why at (noted_at now bytes p.streams));
     }
 
-malformed_keeps : (settings : SessionSettings) (c : ArrivalCounts) (p : Port) → IsSession (with_all settings p c) → Keeps settings c p (Ok arrivals.Malformed)
+malformed_keeps : (settings : SessionSettings) (c : ArrivalCounts) (p : Port) → IsSession settings p c → Keeps settings c p (Ok arrivals.Malformed)
 malformed_keeps settings c p kept = record { accounted = omega (arith, kept.accounted); bounded = kept.bounded }
 
-unknown_keeps : (settings : SessionSettings) (c : ArrivalCounts) (p : Port) → IsSession (with_all settings p c) → Keeps settings c p (Ok arrivals.Unknown)
+unknown_keeps : (settings : SessionSettings) (c : ArrivalCounts) (p : Port) → IsSession settings p c → Keeps settings c p (Ok arrivals.Unknown)
 unknown_keeps settings c p kept = record { accounted = omega (arith, kept.accounted); bounded = kept.bounded }
 
-refused_keeps : (settings : SessionSettings) (c : ArrivalCounts) (p : Port) → IsSession (with_all settings p c) → Keeps settings c p (Ok arrivals.Refused)
+refused_keeps : (settings : SessionSettings) (c : ArrivalCounts) (p : Port) → IsSession settings p c → Keeps settings c p (Ok arrivals.Refused)
 refused_keeps settings c p kept = record { accounted = omega (arith, kept.accounted); bounded = kept.bounded }
 
-unassociated_keeps : (settings : SessionSettings) (c : ArrivalCounts) (p : Port) → IsSession (with_all settings p c) → Keeps settings c p (Ok arrivals.Unassociated)
+unassociated_keeps : (settings : SessionSettings) (c : ArrivalCounts) (p : Port) → IsSession settings p c → Keeps settings c p (Ok arrivals.Unassociated)
 unassociated_keeps settings c p kept = record { accounted = omega (arith, kept.accounted); bounded = kept.bounded }
 
 -- ---- a datagram that begins a stream
@@ -200,7 +197,7 @@ adds most s p place within =
     adds_by (nat_lt (length p.streams) most) (position on_probation p.streams) most s p refl refl (has_place_by p.finished _ place) within
 
 begins_keep : (settings : SessionSettings) (c : ArrivalCounts) (ssrc : ℕ) (f : Format) (now : Ticks) (bytes : List ℕ) (p : Port) (answer : Result Arrival AllocError) (q : Port)
-    → has_place settings.max_streams p ≡ true → BeginsWith settings ssrc f now bytes p answer q → IsSession (with_all settings p c) → Keeps settings c q answer
+    → has_place settings.max_streams p ≡ true → BeginsWith settings ssrc f now bytes p answer q → IsSession settings p c → Keeps settings c q answer
 begins_keep settings c ssrc f now bytes p answer q place got kept =
     let taken : got.after.taken ≡ taken_unless (is_no_memory got.told) got.stream.taken = takes_taken now settings.probation bytes got.stream got.told got.after got.takes in
     let one : got.after.taken ≡ 1 = taken ∙ ap (λ (b : Bool). taken_unless b got.stream.taken) got.received ∙ ap next got.begins.taken in
@@ -208,24 +205,24 @@ begins_keep settings c ssrc f now bytes p answer q place got kept =
     keeps_by settings c (added settings.max_streams got.after p) q answer (Ok (arrivals.Stream ssrc f.payload_type got.told)) got.answers got.left
     (record { accounted = omega (arith, kept.accounted, one, it.0); bounded = it.1 })
 
-stays_keep : (settings : SessionSettings) (c : ArrivalCounts) (p : Port) (answer : Result Arrival AllocError) (q : Port) → StaysEmpty p answer q → IsSession (with_all settings p c) → Keeps settings c q answer
+stays_keep : (settings : SessionSettings) (c : ArrivalCounts) (p : Port) (answer : Result Arrival AllocError) (q : Port) → StaysEmpty p answer q → IsSession settings p c → Keeps settings c q answer
 stays_keep settings c p (Ok arrival) q got kept = keeps_by settings c p q (Ok arrival) (Ok arrivals.Unknown) (ap (λ (a : Arrival). Ok a) got.0) got.1 (unknown_keeps settings c p kept)
 stays_keep settings c p (Err e) q got kept = keeps_by settings c p q (Err e) (Err e) refl got kept
 
 begins_if_keeps : (b : Bool) (settings : SessionSettings) (c : ArrivalCounts) (ssrc : ℕ) (f : Format) (now : Ticks) (bytes : List ℕ) (p : Port) (answer : Result Arrival AllocError) (q : Port)
-    → has_place settings.max_streams p ≡ b → BeginsIf b settings ssrc f now bytes p answer q → IsSession (with_all settings p c) → Keeps settings c q answer
+    → has_place settings.max_streams p ≡ b → BeginsIf b settings ssrc f now bytes p answer q → IsSession settings p c → Keeps settings c q answer
 begins_if_keeps false settings c ssrc f now bytes p answer q place got kept = keeps_by settings c p q answer (Ok arrivals.Refused) got.0 got.1 (refused_keeps settings c p kept)
 begins_if_keeps true settings c ssrc f now bytes p answer q place (inl got) kept = begins_keep settings c ssrc f now bytes p answer q place got kept
 begins_if_keeps true settings c ssrc f now bytes p answer q place (inr got) kept = stays_keep settings c p answer q got kept
 
 begins_or_feeds_keeps : (o : Option ℕ) (settings : SessionSettings) (c : ArrivalCounts) (ssrc : ℕ) (f : Format) (now : Ticks) (bytes : List ℕ) (p : Port) (answer : Result Arrival AllocError) (q : Port)
-    → BeginsOrFeeds o settings ssrc f now bytes p answer q → IsSession (with_all settings p c) → Keeps settings c q answer
+    → BeginsOrFeeds o settings ssrc f now bytes p answer q → IsSession settings p c → Keeps settings c q answer
 begins_or_feeds_keeps None settings c ssrc f now bytes p answer q got kept = begins_if_keeps (has_place settings.max_streams p) settings c ssrc f now bytes p answer q refl got kept
 begins_or_feeds_keeps (Some place) settings c ssrc f now bytes p answer q got kept = feeds_keep settings c place now bytes p answer q got kept
 
 -- streams that their sender left take no datagram
 media_keeps : (settings : SessionSettings) (c : ArrivalCounts) (ssrc : ℕ) (f : Format) (now : Ticks) (bytes : List ℕ) (p : Port) (answer : Result Arrival AllocError) (q : Port)
-    → TakesMedia settings ssrc f now bytes p answer q → IsSession (with_all settings p c) → Keeps settings c q answer
+    → TakesMedia settings ssrc f now bytes p answer q → IsSession settings p c → Keeps settings c q answer
 media_keeps settings c ssrc f now bytes p answer q got kept =
     let mid : Port = got.received in
     let after : Keeps settings c mid answer = begins_or_feeds_keeps _ settings c ssrc f now bytes p answer mid got.takes kept in
@@ -237,17 +234,17 @@ media_keeps settings c ssrc f now bytes p answer q got kept =
     })
 
 feeds_if_unassociated : (o : Option ℕ) (settings : SessionSettings) (c : ArrivalCounts) (now : Ticks) (bytes : List ℕ) (p : Port) (answer : Result Arrival AllocError) (q : Port)
-    → FeedsIf o arrivals.Unassociated settings.probation now bytes p answer q → IsSession (with_all settings p c) → Keeps settings c q answer
+    → FeedsIf o arrivals.Unassociated settings.probation now bytes p answer q → IsSession settings p c → Keeps settings c q answer
 feeds_if_unassociated None settings c now bytes p answer q got kept = keeps_by settings c p q answer (Ok arrivals.Unassociated) got.0 got.1 (unassociated_keeps settings c p kept)
 feeds_if_unassociated (Some place) settings c now bytes p answer q got kept = feeds_keep settings c place now bytes p answer q got kept
 
 feeds_if_unknown : (o : Option ℕ) (settings : SessionSettings) (c : ArrivalCounts) (now : Ticks) (bytes : List ℕ) (p : Port) (answer : Result Arrival AllocError) (q : Port)
-    → FeedsIf o arrivals.Unknown settings.probation now bytes p answer q → IsSession (with_all settings p c) → Keeps settings c q answer
+    → FeedsIf o arrivals.Unknown settings.probation now bytes p answer q → IsSession settings p c → Keeps settings c q answer
 feeds_if_unknown None settings c now bytes p answer q got kept = keeps_by settings c p q answer (Ok arrivals.Unknown) got.0 got.1 (unknown_keeps settings c p kept)
 feeds_if_unknown (Some place) settings c now bytes p answer q got kept = feeds_keep settings c place now bytes p answer q got kept
 
 keeps_as : (d : Sorted) (settings : SessionSettings) (now : Ticks) (bytes : List ℕ) (c : ArrivalCounts) (p q : Port) (answer : Result Arrival AllocError)
-    → TakesInAs d settings now bytes p answer q → IsSession (with_all settings p c) → Keeps settings c q answer
+    → TakesInAs d settings now bytes p answer q → IsSession settings p c → Keeps settings c q answer
 keeps_as sorted.Rtcp settings now bytes c p q answer got kept = keeps_by settings c _ q answer (Ok arrivals.Rtcp) got.0 got.1 (rtcp_keeps settings c now bytes _ _ _ p kept)
 keeps_as sorted.Malformed settings now bytes c p q answer got kept = keeps_by settings c p q answer (Ok arrivals.Malformed) got.0 got.1 (malformed_keeps settings c p kept)
 keeps_as sorted.Unknown settings now bytes c p q answer got kept = keeps_by settings c p q answer (Ok arrivals.Unknown) got.0 got.1 (unknown_keeps settings c p kept)
@@ -258,12 +255,12 @@ keeps_as (sorted.NoMedia ssrc) settings now bytes c p q answer got kept = feeds_
 
 -- each datagram is counted once
 pub takes_in_keeps : (settings : SessionSettings) (now : Ticks) (bytes : List ℕ) (c : ArrivalCounts) (p q : Port) (answer : Result Arrival AllocError)
-    → TakesIn settings now bytes p answer q → IsSession (with_all settings p c) → IsSession (with_all settings q (counted_if answer c))
+    → TakesIn settings now bytes p answer q → IsSession settings p c → IsSession settings q (counted_if answer c)
 takes_in_keeps settings now bytes c p q answer got kept = keeps_as (sorted_at settings bytes) settings now bytes c p q answer got kept
 
 -- ending streams take no datagram
-pub left_keeps : (settings : SessionSettings) (c : ArrivalCounts) (who : ℕ → Bool) (why : Ending) (at : ℕ) (finished : Bool) (p : Port) → IsSession (with_all settings p c)
-    → IsSession (with_all settings (record p { streams = left_where who why at p.streams; finished = finished }) c)
+pub left_keeps : (settings : SessionSettings) (c : ArrivalCounts) (who : ℕ → Bool) (why : Ending) (at : ℕ) (finished : Bool) (p : Port) → IsSession settings p c
+    → IsSession settings (record p { streams = left_where who why at p.streams; finished = finished }) c
 left_keeps settings c who why at finished p kept = record {
   accounted = omega (arith, kept.accounted, taken_left who why at p.streams);
   bounded = omega (arith, kept.bounded, length_left who why at p.streams);
@@ -285,8 +282,8 @@ length_waiting : (ssrc payload_type : ℕ) (limits : WaitLimits) (ss : List Stre
 length_waiting ssrc payload_type limits [] = refl
 length_waiting ssrc payload_type limits (x ∷ xs) = ap suc (length_waiting ssrc payload_type limits xs)
 
-pub waiting_keeps : (settings : SessionSettings) (c : ArrivalCounts) (ssrc payload_type : ℕ) (limits : WaitLimits) (p : Port) → IsSession (with_all settings p c)
-    → IsSession (with_all settings (record p { streams = waiting_where ssrc payload_type limits p.streams }) c)
+pub waiting_keeps : (settings : SessionSettings) (c : ArrivalCounts) (ssrc payload_type : ℕ) (limits : WaitLimits) (p : Port) → IsSession settings p c
+    → IsSession settings (record p { streams = waiting_where ssrc payload_type limits p.streams }) c
 waiting_keeps settings c ssrc payload_type limits p kept = record {
   accounted = omega (arith, kept.accounted, taken_waiting ssrc payload_type limits p.streams);
   bounded = omega (arith, kept.bounded, length_waiting ssrc payload_type limits p.streams);
@@ -294,10 +291,10 @@ waiting_keeps settings c ssrc payload_type limits p kept = record {
 
 -- a report is no datagram
 pub reports_keep : (settings : SessionSettings) (c : ArrivalCounts) (o : Option ℕ) (tick_rate now : ℕ) (answer : Option ReportBlock) (p q : Port) → ReportsIf o tick_rate now p answer q
-    → IsSession (with_all settings p c) → IsSession (with_all settings q c)
-reports_keep settings c None tick_rate now answer p q got kept = subst (λ (x : Port). IsSession (with_all settings x c)) (sym got.1) kept
+    → IsSession settings p c → IsSession settings q c
+reports_keep settings c None tick_rate now answer p q got kept = subst (λ (x : Port). IsSession settings x c) (sym got.1) kept
 reports_keep settings c (Some place) tick_rate now answer p q got kept =
-    subst (λ (x : Port). IsSession (with_all settings x c)) (sym got.left)
+    subst (λ (x : Port). IsSession settings x c) (sym got.left)
     (record {
       accounted = omega (arith, kept.accounted, taken_set p.streams place got.stream (reported_by got.stream) got.there);
       bounded = omega (arith, kept.bounded, length_set p.streams place (reported_by got.stream));
@@ -350,10 +347,10 @@ kept_taken (steps.Ended why) t rest ended = (omega arith, omega arith)
 kept_taken steps.Nothing t rest ended = (omega arith, omega arith)
 
 -- each datagram stays counted once
-pub turn_keeps : (now : Ticks) (idle : ℕ) (settings : SessionSettings) (c : ArrivalCounts) (p q : Port) (event : Option Event) → TakesTurn now idle p event q → IsSession (with_all settings p c)
-    → IsSession (with_all settings q c)
+pub turn_keeps : (now : Ticks) (idle : ℕ) (settings : SessionSettings) (c : ArrivalCounts) (p q : Port) (event : Option Event) → TakesTurn now idle p event q → IsSession settings p c
+    → IsSession settings q c
 turn_keeps now idle settings c p q None got kept =
-    subst (λ (x : Port). IsSession (with_all settings x c)) (sym got.2)
+    subst (λ (x : Port). IsSession settings x c) (sym got.2)
     (record {
       accounted = omega (arith, kept.accounted, quiet_taken now idle p.streams got.0 got.1);
       bounded = omega (arith, kept.bounded, quiet_length now idle p.streams got.0 got.1);
@@ -365,7 +362,7 @@ turn_keeps now idle settings c p q (Some event) got kept =
     let kept_one = kept_taken got.step got.stepped got.rest p.ended in
     let after_taken = taken_appended got.quiet (kept_after got.step got.stepped got.rest) in
     let after_length = length_appended got.quiet (kept_after got.step got.stepped got.rest) in
-    subst (λ (x : Port). IsSession (with_all settings x c)) (sym got.left)
+    subst (λ (x : Port). IsSession settings x c) (sym got.left)
     (record {
       accounted = omega (arith, kept.accounted, there_taken, one, kept_one.0, after_taken, quiet_taken now idle got.front got.quiet got.are_quiet);
       bounded = omega (arith, kept.bounded, there_length, kept_one.1, after_length, quiet_length now idle got.front got.quiet got.are_quiet);

@@ -1,7 +1,10 @@
 mod AccountLemmas
 mod ChangeLemmas
 mod GoodbyeLemmas
+mod PacketLemmas
 mod PairLemmas
 mod QuietLemmas
 mod ReportLemmas
+mod ReporterLemmas
+mod ReportingLemmas
 mod SourceLemmas

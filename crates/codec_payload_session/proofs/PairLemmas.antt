@@ -2,14 +2,11 @@
 use Rattle.std.proofs.Common.{◌≡◌, ℕ, suc, ◌==◌, List, [], ◌∷◌, length, Bool, true, false, ap, refl, arith}
 use Rattle.codec_payload_session.specs.Arrivals.{Port}
 use Rattle.codec_payload_session.specs.Pairs.{paired_if, paired_when, paired_where}
-use Rattle.codec_payload_session.specs.Ports.{IsSession, Session, taken_in}
+use Rattle.codec_payload_session.specs.Ports.{IsSession, taken_in}
 use Rattle.codec_payload_session.specs.declared.formats.SessionSettings.{SessionSettings}
 use Rattle.codec_payload_session.specs.declared.formats.SsrcPair.{SsrcPair}
 use Rattle.codec_payload_session.specs.declared.session.ArrivalCounts.{ArrivalCounts}
 use Rattle.codec_payload_session.specs.declared.stream.Stream.{Stream}
-
-abbrev with_all : SessionSettings → Port → ArrivalCounts → Session
-with_all settings p c = record { settings = settings; port = p; counts = c }
 
 -- a stream that gets its retransmissions takes nothing
 taken_paired_if : (ssrc : ℕ) (pairs : List SsrcPair) (s : Stream) → (paired_if ssrc pairs s).taken ≡ s.taken
@@ -29,7 +26,7 @@ length_paired ssrc pairs (x ∷ xs) = ap suc (length_paired ssrc pairs xs)
 
 -- the settings may have other pairs then, and the number of streams stays
 pub paired_keeps : (settings changed : SessionSettings) (c : ArrivalCounts) (ssrc : ℕ) (pairs : List SsrcPair) (p : Port) → changed.max_streams ≡ settings.max_streams
-    → IsSession (with_all settings p c) → IsSession (with_all changed (record p { streams = paired_where ssrc pairs p.streams }) c)
+    → IsSession settings p c → IsSession changed (record p { streams = paired_where ssrc pairs p.streams }) c
 paired_keeps settings changed c ssrc pairs p same kept = record {
   accounted = omega (arith, kept.accounted, taken_paired ssrc pairs p.streams);
   bounded = omega (arith, same, kept.bounded, length_paired ssrc pairs p.streams);

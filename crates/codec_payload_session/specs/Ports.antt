@@ -19,11 +19,12 @@ use Rattle.codec_payload_session.specs.declared.stream.Ending.TheVariants as end
 use Rattle.codec_payload_session.specs.declared.stream.StreamInfo.{StreamInfo}
 use Rattle.codec_payload_session.specs.declared.stream.Stream.{Stream}
 
--- the settings, the streams, and the counters of datagrams
+-- the settings, the streams, the counters of datagrams, and when the next report is due
 pub record Session : Type 0 where
   pub settings : SessionSettings
   pub port : Port
   pub counts : ArrivalCounts
+  pub report_due : Option ℕ
 
 abbrev pub no_port : Port
 no_port = record { streams = []; finished = false; ended = 0 }
@@ -32,7 +33,7 @@ abbrev pub no_counts : ArrivalCounts
 no_counts = record { received = 0; rtcp = 0; malformed = 0; unknown = 0; refused = 0; unassociated = 0 }
 
 abbrev pub new_session : SessionSettings → Session
-new_session settings = record { settings = settings; port = no_port; counts = no_counts }
+new_session settings = record { settings = settings; port = no_port; counts = no_counts; report_due = None }
 
 -- one more datagram with this result
 abbrev pub counted : Arrival → ArrivalCounts → ArrivalCounts
@@ -59,9 +60,9 @@ IsAccountedFor c p =
     c.received % 2 ^ 64 ≡ (c.rtcp + c.malformed + c.unknown + c.refused + c.unassociated + p.ended + taken_in p.streams) % 2 ^ 64
 
 -- every datagram is accounted for, and there are at most `max_streams` streams
-pub record IsSession (s : Session) : Type 0 where
-  pub accounted : IsAccountedFor s.counts s.port
-  pub bounded : length s.port.streams ≤ s.settings.max_streams
+pub record IsSession (settings : SessionSettings) (port : Port) (counts : ArrivalCounts) : Type 0 where
+  pub accounted : IsAccountedFor counts port
+  pub bounded : length port.streams ≤ settings.max_streams
 
 abbrev pub Receives : Ticks → List ℕ → Session → Result Arrival AllocError → Session → Type 0
 Receives now bytes s answer t = (port : Port) × TakesIn s.settings now bytes s.port answer port × (t ≡ record s { port = port; counts = counted_if answer s.counts })

@@ -6,14 +6,16 @@ ghost use Rattle.std.specs.Option.{option_map};
 ghost use Rattle.codec_payload_session.specs.Arrivals.{Port};
 ghost use Rattle.codec_payload_session.specs.Ports.{IsSum, MatchInfo, Receives, ReportsIf, counted, counted_if, ends_all, ends_of, new_session, no_counts, receiver_among, taken_in, told_counts, waits_of};
 ghost use Rattle.codec_payload_session.specs.Reports.{clock_among};
-ghost use Rattle.codec_payload_session.specs.Streams.{due_in, is_of};
-ghost use Rattle.codec_payload_session.specs.Turns.{TakesTurn};
+ghost use Rattle.codec_payload_session.specs.Polls.{Polls, SendsReport};
+ghost use Rattle.codec_payload_session.specs.Reporting.{report_deadline};
+ghost use Rattle.codec_payload_session.specs.Streams.{due_in, earlier, is_of};
 ghost use Rattle.codec_payload_session.specs.Pairs.{Pairs, with_pair, without_pair};
 
 use crate::formats::{SessionSettings, SsrcPair};
 use crate::pairs::remove_pair;
+use crate::reporter::report_deadline;
 use crate::reports::SenderClock;
-use crate::stream::{Ending, StreamInfo};
+use crate::stream::{Ending, StreamInfo, earlier};
 use crate::streams::{Streams, Who, due_in, place_of};
 use codec_payload_base::error::PacketError;
 use codec_payload_base::wire::Ticks;
@@ -80,6 +82,18 @@ pub enum Event {
         payload_type: u8,
         packet: Result<Vec<u8>, AllocError>,
     },
+    /// A compound packet of RTCP for all senders, which `packet` returns: a receiver report (RFC 3550, section 6.4.2) about the
+    /// announced streams, each [`FeedbackSettings::report_interval`]. Send it. If memory ran out, nothing has changed, and the
+    /// next poll tries again.
+    ///
+    /// It has a block about each announced stream that has one ([`Session::report`]), in the order in which they began; of two
+    /// streams with one SSRC only about the later one. A report holds at most 31 blocks, so more streams take several reports
+    /// in the packet. Without a block there is one empty report. The name of the session follows, if it has one.
+    ///
+    /// [`FeedbackSettings::report_interval`]: crate::formats::FeedbackSettings::report_interval
+    Report {
+        packet: Result<Vec<u8>, AllocError>,
+    },
     /// A stream was removed. This is the last event of the stream.
     Ended {
         ssrc: u32,
@@ -124,6 +138,8 @@ pub struct Session {
     settings: SessionSettings,
     streams: Streams,
     counts: ArrivalCounts,
+    /// When the next report is due. `None`: no report is planned.
+    report_due: Option<u64>,
 }
 
 impl Model for Session {
@@ -131,9 +147,9 @@ impl Model for Session {
 
     ghost Value = { Session };
 
-    ghost view = { λ s. record { settings = s.settings; port = s.streams; counts = s.counts } };
+    ghost view = { λ s. record { settings = s.settings; port = s.streams; counts = s.counts; report_due = s.report_due } };
 
-    ghost invariant = { λ s. IsSession (record { settings = s.settings; port = s.streams; counts = s.counts }) };
+    ghost invariant = { λ s. IsSession s.settings s.streams s.counts };
 }
 
 impl Session {
@@ -145,6 +161,7 @@ impl Session {
             settings,
             streams: Streams::none(alloc),
             counts: ArrivalCounts::none(),
+            report_due: None,
         }
     }
 
@@ -181,18 +198,43 @@ impl Session {
     ///
     /// With `feedback` of the settings, a stream whose format has `nack` or `pli` also requests what its receiver misses once
     /// no unit is due (`Feedback`), until it leaves. Each request costs one step for each missing number.
+    ///
+    /// With `report_interval` of `feedback` the session also sends receiver reports (`Report`). A poll without an event of a
+    /// stream returns the report, if one is due and a stream is announced. The first one is due one interval after the poll
+    /// that has no more events of the first streams, and each later one an interval after the previous one was sent. Once all
+    /// announced streams have ended, it begins so again. A report costs one step for each pair of streams.
     pub fn poll(&mut self, now: Ticks) -> Option<Event>
-        ensures { (port : Port) × TakesTurn now self.old.settings.idle_timeout self.old.port result port × (self.new ≡ record self.old { port = port }) }
+        ensures { Polls now self.old result self.new }
     {
-        self.streams.turn(now, self.settings.idle_timeout)
+        match self.streams.turn(now, self.settings.idle_timeout) {
+            Some(event) => Some(event),
+            None => self.report_streams(now),
+        }
     }
 
-    /// Returns when a poll may have an event without a datagram. `None`: no stream has such a time. The cost is one step for
-    /// each stream.
-    pub fn next_deadline(&self) -> Option<Ticks>
-        ensures { option_map (λ at. at.0) result ≡ due_in self.now.settings.idle_timeout self.now.port.streams }
+    /// Returns the report about the streams, if one is due.
+    fn report_streams(&mut self, now: Ticks) -> Option<Event>
+        ensures { SendsReport now.0 self.old result self.new }
     {
-        match due_in(&self.streams.list, self.settings.idle_timeout) {
+        match self
+            .streams
+            .report_due(&self.settings, now, &mut self.report_due)
+        {
+            Some(packet) => Some(Event::Report { packet }),
+            None => None,
+        }
+    }
+
+    /// Returns when a poll may have an event without a datagram: the time of a stream, or of the next report if a stream is
+    /// announced. `None`: there is no such time. The cost is one step for each stream.
+    pub fn next_deadline(&self) -> Option<Ticks>
+        ensures { option_map (λ at. at.0) result ≡ earlier (due_in self.now.settings.idle_timeout self.now.port.streams) (report_deadline self.now.report_due self.now.port.streams) }
+    {
+        let streams = due_in(&self.streams.list, self.settings.idle_timeout);
+        match earlier(
+            streams,
+            report_deadline(&self.streams.list, self.report_due),
+        ) {
             Some(at) => Some(Ticks(at)),
             None => None,
         }

@@ -10,14 +10,14 @@ use Rattle.codec_payload_session.proofs.session.Session.add_pair.Goals as goal
 pub invariant_of-self : goal.invariant_of-self
 invariant_of-self c =
     let changed : SessionSettings = record c.self.inside.settings { pairs = c.in_ok-pairs.pairs } in
-    subst (λ (p : Port). IsSession (record { settings = changed; port = p; counts = c.self.inside.counts })) (sym c.pair.ensures)
+    subst (λ (p : Port). IsSession changed p c.self.inside.counts) (sym c.pair.ensures)
     (paired_keeps c.self.inside.settings changed c.self.inside.counts c.args.ssrc c.deref-2.result.now c.self.inside.streams refl c.self.invariant)
 
 pub returns-clause-ok : goal.returns-clause-ok
 returns-clause-ok c =
     let pair : SsrcPair = record { ssrc = c.args.ssrc; retransmission = c.args.retransmission } in
     let changed : SessionSettings = record c.self.inside.settings { pairs = c.in_ok-pairs.pairs } in
-    let t : Session = record { settings = changed; port = c.pair.new.self; counts = c.self.inside.counts } in
+    let t : Session = record { settings = changed; port = c.pair.new.self; counts = c.self.inside.counts; report_due = c.self.inside.report_due } in
     let has : c.in_ok-pairs.pairs.items ≡ with_pair pair c.self.inside.settings.pairs.items = c.in_ok-pairs.ensures ∙ ap (λ (l : List SsrcPair). with_pair pair l) c.deref.ensures.value in
     let are : c.deref-2.result.now ≡ with_pair pair c.self.inside.settings.pairs.items = c.deref-2.ensures.value ∙ has in
     subst (λ (s : Session). Pairs c.args.ssrc (with_pair pair s.settings.pairs.items) s t) c.self.view_is

@@ -6,5 +6,5 @@ use Rattle.codec_payload_session.proofs.session.Session.end.Goals as goal
 
 pub invariant_of-self : goal.invariant_of-self
 invariant_of-self c =
-    subst (λ (p : Port). IsSession (record { settings = c.self.inside.settings; port = p; counts = c.self.inside.counts })) (sym c.leave.ensures)
+    subst (λ (p : Port). IsSession c.self.inside.settings p c.self.inside.counts) (sym c.leave.ensures)
     (left_keeps c.self.inside.settings c.self.inside.counts _ _ _ c.self.inside.streams.finished c.self.inside.streams c.self.invariant)

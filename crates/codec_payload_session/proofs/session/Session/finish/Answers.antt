@@ -7,5 +7,5 @@ use Rattle.codec_payload_session.proofs.session.Session.finish.Goals as goal
 
 pub invariant_of-self : goal.invariant_of-self
 invariant_of-self c =
-    subst (λ (p : Port). IsSession (record { settings = c.self.inside.settings; port = p; counts = c.self.inside.counts })) (sym c.finish.ensures)
+    subst (λ (p : Port). IsSession c.self.inside.settings p c.self.inside.counts) (sym c.finish.ensures)
     (left_keeps c.self.inside.settings c.self.inside.counts everyone endings.Told c.args.now.0 true c.self.inside.streams c.self.invariant)

@@ -10,13 +10,13 @@ use Rattle.codec_payload_session.proofs.session.Session.remove_pair.Goals as goa
 pub invariant_of-self : goal.invariant_of-self
 invariant_of-self c =
     let changed : SessionSettings = record c.self.inside.settings { pairs = c.remove_pair.new.pairs } in
-    subst (λ (p : Port). IsSession (record { settings = changed; port = p; counts = c.self.inside.counts })) (sym c.pair.ensures)
+    subst (λ (p : Port). IsSession changed p c.self.inside.counts) (sym c.pair.ensures)
     (paired_keeps c.self.inside.settings changed c.self.inside.counts c.args.ssrc c.deref.result.now c.self.inside.streams refl c.self.invariant)
 
 pub returns : goal.returns
 returns c =
     let changed : SessionSettings = record c.self.inside.settings { pairs = c.remove_pair.new.pairs } in
-    let t : Session = record { settings = changed; port = c.pair.new.self; counts = c.self.inside.counts } in
+    let t : Session = record { settings = changed; port = c.pair.new.self; counts = c.self.inside.counts; report_due = c.self.inside.report_due } in
     let are : c.deref.result.now ≡ without_pair c.args.ssrc c.self.inside.settings.pairs.items = c.deref.ensures.value ∙ c.remove_pair.ensures in
     subst (λ (s : Session). Pairs c.args.ssrc (without_pair c.args.ssrc s.settings.pairs.items) s t) c.self.view_is
     (record {
