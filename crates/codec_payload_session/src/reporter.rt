@@ -258,7 +258,7 @@ fn write_groups(ssrc: u32, blocks: &[u8], out: &mut Vec<u8>) -> Result<(), Alloc
     ensures { OnOk result (AppendsGroups ssrc blocks.now out.old.items out.new.items) }
 {
     let mut rest = blocks;
-    'groups: while rest.len() > MOST_BYTES {
+    while rest.len() > MOST_BYTES {
         let (group, others) = rest.split_at(MOST_BYTES);
         write_group(ssrc, group, out)?;
         rest = others;

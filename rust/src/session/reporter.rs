@@ -210,7 +210,7 @@ fn write_report(feedback: &FeedbackSettings, blocks: &[u8]) -> Result<Vec<u8>, A
 /// Appends receiver reports with these blocks, 31 in each but the last. Without a block there is one empty report.
 fn write_groups(ssrc: u32, blocks: &[u8], out: &mut Vec<u8>) -> Result<(), AllocError> {
     let mut rest = blocks;
-    'groups: while rest.len() > MOST_BYTES {
+    while rest.len() > MOST_BYTES {
         let (group, others) = rest.split_at(MOST_BYTES);
         write_group(ssrc, group, out)?;
         rest = others;

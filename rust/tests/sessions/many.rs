@@ -13,6 +13,7 @@ enum Told {
     Begun,
     Unit(Vec<u8>),
     Requests(Vec<u8>),
+    Report(Vec<u8>),
     Ended,
 }
 
@@ -95,6 +96,7 @@ impl Call {
                 Event::Begun { .. } => Told::Begun,
                 Event::Unit { unit, .. } => Told::Unit(unit.expect("it is valid").bytes),
                 Event::Feedback { packet, .. } => Told::Requests(packet.expect("there is memory")),
+                Event::Report { packet } => Told::Report(packet.expect("there is memory")),
                 Event::Ended { .. } => Told::Ended,
             };
             if let Told::Requests(packet) = &told {
@@ -185,7 +187,7 @@ fn memory_of_sessions_and_streams() {
         "a session: {} bytes, and {session} behind it",
         size_of::<Session>()
     );
-    assert!(size_of::<Session>() + session <= 500);
+    assert!(size_of::<Session>() + session <= 520);
     type Datagram = fn(u32, u16) -> Vec<u8>;
     let audio: Datagram = opus;
     let video: Datagram = |ssrc, number| vp8(ssrc, number, number == 0);

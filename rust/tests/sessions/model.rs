@@ -311,7 +311,7 @@ fn line(event: Event) -> String {
             payload_type,
             why,
         } => format!("{:?} ends {why:?}", (ssrc, payload_type)),
-        Event::Feedback { .. } => panic!("nothing is requested"),
+        Event::Feedback { .. } | Event::Report { .. } => panic!("nothing is sent"),
     }
 }
 

@@ -29,6 +29,7 @@ fn told(session: &mut Session, now: u64) -> Vec<String> {
                 Err(fault) => format!("fault {ssrc} {fault}"),
             },
             Event::Feedback { ssrc, .. } => format!("feedback {ssrc}"),
+            Event::Report { .. } => "report".to_string(),
             Event::Ended { ssrc, why, .. } => format!("ended {ssrc} {why:?}"),
         });
     }

@@ -127,6 +127,10 @@ fn told(event: Event) -> ([u64; 11], Vec<u8>, Option<String>) {
             stream(4, ssrc, payload_type);
             return (it, packet.expect("there is memory"), None);
         }
+        Event::Report { packet } => {
+            stream(5, 0, 0);
+            return (it, packet.expect("there is memory"), None);
+        }
         Event::Ended {
             ssrc,
             payload_type,

@@ -1,7 +1,7 @@
 use Rattle.std.proofs.Common.{◌≡◌, rules}
 use Rattle.codec_payload_session.specs.Reporting.{blocks_of, bytes_of}
 use Rattle.codec_payload_session.proofs.PacketLemmas.{whole_blocks}
-use Rattle.codec_payload_session.proofs.reporter.Streams.report_all.Goals as goal
+use Rattle.codec_payload_session.proofs.streams.Streams.report_all.Goals as goal
 
 pub write_report-requires : goal.write_report-requires
 write_report-requires c =

@@ -1,7 +1,7 @@
 use Rattle.std.proofs.Common.{◌≡◌, ◌∙◌, rules, sym, true}
 use Rattle.codec_payload_session.specs.Reporting.{is_report_due}
 use Rattle.codec_payload_session.proofs.ReporterLemmas.{sends}
-use Rattle.codec_payload_session.proofs.reporter.Streams.report_each.Goals as goal
+use Rattle.codec_payload_session.proofs.streams.Streams.report_each.Goals as goal
 
 pub returns : goal.returns
 returns c =
