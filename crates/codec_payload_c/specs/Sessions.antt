@@ -10,9 +10,8 @@ use Rattle.codec_payload_handle.specs.Bytes.{filled}
 use Rattle.codec_payload_handle.specs.Units.{TellsUnit, no_unit}
 use Rattle.codec_payload_handle.specs.declared.object.PortSession.{PortSession}
 use Rattle.codec_payload_handle.specs.declared.unit.Unit.{Unit as CUnit}
-use Rattle.codec_payload_session.specs.Arrivals.{Port}
+use Rattle.codec_payload_session.specs.Polls.{Polls}
 use Rattle.codec_payload_session.specs.Ports.{Receives, Session}
-use Rattle.codec_payload_session.specs.Turns.{TakesTurn}
 use Rattle.codec_payload_session.specs.declared.session.Arrival.{Arrival}
 use Rattle.codec_payload_session.specs.declared.session.Arrival.TheVariants as arrivals
 use Rattle.codec_payload_session.specs.declared.session.Event.{Event}
@@ -90,6 +89,7 @@ TellsEvent (events.Unit ssrc payload_type time decodable keyframe (Err fault)) e
     e ≡ record { kind = 2; ssrc = ssrc; status = fault_number fault; why = 0; bytes = 0; payload_type = payload_type; unit = no_unit }
 TellsEvent (events.Feedback ssrc payload_type packet) e =
     e ≡ record { kind = 4; ssrc = ssrc; status = 0; why = 0; bytes = length (bytes_sent packet); payload_type = payload_type; unit = no_unit }
+TellsEvent (events.Report packet) e = e ≡ record { kind = 5; ssrc = 0; status = 0; why = 0; bytes = length (bytes_sent packet); payload_type = 0; unit = no_unit }
 TellsEvent (events.Ended ssrc payload_type why) e =
     e ≡ record { kind = 3; ssrc = ssrc; status = 0; why = ending_number why; bytes = 0; payload_type = payload_type; unit = no_unit }
 
@@ -100,6 +100,8 @@ is_no_memory (events.Unit ssrc payload_type time decodable keyframe (Ok u)) = fa
 is_no_memory (events.Unit ssrc payload_type time decodable keyframe (Err fault)) = fault_number fault == 17
 is_no_memory (events.Feedback ssrc payload_type (Ok packet)) = false
 is_no_memory (events.Feedback ssrc payload_type (Err e)) = true
+is_no_memory (events.Report (Ok packet)) = false
+is_no_memory (events.Report (Err e)) = true
 is_no_memory (events.Ended ssrc payload_type why) = false
 
 -- the bytes of the event: of its unit, or of its RTCP packet
@@ -108,6 +110,7 @@ bytes_in (events.Begun ssrc payload_type) = []
 bytes_in (events.Unit ssrc payload_type time decodable keyframe (Ok u)) = u.bytes
 bytes_in (events.Unit ssrc payload_type time decodable keyframe (Err fault)) = []
 bytes_in (events.Feedback ssrc payload_type packet) = bytes_sent packet
+bytes_in (events.Report packet) = bytes_sent packet
 bytes_in (events.Ended ssrc payload_type why) = []
 
 -- the unit, or without one the unit before it
@@ -120,11 +123,12 @@ abbrev pub latest_unit : Event → Option Release → Option Release
 latest_unit (events.Begun ssrc payload_type) taken = taken
 latest_unit (events.Unit ssrc payload_type time decodable keyframe unit) taken = popped_or unit taken
 latest_unit (events.Feedback ssrc payload_type packet) taken = taken
+latest_unit (events.Report packet) taken = taken
 latest_unit (events.Ended ssrc payload_type why) taken = taken
 
 -- a poll of the session at that time
 abbrev pub PollsAt : ℕ → Session → Option Event → Session → Type 0
-PollsAt now s answer t = (at : Ticks) × (at.0 ≡ now) × (port : Port) × TakesTurn at s.settings.idle_timeout s.port answer port × (t ≡ record s { port = port })
+PollsAt now s answer t = (at : Ticks) × (at.0 ≡ now) × Polls at s answer t
 
 -- the event that waits for a larger output buffer, or else the answer of a poll
 abbrev pub ComesFrom : Option Event → ℕ → PortSession → Option Event → PortSession → Type 0
