@@ -298,6 +298,41 @@ static void requests(void) {
     cpay_session_free(&session);
 }
 
+/* Receiver reports (RFC 3550, section 6.4.2): one each second, with a block about the announced stream. */
+static void reports(void) {
+    static const uint8_t first[] = {0x81, 201, 0, 7, 0, 0, 0, 77, 0, 0, 0, 1, 64, 0, 0, 1, 0, 0, 0, 4};
+    static const uint8_t second[] = {0x81, 201, 0, 7, 0, 0, 0, 77, 0, 0, 0, 1, 0, 0, 0, 1, 0, 0, 0, 5};
+    cpay_session_settings settings = CPAY_LIVE_SESSION;
+    cpay_session session = CPAY_INIT;
+    cpay_event event = {.kind = 99};
+    uint8_t bytes[64];
+    settings.has_feedback = true;
+    settings.feedback.ssrc = 77;
+    CHECK(cpay_session_new(&session, &settings, FORMATS, 2, NULL, 0, NULL, 0) == CPAY_OK);
+    opus(&session, 0, 1, 1);
+    opus(&session, 0, 1, 2);
+    opus(&session, 0, 1, 4);
+    opus(&session, 0, 2, 9);
+    while (cpay_session_poll(&session, 999, &event, bytes, 64) == CPAY_OK) CHECK(event.kind != CPAY_EVENT_REPORT);
+    CHECK(deadline(&session) == 1999);
+    /* 4 are expected, and 1 is lost: 256 / 4 */
+    CHECK(cpay_session_poll(&session, 1999, &event, bytes, 31) == CPAY_TOO_SMALL && event.kind == CPAY_EVENT_REPORT);
+    CHECK(cpay_session_poll(&session, 1999, &event, bytes, 32) == CPAY_OK && event.bytes == 32 && event.unit.bytes == 0);
+    CHECK(event.ssrc == 0 && event.payload_type == 0 && same(bytes, (const char *)first, sizeof first));
+    CHECK(happens(&session, 1999, ".") && deadline(&session) == 2999);
+    opus(&session, 2000, 1, 5);
+    while (cpay_session_poll(&session, 2998, &event, bytes, 64) == CPAY_OK) CHECK(event.kind != CPAY_EVENT_REPORT);
+    CHECK(cpay_session_poll(&session, 2999, &event, bytes, 64) == CPAY_OK && same(bytes, (const char *)second, sizeof second));
+    cpay_session_free(&session);
+    settings.feedback.has_report_interval = false;
+    CHECK(cpay_session_new(&session, &settings, FORMATS, 2, NULL, 0, NULL, 0) == CPAY_OK);
+    opus(&session, 0, 1, 1);
+    opus(&session, 0, 1, 2);
+    while (cpay_session_poll(&session, 9, &event, bytes, 64) == CPAY_OK) {}
+    CHECK(cpay_session_poll(&session, 5000, &event, bytes, 64) == CPAY_NONE);
+    cpay_session_free(&session);
+}
+
 /* RED (RFC 2198): a lost packet is recovered from the next one; invalid RED is reported; comfort noise carries no media. */
 static void redundant(void) {
     cpay_session session = live();
@@ -573,6 +608,7 @@ int main(void) {
     pairs();
     change_of_format();
     requests();
+    reports();
     redundant();
     telephone();
     video();

@@ -779,7 +779,7 @@ typedef struct {
     uint32_t rtx_ssrc; /**< SSRC of its retransmissions */
 } cpay_ssrc_pair;
 
-/** Who requests missing packets and keyframes, and when. Times are in ticks of your clock. */
+/** Who requests missing packets and keyframes and sends receiver reports, and when. Times are in ticks of your clock. */
 typedef struct {
     uint64_t keyframe_interval; /**< least time between two requests of a stream for a keyframe */
     uint64_t silence;           /**< a stream requests nothing once its latest datagram is older than this: nobody answers then */
@@ -789,12 +789,15 @@ typedef struct {
     uint64_t longest_retry;     /**< largest time between them; if it is below `shortest_retry`, it wins */
     uint64_t longest_wait;      /**< with has_longest_wait: `max_wait` of a stream becomes `first_wait` and four round trips: at
                                      least its own value in the settings, and at most this time */
+    uint64_t report_interval;   /**< with has_report_interval: time between two receiver reports of the session; 0 counts as 1. See
+                                     CPAY_EVENT_REPORT */
     size_t capacity;            /**< how many missing numbers of a stream are followed at most: the lowest */
     uint32_t tries;             /**< how often a number is requested at most; 0 requests nothing */
     uint32_t ssrc;              /**< SSRC of the session as a sender of RTCP */
     bool has_report;            /**< each packet begins with an empty receiver report (RFC 3550, section 6.1); else it has reduced
                                      size (RFC 5506) */
     bool has_longest_wait;      /**< waiting follows the measured round trip */
+    bool has_report_interval;   /**< the session sends receiver reports */
 } cpay_session_feedback;
 
 /** Begin with CPAY_LIVE_SESSION. */
@@ -820,10 +823,10 @@ typedef struct {
  * has at most 64 streams of 4096 packets. A stream is announced with its second datagram, ends 30 s after its last one, and takes
  * packets for 200 ms after its BYE. Units that a decoder cannot show are marked. Nothing is requested; with has_feedback a missing
  * number is requested after 10 ms and at most 6 times, and a keyframe at most once in 500 ms, for 2 s after the latest datagram of
- * the stream; and waiting follows the round trip, up to 500 ms. */
+ * the stream; waiting follows the round trip, up to 500 ms; and a receiver report is sent each second. */
 #define CPAY_LIVE_SESSION \
     { { 100, CPAY_NO_HOLD_BACK, 1, true }, { 200, CPAY_NO_HOLD_BACK, 2, true }, 30000, 200, 2, 4096, 64, 1000, \
-      CPAY_KEYFRAME_MARK, false, { 500, 2000, 10, 100, 20, 400, 500, 1024, 6, 0, false, true }, { 0, 0, 0, 0, 0, 0 } }
+      CPAY_KEYFRAME_MARK, false, { 500, 2000, 10, 100, 20, 400, 500, 1000, 1024, 6, 0, false, true, true }, { 0, 0, 0, 0, 0, 0 } }
 
 /** In `no_media` of cpay_session_new: added to the payload type of telephone events (RFC 4733), see CPAY_EVENT_TELEPHONE. */
 #define CPAY_TELEPHONE 128
@@ -871,6 +874,9 @@ enum {
     CPAY_EVENT_ENDED = 3, /**< a stream was removed: the last event of the stream; see `why` */
     CPAY_EVENT_FEEDBACK = 4, /**< a compound packet of RTCP for the sender of the stream is in the output buffer: send it. It has a
                                  NACK of missing packets, and a PLI if a keyframe is needed (RFC 4585, sections 6.2.1, 6.3.1) */
+    CPAY_EVENT_REPORT = 5,   /**< a compound packet of RTCP for all senders is in the output buffer: send it. It has a block about each
+                                 announced stream that has one, of two streams with one SSRC only about the later (RFC 3550, section
+                                 6.4.2). `ssrc` and `payload_type` are 0 */
     CPAY_EVENT_TELEPHONE = 6 /**< a packet of telephone events beside audio (RFC 4733): its payload is in the output buffer, with 4
                                  bytes for each event (cpay_tele_read). All packets of an event have the same `unit.rtp_time`,
                                  its last one comes three times, and a network can repeat any of them, so go by that time. It is
@@ -900,7 +906,7 @@ typedef struct {
 /** Reports the next event at time `now`. Call it until CPAY_NONE after each datagram and at each deadline. Telephone events that wait
  * come first, at most 32 of them. Then the streams are asked in the order in which they began; each stream has CPAY_EVENT_BEGUN first, then its units in order, and CPAY_EVENT_ENDED last.
  * CPAY_NONE: there is no event. CPAY_TOO_SMALL: *event is written, and the event waits for the next call: it needs a buffer of
- * `bytes` bytes. CPAY_OUT_OF_MEMORY: the frame or the request stays, and the next call tries it again. [m] */
+ * `bytes` bytes. CPAY_OUT_OF_MEMORY: the frame, the request or the report stays, and the next call tries it again. [m] */
 CPAY_CHECKED cpay_status cpay_session_poll(cpay_session *session, uint64_t now, cpay_event *event, uint8_t *bytes,
                                            size_t bytes_len);
 

@@ -1,5 +1,5 @@
 //! The receiving side of a call: all streams of a port, by the session description of the sender. The session requests missing
-//! packets and keyframes; this program sends its requests and receiver reports, and prints a line for each event.
+//! packets and keyframes and reports each second; this program sends its packets, and prints a line for each event.
 //! `scripts/chromium_peer.py` runs it against Chromium:
 //!
 //! ```sh
@@ -11,11 +11,9 @@
 //! - The SSRCs of retransmissions are those of the offer (`sdp::session_settings`). For a sender that joins later, a program with
 //!   signalling passes `sdp::pairs` of the new offer to `Session::add_pair`; this one has none.
 
-use codec_payload::rtcp::ReceiverReport;
 use codec_payload::sdp;
 use codec_payload::session::{Event, FeedbackSettings, Session};
 use codec_payload::{Clock, Ticks};
-use std::collections::BTreeMap;
 use std::error::Error;
 use std::io::{self, ErrorKind, Write};
 use std::net::{Ipv4Addr, UdpSocket};
@@ -24,18 +22,12 @@ use std::time::Duration;
 type Failure = Box<dyn Error>;
 
 const OWN_SSRC: u32 = 1;
-/// How often reports are sent, in milliseconds.
-const REPORT_INTERVAL: u64 = 1_000;
-/// A receiver report has room for this number of blocks (RFC 3550, section 6.4.2).
-const MOST_BLOCKS: usize = 31;
 /// The longest sleep.
 const LONGEST_SLEEP: Duration = Duration::from_millis(100);
 
 /// All streams of a port, and what is sent back.
 struct Peer {
     session: Session,
-    /// When the next receiver report is due.
-    next_report: Ticks,
     /// The packets of RTCP to send.
     feedback: Vec<Vec<u8>>,
 }
@@ -46,38 +38,8 @@ impl Peer {
         settings.feedback = Some(FeedbackSettings::live(OWN_SSRC));
         Ok(Peer {
             session: Session::new(settings),
-            next_report: Ticks(REPORT_INTERVAL),
             feedback: Vec::new(),
         })
-    }
-
-    /// Returns a receiver report with a block for each SSRC, if it is due. A sender that changed its codec has more than one
-    /// stream: the latest counts.
-    fn take_report(&mut self, now: Ticks) -> Result<Option<Vec<u8>>, Failure> {
-        if now < self.next_report {
-            return Ok(None);
-        }
-        self.next_report = Ticks(now.0 + REPORT_INTERVAL);
-        let places = 0..self.session.stream_count();
-        let streams = places.filter_map(|place| self.session.stream_at(place));
-        let latest: BTreeMap<_, _> = streams.map(|it| (it.ssrc, it.payload_type)).collect();
-        let mut blocks = Vec::new();
-        for (ssrc, payload_type) in latest.into_iter().take(MOST_BLOCKS) {
-            if let Some(block) = self.session.report(now, ssrc, payload_type) {
-                block.write(&mut blocks)?;
-            }
-        }
-        if blocks.is_empty() {
-            return Ok(None);
-        }
-        let mut datagram = Vec::new();
-        ReceiverReport {
-            ssrc: OWN_SSRC,
-            blocks: &blocks,
-            extension: &[],
-        }
-        .write(&mut datagram)?;
-        Ok(Some(datagram))
     }
 
     /// Prints the events that are due, and keeps the feedback.
@@ -104,15 +66,15 @@ impl Peer {
                     writeln!(out)?;
                 }
                 Event::Unit { unit: Err(why), .. } => writeln!(out, "fault {why}")?,
-                Event::Feedback { packet, .. } => self.feedback.push(packet?),
+                Event::Feedback { packet, .. } | Event::Report { packet } => {
+                    self.feedback.push(packet?)
+                }
                 Event::Telephone { .. } => {}
                 Event::Ended {
                     ssrc, payload_type, ..
                 } => writeln!(out, "ended {ssrc} {payload_type}")?,
             }
         }
-        let report = self.take_report(now)?;
-        self.feedback.extend(report);
         Ok(())
     }
 

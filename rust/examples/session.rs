@@ -95,7 +95,7 @@ fn drain(session: &mut Session, now: u64, units: &mut BTreeMap<u32, u64>) {
                 *units.entry(ssrc).or_default() += u64::from(unit.is_ok());
             }
             // The settings request nothing: see examples/session_requests.rs.
-            Event::Feedback { .. } | Event::Telephone { .. } => {}
+            Event::Feedback { .. } | Event::Report { .. } | Event::Telephone { .. } => {}
             Event::Ended { ssrc, why, .. } => println!("{now:5} ms: stream {ssrc} ends: {why:?}"),
         }
     }

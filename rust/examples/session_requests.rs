@@ -165,6 +165,8 @@ impl ReceivingSide {
             let longest_wait = (requests == Requests::ByRoundTrip).then_some(LONGEST_WAIT);
             settings.feedback = Some(FeedbackSettings {
                 longest_wait,
+                // The way back carries requests alone.
+                report_interval: None,
                 ..FeedbackSettings::live(OWN_SSRC)
             });
         }
@@ -184,7 +186,10 @@ impl ReceivingSide {
                     self.decodable += u64::from(decodable);
                 }
                 Event::Feedback { packet, .. } => back.send(now, &packet?),
-                Event::Begun { .. } | Event::Telephone { .. } | Event::Ended { .. } => {}
+                Event::Begun { .. }
+                | Event::Report { .. }
+                | Event::Telephone { .. }
+                | Event::Ended { .. } => {}
             }
         }
         Ok(())

@@ -8,6 +8,7 @@ mod changes;
 pub mod formats;
 mod goodbyes;
 mod pairs;
+mod reporter;
 #[doc(hidden)]
 pub mod reports;
 mod requests;

@@ -525,6 +525,54 @@ fn requests_of_a_session() {
     assert!(refused >= 8, "{refused}");
 }
 
+/// A poll whose report finds no memory returns the error and changes nothing: the next poll returns the whole report.
+#[test]
+fn report_of_a_session() {
+    let due = || {
+        let mut session = requesting();
+        for number in [1, 2, 4] {
+            session.receive(Ticks(0), &opus(7, number)).unwrap();
+        }
+        while session.poll(Ticks(0)).is_some() {}
+        // The requests of the missing number are over.
+        session.receive(Ticks(1), &opus(7, 3)).unwrap();
+        while session.poll(Ticks(1)).is_some() {}
+        session.receive(Ticks(2), &opus(7, 6)).unwrap();
+        session.receive(Ticks(2), &opus(7, 5)).unwrap();
+        while session.poll(Ticks(2)).is_some() {}
+        session.receive(Ticks(3), &opus(7, 8)).unwrap();
+        while !matches!(session.poll(Ticks(900)), None) {}
+        session
+    };
+    let wanted = {
+        let mut session = due();
+        loop {
+            match session.poll(Ticks(1_000)) {
+                Some(Event::Report { packet }) => break packet.unwrap(),
+                event => assert!(event.is_some()),
+            }
+        }
+    };
+    // 8 packets are expected, and 1 is lost: 256 / 8.
+    assert_eq!(&wanted[12..16], &[32, 0, 0, 1]);
+    let refused = refuse_each("a poll with a report", due, |session| {
+        loop {
+            match session.poll(Ticks(1_000)) {
+                Some(Event::Report { packet: Ok(packet) }) => {
+                    assert_eq!(packet, wanted);
+                    return End::Done;
+                }
+                Some(Event::Report {
+                    packet: Err(AllocError),
+                })
+                | Some(Event::Feedback { packet: Err(_), .. }) => return End::OutOfMemory,
+                event => assert!(event.is_some()),
+            }
+        }
+    });
+    assert!(refused >= 3, "{refused}");
+}
+
 /// A session of VP8 with retransmissions and of Opus in RED, that requests what it misses. Only so many allocations succeed.
 struct Life {
     session: Session,
@@ -600,7 +648,8 @@ impl Life {
                     unit: Err(PacketError::OutOfMemory),
                     ..
                 }
-                | Event::Feedback { packet: Err(_), .. } => assert!(self.refused),
+                | Event::Feedback { packet: Err(_), .. }
+                | Event::Report { packet: Err(_) } => assert!(self.refused),
                 event => self.events.push(format!("{now}: {event:?}")),
             }
         }

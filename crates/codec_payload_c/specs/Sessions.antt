@@ -10,7 +10,8 @@ use Rattle.codec_payload_handle.specs.Bytes.{filled}
 use Rattle.codec_payload_handle.specs.Units.{TellsUnit, no_unit}
 use Rattle.codec_payload_handle.specs.declared.object.PortSession.{PortSession}
 use Rattle.codec_payload_handle.specs.declared.unit.Unit.{Unit as CUnit}
-use Rattle.codec_payload_session.specs.Ports.{Polls, Receives, Session}
+use Rattle.codec_payload_session.specs.Polls.{Polls}
+use Rattle.codec_payload_session.specs.Ports.{Receives, Session}
 use Rattle.codec_payload_session.specs.declared.session.Arrival.{Arrival}
 use Rattle.codec_payload_session.specs.declared.session.Arrival.TheVariants as arrivals
 use Rattle.codec_payload_session.specs.declared.session.Event.{Event}
@@ -93,6 +94,7 @@ TellsEvent (events.Unit ssrc payload_type time decodable keyframe (Err fault)) e
 TellsEvent (events.Feedback ssrc payload_type packet) e =
     e ≡ record { kind = 4; ssrc = ssrc; status = 0; why = 0; bytes = length (bytes_sent packet); payload_type = payload_type; unit = no_unit }
 TellsEvent (events.Telephone ssrc payload_type time marker payload) e = e ≡ event_with 6 ssrc payload_type (telephone_unit time marker (length payload.items))
+TellsEvent (events.Report packet) e = e ≡ record { kind = 5; ssrc = 0; status = 0; why = 0; bytes = length (bytes_sent packet); payload_type = 0; unit = no_unit }
 TellsEvent (events.Ended ssrc payload_type why) e =
     e ≡ record { kind = 3; ssrc = ssrc; status = 0; why = ending_number why; bytes = 0; payload_type = payload_type; unit = no_unit }
 
@@ -104,6 +106,8 @@ is_no_memory (events.Unit ssrc payload_type time decodable keyframe (Err fault))
 is_no_memory (events.Feedback ssrc payload_type (Ok packet)) = false
 is_no_memory (events.Feedback ssrc payload_type (Err e)) = true
 is_no_memory (events.Telephone ssrc payload_type time marker payload) = false
+is_no_memory (events.Report (Ok packet)) = false
+is_no_memory (events.Report (Err e)) = true
 is_no_memory (events.Ended ssrc payload_type why) = false
 
 -- the bytes of the event: of its unit, of its RTCP packet, or of its telephone events
@@ -113,6 +117,7 @@ bytes_in (events.Unit ssrc payload_type time decodable keyframe (Ok u)) = u.byte
 bytes_in (events.Unit ssrc payload_type time decodable keyframe (Err fault)) = []
 bytes_in (events.Feedback ssrc payload_type packet) = bytes_sent packet
 bytes_in (events.Telephone ssrc payload_type time marker payload) = payload.items
+bytes_in (events.Report packet) = bytes_sent packet
 bytes_in (events.Ended ssrc payload_type why) = []
 
 -- the unit, or without one the unit before it
@@ -126,6 +131,7 @@ latest_unit (events.Begun ssrc payload_type) taken = taken
 latest_unit (events.Unit ssrc payload_type time decodable keyframe unit) taken = popped_or unit taken
 latest_unit (events.Feedback ssrc payload_type packet) taken = taken
 latest_unit (events.Telephone ssrc payload_type time marker payload) taken = taken
+latest_unit (events.Report packet) taken = taken
 latest_unit (events.Ended ssrc payload_type why) taken = taken
 
 -- a poll of the session at that time

@@ -2,7 +2,8 @@
 
 ghost use Rattle.std.specs.Prelude.{◌≡◌, ◌≢◌, length, nat_le, Option};
 ghost use Rattle.codec_payload_session.specs.Ports.{ends_all, ends_of};
-ghost use Rattle.codec_payload_session.specs.Streams.{due_in};
+ghost use Rattle.codec_payload_session.specs.Reporting.{report_deadline};
+ghost use Rattle.codec_payload_session.specs.Streams.{due_in, earlier};
 ghost use Rattle.codec_payload_session.specs.Telephone.{due_before};
 ghost use Rattle.codec_payload_c.specs.SessionFormats.{IsPortSessionOf, is_in_range};
 ghost use Rattle.codec_payload_c.specs.Sessions.{Comes, Hands, PollsEvent, ReceivesDatagram, TellsArrival, TellsEvent, TellsJudgedBy, arrived_as, bytes_in, ending_number, event_with, is_no_memory, latest_unit, popped_or, telephone_unit};
@@ -215,6 +216,10 @@ fn event_of(event: &SessionEvent) -> Event
             let unit = telephone_unit(*rtp_time, *marker, payload);
             event_with(6, *ssrc, *payload_type, unit)
         }
+        SessionEvent::Report { .. } => Event {
+            bytes: bytes_of(event).len(),
+            ..event_with(5, 0, 0, no_unit())
+        },
         SessionEvent::Ended {
             ssrc,
             payload_type,
@@ -236,6 +241,7 @@ fn is_no_memory(event: &SessionEvent) -> bool
             ..
         } => u32::from(fault.number()) == status::OUT_OF_MEMORY,
         SessionEvent::Feedback { packet: Err(_), .. } => true,
+        SessionEvent::Report { packet: Err(_) } => true,
         _ => false,
     }
 }
@@ -251,6 +257,7 @@ fn bytes_of(event: &SessionEvent) -> &[u8]
             ..
         } => packet,
         SessionEvent::Telephone { payload, .. } => payload,
+        SessionEvent::Report { packet: Ok(packet) } => packet,
         _ => &[],
     }
 }
@@ -430,7 +437,7 @@ pub extern "C" fn cpay_session_next_deadline(
     handle: &mut Handle,
     at: &mut u64,
 ) -> u32
-    ensures tells { OnPortSession handle.old.place.value (λ r s. (s ≡ r) × TellsNumber (due_before r.session.telephone (due_in r.session.settings.idle_timeout r.session.port.streams)) result at.old at.new) handle.new.place.value }
+    ensures tells { OnPortSession handle.old.place.value (λ r s. (s ≡ r) × TellsNumber (due_before r.session.telephone (earlier (due_in r.session.settings.idle_timeout r.session.port.streams) (report_deadline r.session.report_due r.session.port.streams))) result at.old at.new) handle.new.place.value }
     ensures refused { Refuses is_port_session handle.old.place.value result handle.new.place.value }
     ensures unchanged { result ≢ 0 → at.new ≡ at.old }
 {

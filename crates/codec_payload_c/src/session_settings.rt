@@ -70,6 +70,8 @@ pub struct SessionFeedback {
     pub longest_retry: u64,
     /// How long a frame may wait at most if waiting follows the round trip.
     pub longest_wait: u64,
+    /// The number of ticks between two receiver reports of the session.
+    pub report_interval: u64,
     /// How many missing numbers of a stream are followed at most.
     pub capacity: usize,
     /// How often a number is requested at most.
@@ -80,6 +82,8 @@ pub struct SessionFeedback {
     pub has_report: bool,
     /// Whether `longest_wait` is set. If not, the wait limits stay.
     pub has_longest_wait: bool,
+    /// Whether `report_interval` is set. If not, no reports are sent.
+    pub has_report_interval: bool,
 }
 
 /// The settings of a session, except its lists.
@@ -258,6 +262,11 @@ fn feedback_of(alloc: Global, settings: &SessionSettings) -> Option<FeedbackSett
         silence: feedback.silence,
         longest_wait: if feedback.has_longest_wait {
             Some(feedback.longest_wait)
+        } else {
+            None
+        },
+        report_interval: if feedback.has_report_interval {
+            Some(feedback.report_interval)
         } else {
             None
         },

@@ -1,8 +1,11 @@
 mod AccountLemmas
 mod ChangeLemmas
 mod GoodbyeLemmas
+mod PacketLemmas
 mod PairLemmas
 mod QuietLemmas
 mod ReportLemmas
+mod ReporterLemmas
+mod ReportingLemmas
 mod SourceLemmas
 mod TelephoneLemmas

@@ -9,10 +9,9 @@ use Rattle.codec_payload_rtp.specs.RtpReading.{rtp_at}
 use Rattle.codec_payload_rtp.specs.declared.rtp.RtpError.{RtpError}
 use Rattle.codec_payload_rtp.proofs.RtpGrammar.{rtp_takes}
 use Rattle.codec_payload_stream.specs.Kinds.{is_among}
-use Rattle.codec_payload_session.specs.Arrivals.{Port}
-use Rattle.codec_payload_session.specs.Ports.{Polls, PollsAfter, Session}
+use Rattle.codec_payload_session.specs.Polls.{Polls, PollsAfter, TurnsOrReports}
+use Rattle.codec_payload_session.specs.Ports.{Session}
 use Rattle.codec_payload_session.specs.Telephone.{Gives, GivesFrom, Notes, NotesBy, Queue, QueuesIf, WaitsLast, WaitsOrDrops, has_room, names_telephone, settled, telephone_of, without_last}
-use Rattle.codec_payload_session.specs.Turns.{TakesTurn}
 use Rattle.codec_payload_session.specs.declared.formats.SessionSettings.{SessionSettings}
 use Rattle.codec_payload_session.specs.declared.session.Event.{Event}
 use Rattle.codec_payload_session.specs.declared.telephone.Noted.{Noted}
@@ -99,15 +98,15 @@ first_by (w ∷ ws) now s event r got = (got.0, ap (λ (x : Queue). record s { t
 pub polls_first : (now : Ticks) (s : Session) (event : Event) (r : Queue) → Gives s.telephone (Some event) r → Polls now s (Some event) (record s { telephone = r })
 polls_first now s event r got = first_by s.telephone.waiting now s event r got
 
-turn_by : (ws : List TelephonePacket) (now : Ticks) (s : Session) (event : Option Event) (port : Port) (r : Queue) → GivesFrom ws s.telephone None r
-    → TakesTurn now s.settings.idle_timeout s.port event port → PollsAfter ws now s event (record s { port = port; telephone = r })
-turn_by [] now s event port r got turn = (port, turn, ap (λ (x : Queue). record s { port = port; telephone = x }) got.1)
-turn_by (w ∷ ws) now s event port r got turn = absurd (cc (got.0))
+turn_by : (ws : List TelephonePacket) (now : Ticks) (s : Session) (event : Option Event) (t : Session) (r : Queue) → GivesFrom ws s.telephone None r
+    → TurnsOrReports now (record s { telephone = r }) event t → PollsAfter ws now s event t
+turn_by [] now s event t r got turn = subst (λ (x : Queue). TurnsOrReports now (record s { telephone = x }) event t) got.1 turn
+turn_by (w ∷ ws) now s event t r got turn = absurd (cc (got.0))
 
 -- without one the streams have their turn
-pub polls_turn : (now : Ticks) (s : Session) (event : Option Event) (port : Port) (r : Queue) → Gives s.telephone None r → TakesTurn now s.settings.idle_timeout s.port event port
-    → Polls now s event (record s { port = port; telephone = r })
-polls_turn now s event port r got turn = turn_by s.telephone.waiting now s event port r got turn
+pub polls_turn : (now : Ticks) (s : Session) (event : Option Event) (t : Session) (r : Queue) → Gives s.telephone None r → TurnsOrReports now (record s { telephone = r }) event t
+    → Polls now s event t
+polls_turn now s event t r got turn = turn_by s.telephone.waiting now s event t r got turn
 
 fewer_by : (ws : List TelephonePacket) (q : Queue) (event : Option Event) (r : Queue) → q.waiting ≡ ws → GivesFrom ws q event r → length q.waiting ≤ 32 → length r.waiting ≤ 32
 fewer_by [] q event r is got few = subst (λ (x : Queue). length x.waiting ≤ 32) (sym got.1) few

@@ -157,7 +157,7 @@ pub record IsLive (s : SessionSettings) : Type 0 where
   pub tick_rate : s.tick_rate ≡ 1000
   pub feedback : s.feedback ≡ None
 
--- the settings of requests for live streams: the stated number of milliseconds, and no name and no report in packets
+-- the settings of feedback for live streams: the stated number of milliseconds, and no name and no report in packets of requests
 pub record IsLiveFeedback (ssrc : ℕ) (f : FeedbackSettings) : Type 0 where
   pub ssrc_is : f.ssrc ≡ ssrc
   pub cname : f.cname.items ≡ []
@@ -166,3 +166,4 @@ pub record IsLiveFeedback (ssrc : ℕ) (f : FeedbackSettings) : Type 0 where
   pub keyframe_interval : f.keyframe_interval ≡ 500
   pub silence : f.silence ≡ 2000
   pub longest_wait : f.longest_wait ≡ Some 500
+  pub report_interval : f.report_interval ≡ Some 1000

@@ -2,7 +2,9 @@ pub mod Arrivals
 pub mod Changes
 pub mod Formats
 pub mod Pairs
+pub mod Polls
 pub mod Ports
+pub mod Reporting
 pub mod Reports
 pub mod Requests
 pub mod Sorting

@@ -7,8 +7,7 @@ use Rattle.codec_payload_jitter.specs.Receiving.{next}
 use Rattle.codec_payload_session.specs.Arrivals.{Port, TakesIn, left_where}
 use Rattle.codec_payload_session.specs.Reports.{block_of, reported_by}
 use Rattle.codec_payload_session.specs.Streams.{IsInfo, waiting_where}
-use Rattle.codec_payload_session.specs.Telephone.{MayLackMemory, Queue, QueuesIf, empty_queue, event_of, is_without_media, telephone_at}
-use Rattle.codec_payload_session.specs.Turns.{TakesTurn}
+use Rattle.codec_payload_session.specs.Telephone.{MayLackMemory, Queue, QueuesIf, empty_queue, is_without_media, telephone_at}
 use Rattle.codec_payload_jitter.specs.declared.waiting.WaitLimits.{WaitLimits}
 use Rattle.codec_payload_rtcp.specs.declared.items.ReportBlock.{ReportBlock}
 use Rattle.codec_payload_stream.specs.Sessions.{Session as Receiver}
@@ -16,19 +15,18 @@ use Rattle.codec_payload_session.specs.declared.formats.SessionSettings.{Session
 use Rattle.codec_payload_session.specs.declared.session.Arrival.{Arrival}
 use Rattle.codec_payload_session.specs.declared.session.Arrival.TheVariants as arrivals
 use Rattle.codec_payload_session.specs.declared.session.ArrivalCounts.{ArrivalCounts}
-use Rattle.codec_payload_session.specs.declared.session.Event.{Event}
 use Rattle.codec_payload_session.specs.declared.session.SessionCounts.{SessionCounts}
 use Rattle.codec_payload_session.specs.declared.stream.Ending.TheVariants as endings
 use Rattle.codec_payload_session.specs.declared.stream.StreamInfo.{StreamInfo}
 use Rattle.codec_payload_session.specs.declared.stream.Stream.{Stream}
-use Rattle.codec_payload_session.specs.declared.telephone.TelephonePacket.{TelephonePacket}
 
--- the settings, the streams, the counters of datagrams, and the packets of telephone events that wait
+-- the settings, the streams, the counters of datagrams, the packets of telephone events that wait, and when the next report is due
 pub record Session : Type 0 where
   pub settings : SessionSettings
   pub port : Port
   pub counts : ArrivalCounts
   pub telephone : Queue
+  pub report_due : Option ℕ
 
 abbrev pub no_port : Port
 no_port = record { streams = []; finished = false; ended = 0 }
@@ -37,7 +35,7 @@ abbrev pub no_counts : ArrivalCounts
 no_counts = record { received = 0; rtcp = 0; malformed = 0; unknown = 0; refused = 0; unassociated = 0 }
 
 abbrev pub new_session : SessionSettings → Session
-new_session settings = record { settings = settings; port = no_port; counts = no_counts; telephone = empty_queue }
+new_session settings = record { settings = settings; port = no_port; counts = no_counts; telephone = empty_queue; report_due = None }
 
 -- one more datagram with this result
 abbrev pub counted : Arrival → ArrivalCounts → ArrivalCounts
@@ -89,14 +87,6 @@ pub record LacksMemory (bytes : List ℕ) (s : Session) (answer : Result Arrival
 
 abbrev pub Receives : Ticks → List ℕ → Session → Result Arrival AllocError → Session → Type 0
 Receives now bytes s answer t = ReceivesIt now bytes s answer t ⊎ LacksMemory bytes s answer t
-
--- a packet of telephone events that waits comes first; if none waits, the streams have their turn
-abbrev pub PollsAfter : List TelephonePacket → Ticks → Session → Option Event → Session → Type 0
-PollsAfter [] now s event t = (port : Port) × TakesTurn now s.settings.idle_timeout s.port event port × (t ≡ record s { port = port })
-PollsAfter (w ∷ ws) now s event t = (event ≡ Some (event_of w)) × (t ≡ record s { telephone = record s.telephone { waiting = ws } })
-
-abbrev pub Polls : Ticks → Session → Option Event → Session → Type 0
-Polls now s event t = PollsAfter s.telephone.waiting now s event t
 
 -- ---- calls
 

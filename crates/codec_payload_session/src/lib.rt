@@ -6,6 +6,7 @@ mod changes;
 pub mod formats;
 mod goodbyes;
 mod pairs;
+mod reporter;
 pub mod reports;
 mod requests;
 pub mod session;

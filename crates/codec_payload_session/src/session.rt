@@ -4,16 +4,19 @@ ghost use Rattle.std.specs.Prelude.{◌≡◌, ◌<◌, ◌≤◌, IfSome, lengt
 ghost use Rattle.std.specs.List.{position};
 ghost use Rattle.std.specs.Option.{option_map};
 ghost use Rattle.codec_payload_session.specs.Arrivals.{Port};
-ghost use Rattle.codec_payload_session.specs.Ports.{IsSum, MatchInfo, Polls, Receives, ReportsIf, counted, counted_if, ends_all, ends_of, new_session, no_counts, receiver_among, taken_in, told_counts, waits_of};
+ghost use Rattle.codec_payload_session.specs.Ports.{IsSum, MatchInfo, Receives, ReportsIf, counted, counted_if, ends_all, ends_of, new_session, no_counts, receiver_among, taken_in, told_counts, waits_of};
 ghost use Rattle.codec_payload_session.specs.Reports.{clock_among};
-ghost use Rattle.codec_payload_session.specs.Streams.{due_in, is_of};
+ghost use Rattle.codec_payload_session.specs.Polls.{Polls, SendsReport, TurnsOrReports};
+ghost use Rattle.codec_payload_session.specs.Reporting.{report_deadline};
+ghost use Rattle.codec_payload_session.specs.Streams.{due_in, earlier, is_of};
 ghost use Rattle.codec_payload_session.specs.Telephone.{due_before};
 ghost use Rattle.codec_payload_session.specs.Pairs.{Pairs, with_pair, without_pair};
 
 use crate::formats::{SessionSettings, SsrcPair};
 use crate::pairs::remove_pair;
+use crate::reporter::report_deadline;
 use crate::reports::SenderClock;
-use crate::stream::{Ending, StreamInfo};
+use crate::stream::{Ending, StreamInfo, earlier};
 use crate::streams::{Streams, Who, due_in, place_of};
 use crate::telephone::TelephoneQueue;
 use codec_payload_base::error::PacketError;
@@ -97,6 +100,18 @@ pub enum Event {
         marker: bool,
         payload: Vec<u8>,
     },
+    /// A compound packet of RTCP for all senders, which `packet` returns: a receiver report (RFC 3550, section 6.4.2) about the
+    /// announced streams, each [`FeedbackSettings::report_interval`]. Send it. If memory ran out, nothing has changed, and the
+    /// next poll tries again.
+    ///
+    /// It has a block about each announced stream that has one ([`Session::report`]), in the order in which they began; of two
+    /// streams with one SSRC only about the later one. A report holds at most 31 blocks, so more streams take several reports
+    /// in the packet. Without a block there is one empty report. The name of the session follows, if it has one.
+    ///
+    /// [`FeedbackSettings::report_interval`]: crate::formats::FeedbackSettings::report_interval
+    Report {
+        packet: Result<Vec<u8>, AllocError>,
+    },
     /// A stream was removed. This is the last event of the stream.
     Ended {
         ssrc: u32,
@@ -144,6 +159,8 @@ pub struct Session {
     streams: Streams,
     counts: ArrivalCounts,
     telephone: TelephoneQueue,
+    /// When the next report is due. `None`: no report is planned.
+    report_due: Option<u64>,
 }
 
 impl Model for Session {
@@ -151,9 +168,9 @@ impl Model for Session {
 
     ghost Value = { Session };
 
-    ghost view = { λ s. record { settings = s.settings; port = s.streams; counts = s.counts; telephone = s.telephone } };
+    ghost view = { λ s. record { settings = s.settings; port = s.streams; counts = s.counts; telephone = s.telephone; report_due = s.report_due } };
 
-    ghost invariant = { λ s. IsSession (record { settings = s.settings; port = s.streams; counts = s.counts; telephone = s.telephone }) };
+    ghost invariant = { λ s. IsSession (record { settings = s.settings; port = s.streams; counts = s.counts; telephone = s.telephone; report_due = s.report_due }) };
 }
 
 impl Session {
@@ -166,6 +183,7 @@ impl Session {
             streams: Streams::none(alloc),
             counts: ArrivalCounts::none(),
             telephone: TelephoneQueue::none(alloc),
+            report_due: None,
         }
     }
 
@@ -208,24 +226,57 @@ impl Session {
     ///
     /// With `feedback` of the settings, a stream whose format has `nack` or `pli` also requests what its receiver misses once
     /// no unit is due (`Feedback`), until it leaves. Each request costs one step for each missing number.
+    ///
+    /// With `report_interval` of `feedback` the session also sends receiver reports (`Report`). A poll without an event of a
+    /// stream returns the report, if one is due and a stream is announced. The first one is due one interval after the poll
+    /// that has no more events of the first streams, and each later one an interval after the previous one was sent. Once all
+    /// announced streams have ended, it begins so again. A report costs one step for each pair of streams.
     pub fn poll(&mut self, now: Ticks) -> Option<Event>
         ensures { Polls now self.old result self.new }
     {
-        if let Some(event) = self.telephone.take() {
-            return Some(event);
+        match self.telephone.take() {
+            Some(event) => Some(event),
+            None => self.turn(now),
         }
-        self.streams.turn(now, self.settings.idle_timeout)
     }
 
-    /// Returns when a poll may have an event without a datagram: `Ticks(0)` while telephone events wait. `None`: no stream has
-    /// such a time. The cost is one step for each stream.
+    /// Returns the next event of the streams, or else the report about them, if one is due.
+    fn turn(&mut self, now: Ticks) -> Option<Event>
+        ensures { TurnsOrReports now self.old result self.new }
+    {
+        match self.streams.turn(now, self.settings.idle_timeout) {
+            Some(event) => Some(event),
+            None => self.report_streams(now),
+        }
+    }
+
+    /// Returns the report about the streams, if one is due.
+    fn report_streams(&mut self, now: Ticks) -> Option<Event>
+        ensures { SendsReport now.0 self.old result self.new }
+    {
+        match self
+            .streams
+            .report_due(&self.settings, now, &mut self.report_due)
+        {
+            Some(packet) => Some(Event::Report { packet }),
+            None => None,
+        }
+    }
+
+    /// Returns when a poll may have an event without a datagram: `Ticks(0)` while telephone events wait, else the time of a
+    /// stream, or of the next report if a stream is announced. `None`: there is no such time. The cost is one step for each
+    /// stream.
     pub fn next_deadline(&self) -> Option<Ticks>
-        ensures { option_map (λ at. at.0) result ≡ due_before self.now.telephone (due_in self.now.settings.idle_timeout self.now.port.streams) }
+        ensures { option_map (λ at. at.0) result ≡ due_before self.now.telephone (earlier (due_in self.now.settings.idle_timeout self.now.port.streams) (report_deadline self.now.report_due self.now.port.streams)) }
     {
         if !self.telephone.is_empty() {
             return Some(Ticks(0));
         }
-        match due_in(&self.streams.list, self.settings.idle_timeout) {
+        let streams = due_in(&self.streams.list, self.settings.idle_timeout);
+        match earlier(
+            streams,
+            report_deadline(&self.streams.list, self.report_due),
+        ) {
             Some(at) => Some(Ticks(at)),
             None => None,
         }

@@ -31,7 +31,7 @@ use std::marker::Model;
 /// The streams of a session.
 #[derive(Debug, Drop)]
 pub(crate) struct Streams {
-    alloc: Global,
+    pub(crate) alloc: Global,
     pub(crate) list: Vec<Stream>,
     /// Whether new streams are refused.
     pub(crate) finished: bool,

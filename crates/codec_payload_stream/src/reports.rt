@@ -4,6 +4,7 @@ ghost use Rattle.std.specs.Prelude.{◌≡◌, ◌≤◌, ◌^◌, ◌/◌};
 ghost use Rattle.codec_payload_base.specs.Time.{rebased};
 ghost use Rattle.codec_payload_stream.specs.Reports.{arrival_of, begun, distance, expected_of, fraction_of, gone_on, highest_of, jitter_after, lost_of, no_reception, observed, observed_as, report_of, reported};
 
+use crate::receiver::Receiver;
 use codec_payload_base::wire::{Frequency, MediaTime, Ticks};
 use codec_payload_jitter::numbers::{Extended, SequenceNumbers};
 use std::marker::Model;
@@ -162,6 +163,16 @@ impl ReceptionStatistics {
         self.jitter = jitter_after(self.jitter, self.transit, transit);
         self.received = self.received.wrapping_add(1);
         self.transit = Some(transit);
+    }
+}
+
+impl<B> Receiver<B> {
+    /// Returns what [`Receiver::report`] would return, and changes nothing. Allocates nothing.
+    pub fn peek_report(&self) -> Option<ReceptionReport>
+        ensures { result ≡ report_of self.now.reception }
+    {
+        let mut statistics = self.statistics;
+        statistics.report()
     }
 }
 

@@ -46,7 +46,7 @@ pub struct SsrcPair {
     pub retransmission: u32,
 }
 
-/// Who requests missing packets and keyframes, and when.
+/// Who requests missing packets and keyframes and sends receiver reports, and when.
 #[derive(Debug)]
 pub struct FeedbackSettings {
     /// The SSRC of the session as a sender of RTCP.
@@ -54,8 +54,8 @@ pub struct FeedbackSettings {
     /// The canonical name of the session (RFC 3550, section 6.5.1), of which at most the first 255 bytes are sent. Without bytes
     /// no source description is sent.
     pub cname: Vec<u8>,
-    /// Whether each packet begins with an empty receiver report, as RFC 3550, section 6.1, asks. Else it has reduced size
-    /// (RFC 5506).
+    /// Whether each packet of requests begins with an empty receiver report, as RFC 3550, section 6.1, asks. Else it has reduced
+    /// size (RFC 5506).
     pub has_report: bool,
     /// When missing packets are requested. Two requests of a number are at least one tick apart, whatever it says.
     pub nack: NackSettings,
@@ -69,6 +69,12 @@ pub struct FeedbackSettings {
     /// or video say, and at most this number of ticks, unless these limits are above it. `None`, or no `max_wait` in the
     /// session's limits: the wait limits stay.
     pub longest_wait: Option<u64>,
+    /// The number of ticks between two receiver reports of the session ([`Event::Report`]); the first one is due this long after
+    /// the first stream is announced. 0 counts as 1. `None`: it sends none. RFC 3550, section 6.2, asks for 5 s at least; the
+    /// profile of WebRTC (RFC 4585, section 3.4) lifts that, and libwebrtc sends a report each second for video.
+    ///
+    /// [`Event::Report`]: crate::session::sessions::Event::Report
+    pub report_interval: Option<u64>,
 }
 
 /// The settings of a session.
@@ -115,7 +121,7 @@ pub struct SessionSettings {
     pub bye_wait: u64,
     /// Ticks per second of your clock.
     pub tick_rate: Frequency,
-    /// Who requests what streams miss. `None`: the session requests nothing.
+    /// Who requests what streams miss, and reports on them. `None`: the session requests nothing, and sends no reports.
     pub feedback: Option<FeedbackSettings>,
 }
 
@@ -133,8 +139,8 @@ pub(crate) enum Role {
 
 impl FeedbackSettings {
     /// Returns settings for live streams and a clock in milliseconds: packets of reduced size without a name, the defaults of
-    /// [`NackSettings`], and at most one request for a keyframe in 500 ms. Waiting follows the round
-    /// trip, up to 500 ms. Nothing is requested 2 s after the latest datagram. Does not allocate.
+    /// [`NackSettings`], and at most one request for a keyframe in 500 ms. Waiting follows the round trip, up to 500 ms. Nothing
+    /// is requested 2 s after the latest datagram. A receiver report is sent each second. Does not allocate.
     pub fn live(ssrc: u32) -> FeedbackSettings {
         FeedbackSettings {
             ssrc,
@@ -144,6 +150,7 @@ impl FeedbackSettings {
             keyframe_interval: 500,
             silence: 2_000,
             longest_wait: Some(500),
+            report_interval: Some(1_000),
         }
     }
 }

@@ -103,7 +103,7 @@ fn clock_of(now: Ticks, report: &SenderReport<'_>) -> SenderClock {
 }
 
 /// Returns the report block about the sender of this SSRC with this clock.
-fn block_about(
+pub(crate) fn block_about(
     ssrc: u32,
     clock: Option<SenderClock>,
     report: ReceptionReport,

@@ -12,7 +12,7 @@ use crate::wire::Ticks;
 use alloc::vec::Vec;
 
 /// The longest canonical name (RFC 3550, section 6.5.1), in bytes.
-const LONGEST_NAME: usize = 255;
+pub(crate) const LONGEST_NAME: usize = 255;
 
 /// The requests of one stream, and who sends them.
 #[derive(Debug)]

@@ -211,7 +211,7 @@ pub struct Receiver<B = NoBox> {
     arrived: Arrived,
     /// The extended RTP times of units.
     times: RtpTimes,
-    statistics: ReceptionStatistics,
+    pub(crate) statistics: ReceptionStatistics,
     /// The statistics of receiver reports, before the first packet.
     no_statistics: ReceptionStatistics,
     choice: Choice,

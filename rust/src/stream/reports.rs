@@ -3,6 +3,7 @@
 //! The fields of a receiver report about the packets of one sender (RFC 3550, sections 6.4.1, A.3 and A.8).
 
 use crate::jitter::numbers::{Extended, SequenceNumbers};
+use crate::stream::receiver::Receiver;
 use crate::wire::{Frequency, MediaTime, Ticks};
 
 /// The fields of a report block about the packets of one sender.
@@ -113,6 +114,14 @@ impl ReceptionStatistics {
         self.jitter = jitter_after(self.jitter, self.transit, transit);
         self.received = self.received.wrapping_add(1);
         self.transit = Some(transit);
+    }
+}
+
+impl<B> Receiver<B> {
+    /// Returns what [`Receiver::report`] would return, and changes nothing. Allocates nothing.
+    pub fn peek_report(&self) -> Option<ReceptionReport> {
+        let mut statistics = self.statistics;
+        statistics.report()
     }
 }
 

@@ -19,7 +19,10 @@ fn requested(payload_type: u8, codec: Codec, clock_rate: Frequency) -> Format {
 fn session() -> Session {
     let mut settings = SessionSettings::live();
     (settings.audio.start, settings.video.start) = (0, 0);
-    settings.feedback = Some(FeedbackSettings::live(1));
+    settings.feedback = Some(FeedbackSettings {
+        report_interval: None,
+        ..FeedbackSettings::live(1)
+    });
     let eight_khz = Frequency::make(8_000).unwrap();
     let red = Some(RedSettings {
         payload_type: RED,
@@ -67,6 +70,7 @@ fn told(session: &mut Session, now: u64) -> Vec<String> {
             Event::Unit { payload_type, .. } => format!("unit {payload_type}"),
             Event::Feedback { payload_type, .. } => format!("feedback {payload_type}"),
             Event::Telephone { payload_type, .. } => format!("telephone {payload_type}"),
+            Event::Report { .. } => "report".to_string(),
             Event::Ended {
                 payload_type, why, ..
             } => format!("ended {payload_type} {why:?}"),

@@ -5,6 +5,7 @@ mod datagrams;
 mod many;
 mod model;
 mod pairs;
+mod reporting;
 mod reports;
 mod requests;
 mod streams;

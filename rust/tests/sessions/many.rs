@@ -13,6 +13,7 @@ enum Told {
     Begun,
     Unit(Vec<u8>),
     Requests(Vec<u8>),
+    Report(Vec<u8>),
     Ended,
 }
 
@@ -96,6 +97,7 @@ impl Call {
                 Event::Unit { unit, .. } => Told::Unit(unit.expect("it is valid").bytes),
                 Event::Feedback { packet, .. } => Told::Requests(packet.expect("there is memory")),
                 Event::Telephone { .. } => unreachable!("nobody sends telephone events"),
+                Event::Report { packet } => Told::Report(packet.expect("there is memory")),
                 Event::Ended { .. } => Told::Ended,
             };
             if let Told::Requests(packet) = &told {

@@ -334,7 +334,7 @@ fn line(event: Event) -> String {
             why,
         } => format!("{:?} ends {why:?}", (ssrc, payload_type)),
         Event::Telephone { ssrc, rtp_time, .. } => format!("{:?} telephone", (ssrc, rtp_time)),
-        Event::Feedback { .. } => panic!("nothing is requested"),
+        Event::Feedback { .. } | Event::Report { .. } => panic!("nothing is sent"),
     }
 }
 

@@ -30,6 +30,7 @@ fn told(session: &mut Session, now: u64) -> Vec<String> {
             },
             Event::Feedback { ssrc, .. } => format!("feedback {ssrc}"),
             Event::Telephone { ssrc, .. } => format!("telephone {ssrc}"),
+            Event::Report { .. } => "report".to_string(),
             Event::Ended { ssrc, why, .. } => format!("ended {ssrc} {why:?}"),
         });
     }

@@ -74,6 +74,7 @@ fn feedback(input: &mut Input) -> FeedbackSettings {
         keyframe_interval: input.byte().into(),
         silence: input.word().into(),
         longest_wait: (how & 8 == 0).then(|| input.word().into()),
+        report_interval: (how & 16 == 0).then(|| input.word().into()),
         ..FeedbackSettings::live(OWN)
     }
 }

@@ -140,6 +140,10 @@ fn told(event: Event) -> ([u64; 12], Vec<u8>, Option<String>) {
             (it[7], it[11]) = (rtp_time.into(), marker.into());
             return (it, payload, None);
         }
+        Event::Report { packet } => {
+            stream(5, 0, 0);
+            return (it, packet.expect("there is memory"), None);
+        }
         Event::Ended {
             ssrc,
             payload_type,

@@ -204,11 +204,28 @@ impl Watch {
             } => {
                 self.check_requests((ssrc, payload_type), &packet.expect("there is memory"));
             }
+            Event::Report { packet } => self.check_report(&packet.expect("there is memory")),
             Event::Ended {
                 ssrc, payload_type, ..
             } => {
                 assert!(self.announced.remove(&(ssrc, payload_type)).is_some());
             }
+        }
+    }
+
+    /// A report is RTCP of full size, and its blocks are about announced streams, each SSRC once.
+    fn check_report(&self, packet: &[u8]) {
+        let mut reported = Vec::new();
+        for packet in read_compound(CompoundRule::Full, packet).expect("it is RTCP") {
+            if let RtcpPacket::ReceiverReport(report) = packet {
+                assert_eq!(report.ssrc, OWN);
+                reported.extend((0..).map_while(|index| report.block(index)).map(|it| it.ssrc));
+            }
+        }
+        assert!(!self.announced.is_empty());
+        for (place, ssrc) in reported.iter().enumerate() {
+            assert!(self.announced.keys().any(|it| it.0 == *ssrc));
+            assert!(!reported[..place].contains(ssrc));
         }
     }
 

@@ -20,7 +20,7 @@ pub returns-clause-ok : goal.returns-clause-ok
 returns-clause-ok c =
     let pair : SsrcPair = record { ssrc = c.args.ssrc; retransmission = c.args.retransmission } in
     let changed : SessionSettings = record c.self.inside.settings { pairs = c.in_ok-pairs.pairs } in
-    let t : Session = record { settings = changed; port = c.pair.new.self; counts = c.self.inside.counts; telephone = c.self.inside.telephone } in
+    let t : Session = record { settings = changed; port = c.pair.new.self; counts = c.self.inside.counts; telephone = c.self.inside.telephone; report_due = c.self.inside.report_due } in
     let has : c.in_ok-pairs.pairs.items ≡ with_pair pair c.self.inside.settings.pairs.items = c.in_ok-pairs.ensures ∙ ap (λ (l : List SsrcPair). with_pair pair l) c.deref.ensures.value in
     let are : c.deref-2.result.now ≡ with_pair pair c.self.inside.settings.pairs.items = c.deref-2.ensures.value ∙ has in
     subst (λ (s : Session). Pairs c.args.ssrc (with_pair pair s.settings.pairs.items) s t) c.self.view_is

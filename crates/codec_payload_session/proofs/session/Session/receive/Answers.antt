@@ -28,7 +28,7 @@ pub returns : goal.returns
 returns c =
     let taken : Bool = is_without_media c.take_in-answer.result in
     let told : Option Packet = telephone_at c.self.inside.settings c.args.datagram.now in
-    let t : Session = record { settings = c.self.inside.settings; port = c.take_in-answer.new.self; counts = c.with_answer-self-inside.result; telephone = c.settle.new.self } in
+    let t : Session = record { settings = c.self.inside.settings; port = c.take_in-answer.new.self; counts = c.with_answer-self-inside.result; telephone = c.settle.new.self; report_due = c.self.inside.report_due } in
     subst (λ (s : Session). Receives c.args.now c.args.datagram.now s c.take_in-answer.result t) c.self.view_is
     (inl (record {
       port = c.take_in-answer.new.self;

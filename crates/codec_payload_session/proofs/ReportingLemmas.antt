@@ -1,0 +1,56 @@
+-- Streams that are reported take no datagrams.
+use Rattle.std.proofs.Common.{◌≡◌, ℕ, suc, List, [], ◌∷◌, length, Bool, true, false, Option, Some, None, Result, Ok, Err, ap, refl, subst, sym, arith}
+use Rattle.std.specs.Global.{Vec}
+use Rattle.std.specs.declared.alloc.AllocError.{AllocError}
+use Rattle.codec_payload_session.specs.Arrivals.{Port}
+use Rattle.codec_payload_session.specs.Ports.{IsPort, taken_in}
+use Rattle.codec_payload_session.specs.Reporting.{Reports, ReportsBy, ReportsEach, ReportsIf, all_reported, is_report_due, is_reported, reported_if}
+use Rattle.codec_payload_session.specs.declared.formats.FeedbackSettings.{FeedbackSettings}
+use Rattle.codec_payload_session.specs.declared.formats.SessionSettings.{SessionSettings}
+use Rattle.codec_payload_session.specs.declared.session.ArrivalCounts.{ArrivalCounts}
+use Rattle.codec_payload_session.specs.declared.stream.Stream.{Stream}
+
+taken_if : (b : Bool) (s : Stream) → (reported_if b s).taken ≡ s.taken
+taken_if true s = refl
+taken_if false s = refl
+
+taken_reported : (ss : List Stream) → taken_in (all_reported ss) ≡ taken_in ss
+taken_reported [] = refl
+taken_reported (s ∷ ss) = omega (arith, taken_if (is_reported s ss) s, taken_reported ss)
+
+length_reported : (ss : List Stream) → length (all_reported ss) ≡ length ss
+length_reported [] = refl
+length_reported (s ∷ ss) = ap suc (length_reported ss)
+
+all_keep : (settings : SessionSettings) (c : ArrivalCounts) (p q : Port) → q ≡ record p { streams = all_reported p.streams } → IsPort settings p c → IsPort settings q c
+all_keep settings c p q is kept =
+    subst (λ (x : Port). IsPort settings x c) (sym is)
+    (record {
+      accounted = omega (arith, kept.accounted, taken_reported p.streams);
+      bounded = omega (arith, kept.bounded, length_reported p.streams);
+    })
+
+none_keeps : (settings : SessionSettings) (c : ArrivalCounts) (p q : Port) → q ≡ p → IsPort settings p c → IsPort settings q c
+none_keeps settings c p q is kept = subst (λ (x : Port). IsPort settings x c) (sym is) kept
+
+sent_keeps : (settings : SessionSettings) (c : ArrivalCounts) (f : FeedbackSettings) (interval tick_rate now : ℕ) (due : Option ℕ) (p : Port) (packet : Result (Vec ℕ) AllocError) (next : Option ℕ) (q : Port)
+    → Reports f interval tick_rate now due p packet next q → IsPort settings p c → IsPort settings q c
+sent_keeps settings c f interval tick_rate now due p (Ok packet) next q got kept = all_keep settings c p q got.2 kept
+sent_keeps settings c f interval tick_rate now due p (Err e) next q got kept = none_keeps settings c p q got.1 kept
+
+if_keeps : (b : Bool) (settings : SessionSettings) (c : ArrivalCounts) (f : FeedbackSettings) (interval tick_rate now : ℕ) (due : Option ℕ) (p : Port) (answer : Option (Result (Vec ℕ) AllocError)) (next : Option ℕ) (q : Port)
+    → ReportsIf b f interval tick_rate now due p answer next q → IsPort settings p c → IsPort settings q c
+if_keeps true settings c f interval tick_rate now due p answer next q got kept = sent_keeps settings c f interval tick_rate now due p got.0 next q got.2 kept
+if_keeps false settings c f interval tick_rate now due p answer next q got kept = none_keeps settings c p q got.2 kept
+
+each_keeps : (wanted : Option ℕ) (settings : SessionSettings) (c : ArrivalCounts) (f : FeedbackSettings) (tick_rate now : ℕ) (due : Option ℕ) (p : Port) (answer : Option (Result (Vec ℕ) AllocError)) (next : Option ℕ) (q : Port)
+    → ReportsEach wanted f tick_rate now due p answer next q → IsPort settings p c → IsPort settings q c
+each_keeps None settings c f tick_rate now due p answer next q got kept = none_keeps settings c p q got.2 kept
+each_keeps (Some interval) settings c f tick_rate now due p answer next q got kept =
+    if_keeps (is_report_due now due p.streams) settings c f interval tick_rate now due p answer next q got kept
+
+-- a report is no datagram
+pub report_keeps : (feedback : Option FeedbackSettings) (settings : SessionSettings) (c : ArrivalCounts) (tick_rate now : ℕ) (due : Option ℕ) (p : Port) (answer : Option (Result (Vec ℕ) AllocError)) (next : Option ℕ) (q : Port)
+    → ReportsBy feedback tick_rate now due p answer next q → IsPort settings p c → IsPort settings q c
+report_keeps None settings c tick_rate now due p answer next q got kept = none_keeps settings c p q got.2 kept
+report_keeps (Some f) settings c tick_rate now due p answer next q got kept = each_keeps f.report_interval settings c f tick_rate now due p answer next q got kept

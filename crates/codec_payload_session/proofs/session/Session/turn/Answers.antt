@@ -1,0 +1,22 @@
+use Rattle.std.proofs.Common.{Some, None, refl, subst}
+use Rattle.codec_payload_session.specs.Polls.{TurnsOrReports}
+use Rattle.codec_payload_session.specs.Ports.{Session}
+use Rattle.codec_payload_session.proofs.AccountLemmas.{turn_keeps}
+use Rattle.codec_payload_session.proofs.session.Session.turn.Goals as goal
+
+pub invariant_of-self : goal.invariant_of-self
+invariant_of-self c = record {
+  port = turn_keeps c.args.now c.self.inside.settings.idle_timeout c.self.inside.settings c.self.inside.counts c.self.inside.streams c.turn.new.self c.turn.result c.turn.ensures c.self.invariant.port;
+  few = c.self.invariant.few;
+}
+
+pub returns-in-Some : goal.returns-in-Some
+returns-in-Some c =
+    let t : Session = record { settings = c.self.inside.settings; port = c.turn.new.self; counts = c.self.inside.counts; telephone = c.self.inside.telephone; report_due = c.self.inside.report_due } in
+    subst (λ (s : Session). TurnsOrReports c.args.now s (Some c.in-Some.event) t) c.self.view_is
+    (record { event = Some c.in-Some.event; port = c.turn.new.self; turn = c.in-Some.ensures; goes_on = (refl, refl) })
+
+pub returns-in-None : goal.returns-in-None
+returns-in-None c =
+    subst (λ (s : Session). TurnsOrReports c.args.now s c.report_streams.result c.report_streams.new.self) c.self.view_is
+    (record { event = None; port = c.turn.new.self; turn = c.in-None.ensures; goes_on = c.report_streams.ensures })

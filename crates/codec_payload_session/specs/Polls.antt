@@ -1,0 +1,46 @@
+-- The events of a session: its packets of telephone events, then those of its streams, and then its reports.
+use Rattle.std.specs.Prelude.{◌≡◌, ℕ, List, [], ◌∷◌, Option, Some, None, Result}
+use Rattle.std.specs.Global.{Vec}
+use Rattle.std.specs.declared.alloc.AllocError.{AllocError}
+use Rattle.codec_payload_base.specs.declared.wire.Ticks.{Ticks}
+use Rattle.codec_payload_session.specs.Arrivals.{Port}
+use Rattle.codec_payload_session.specs.Ports.{Session}
+use Rattle.codec_payload_session.specs.Reporting.{ReportsBy}
+use Rattle.codec_payload_session.specs.Telephone.{event_of}
+use Rattle.codec_payload_session.specs.Turns.{TakesTurn}
+use Rattle.codec_payload_session.specs.declared.session.Event.{Event}
+use Rattle.codec_payload_session.specs.declared.session.Event.TheVariants as events
+use Rattle.codec_payload_session.specs.declared.telephone.TelephonePacket.{TelephonePacket}
+
+abbrev pub report_event : Option (Result (Vec ℕ) AllocError) → Option Event
+report_event None = None
+report_event (Some packet) = Some (events.Report packet)
+
+-- the report, if one is due
+pub record SendsReport (now : ℕ) (s : Session) (answer : Option Event) (t : Session) : Type 0 where
+  pub packet : Option (Result (Vec ℕ) AllocError)
+  pub due : Option ℕ
+  pub port : Port
+  pub reports : ReportsBy s.settings.feedback s.settings.tick_rate now s.report_due s.port packet due port
+  pub answers : answer ≡ report_event packet
+  pub left : t ≡ record s { port = port; report_due = due }
+
+-- an event of the streams, or else the report
+abbrev pub GoesOn : Option Event → ℕ → Session → Option Event → Session → Type 0
+GoesOn None now s answer t = SendsReport now s answer t
+GoesOn (Some event) now s answer t = (answer ≡ Some event) × (t ≡ s)
+
+-- the streams take their turn; without an event of theirs the report is sent, if one is due
+pub record TurnsOrReports (now : Ticks) (s : Session) (answer : Option Event) (t : Session) : Type 0 where
+  pub event : Option Event
+  pub port : Port
+  pub turn : TakesTurn now s.settings.idle_timeout s.port event port
+  pub goes_on : GoesOn event now.0 (record s { port = port }) answer t
+
+-- a packet of telephone events that waits comes first
+abbrev pub PollsAfter : List TelephonePacket → Ticks → Session → Option Event → Session → Type 0
+PollsAfter [] now s event t = TurnsOrReports now s event t
+PollsAfter (w ∷ ws) now s event t = (event ≡ Some (event_of w)) × (t ≡ record s { telephone = record s.telephone { waiting = ws } })
+
+abbrev pub Polls : Ticks → Session → Option Event → Session → Type 0
+Polls now s event t = PollsAfter s.telephone.waiting now s event t

@@ -1,0 +1,145 @@
+-- The receiver reports that a session sends by itself (RFC 3550, sections 6.1 and 6.4.2).
+use Rattle.std.specs.Prelude.{◌≡◌, ◌≤◌, ℕ, max, ◌==◌, ◌&&◌, ◌||◌, not, nat_le, Bool, true, false, List, [], ◌∷◌, ◌++◌, map, Option, Some, None, Result, Ok, Err, length}
+use Rattle.std.specs.Global.{Vec}
+use Rattle.std.specs.List.{flat_map}
+use Rattle.std.specs.declared.alloc.AllocError.{AllocError}
+use Rattle.codec_payload_feedback.specs.Feedback.{AppendsAll, cname_part}
+use Rattle.codec_payload_rtcp.specs.RtcpItems.{block_bytes}
+use Rattle.codec_payload_rtcp.specs.RtcpPackets.{IsCompound, Packet, receiver_report}
+use Rattle.codec_payload_rtcp.specs.RtcpWriting.{AreUnpadded}
+use Rattle.codec_payload_rtcp.specs.declared.items.ReportBlock.{ReportBlock}
+use Rattle.codec_payload_session.specs.Arrivals.{Port}
+use Rattle.codec_payload_session.specs.Reports.{block_of, reported_by}
+use Rattle.codec_payload_session.specs.Requests.{source_for}
+use Rattle.codec_payload_session.specs.Streams.{later}
+use Rattle.codec_payload_session.specs.declared.formats.FeedbackSettings.{FeedbackSettings}
+use Rattle.codec_payload_session.specs.declared.stream.Stream.{Stream}
+
+-- ---- the streams of a report
+
+-- a stream of the SSRC is announced
+abbrev pub has_announced : ℕ → List Stream → Bool
+has_announced ssrc [] = false
+has_announced ssrc (s ∷ ss) = (s.told && (s.ssrc == ssrc)) || has_announced ssrc ss
+
+-- the stream is announced, and no later announced stream has its SSRC
+abbrev pub is_reported : Stream → List Stream → Bool
+is_reported s later = s.told && not (has_announced s.ssrc later)
+
+abbrev pub is_first_reported : List Stream → Bool
+is_first_reported [] = false
+is_first_reported (s ∷ later) = is_reported s later
+
+abbrev pub blocks_with : Option ReportBlock → List ReportBlock → List ReportBlock
+blocks_with None bs = bs
+blocks_with (Some b) bs = b ∷ bs
+
+abbrev pub blocks_if : Bool → ℕ → ℕ → Stream → List ReportBlock → List ReportBlock
+blocks_if true tick_rate now s bs = blocks_with (block_of tick_rate now s) bs
+blocks_if false tick_rate now s bs = bs
+
+-- the blocks about the reported streams that have one, in the order in which the streams began
+abbrev pub blocks_of : ℕ → ℕ → List Stream → List ReportBlock
+blocks_of tick_rate now [] = []
+blocks_of tick_rate now (s ∷ ss) = blocks_if (is_reported s ss) tick_rate now s (blocks_of tick_rate now ss)
+
+abbrev pub reported_if : Bool → Stream → Stream
+reported_if true s = reported_by s
+reported_if false s = s
+
+-- the next report of each reported stream starts its fraction here
+abbrev pub all_reported : List Stream → List Stream
+all_reported [] = []
+all_reported (s ∷ ss) = reported_if (is_reported s ss) s ∷ all_reported ss
+
+-- ---- the packet
+
+-- the blocks as they are in a packet, 24 bytes each
+abbrev pub bytes_of : List ReportBlock → List ℕ
+bytes_of bs = flat_map block_bytes bs
+
+abbrev pub bytes_if : Option ReportBlock → List ℕ
+bytes_if None = []
+bytes_if (Some b) = block_bytes b
+
+-- the bytes in groups: 31 blocks of 24 bytes in each group but the last, and at most 31 blocks in the last
+abbrev pub AreGroups : List (List ℕ) → List ℕ → Type 0
+AreGroups [] bytes = ⊥
+AreGroups (g ∷ []) bytes = (bytes ≡ g) × (length g ≤ 744)
+AreGroups (g ∷ h ∷ gs) bytes = (rest : List ℕ) × (bytes ≡ g ++ rest) × (length g ≡ 744) × (1 ≤ length rest) × AreGroups (h ∷ gs) rest
+
+abbrev pub report_of_group : ℕ → List ℕ → Packet
+report_of_group ssrc blocks = receiver_report (record { ssrc = ssrc; blocks = blocks; extension = [] })
+
+-- new is old with receiver reports at its end, whose groups are the blocks
+abbrev pub AppendsGroups : ℕ → List ℕ → List ℕ → List ℕ → Type 0
+AppendsGroups ssrc blocks old new = (groups : List (List ℕ)) × AreGroups groups blocks × AppendsAll (map (report_of_group ssrc) groups) old new
+
+abbrev pub report_packets : FeedbackSettings → List (List ℕ) → List Packet
+report_packets f groups = map (report_of_group f.ssrc) groups ++ cname_part (source_for f)
+
+-- a compound packet: receiver reports with the bytes of these blocks, 31 blocks in each but the last, and the name of the
+-- session, if it has one. Without a block there is one empty report
+pub record IsReport (f : FeedbackSettings) (blocks : List ℕ) (bytes : List ℕ) : Type 0 where
+  pub groups : List (List ℕ)
+  pub are_groups : AreGroups groups blocks
+  pub unpadded : AreUnpadded (report_packets f groups) bytes
+  pub compound : IsCompound true (report_packets f groups) bytes
+
+-- ---- when a report is sent
+
+abbrev pub any_announced : List Stream → Bool
+any_announced [] = false
+any_announced (s ∷ ss) = s.told || any_announced ss
+
+abbrev pub is_time : ℕ → Option ℕ → Bool
+is_time now None = false
+is_time now (Some at) = nat_le at now
+
+-- a report is due: its time has come, and a stream is announced
+abbrev pub is_report_due : ℕ → Option ℕ → List Stream → Bool
+is_report_due now due ss = any_announced ss && is_time now due
+
+abbrev pub due_again : ℕ → ℕ → Option ℕ → Option ℕ
+due_again interval now None = later now (max 1 interval)
+due_again interval now (Some at) = Some at
+
+-- without an announced stream no report is planned; the first one is due one interval after there is one
+abbrev pub planned : Bool → ℕ → ℕ → Option ℕ → Option ℕ
+planned false interval now due = None
+planned true interval now due = due_again interval now due
+
+-- one interval after a packet; if memory ran out the report stays due
+abbrev pub due_after : Result (Vec ℕ) AllocError → ℕ → ℕ → Option ℕ → Option ℕ
+due_after (Ok packet) interval now due = later now (max 1 interval)
+due_after (Err e) interval now due = due
+
+-- the packet has the blocks of all reported streams, and the next one is due one interval later; if memory runs out nothing has
+-- changed
+abbrev pub Reports : FeedbackSettings → (interval tick_rate now : ℕ) → Option ℕ → Port → Result (Vec ℕ) AllocError → Option ℕ → Port → Type 0
+Reports f interval tick_rate now due p (Ok packet) next q =
+    IsReport f (bytes_of (blocks_of tick_rate now p.streams)) packet.items × (next ≡ later now (max 1 interval)) × (q ≡ record p { streams = all_reported p.streams })
+Reports f interval tick_rate now due p (Err e) next q = (next ≡ due) × (q ≡ p)
+
+abbrev pub ReportsIf : Bool → FeedbackSettings → (interval tick_rate now : ℕ) → Option ℕ → Port → Option (Result (Vec ℕ) AllocError) → Option ℕ → Port → Type 0
+ReportsIf false f interval tick_rate now due p answer next q = (answer ≡ None) × (next ≡ planned (any_announced p.streams) interval now due) × (q ≡ p)
+ReportsIf true f interval tick_rate now due p answer next q =
+    (packet : Result (Vec ℕ) AllocError) × (answer ≡ Some packet) × Reports f interval tick_rate now due p packet next q
+
+abbrev pub ReportsEach : Option ℕ → FeedbackSettings → (tick_rate now : ℕ) → Option ℕ → Port → Option (Result (Vec ℕ) AllocError) → Option ℕ → Port → Type 0
+ReportsEach None f tick_rate now due p answer next q = (answer ≡ None) × (next ≡ due) × (q ≡ p)
+ReportsEach (Some interval) f tick_rate now due p answer next q =
+    ReportsIf (is_report_due now due p.streams) f interval tick_rate now due p answer next q
+
+-- the settings say whether reports are sent, and how often; due and next are when the next report is due, before and after
+abbrev pub ReportsBy : Option FeedbackSettings → (tick_rate now : ℕ) → Option ℕ → Port → Option (Result (Vec ℕ) AllocError) → Option ℕ → Port → Type 0
+ReportsBy None tick_rate now due p answer next q = (answer ≡ None) × (next ≡ due) × (q ≡ p)
+ReportsBy (Some f) tick_rate now due p answer next q = ReportsEach f.report_interval f tick_rate now due p answer next q
+
+-- when the next report is due, as long as a stream is announced
+abbrev pub deadline_if : Bool → Option ℕ → Option ℕ
+deadline_if true due = due
+deadline_if false due = None
+
+abbrev pub report_deadline : Option ℕ → List Stream → Option ℕ
+report_deadline due ss = deadline_if (any_announced ss) due

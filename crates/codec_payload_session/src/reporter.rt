@@ -1,0 +1,300 @@
+//! The receiver reports that a session sends by itself (RFC 3550, sections 6.1 and 6.4.2): about which streams, when, and as
+//! which packet.
+
+ghost use Rattle.std.specs.Prelude.{◌≡◌, ◌++◌, ◌<◌, ◌≤◌, ◌%◌, drop, max, IfErr, IfOk, IfSome, OnOk, length};
+ghost use Rattle.codec_payload_feedback.specs.Feedback.{AppendsAll, cname_by, cname_part};
+ghost use Rattle.codec_payload_rtcp.specs.RtcpWriting.{Appends};
+ghost use Rattle.codec_payload_session.specs.Reporting.{AppendsGroups, IsReport, ReportsBy, ReportsEach, all_reported, any_announced, blocks_of, bytes_if, bytes_of, due_after, has_announced, is_first_reported, is_report_due, is_time, planned, report_deadline, report_of_group, reported_if};
+ghost use Rattle.codec_payload_session.specs.Reports.{block_of};
+ghost use Rattle.codec_payload_session.specs.Requests.{source_for};
+ghost use Rattle.codec_payload_session.specs.Streams.{later};
+
+use crate::formats::{FeedbackSettings, SessionSettings};
+use crate::reports::block_about;
+use crate::requests::LONGEST_NAME;
+use crate::stream::Stream;
+use crate::streams::Streams;
+use codec_payload_base::wire::{Frequency, Ticks};
+use codec_payload_rtcp::items::ReportBlock;
+use codec_payload_rtcp::packet::ReceiverReport;
+use codec_payload_rtcp::writing::{write_cname, written_packets_are_read};
+use std::alloc::{AllocError, Global};
+
+/// The bytes of the 31 blocks that a receiver report holds at most.
+const MOST_BYTES: usize = 31 * 24;
+
+impl Streams {
+    /// Returns the report, if one is due. `due` is when the next one is due.
+    pub(crate) fn report_due(
+        &mut self,
+        settings: &SessionSettings,
+        now: Ticks,
+        due: &mut Option<u64>,
+    ) -> Option<Result<Vec<u8>, AllocError>>
+        ensures { ReportsBy settings.now.feedback settings.now.tick_rate now.0 due.old self.old result due.new self.new }
+    {
+        match &settings.feedback {
+            Some(feedback) => self.report_each(feedback, settings.tick_rate, now, due),
+            None => None,
+        }
+    }
+
+    /// Does the same for a session with feedback.
+    fn report_each(
+        &mut self,
+        feedback: &FeedbackSettings,
+        tick_rate: Frequency,
+        now: Ticks,
+        due: &mut Option<u64>,
+    ) -> Option<Result<Vec<u8>, AllocError>>
+        ensures { ReportsEach feedback.now.report_interval feedback.now tick_rate now.0 due.old self.old result due.new self.new }
+    {
+        let Some(interval) = feedback.report_interval else {
+            return None;
+        };
+        if !is_report_due(&self.list, now, *due) {
+            *due = planned(&self.list, now, interval, *due);
+            return None;
+        }
+        let packet = self.report_all(feedback, tick_rate, now);
+        *due = due_after(&packet, now, interval, *due);
+        Some(packet)
+    }
+
+    /// Returns the packet with the blocks of all reported streams. If memory runs out, nothing has changed.
+    fn report_all(
+        &mut self,
+        feedback: &FeedbackSettings,
+        tick_rate: Frequency,
+        now: Ticks,
+    ) -> Result<Vec<u8>, AllocError>
+        ensures ok { IfOk result (λ packet. IsReport feedback.now (bytes_of (blocks_of tick_rate now.0 self.old.streams)) packet.items) }
+        ensures after { IfOk result (λ packet. self.new ≡ record self.old { streams = all_reported self.old.streams }) }
+        ensures err { IfErr result (λ e. self.new ≡ self.old) }
+    {
+        let mut blocks = Vec::new(self.alloc);
+        append_blocks(&self.list, now, tick_rate, &mut blocks)?;
+        let packet = write_report(self.alloc, feedback, &blocks)?;
+        start_fractions(&mut self.list);
+        Ok(packet)
+    }
+}
+
+impl Stream {
+    /// Returns the block that a report about the stream's sender has now, and changes nothing.
+    fn peek_report(&self, now: Ticks, tick_rate: Frequency) -> Option<ReportBlock>
+        ensures value { result ≡ block_of tick_rate now.0 self.now }
+        ensures fits { IfSome result (λ block. block.cumulative_lost < 16777216) }
+    {
+        match self.receiver.peek_report() {
+            Some(report) => Some(block_about(self.ssrc, self.sender_clock, report, now, tick_rate)),
+            None => None,
+        }
+    }
+
+    /// Starts the fraction of the next report here, if the stream is reported now.
+    fn start_fraction(&mut self, is_reported: bool)
+        ensures { self.new ≡ reported_if is_reported self.old }
+    {
+        if is_reported {
+            self.receiver.report();
+        }
+    }
+}
+
+/// Returns when the next report is due, if a stream is announced.
+pub(crate) fn report_deadline(streams: &[Stream], due: Option<u64>) -> Option<u64>
+    ensures { result ≡ report_deadline due streams.now }
+{
+    if any_announced(streams) { due } else { None }
+}
+
+/// Returns whether a report is due: its time has come, and a stream is announced.
+fn is_report_due(streams: &[Stream], now: Ticks, due: Option<u64>) -> bool
+    ensures { result ≡ is_report_due now.0 due streams.now }
+{
+    any_announced(streams) && is_time(now, due)
+}
+
+/// Returns whether the time has come.
+fn is_time(now: Ticks, due: Option<u64>) -> bool
+    ensures { result ≡ is_time now.0 due }
+{
+    match due {
+        Some(at) => at <= now.0,
+        None => false,
+    }
+}
+
+/// Returns when the next report is due if none is now: one interval after the first stream is announced.
+fn planned(streams: &[Stream], now: Ticks, interval: u64, due: Option<u64>) -> Option<u64>
+    ensures { result ≡ planned (any_announced streams.now) interval now.0 due }
+{
+    if !any_announced(streams) {
+        return None;
+    }
+    match due {
+        Some(at) => Some(at),
+        None => later(now, interval),
+    }
+}
+
+/// Returns the time one interval later, at least one tick. `None`: 64 bits do not hold it.
+fn later(now: Ticks, interval: u64) -> Option<u64>
+    ensures { result ≡ later now.0 (max 1 interval) }
+{
+    now.0.checked_add(interval.max(1))
+}
+
+/// Returns when the next report is due after this one.
+fn due_after(
+    packet: &Result<Vec<u8>, AllocError>,
+    now: Ticks,
+    interval: u64,
+    due: Option<u64>,
+) -> Option<u64>
+    ensures { result ≡ due_after packet.now interval now.0 due }
+{
+    match packet {
+        Ok(_) => later(now, interval),
+        Err(_) => due,
+    }
+}
+
+/// Returns whether a stream is announced.
+fn any_announced(streams: &[Stream]) -> bool
+    ensures { result ≡ any_announced streams.now }
+{
+    for stream in streams {
+        if stream.told {
+            return true;
+        }
+    }
+    false
+}
+
+/// Returns whether a stream of the SSRC is announced.
+fn has_announced(streams: &[Stream], ssrc: u32) -> bool
+    ensures { result ≡ has_announced ssrc streams.now }
+{
+    for stream in streams {
+        if stream.told && stream.ssrc == ssrc {
+            return true;
+        }
+    }
+    false
+}
+
+/// Returns whether the stream at this place is reported: it is announced, and no later announced stream has its SSRC.
+fn is_reported(streams: &[Stream], place: usize) -> bool
+    requires { place < length streams.now }
+    ensures { result ≡ is_first_reported (drop place streams.now) }
+{
+    let stream = &streams[place];
+    stream.told && !has_announced(&streams[place + 1..], stream.ssrc)
+}
+
+/// Appends the blocks about all reported streams.
+fn append_blocks(
+    streams: &[Stream],
+    now: Ticks,
+    tick_rate: Frequency,
+    blocks: &mut Vec<u8>,
+) -> Result<(), AllocError>
+    ensures { OnOk result (blocks.new.items ≡ blocks.old.items ++ bytes_of (blocks_of tick_rate now.0 streams.now)) }
+{
+    for place in 0..streams.len() {
+        if is_reported(streams, place) {
+            append_block(&streams[place], now, tick_rate, blocks)?;
+        }
+    }
+    Ok(())
+}
+
+/// Appends the block about the stream, if it has one.
+fn append_block(
+    stream: &Stream,
+    now: Ticks,
+    tick_rate: Frequency,
+    blocks: &mut Vec<u8>,
+) -> Result<(), AllocError>
+    ensures { OnOk result (blocks.new.items ≡ blocks.old.items ++ bytes_if (block_of tick_rate now.0 stream.now)) }
+{
+    match stream.peek_report(now, tick_rate) {
+        Some(block) => block.write(blocks),
+        None => Ok(()),
+    }
+}
+
+/// Starts the fraction of the next report of each reported stream here.
+fn start_fractions(streams: &mut [Stream])
+    ensures { streams.new ≡ all_reported streams.old }
+{
+    for place in 0..streams.len() {
+        let is_reported = is_reported(streams, place);
+        streams[place].start_fraction(is_reported);
+    }
+}
+
+/// Returns a compound packet of receiver reports with these blocks, and the name.
+fn write_report(
+    alloc: Global,
+    feedback: &FeedbackSettings,
+    blocks: &[u8],
+) -> Result<Vec<u8>, AllocError>
+    requires { length blocks.now % 24 ≡ 0 }
+    ensures { IfOk result (λ packet. IsReport feedback.now blocks.now packet.items) }
+{
+    let mut packet = Vec::new(alloc);
+    write_groups(feedback.ssrc, blocks, &mut packet)?;
+    write_name(feedback, &mut packet)?;
+    written_packets_are_read();
+    Ok(packet)
+}
+
+/// Appends receiver reports with these blocks, 31 in each but the last. Without a block there is one empty report.
+fn write_groups(ssrc: u32, blocks: &[u8], out: &mut Vec<u8>) -> Result<(), AllocError>
+    requires { length blocks.now % 24 ≡ 0 }
+    ensures { OnOk result (AppendsGroups ssrc blocks.now out.old.items out.new.items) }
+{
+    let mut rest = blocks;
+    while rest.len() > MOST_BYTES {
+        let (group, others) = rest.split_at(MOST_BYTES);
+        write_group(ssrc, group, out)?;
+        rest = others;
+    }
+    write_group(ssrc, rest, out)
+}
+
+/// Appends a receiver report with these blocks.
+fn write_group(ssrc: u32, blocks: &[u8], out: &mut Vec<u8>) -> Result<(), AllocError>
+    requires whole { length blocks.now % 24 ≡ 0 }
+    requires few { length blocks.now ≤ 744 }
+    ensures { OnOk result (Appends out.old.items out.new.items (report_of_group ssrc blocks.now)) }
+{
+    let report = ReceiverReport {
+        ssrc,
+        blocks,
+        extension: &[],
+    };
+    report.write(out)
+}
+
+/// Appends the description of the session, if it has a name.
+fn write_name(feedback: &FeedbackSettings, out: &mut Vec<u8>) -> Result<(), AllocError>
+    ensures { OnOk result (AppendsAll (cname_part (source_for feedback.now)) out.old.items out.new.items) }
+{
+    let len = LONGEST_NAME.min(feedback.cname.len());
+    write_name_of(feedback.ssrc, &feedback.cname[..len], out)
+}
+
+/// Appends a source description with this name, unless it is empty.
+fn write_name_of(ssrc: u32, name: &[u8], out: &mut Vec<u8>) -> Result<(), AllocError>
+    requires { length name.now ≤ 255 }
+    ensures { OnOk result (AppendsAll (cname_by ssrc name.now) out.old.items out.new.items) }
+{
+    if name.is_empty() {
+        return Ok(());
+    }
+    write_cname(ssrc, name, out)
+}
