@@ -10,8 +10,9 @@ use crate::memory::AllocError;
 use crate::rtcp::items::ReportBlock;
 use crate::session::formats::{SessionSettings, SsrcPair};
 use crate::session::pairs::remove_pair;
+use crate::session::reporter::report_deadline;
 use crate::session::reports::SenderClock;
-use crate::session::stream::{Ending, StreamInfo};
+use crate::session::stream::{Ending, StreamInfo, earlier};
 use crate::session::streams::{Streams, Who, due_in, place_of};
 use crate::session::telephone::TelephoneQueue;
 use crate::stream::receiver::{ReceiveError, Receiver};
@@ -86,6 +87,16 @@ pub enum Event {
         marker: bool,
         payload: Vec<u8>,
     },
+    /// A compound packet of RTCP for all senders, which `packet` returns: a receiver report (RFC 3550, section 6.4.2) about the
+    /// announced streams, each [`FeedbackSettings::report_interval`]. Send it. If memory ran out, nothing has changed, and the
+    /// next poll tries again.
+    ///
+    /// It has a block about each announced stream that has one ([`Session::report`]), in the order in which they began; of two
+    /// streams with one SSRC only about the later one. A report holds at most 31 blocks, so more streams take several reports
+    /// in the packet. Without a block there is one empty report. The name of the session follows, if it has one.
+    ///
+    /// [`FeedbackSettings::report_interval`]: crate::session::formats::FeedbackSettings::report_interval
+    Report { packet: Result<Vec<u8>, AllocError> },
     /// A stream was removed. This is the last event of the stream.
     Ended {
         ssrc: u32,
@@ -133,6 +144,8 @@ pub struct Session {
     streams: Streams,
     counts: ArrivalCounts,
     telephone: TelephoneQueue,
+    /// When the next report is due. `None`: no report is planned.
+    report_due: Option<u64>,
 }
 
 impl Session {
@@ -143,6 +156,7 @@ impl Session {
             streams: Streams::none(),
             counts: ArrivalCounts::none(),
             telephone: TelephoneQueue::none(),
+            report_due: None,
         }
     }
 
@@ -183,20 +197,49 @@ impl Session {
     ///
     /// With `feedback` of the settings, a stream whose format has `nack` or `pli` also requests what its receiver misses once
     /// no unit is due (`Feedback`), until it leaves. Each request costs one step for each missing number.
+    ///
+    /// With `report_interval` of `feedback` the session also sends receiver reports (`Report`). A poll without an event of a
+    /// stream returns the report, if one is due and a stream is announced. The first one is due one interval after the poll
+    /// that has no more events of the first streams, and each later one an interval after the previous one was sent. Once all
+    /// announced streams have ended, it begins so again. A report costs one step for each pair of streams.
     pub fn poll(&mut self, now: Ticks) -> Option<Event> {
-        if let Some(event) = self.telephone.take() {
-            return Some(event);
+        match self.telephone.take() {
+            Some(event) => Some(event),
+            None => self.turn(now),
         }
-        self.streams.turn(now, self.settings.idle_timeout)
     }
 
-    /// Returns when a poll may have an event without a datagram: `Ticks(0)` while telephone events wait. `None`: no stream has
-    /// such a time. The cost is one step for each stream.
+    /// Returns the next event of the streams, or else the report about them, if one is due.
+    fn turn(&mut self, now: Ticks) -> Option<Event> {
+        match self.streams.turn(now, self.settings.idle_timeout) {
+            Some(event) => Some(event),
+            None => self.report_streams(now),
+        }
+    }
+
+    /// Returns the report about the streams, if one is due.
+    fn report_streams(&mut self, now: Ticks) -> Option<Event> {
+        match self
+            .streams
+            .report_due(&self.settings, now, &mut self.report_due)
+        {
+            Some(packet) => Some(Event::Report { packet }),
+            None => None,
+        }
+    }
+
+    /// Returns when a poll may have an event without a datagram: `Ticks(0)` while telephone events wait, else the time of a
+    /// stream, or of the next report if a stream is announced. `None`: there is no such time. The cost is one step for each
+    /// stream.
     pub fn next_deadline(&self) -> Option<Ticks> {
         if !self.telephone.is_empty() {
             return Some(Ticks(0));
         }
-        match due_in(&self.streams.list, self.settings.idle_timeout) {
+        let streams = due_in(&self.streams.list, self.settings.idle_timeout);
+        match earlier(
+            streams,
+            report_deadline(&self.streams.list, self.report_due),
+        ) {
             Some(at) => Some(Ticks(at)),
             None => None,
         }

@@ -64,7 +64,10 @@ fn poll(session: &mut Session, now: u64) -> (Vec<Told>, Vec<u8>) {
                 });
             }
             Event::Unit { unit, .. } => units.push(unit.expect("it is valid").bytes[0]),
-            Event::Begun { .. } | Event::Ended { .. } | Event::Feedback { .. } => {}
+            Event::Begun { .. }
+            | Event::Ended { .. }
+            | Event::Feedback { .. }
+            | Event::Report { .. } => {}
         }
     }
     (told, units)
