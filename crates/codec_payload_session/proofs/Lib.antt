@@ -1,7 +1,11 @@
 mod AccountLemmas
+mod CalmLemmas
 mod ChangeLemmas
+mod DueLemmas
 mod GoodbyeLemmas
 mod PairLemmas
 mod QuietLemmas
 mod ReportLemmas
+mod RestLemmas
+mod SkipLemmas
 mod SourceLemmas

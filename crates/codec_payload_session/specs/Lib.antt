@@ -3,6 +3,7 @@ pub mod Changes
 pub mod Formats
 pub mod Pairs
 pub mod Ports
+pub mod Quiet
 pub mod Reports
 pub mod Requests
 pub mod Sorting
