@@ -6,7 +6,7 @@ ghost use Rattle.codec_payload_session.specs.Changes.{is_left_behind, is_playing
 ghost use Rattle.codec_payload_session.specs.Pairs.{paired_if};
 ghost use Rattle.codec_payload_session.specs.Quiet.{RestsUntil};
 ghost use Rattle.codec_payload_session.specs.Requests.{wait_by};
-ghost use Rattle.codec_payload_session.specs.Streams.{Begins, Drains, IsInfo, Pops, RequestsBy, RestsBy, Steps, Takes, due_of, earlier, end_of, heard, is_accepted, is_no_memory, is_of, is_probation, left, left_when, step_of, waiting_for, waiting_if, work_deadline};
+ghost use Rattle.codec_payload_session.specs.Streams.{Begins, Drains, IsInfo, Pops, RequestsBy, RestsBy, Steps, Takes, due_of, earlier, end_of, heard, heard_unless, is_accepted, is_no_memory, is_of, is_probation, left, left_when, received, step_of, waiting_for, waiting_if, work_deadline};
 ghost use Rattle.codec_payload_session.specs.Turns.{is_nothing};
 ghost use Rattle.codec_payload_session.specs.declared.stream.Step.TheVariants as steps;
 
@@ -189,14 +189,31 @@ impl Stream {
     {
         self.quiet_until = 0;
         let answer = self.receiver.receive(now, datagram);
-        if is_accepted(&answer) {
+        let accepted = is_accepted(&answer);
+        let no_memory = is_no_memory(&answer);
+        self.hear_if(accepted, now, datagram);
+        self.note_unless(no_memory, now, probation, accepted);
+        answer
+    }
+
+    /// Measures the round trip by an accepted datagram, if it answers a request.
+    fn hear_if(&mut self, accepted: bool, now: Ticks, datagram: &[u8])
+        ensures { self.new ≡ received now.0 datagram.now accepted self.old.receiver self.old }
+    {
+        if accepted {
+            self.quiet_until = 0;
             hear(&mut self.feedback, &self.format, now, datagram);
             self.follow_round_trip();
         }
-        if !is_no_memory(&answer) {
-            self.note(now, probation, is_accepted(&answer));
+    }
+
+    /// Counts one more datagram, unless memory ran out for it.
+    fn note_unless(&mut self, no_memory: bool, now: Ticks, probation: u64, accepted: bool)
+        ensures { self.new ≡ heard_unless no_memory now.0 probation accepted self.old }
+    {
+        if !no_memory {
+            self.note(now, probation, accepted);
         }
-        answer
     }
 
     /// Waits for as long as the round trip asks for, if waiting follows it and it is known.

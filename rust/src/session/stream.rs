@@ -327,10 +327,11 @@ impl Stream {
 
     /// Returns the requests that are due, by what the receiver misses now.
     fn request(&mut self, now: Ticks) -> Step {
-        match &mut self.feedback {
-            Some(feedback) => step_of(feedback.take_due(now, self.last, &self.receiver)),
-            None => Step::Nothing,
+        self.quiet_until = 0;
+        if let Some(feedback) = &mut self.feedback {
+            return step_of(feedback.take_due(now, self.last, &self.receiver));
         }
+        Step::Nothing
     }
 
     /// Returns when the stream may have a unit, or a request is due.
