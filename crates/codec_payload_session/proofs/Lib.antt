@@ -1,5 +1,7 @@
 mod AccountLemmas
+mod CalmLemmas
 mod ChangeLemmas
+mod DueLemmas
 mod GoodbyeLemmas
 mod PacketLemmas
 mod PairLemmas
@@ -7,5 +9,7 @@ mod QuietLemmas
 mod ReportLemmas
 mod ReporterLemmas
 mod ReportingLemmas
+mod RestLemmas
+mod SkipLemmas
 mod SourceLemmas
 mod TelephoneLemmas

@@ -4,6 +4,7 @@ pub mod Formats
 pub mod Pairs
 pub mod Polls
 pub mod Ports
+pub mod Quiet
 pub mod Reporting
 pub mod Reports
 pub mod Requests

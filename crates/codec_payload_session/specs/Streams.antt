@@ -25,8 +25,22 @@ use Rattle.codec_payload_session.specs.declared.stream.Stage.{Stage}
 use Rattle.codec_payload_session.specs.declared.stream.Stage.TheVariants as stages
 use Rattle.codec_payload_session.specs.declared.stream.Step.{Step}
 use Rattle.codec_payload_session.specs.declared.stream.Step.TheVariants as steps
-use Rattle.codec_payload_session.specs.declared.stream.Stream.{Stream}
+use Rattle.codec_payload_session.specs.declared.reports.SenderClock.{SenderClock}
 use Rattle.codec_payload_session.specs.declared.stream.StreamInfo.{StreamInfo}
+
+-- a stream, as contracts see it: its SSRC and format; its receiver; its stage; whether it was announced; how many datagrams it
+-- took, and how many of them were accepted; when the latest one arrived; what it requests; the clock of its sender
+pub record Stream : Type 0 where
+  pub ssrc : ℕ
+  pub format : Format
+  pub receiver : Receiver
+  pub stage : Stage
+  pub told : Bool
+  pub taken : ℕ
+  pub accepted : ℕ
+  pub last : ℕ
+  pub feedback : Option Asking
+  pub sender_clock : Option SenderClock
 
 -- the stream has this SSRC and payload type
 abbrev pub is_of : ℕ → ℕ → Stream → Bool

@@ -1,7 +1,8 @@
 //! What a stream of a session requests: missing packets and keyframes.
 
-ghost use Rattle.std.specs.Prelude.{◌≡◌, IfOk, OnOk};
+ghost use Rattle.std.specs.Prelude.{◌≡◌, ◌<◌, ℕ, IfOk, OnOk, Option, true};
 ghost use Rattle.codec_payload_jitter.specs.Missing.{missing_numbers};
+ghost use Rattle.codec_payload_session.specs.Quiet.{MayRest, is_calm};
 ghost use Rattle.codec_payload_session.specs.Requests.{Asks, Refreshes, after_number, feedback_by, heard_by, is_heard, number_at, original_number, requests_due, range_for, round_trip_of, source_for, spaced, wait_by, wait_of, wait_within};
 
 use crate::formats::{FeedbackSettings, Format};
@@ -107,6 +108,27 @@ impl Feedback {
         }
     }
 
+    /// Returns whether the receiver misses nothing that is requested: no packet, and no keyframe.
+    fn is_calm(&self, receiver: &Receiver) -> bool
+        ensures { result ≡ is_calm self.now receiver.now }
+    {
+        let wants_keyframe = self.pli && receiver.wants_keyframe();
+        !wants_keyframe && receiver.missing(self.most.min(1)).next().is_none()
+    }
+
+    /// Returns until when what is requested changes by no other cause than a request that is due.
+    fn rest_time(&self, now: Ticks, last: u64, receiver: &Receiver) -> u64
+        ensures { (later : ℕ) → later < result → MayRest (Option.Some self.now) now.0 later last receiver.now }
+    {
+        if now.0.saturating_sub(last) <= self.silence {
+            last.saturating_add(self.silence).saturating_add(1)
+        } else if self.is_calm(receiver) {
+            u64::MAX
+        } else {
+            0
+        }
+    }
+
     /// Replaces what is requested by what the receiver misses now. Nothing is requested of a silent sender.
     fn refresh(&mut self, now: Ticks, is_heard: bool, receiver: &Receiver) -> Result<(), AllocError>
         ensures { Refreshes now.0 is_heard receiver.now self.old result self.new }
@@ -152,6 +174,22 @@ pub(crate) fn requests_due(feedback: &Option<Feedback>) -> Option<u64>
             None => None,
         },
         None => None,
+    }
+}
+
+/// Returns until when a stream requests nothing before a request is due, if it had nothing to request at `now`, and its receiver
+/// stays as it is. `last` is when its latest datagram arrived.
+pub(crate) fn rest_time(
+    feedback: &Option<Feedback>,
+    now: Ticks,
+    last: u64,
+    receiver: &Receiver,
+) -> u64
+    ensures { (later : ℕ) → later < result → MayRest feedback.now now.0 later last receiver.now }
+{
+    match feedback {
+        Some(feedback) => feedback.rest_time(now, last, receiver),
+        None => u64::MAX,
     }
 }
 

@@ -336,7 +336,10 @@ impl Session {
         ensures { result ≡ clock_among (position (is_of ssrc payload_type) self.now.port.streams) self.now.port.streams }
     {
         match place_of(&self.streams.list, ssrc, payload_type) {
-            Some(place) => self.streams.list[place].sender_clock,
+            Some(place) => {
+                let stream = &self.streams.list[place];
+                stream.sender_clock
+            }
             None => None,
         }
     }
@@ -415,7 +418,7 @@ impl Session {
         ensures { option_map (λ receiver. receiver.now) result ≡ receiver_among (position (is_of ssrc payload_type) self.now.port.streams) self.now.port.streams }
     {
         match place_of(&self.streams.list, ssrc, payload_type) {
-            Some(place) => Some(&self.streams.list[place].receiver),
+            Some(place) => self.receiver_at(place),
             None => None,
         }
     }

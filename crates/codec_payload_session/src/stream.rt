@@ -1,16 +1,19 @@
 //! One stream of a session: its receiver, and when it begins and ends.
 
-ghost use Rattle.std.specs.Prelude.{◌≡◌, IfOk, IfSome};
+ghost use Rattle.std.specs.Prelude.{◌≡◌, IfOk, IfSome, true};
 ghost use Rattle.std.specs.Option.{option_map};
 ghost use Rattle.codec_payload_session.specs.Changes.{is_left_behind, is_playing, left_behind, plays};
 ghost use Rattle.codec_payload_session.specs.Pairs.{paired_if};
+ghost use Rattle.codec_payload_session.specs.Quiet.{RestsUntil};
 ghost use Rattle.codec_payload_session.specs.Requests.{wait_by};
-ghost use Rattle.codec_payload_session.specs.Streams.{Begins, Drains, IsInfo, RequestsBy, RestsBy, Steps, Takes, due_of, earlier, end_of, heard, is_accepted, is_no_memory, is_of, is_probation, left, left_when, step_of, waiting_for, waiting_if, work_deadline};
+ghost use Rattle.codec_payload_session.specs.Streams.{Begins, Drains, IsInfo, Pops, RequestsBy, RestsBy, Steps, Takes, due_of, earlier, end_of, heard, heard_unless, is_accepted, is_no_memory, is_of, is_probation, left, left_when, received, step_of, waiting_for, waiting_if, work_deadline};
+ghost use Rattle.codec_payload_session.specs.Turns.{is_nothing};
+ghost use Rattle.codec_payload_session.specs.declared.stream.Step.TheVariants as steps;
 
 use crate::changes::{are_alike, takes_turns};
 use crate::formats::{Format, SessionSettings, SsrcPair, retransmission_for};
 use crate::reports::SenderClock;
-use crate::requests::{Feedback, hear, requests_due, round_trip, wait_by};
+use crate::requests::{Feedback, hear, requests_due, rest_time, round_trip, wait_by};
 use codec_payload_base::error::PacketError;
 use codec_payload_base::wire::Ticks;
 use codec_payload_buffer::buffer::Depacketized;
@@ -19,6 +22,7 @@ use codec_payload_jitter::jitter::WaitLimits;
 use codec_payload_jitter::outcome::Outcome;
 use codec_payload_stream::receiver::{Counters, ReceiveError, Receiver};
 use std::alloc::{AllocError, Global};
+use std::marker::Model;
 
 /// Why a stream ended.
 #[derive(Clone, Copy, Debug, PartialEq, Eq)]
@@ -84,6 +88,33 @@ pub(crate) struct Stream {
     pub(crate) feedback: Option<Feedback>,
     /// What the latest sender report says.
     pub(crate) sender_clock: Option<SenderClock>,
+    /// At earlier times a step has no event, unless the stream is idle. 0: it is not known.
+    quiet_until: u64,
+    /// Its `work_deadline`, unless `quiet_until` is 0.
+    work: Option<u64>,
+}
+
+impl Model for Stream {
+    ghost use Rattle.codec_payload_session.specs.Streams.{Stream};
+
+    ghost Value = { Stream };
+
+    ghost use Rattle.codec_payload_session.specs.Quiet.{IsQuietUntil};
+
+    ghost view = { λ s. record {
+      ssrc = s.ssrc;
+      format = s.format;
+      receiver = s.receiver;
+      stage = s.stage;
+      told = s.told;
+      taken = s.taken;
+      accepted = s.accepted;
+      last = s.last;
+      feedback = s.feedback;
+      sender_clock = s.sender_clock;
+    } };
+
+    ghost invariant = { λ s. IsQuietUntil s.quiet_until s.work s.told s.stage s.last s.feedback s.receiver };
 }
 
 /// A step of a stream: its next event, or nothing.
@@ -128,6 +159,8 @@ impl Stream {
             last: 0,
             feedback,
             sender_clock: None,
+            quiet_until: 0,
+            work: None,
         }))
     }
 
@@ -154,15 +187,33 @@ impl Stream {
     ) -> Result<Outcome, ReceiveError>
         ensures { Takes now probation datagram.now self.old result self.new }
     {
+        self.quiet_until = 0;
         let answer = self.receiver.receive(now, datagram);
-        if is_accepted(&answer) {
+        let accepted = is_accepted(&answer);
+        let no_memory = is_no_memory(&answer);
+        self.hear_if(accepted, now, datagram);
+        self.note_unless(no_memory, now, probation, accepted);
+        answer
+    }
+
+    /// Measures the round trip by an accepted datagram, if it answers a request.
+    fn hear_if(&mut self, accepted: bool, now: Ticks, datagram: &[u8])
+        ensures { self.new ≡ received now.0 datagram.now accepted self.old.receiver self.old }
+    {
+        if accepted {
+            self.quiet_until = 0;
             hear(&mut self.feedback, &self.format, now, datagram);
             self.follow_round_trip();
         }
-        if !is_no_memory(&answer) {
-            self.note(now, probation, is_accepted(&answer));
+    }
+
+    /// Counts one more datagram, unless memory ran out for it.
+    fn note_unless(&mut self, no_memory: bool, now: Ticks, probation: u64, accepted: bool)
+        ensures { self.new ≡ heard_unless no_memory now.0 probation accepted self.old }
+    {
+        if !no_memory {
+            self.note(now, probation, accepted);
         }
-        answer
     }
 
     /// Waits for as long as the round trip asks for, if waiting follows it and it is known.
@@ -170,6 +221,7 @@ impl Stream {
         ensures { self.new ≡ waiting_for (wait_by self.old.feedback) self.old }
     {
         if let Some(wait) = wait_by(&self.feedback) {
+            self.quiet_until = 0;
             let mut limits = self.receiver.wait_limits();
             limits.max_wait = Some(wait);
             self.receiver.set_wait_limits(limits);
@@ -180,6 +232,7 @@ impl Stream {
     fn note(&mut self, now: Ticks, probation: u64, accepted: bool)
         ensures { self.new ≡ heard now.0 probation accepted self.old }
     {
+        self.quiet_until = 0;
         self.taken = self.taken.wrapping_add(1);
         self.last = now.0;
         if accepted {
@@ -194,6 +247,7 @@ impl Stream {
     fn leave(&mut self, why: Ending, at: u64)
         ensures { self.new ≡ left why at self.old }
     {
+        self.quiet_until = 0;
         match self.stage {
             Stage::Draining(_) => {}
             Stage::Leaving(first, before) => self.stage = Stage::Leaving(first, before.min(at)),
@@ -242,6 +296,7 @@ impl Stream {
         ensures { self.new ≡ waiting_if ssrc payload_type wait_limits self.old }
     {
         if self.is_of(ssrc, payload_type) {
+            self.quiet_until = 0;
             self.receiver.set_wait_limits(wait_limits);
         }
     }
@@ -251,6 +306,7 @@ impl Stream {
         ensures { self.new ≡ paired_if ssrc pairs.now self.old }
     {
         if self.ssrc == ssrc {
+            self.quiet_until = 0;
             let retransmission = retransmission_for(pairs, self.ssrc, self.format.retransmission);
             self.receiver.set_retransmission(retransmission);
         }
@@ -274,26 +330,79 @@ impl Stream {
         ensures { Drains (end_of now idle_timeout self.old) self.old self.new }
     {
         if let Some(why) = self.end_at(now, idle_timeout) {
+            self.quiet_until = 0;
             self.receiver.finish();
             self.stage = Stage::Draining(why);
         }
     }
 
-    /// Returns the next event of the stream.
+    /// Returns the next event of the stream. A stream that is known to have none is not asked.
     pub(crate) fn step(&mut self, now: Ticks, idle_timeout: u64) -> Step
+        ensures { Steps now idle_timeout self.old result self.new }
+    {
+        if self.is_quiet(now, idle_timeout) {
+            Step::Nothing
+        } else {
+            self.ask(now, idle_timeout)
+        }
+    }
+
+    /// Returns whether the stream is known to have no event at this time.
+    fn is_quiet(&self, now: Ticks, idle_timeout: u64) -> bool
+        ensures { result ≡ true → Steps now idle_timeout self.now steps.Nothing self.now }
+    {
+        now.0 < self.quiet_until && now.0.saturating_sub(self.last) < idle_timeout
+    }
+
+    /// Asks the stream for its next event.
+    fn ask(&mut self, now: Ticks, idle_timeout: u64) -> Step
         ensures { Steps now idle_timeout self.old result self.new }
     {
         if is_probation(self.stage) {
             return Step::Nothing;
         }
         if !self.told {
+            self.quiet_until = 0;
             self.told = true;
             return Step::Begun;
         }
         self.drain(now.0, idle_timeout);
+        self.pop(now)
+    }
+
+    /// Returns the next unit of the stream, or what follows without one.
+    fn pop(&mut self, now: Ticks) -> Step
+        ensures { Pops now self.old result self.new }
+    {
+        self.quiet_until = 0;
+        let held = self.receiver.held();
         match self.receiver.pop(now) {
             Some(unit) => Step::Unit(unit),
-            None => self.rest(now),
+            None => {
+                let step = self.rest(now);
+                if is_nothing(&step) && self.receiver.held() == held {
+                    let work = self.find_work();
+                    self.quiet_until = self.quiet_time(now, work);
+                    self.work = work;
+                }
+                step
+            }
+        }
+    }
+
+    /// Returns until when the stream has no event, if it had none at `now`, and none of its packets left. 0: it is not known.
+    /// `work` is its `work_deadline`.
+    fn quiet_time(&self, now: Ticks, work: Option<u64>) -> u64
+        requires { work ≡ work_deadline self.now }
+        ensures { RestsUntil result now.0 self.now }
+    {
+        if !self.told || !is_playing(self.stage) {
+            return 0;
+        }
+        let rest = rest_time(&self.feedback, now, self.last, &self.receiver);
+        match work {
+            Some(at) => rest.min(at),
+            None => rest,
         }
     }
 
@@ -312,14 +421,25 @@ impl Stream {
     fn request(&mut self, now: Ticks) -> Step
         ensures { RequestsBy self.old.feedback now.0 self.old result self.new }
     {
-        match &mut self.feedback {
-            Some(feedback) => step_of(feedback.take_due(now, self.last, &self.receiver)),
-            None => Step::Nothing,
+        self.quiet_until = 0;
+        if let Some(feedback) = &mut self.feedback {
+            return step_of(feedback.take_due(now, self.last, &self.receiver));
         }
+        Step::Nothing
     }
 
     /// Returns when the stream may have a unit, or a request is due.
     fn work_deadline(&self) -> Option<u64>
+        ensures { result ≡ work_deadline self.now }
+    {
+        if self.quiet_until > 0 {
+            return self.work;
+        }
+        self.find_work()
+    }
+
+    /// Finds the same time by the receiver and the requests.
+    fn find_work(&self) -> Option<u64>
         ensures { result ≡ work_deadline self.now }
     {
         let unit = match self.receiver.next_deadline() {
@@ -377,6 +497,13 @@ fn is_playing(stage: Stage) -> bool
     ensures { result ≡ is_playing stage }
 {
     matches!(stage, Stage::Playing)
+}
+
+/// Returns whether a step has no event.
+pub(crate) fn is_nothing(step: &Step) -> bool
+    ensures { result ≡ is_nothing step.now }
+{
+    matches!(step, Step::Nothing)
 }
 
 /// Returns the step of a stream with these requests.

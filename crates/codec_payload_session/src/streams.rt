@@ -8,7 +8,7 @@ ghost use Rattle.codec_payload_rtcp.specs.RtcpReading.{compound_at, packets_left
 ghost use Rattle.codec_payload_rtcp.specs.RtcpValues.{packet_of};
 ghost use Rattle.codec_payload_session.specs.Reports.{noted_at};
 ghost use Rattle.codec_payload_session.specs.Streams.{due_in, is_of, waiting_if, waiting_where};
-ghost use Rattle.codec_payload_session.specs.Turns.{StepsFirst, TakesTurn, after_step, is_nothing, told_by};
+ghost use Rattle.codec_payload_session.specs.Turns.{StepsFirst, TakesTurn, after_step, told_by};
 ghost use Rattle.codec_payload_session.specs.Arrivals.{BeginsIf, BeginsOrFeeds, Feeds, TakesIn, added, goodbye_at, has_place, has_ssrc, includes, leaving, left_if, left_where, on_probation, removed, TakesMedia};
 ghost use Rattle.codec_payload_session.specs.Ports.{ReportsIf, ReportsOn, everyone, no_port};
 ghost use Rattle.codec_payload_session.specs.declared.stream.Ending.TheVariants as endings;
@@ -21,7 +21,7 @@ use crate::pairs::{pair, with_pair};
 use crate::reports::note_reports;
 use crate::session::{Arrival, Event};
 use crate::sort::{Sorted, sort};
-use crate::stream::{Ending, Step, Stream, earlier, is_no_memory};
+use crate::stream::{Ending, Step, Stream, earlier, is_no_memory, is_nothing};
 use codec_payload_base::wire::{Frequency, Ticks};
 use codec_payload_jitter::jitter::WaitLimits;
 use codec_payload_rtcp::items::ReportBlock;
@@ -401,13 +401,6 @@ fn step_first(streams: &mut [Stream], now: Ticks, idle_timeout: u64) -> Option<T
         }
     }
     None
-}
-
-/// Returns whether a step has no event.
-fn is_nothing(step: &Step) -> bool
-    ensures { result ≡ is_nothing step.now }
-{
-    matches!(step, Step::Nothing)
 }
 
 /// Returns when a stream may have an event without a datagram.

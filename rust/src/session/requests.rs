@@ -89,6 +89,23 @@ impl Feedback {
         }
     }
 
+    /// Returns whether the receiver misses nothing that is requested: no packet, and no keyframe.
+    fn is_calm(&self, receiver: &Receiver) -> bool {
+        let wants_keyframe = self.pli && receiver.wants_keyframe();
+        !wants_keyframe && receiver.missing(self.most.min(1)).next().is_none()
+    }
+
+    /// Returns until when what is requested changes by no other cause than a request that is due.
+    fn rest_time(&self, now: Ticks, last: u64, receiver: &Receiver) -> u64 {
+        if now.0.saturating_sub(last) <= self.silence {
+            last.saturating_add(self.silence).saturating_add(1)
+        } else if self.is_calm(receiver) {
+            u64::MAX
+        } else {
+            0
+        }
+    }
+
     /// Replaces what is requested by what the receiver misses now. Nothing is requested of a silent sender.
     fn refresh(
         &mut self,
@@ -131,6 +148,20 @@ pub(crate) fn requests_due(feedback: &Option<Feedback>) -> Option<u64> {
             None => None,
         },
         None => None,
+    }
+}
+
+/// Returns until when a stream requests nothing before a request is due, if it had nothing to request at `now`, and its receiver
+/// stays as it is. `last` is when its latest datagram arrived.
+pub(crate) fn rest_time(
+    feedback: &Option<Feedback>,
+    now: Ticks,
+    last: u64,
+    receiver: &Receiver,
+) -> u64 {
+    match feedback {
+        Some(feedback) => feedback.rest_time(now, last, receiver),
+        None => u64::MAX,
     }
 }
 

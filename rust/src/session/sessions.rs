@@ -287,7 +287,10 @@ impl Session {
     /// [`SenderClock::ntp_at`]: crate::session::reports::SenderClock::ntp_at
     pub fn sender_clock(&self, ssrc: u32, payload_type: u8) -> Option<SenderClock> {
         match place_of(&self.streams.list, ssrc, payload_type) {
-            Some(place) => self.streams.list[place].sender_clock,
+            Some(place) => {
+                let stream = &self.streams.list[place];
+                stream.sender_clock
+            }
             None => None,
         }
     }
@@ -352,7 +355,7 @@ impl Session {
     /// [`Receiver::unit_is_keyframe`]: crate::stream::receiver::Receiver::unit_is_keyframe
     pub fn receiver_of(&self, ssrc: u32, payload_type: u8) -> Option<&Receiver> {
         match place_of(&self.streams.list, ssrc, payload_type) {
-            Some(place) => Some(&self.streams.list[place].receiver),
+            Some(place) => self.receiver_at(place),
             None => None,
         }
     }

@@ -11,7 +11,7 @@ use crate::memory::AllocError;
 use crate::session::changes::{are_alike, takes_turns};
 use crate::session::formats::{Format, SessionSettings, SsrcPair, retransmission_for};
 use crate::session::reports::SenderClock;
-use crate::session::requests::{Feedback, hear, requests_due, round_trip, wait_by};
+use crate::session::requests::{Feedback, hear, requests_due, rest_time, round_trip, wait_by};
 use crate::stream::receiver::{Counters, ReceiveError, Receiver};
 use crate::wire::Ticks;
 use alloc::vec::Vec;
@@ -80,6 +80,10 @@ pub(crate) struct Stream {
     pub(crate) feedback: Option<Feedback>,
     /// What the latest sender report says.
     pub(crate) sender_clock: Option<SenderClock>,
+    /// At earlier times a step has no event, unless the stream is idle. 0: it is not known.
+    quiet_until: u64,
+    /// Its `work_deadline`, unless `quiet_until` is 0.
+    work: Option<u64>,
 }
 
 /// A step of a stream: its next event, or nothing.
@@ -121,6 +125,8 @@ impl Stream {
             last: 0,
             feedback,
             sender_clock: None,
+            quiet_until: 0,
+            work: None,
         }))
     }
 
@@ -141,6 +147,7 @@ impl Stream {
         probation: u64,
         datagram: &[u8],
     ) -> Result<Outcome, ReceiveError> {
+        self.quiet_until = 0;
         let answer = self.receiver.receive(now, datagram);
         if is_accepted(&answer) {
             hear(&mut self.feedback, &self.format, now, datagram);
@@ -155,6 +162,7 @@ impl Stream {
     /// Waits for as long as the round trip asks for, if waiting follows it and it is known.
     fn follow_round_trip(&mut self) {
         if let Some(wait) = wait_by(&self.feedback) {
+            self.quiet_until = 0;
             let mut limits = self.receiver.wait_limits();
             limits.max_wait = Some(wait);
             self.receiver.set_wait_limits(limits);
@@ -163,6 +171,7 @@ impl Stream {
 
     /// Counts one more datagram.
     fn note(&mut self, now: Ticks, probation: u64, accepted: bool) {
+        self.quiet_until = 0;
         self.taken = self.taken.wrapping_add(1);
         self.last = now.0;
         if accepted {
@@ -175,6 +184,7 @@ impl Stream {
 
     /// Sets the time at which the stream ends. An earlier end stays.
     fn leave(&mut self, why: Ending, at: u64) {
+        self.quiet_until = 0;
         match self.stage {
             Stage::Draining(_) => {}
             Stage::Leaving(first, before) => self.stage = Stage::Leaving(first, before.min(at)),
@@ -213,6 +223,7 @@ impl Stream {
     /// Replaces the wait limits, if the stream has this SSRC and payload type.
     pub(crate) fn wait_if(&mut self, ssrc: u32, payload_type: u8, wait_limits: WaitLimits) {
         if self.is_of(ssrc, payload_type) {
+            self.quiet_until = 0;
             self.receiver.set_wait_limits(wait_limits);
         }
     }
@@ -220,6 +231,7 @@ impl Stream {
     /// Takes the retransmissions that the stream has by these pairs, if it has this SSRC.
     pub(crate) fn pair_if(&mut self, ssrc: u32, pairs: &[SsrcPair]) {
         if self.ssrc == ssrc {
+            self.quiet_until = 0;
             let retransmission = retransmission_for(pairs, self.ssrc, self.format.retransmission);
             self.receiver.set_retransmission(retransmission);
         }
@@ -239,24 +251,68 @@ impl Stream {
     /// Finishes the receiver if the stream ends now, so that pops wait for nothing.
     fn drain(&mut self, now: u64, idle_timeout: u64) {
         if let Some(why) = self.end_at(now, idle_timeout) {
+            self.quiet_until = 0;
             self.receiver.finish();
             self.stage = Stage::Draining(why);
         }
     }
 
-    /// Returns the next event of the stream.
+    /// Returns the next event of the stream. A stream that is known to have none is not asked.
     pub(crate) fn step(&mut self, now: Ticks, idle_timeout: u64) -> Step {
+        if self.is_quiet(now, idle_timeout) {
+            Step::Nothing
+        } else {
+            self.ask(now, idle_timeout)
+        }
+    }
+
+    /// Returns whether the stream is known to have no event at this time.
+    fn is_quiet(&self, now: Ticks, idle_timeout: u64) -> bool {
+        now.0 < self.quiet_until && now.0.saturating_sub(self.last) < idle_timeout
+    }
+
+    /// Asks the stream for its next event.
+    fn ask(&mut self, now: Ticks, idle_timeout: u64) -> Step {
         if is_probation(self.stage) {
             return Step::Nothing;
         }
         if !self.told {
+            self.quiet_until = 0;
             self.told = true;
             return Step::Begun;
         }
         self.drain(now.0, idle_timeout);
+        self.pop(now)
+    }
+
+    /// Returns the next unit of the stream, or what follows without one.
+    fn pop(&mut self, now: Ticks) -> Step {
+        self.quiet_until = 0;
+        let held = self.receiver.held();
         match self.receiver.pop(now) {
             Some(unit) => Step::Unit(unit),
-            None => self.rest(now),
+            None => {
+                let step = self.rest(now);
+                if is_nothing(&step) && self.receiver.held() == held {
+                    let work = self.find_work();
+                    self.quiet_until = self.quiet_time(now, work);
+                    self.work = work;
+                }
+                step
+            }
+        }
+    }
+
+    /// Returns until when the stream has no event, if it had none at `now`, and none of its packets left. 0: it is not known.
+    /// `work` is its `work_deadline`.
+    fn quiet_time(&self, now: Ticks, work: Option<u64>) -> u64 {
+        if !self.told || !is_playing(self.stage) {
+            return 0;
+        }
+        let rest = rest_time(&self.feedback, now, self.last, &self.receiver);
+        match work {
+            Some(at) => rest.min(at),
+            None => rest,
         }
     }
 
@@ -271,14 +327,23 @@ impl Stream {
 
     /// Returns the requests that are due, by what the receiver misses now.
     fn request(&mut self, now: Ticks) -> Step {
-        match &mut self.feedback {
-            Some(feedback) => step_of(feedback.take_due(now, self.last, &self.receiver)),
-            None => Step::Nothing,
+        self.quiet_until = 0;
+        if let Some(feedback) = &mut self.feedback {
+            return step_of(feedback.take_due(now, self.last, &self.receiver));
         }
+        Step::Nothing
     }
 
     /// Returns when the stream may have a unit, or a request is due.
     fn work_deadline(&self) -> Option<u64> {
+        if self.quiet_until > 0 {
+            return self.work;
+        }
+        self.find_work()
+    }
+
+    /// Finds the same time by the receiver and the requests.
+    fn find_work(&self) -> Option<u64> {
         let unit = match self.receiver.next_deadline() {
             Some(at) => Some(at.0),
             None => None,
@@ -326,6 +391,11 @@ fn is_probation(stage: Stage) -> bool {
 /// Returns whether a stream at this stage plays.
 fn is_playing(stage: Stage) -> bool {
     matches!(stage, Stage::Playing)
+}
+
+/// Returns whether a step has no event.
+pub(crate) fn is_nothing(step: &Step) -> bool {
+    matches!(step, Step::Nothing)
 }
 
 /// Returns the step of a stream with these requests.

@@ -12,7 +12,7 @@ use crate::session::pairs::{pair, with_pair};
 use crate::session::reports::note_reports;
 use crate::session::sessions::{Arrival, Event};
 use crate::session::sort::{Sorted, sort};
-use crate::session::stream::{Ending, Step, Stream, earlier, is_no_memory};
+use crate::session::stream::{Ending, Step, Stream, earlier, is_no_memory, is_nothing};
 use crate::wire::{Frequency, Ticks};
 use alloc::vec::Vec;
 
@@ -315,11 +315,6 @@ fn step_first(streams: &mut [Stream], now: Ticks, idle_timeout: u64) -> Option<T
         }
     }
     None
-}
-
-/// Returns whether a step has no event.
-fn is_nothing(step: &Step) -> bool {
-    matches!(step, Step::Nothing)
 }
 
 /// Returns when a stream may have an event without a datagram.
