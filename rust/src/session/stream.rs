@@ -149,14 +149,27 @@ impl Stream {
     ) -> Result<Outcome, ReceiveError> {
         self.quiet_until = 0;
         let answer = self.receiver.receive(now, datagram);
-        if is_accepted(&answer) {
+        let accepted = is_accepted(&answer);
+        let no_memory = is_no_memory(&answer);
+        self.hear_if(accepted, now, datagram);
+        self.note_unless(no_memory, now, probation, accepted);
+        answer
+    }
+
+    /// Measures the round trip by an accepted datagram, if it answers a request.
+    fn hear_if(&mut self, accepted: bool, now: Ticks, datagram: &[u8]) {
+        if accepted {
+            self.quiet_until = 0;
             hear(&mut self.feedback, &self.format, now, datagram);
             self.follow_round_trip();
         }
-        if !is_no_memory(&answer) {
-            self.note(now, probation, is_accepted(&answer));
+    }
+
+    /// Counts one more datagram, unless memory ran out for it.
+    fn note_unless(&mut self, no_memory: bool, now: Ticks, probation: u64, accepted: bool) {
+        if !no_memory {
+            self.note(now, probation, accepted);
         }
-        answer
     }
 
     /// Waits for as long as the round trip asks for, if waiting follows it and it is known.
