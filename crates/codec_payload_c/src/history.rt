@@ -1,6 +1,7 @@
 //! Histories: sent packets are kept, and resent when RTCP feedback requests them.
 
-ghost use Rattle.std.specs.Prelude.{◌≡◌, ◌≢◌, ◌+◌, ◌-◌, ◌^◌, length, min, set};
+ghost use Rattle.std.specs.Prelude.{◌≡◌, ◌≢◌, ◌+◌, ◌-◌, ◌^◌, ◌≤◌, length, min, set, Bool, IfNone, IfSome, Ok};
+ghost use Rattle.codec_payload_history.specs.Histories.{history_by};
 ghost use Rattle.codec_payload_history.specs.Requests.{requests_at, requests_left};
 ghost use Rattle.codec_payload_rtcp.specs.Compound.{is_full};
 ghost use Rattle.codec_payload_c.specs.Histories.{IsPacketHistoryOf, KeepsDatagram, ReadsRequests, ResendsPacket, asks_keyframe, is_in_range, numbers_asked, put_first, rtcp_status, settings_set};
@@ -52,6 +53,18 @@ fn settings_of(settings: &HistorySettings) -> Settings
         interval: settings.interval,
         stream: if settings.has_rtx { Some(stream) } else { None },
     }
+}
+
+/// Creates a history with these settings, if they are in range. It does not allocate.
+fn history_by(alloc: Global, settings: &HistorySettings) -> Option<PacketHistory>
+    ensures made { IfSome result (λ r. (history_by (settings_set settings.now) ≡ Ok r.history) × (is_in_range settings.now ≡ Bool.true)) }
+    ensures refused { IfNone result (is_in_range settings.now ≡ Bool.false) }
+{
+    let history = History::new(alloc, settings_of(settings)).ok()?;
+    Some(PacketHistory {
+        history,
+        datagram: Vec::new(alloc),
+    })
 }
 
 /// Keeps a copy of a datagram that was sent.
@@ -144,6 +157,7 @@ fn rule_of(full: bool) -> CompoundRule
 /// Writes a number at a place, if there is room for it, and returns the next place.
 fn put(numbers: &mut [u16], place: usize, number: u16) -> usize
     ensures number { numbers.new ≡ set numbers.old place number }
+    ensures room { length numbers.old ≤ 2 ^ 64 - 1 }
     ensures next { result ≡ min (place + 1) (2 ^ 64 - 1) }
 {
     if place < numbers.len() {
@@ -182,12 +196,8 @@ pub extern "C" fn cpay_history_new(
         handle.put(object);
         return status::FULL;
     }
-    let Ok(history) = History::new(alloc, settings_of(settings)) else {
+    let Some(kept) = history_by(alloc, settings) else {
         return status::INVALID;
-    };
-    let kept = PacketHistory {
-        history,
-        datagram: Vec::new(alloc),
     };
     let Ok(kept) = Box::new(alloc, kept) else {
         return status::OUT_OF_MEMORY;
