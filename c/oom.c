@@ -277,8 +277,8 @@ static int history(int *met) {
         if (status != CPAY_TOO_SMALL || size != 15 || resent != 99 || bytes[0]) return 5;
         long resent_first = asked;
         if (cpay_history_resend(&it, 0, number, bytes, 15, &size, &resent) || resent != CPAY_RESENT_WRITTEN || size != 15) return 6;
-        if (asked != resent_first || bytes[13] || bytes[14] != number) return 7;
-        if (bytes[2] != (number == 4 ? 255 : 0) || bytes[3] != bytes[2] || bytes[13] != 0) return 8;
+        if (asked != resent_first || bytes[12] || bytes[13] != number || bytes[14] != number) return 7;
+        if (bytes[2] != (number == 4 ? 255 : 0) || bytes[3] != bytes[2]) return 8; /* the number of the retransmission */
     }
     cpay_history_free(&it);
     return kept == before ? 0 : 9;
@@ -540,7 +540,7 @@ static int too_large(void) {
     TAKES(600, "buffer", cpay_buffer_new(&it.buffer, &opus, 0, 64));
     TAKES(150, "sender of RED", cpay_red_sender_new(&it.red_sender, 63, 111, &distance, 1));
     TAKES(1200, "sender", cpay_sender_new(&it.sender, &sends));
-    TAKES(350, "history", cpay_history_new(&it.history, &keeps));
+    TAKES(200, "history", cpay_history_new(&it.history, &keeps));
     TAKES(2600, "receiver", cpay_receiver_new(&it.receiver, &receives, NULL, 0));
     TAKES(1200, "session", cpay_session_new(&it.session, &port, &format, 1, NULL, 0, NULL, 0));
     return bad;
