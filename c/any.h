@@ -10,6 +10,7 @@ typedef union {
     cpay_depacketizer depacketizer;
     cpay_red_sender red_sender;
     cpay_sender sender;
+    cpay_history history;
     cpay_receiver receiver;
     cpay_session session;
 } any;

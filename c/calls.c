@@ -31,6 +31,10 @@ void cpay_sender_free(cpay_sender *sender) {
     if (sender) proved_cpay_free(&sender->handle);
 }
 
+void cpay_history_free(cpay_history *history) {
+    if (history) proved_cpay_free(&history->handle);
+}
+
 void cpay_receiver_free(cpay_receiver *receiver) {
     if (receiver) proved_cpay_free(&receiver->handle);
 }
@@ -183,6 +187,35 @@ cpay_status cpay_sender_counts(cpay_sender *sender, cpay_sender_counts_info *cou
 cpay_status proved_cpay_sender_report(cpay_handle *sender, uint64_t now, cpay_sender_report_info *report);
 cpay_status cpay_sender_report(cpay_sender *sender, uint64_t now, cpay_sender_report_info *report) {
     return proved_cpay_sender_report(&sender->handle, now, report);
+}
+
+cpay_status proved_cpay_history_new(cpay_handle *history, const cpay_history_settings *settings);
+cpay_status cpay_history_new(cpay_history *history, const cpay_history_settings *settings) {
+    return proved_cpay_history_new(&history->handle, settings);
+}
+
+cpay_status proved_cpay_history_keep(cpay_handle *history, const uint8_t *datagram, size_t datagram_len);
+cpay_status cpay_history_keep(cpay_history *history, const uint8_t *datagram, size_t datagram_len) {
+    if (!datagram && datagram_len) return CPAY_INVALID;
+    return proved_cpay_history_keep(&history->handle, datagram ? datagram : (const uint8_t *)nothing, datagram_len);
+}
+
+cpay_status proved_cpay_history_resend(cpay_handle *history, uint64_t now, uint16_t number, uint8_t *bytes, size_t bytes_len,
+                                       size_t *size, uint32_t *resent);
+cpay_status cpay_history_resend(cpay_history *history, uint64_t now, uint16_t number, uint8_t *bytes, size_t bytes_len,
+                                size_t *size, uint32_t *resent) {
+    if (!bytes && bytes_len) return CPAY_INVALID;
+    return proved_cpay_history_resend(&history->handle, now, number, bytes ? bytes : (uint8_t *)nothing, bytes_len, size,
+                                      resent);
+}
+
+cpay_status proved_cpay_read_requests(const uint8_t *rtcp, size_t rtcp_len, uint32_t ssrc, bool full, uint16_t *numbers,
+                                      size_t numbers_len, size_t *count, bool *wants_keyframe);
+cpay_status cpay_read_requests(const uint8_t *rtcp, size_t rtcp_len, uint32_t ssrc, bool full, uint16_t *numbers,
+                               size_t numbers_len, size_t *count, bool *wants_keyframe) {
+    if ((!rtcp && rtcp_len) || (!numbers && numbers_len)) return CPAY_INVALID;
+    return proved_cpay_read_requests(rtcp ? rtcp : (const uint8_t *)nothing, rtcp_len, ssrc, full,
+                                     numbers ? numbers : (uint16_t *)nothing, numbers_len, count, wants_keyframe);
 }
 
 cpay_status proved_cpay_receiver_new(cpay_handle *receiver, const cpay_receiver_settings *settings, const uint8_t *no_media,

@@ -245,6 +245,45 @@ static int datagrams(int *met) {
     return kept == before ? 0 : 9;
 }
 
+/* Six packets are sent, and the last two are resent. */
+static int history(int *met) {
+    long before = kept;
+    const cpay_history_settings settings = {.limit = 2, .rtx_ssrc = 9, .rtx_first_number = 65535, .rtx_payload_type = 97,
+                                            .has_rtx = true};
+    cpay_history it = CPAY_INIT;
+    cpay_status status;
+    AGAIN(status, cpay_history_new(&it, &settings));
+    if (status) return 1;
+    for (uint8_t number = 0; number < 6; number++) {
+        const uint8_t sent[13] = {0x80, 96, 0, number, 0, 0, 0, 0, 0, 0, 0, 7, number};
+        AGAIN(status, cpay_history_keep(&it, sent, sizeof sent));
+        if (status) return 2;
+    }
+    for (uint8_t number = 3; number < 6; number++) {
+        uint8_t bytes[15] = {0};
+        size_t size = 99;
+        uint32_t resent = 99;
+        refused = false;
+        status = cpay_history_resend(&it, 0, number, bytes, 14, &size, &resent);
+        if (status == CPAY_OUT_OF_MEMORY) {
+            (*met)++;
+            if (!refused || size != 99 || resent != 99) return 3;
+            status = cpay_history_resend(&it, 0, number, bytes, 14, &size, &resent);
+        }
+        if (number == 3) {
+            if (status || resent != CPAY_RESENT_NOT_KEPT || size) return 4;
+            continue;
+        }
+        if (status != CPAY_TOO_SMALL || size != 15 || resent != 99 || bytes[0]) return 5;
+        long resent_first = asked;
+        if (cpay_history_resend(&it, 0, number, bytes, 15, &size, &resent) || resent != CPAY_RESENT_WRITTEN || size != 15) return 6;
+        if (asked != resent_first || bytes[12] || bytes[13] != number || bytes[14] != number) return 7;
+        if (bytes[2] != (number == 4 ? 255 : 0) || bytes[3] != bytes[2]) return 8; /* the number of the retransmission */
+    }
+    cpay_history_free(&it);
+    return kept == before ? 0 : 9;
+}
+
 /* A packet of Opus: its header of 12 bytes, and the payload. */
 static size_t packet(uint8_t *out, uint8_t type, uint8_t ssrc, uint8_t number, const char *payload, size_t size) {
     const uint8_t header[12] = {0x80, type, 0, number, 0, 0, 0, number, 0, 0, 0, ssrc};
@@ -435,6 +474,46 @@ static int left_in_session(void) {
     return 0;
 }
 
+/* A history, before its first packet, and with packets and the memory of a retransmission. */
+static int left_in_history(void) {
+    for (uint8_t packets = 0; packets < 4; packets++) {
+        const cpay_history_settings settings = {.limit = 2};
+        long before = kept;
+        any it = ANY_INIT;
+        uint8_t bytes[12];
+        size_t size = 0;
+        uint32_t resent = 0;
+        if (cpay_history_new(&it.history, &settings)) return 1;
+        for (uint8_t number = 0; number < packets; number++) {
+            const uint8_t sent[12] = {0x80, 96, 0, number, 0, 0, 0, 0, 0, 0, 0, 7};
+            if (cpay_history_keep(&it.history, sent, sizeof sent)) return 2;
+            if (cpay_history_resend(&it.history, 0, number, bytes, 0, &size, &resent) != CPAY_TOO_SMALL) return 3;
+            if (cpay_history_resend(&it.history, 0, number, bytes, 12, &size, &resent) || bytes[3] != number) return 4;
+        }
+        if (!gives_back(&it, before)) return 5;
+    }
+    return 0;
+}
+
+/* Packets of one size: once a history is full, no call allocates. */
+static int resends_allocate(void) {
+    const cpay_history_settings settings = {.limit = 4};
+    cpay_history it = CPAY_INIT;
+    if (cpay_history_new(&it, &settings)) return 1;
+    for (uint8_t number = 0; number < 40; number++) {
+        const uint8_t sent[12] = {0x80, 96, 0, number, 0, 0, 0, 0, 0, 0, 0, 7};
+        uint8_t bytes[12];
+        size_t size = 0;
+        uint32_t resent = 0;
+        long steady = asked;
+        if (cpay_history_keep(&it, sent, sizeof sent)) return 2;
+        if (cpay_history_resend(&it, 0, number, bytes, 12, &size, &resent) || resent != CPAY_RESENT_WRITTEN) return 3;
+        if (number > 8 && asked != steady) return 4;
+    }
+    cpay_history_free(&it);
+    return 0;
+}
+
 /* Frees an object that was just made, and returns whether it took at most that many bytes since `before`. */
 static bool is_within(any *it, const char *type, size_t before, size_t most) {
     size_t took = total - before;
@@ -449,6 +528,7 @@ static int too_large(void) {
     const cpay_sender_settings sends = {.spec = opus, .mtu = MTU, .ssrc = 7, .payload_type = 111};
     const cpay_session_settings port = CPAY_LIVE_SESSION;
     const cpay_session_format format = {.spec = opus, .payload_type = 111};
+    const cpay_history_settings keeps = {.limit = 512};
     static const uint32_t distance = 1;
     cpay_receiver_settings receives = CPAY_LIVE_AUDIO;
     any it = ANY_INIT;
@@ -462,6 +542,7 @@ static int too_large(void) {
     TAKES(600, "buffer", cpay_buffer_new(&it.buffer, &opus, 0, 64));
     TAKES(150, "sender of RED", cpay_red_sender_new(&it.red_sender, 63, 111, &distance, 1));
     TAKES(1200, "sender", cpay_sender_new(&it.sender, &sends));
+    TAKES(200, "history", cpay_history_new(&it.history, &keeps));
     TAKES(2600, "receiver", cpay_receiver_new(&it.receiver, &receives, NULL, 0));
     TAKES(1200, "session", cpay_session_new(&it.session, &port, &format, 1, NULL, 0, NULL, 0));
     return bad;
@@ -515,6 +596,8 @@ static int leaks(void) {
         if ((ended = left_behind(codecs[i]))) printf("memory left by codec %u: ended %d\n", (unsigned)codecs[i], ended), bad++;
     if ((ended = left_in_red())) printf("memory left by RED: ended %d\n", ended), bad++;
     if ((ended = left_in_session())) printf("memory left by a session: ended %d\n", ended), bad++;
+    if ((ended = left_in_history())) printf("memory left by a history: ended %d\n", ended), bad++;
+    if ((ended = resends_allocate())) printf("resends in steady state: ended %d\n", ended), bad++;
     if ((ended = pops_allocate())) printf("pops in steady state: ended %d\n", ended), bad++;
     return bad + too_large();
 }
@@ -528,6 +611,7 @@ static int session(int *met) {
     }
     int ended = red(met);
     if (!ended) ended = datagrams(met);
+    if (!ended) ended = history(met);
     if (!ended) ended = port(met);
     return ended ? ended : recovery(met);
 }

@@ -143,6 +143,24 @@ void over_payloads() {
     CHECK(reads.depacketized(extra, found) == CPAY_OK && found == frame && extra.kind == CPAY_EXTRA_VP8);
 }
 
+void over_a_history() {
+    const std::vector<std::uint8_t> packet = {0x80, 96, 0, 5, 0, 0, 0, 0, 0, 0, 0, 7, 1};
+    const std::uint8_t nack[] = {0x81, 205, 0, 3, 0, 0, 0, 1, 0, 0, 0, 7, 0, 5, 0, 1};
+    const cpay_history_settings settings = {8, 10, 0, 0, 0, false};
+    std::uint16_t numbers[2] = {};
+    std::size_t count = 0, size = 0;
+    std::uint32_t resent = 9;
+    bool wants_keyframe = true;
+    std::vector<std::uint8_t> found;
+    cpay::history kept;
+    CHECK(kept.make(settings) == CPAY_OK && kept.keep(packet) == CPAY_OK);
+    CHECK(cpay::read_requests(nack, 7, false, numbers, count, wants_keyframe) == CPAY_OK && count == 2 && !wants_keyframe);
+    CHECK(kept.resend(0, numbers[0], cpay::room(), size, resent) == CPAY_TOO_SMALL && size == 13 && resent == 9);
+    CHECK(kept.resend(0, numbers[0], found, resent) == CPAY_OK && resent == CPAY_RESENT_WRITTEN && found == packet);
+    CHECK(kept.resend(9, numbers[0], found, resent) == CPAY_OK && resent == CPAY_RESENT_TOO_SOON && found.empty());
+    CHECK(kept.resend(9, numbers[1], found, resent) == CPAY_OK && resent == CPAY_RESENT_NOT_KEPT && found.empty());
+}
+
 void over_red() {
     const std::uint32_t distances[] = {1};
     const std::uint8_t payload[] = {1, 2, 3};
@@ -164,6 +182,7 @@ int main() {
     over_datagrams();
     over_a_port();
     over_payloads();
+    over_a_history();
     over_red();
     return checked();
 }

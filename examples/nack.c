@@ -1,4 +1,5 @@
-/* NACK loop: requests missing packets and stores the retransmissions (RFC 4585, section 6.2.1).
+/* NACK loop: the receiver requests missing packets and stores the retransmissions (RFC 4585, section 6.2.1), and the sender resends
+ * them from its history.
  *
  *     cc nack.c $(pkg-config --cflags --libs codec-payload) && ./a.out
  *
@@ -16,7 +17,7 @@
 #include <stdlib.h>
 #include <string.h>
 
-enum { FRAMES = 600, FRAME = 3000, INTERVAL = 33, ONE_WAY = 20, TRIES = 5, HISTORY = 1024, ASKED = 512, MTU = 1200, ROOM = 1500 };
+enum { FRAMES = 600, FRAME = 3000, INTERVAL = 33, ONE_WAY = 20, TRIES = 5, ASKED = 512, MTU = 1200, ROOM = 1500 };
 
 static void check(cpay_status status, const char *what) {
     if (status == CPAY_OK) return;
@@ -24,7 +25,7 @@ static void check(cpay_status status, const char *what) {
     exit(EXIT_FAILURE);
 }
 
-/* ---- The recipe ---- */
+/* ---- The recipe: the receiver's half ---- */
 
 typedef struct {
     uint64_t number, asked_at;
@@ -74,15 +75,16 @@ static size_t put_nack(uint8_t *packet, uint32_t own_ssrc, uint32_t media_ssrc, 
     return size;
 }
 
-/* ---- The simulated network and sender ---- */
+/* ---- The simulated network ---- */
 
 typedef struct {
     uint8_t bytes[ROOM];
     size_t size;
-    uint64_t arrives_at; /* 0: not on its way */
-} sent;
+    uint64_t arrives_at;
+} datagram;
 
-static sent history[HISTORY];
+static datagram on_the_way[2 * ASKED];
+static size_t count_on_the_way;
 
 static bool lost(void) {
     static uint32_t chance = 1;
@@ -90,21 +92,48 @@ static bool lost(void) {
     return (chance >> 16) % 10 == 0;
 }
 
-/* The sender answers a NACK with the packets that its history still has. */
-static void answer_nack(const uint8_t *packet, size_t size, uint64_t now) {
-    for (size_t at = 12; at + 4 <= size; at += 4) {
-        uint32_t first = (uint32_t)(packet[at] << 8 | packet[at + 1]), mask = (uint32_t)(packet[at + 2] << 8 | packet[at + 3]);
-        for (uint32_t i = 0; i <= 16; i++)
-            if ((i == 0 || mask >> (i - 1) & 1) && !lost()) history[(first + i) % HISTORY].arrives_at = now + 2 * ONE_WAY;
-    }
+static void carry(const datagram *it, uint64_t arrives_at) {
+    if (count_on_the_way == sizeof on_the_way / sizeof *on_the_way) exit(EXIT_FAILURE);
+    on_the_way[count_on_the_way] = *it;
+    on_the_way[count_on_the_way++].arrives_at = arrives_at;
 }
 
 static void deliver(cpay_receiver *receiver, uint64_t now) {
-    for (size_t i = 0; i < HISTORY; i++) {
+    size_t left = 0;
+    for (size_t i = 0; i < count_on_the_way; i++) {
+        const datagram *it = &on_the_way[i];
         uint32_t outcome = 0;
-        if (!history[i].arrives_at || history[i].arrives_at > now) continue;
-        check(cpay_receiver_receive(receiver, now, history[i].bytes, history[i].size, &outcome), "receive");
-        history[i].arrives_at = 0;
+        if (it->arrives_at > now) on_the_way[left++] = *it;
+        else check(cpay_receiver_receive(receiver, now, it->bytes, it->size, &outcome), "receive");
+    }
+    count_on_the_way = left;
+}
+
+/* ---- The recipe: the sender's half ---- */
+
+/* Sends the datagrams of a frame, and keeps each of them. The first frame arrives. */
+static void send_frame(cpay_sender *sender, cpay_history *history, uint64_t now, const uint8_t *frame, size_t size) {
+    size_t count = 0;
+    datagram it;
+    check(cpay_sender_send(sender, now * 90, false, frame, size, &count), "send");
+    for (size_t i = 0; i < count; i++) {
+        check(cpay_sender_datagram(sender, i, it.bytes, ROOM, &it.size), "datagram");
+        check(cpay_history_keep(history, it.bytes, it.size), "keep");
+        if (!lost() || now == 0) carry(&it, now + ONE_WAY);
+    }
+}
+
+/* Resends what the feedback requests. A request and its answer take a round trip. A datagram that is not feedback is skipped. */
+static void answer(cpay_history *history, const uint8_t *feedback, size_t size, uint64_t now) {
+    uint16_t numbers[ASKED];
+    size_t count = 0;
+    bool wants_keyframe = false; /* this would go to the encoder */
+    datagram it;
+    if (cpay_read_requests(feedback, size, 7, false, numbers, ASKED, &count, &wants_keyframe) != CPAY_OK) return;
+    for (size_t i = 0; i < count && i < ASKED; i++) {
+        uint32_t resent = CPAY_RESENT_NOT_KEPT;
+        check(cpay_history_resend(history, now, numbers[i], it.bytes, ROOM, &it.size, &resent), "resend");
+        if (!lost() && resent == CPAY_RESENT_WRITTEN) carry(&it, now + 2 * ONE_WAY);
     }
 }
 
@@ -113,9 +142,11 @@ int main(void) {
     static nack_loop loop;
     cpay_spec vp8 = {.codec = CPAY_VP8, .rate = 90000};
     cpay_sender_settings sends = {.spec = vp8, .mtu = MTU, .ssrc = 7, .payload_type = 96};
+    cpay_history_settings keeps = {.limit = 512};
     cpay_receiver_settings settings = CPAY_LIVE_VIDEO_WITH_NACK;
     cpay_receiver_counts_info counts = {0};
     cpay_sender sender = CPAY_INIT;
+    cpay_history history = CPAY_INIT;
     cpay_receiver receiver = CPAY_INIT;
     cpay_unit unit = {0};
     unsigned frames = 0, gaps = 0, nacks = 0;
@@ -126,27 +157,18 @@ int main(void) {
     settings.max_wait = 2 * (2 * ONE_WAY) + 100;
     settings.start = 1;
     check(cpay_sender_new(&sender, &sends), "sender");
+    check(cpay_history_new(&history, &keeps), "history");
     check(cpay_receiver_new(&receiver, &settings, NULL, 0), "receiver");
     for (uint64_t now = 0; now < (FRAMES + 30) * INTERVAL; now++) {
         uint64_t due[ASKED];
         uint8_t packet[12 + 4 * ASKED];
         cpay_status status;
-        if (now % INTERVAL == 0 && now / INTERVAL < FRAMES) {
-            size_t count = 0;
-            cpay_sender_counts_info info = {0};
-            check(cpay_sender_counts(&sender, &info), "counts");
-            check(cpay_sender_send(&sender, now * 90, false, frame, FRAME, &count), "send");
-            for (size_t i = 0; i < count; i++) {
-                sent *slot = &history[(info.next_number + i) % HISTORY];
-                check(cpay_sender_datagram(&sender, i, slot->bytes, ROOM, &slot->size), "datagram");
-                slot->arrives_at = lost() && now > 0 ? 0 : now + ONE_WAY; /* the first frame arrives */
-            }
-        }
+        if (now % INTERVAL == 0 && now / INTERVAL < FRAMES) send_frame(&sender, &history, now, frame, FRAME);
         deliver(&receiver, now);
         size_t asked = due_requests(&loop, &receiver, now, 2 * ONE_WAY, due, ASKED);
         if (asked > 0) {
             size_t size = put_nack(packet, 8, 7, due, asked);
-            answer_nack(packet, size, now);
+            answer(&history, packet, size, now);
             nacks++;
         }
         while (!(status = cpay_receiver_pop(&receiver, now, &unit, unit_bytes, FRAME))) {
@@ -159,6 +181,7 @@ int main(void) {
     printf("%u of %d frames, %u gaps, %u NACKs, %u packets missing at the end\n", frames, FRAMES, gaps, nacks,
            (unsigned)(FRAMES * 3 - counts.released));
     cpay_sender_free(&sender);
+    cpay_history_free(&history);
     cpay_receiver_free(&receiver);
     return frames == FRAMES ? EXIT_SUCCESS : EXIT_FAILURE;
 }

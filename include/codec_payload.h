@@ -24,13 +24,13 @@
  * senders that mark each partition as a start. See docs/LIMITS.md.
  *
  * STATUSES. A call returns a status; a few return a bool or a number. 0 is success, 1 to 17 are errors of payloads and of memory,
- * 32 to 41 are the library's own, and 42 to 49 say why a datagram is not accepted. The enum below names them. If a call fails, its
+ * 32 to 41 are the library's own, and 42 to 65 say why a datagram is not accepted. The enum below names them. If a call fails, its
  * output buffer and its other output arguments are unchanged. Exception: with CPAY_TOO_SMALL it writes the required size, and the
- * other outputs except the bytes.
+ * other outputs except the bytes, unless its comment says otherwise.
  *
- * HANDLES. A packetizer, a depacketizer, a buffer, a RED sender, a sender, a receiver and a session each live in a handle: a
- * struct of that type in your own memory. Initialise it with CPAY_INIT, create the object by the call named *_new, and end with
- * the call named *_free, which leaves the handle empty. You may free an empty handle. Other calls on an empty handle return
+ * HANDLES. A packetizer, a depacketizer, a buffer, a RED sender, a sender, a history, a receiver and a session each live in a
+ * handle: a struct of that type in your own memory. Initialise it with CPAY_INIT, create the object by the call named *_new, and
+ * end with the call named *_free, which leaves the handle empty. You may free an empty handle. Other calls on an empty handle return
  * CPAY_EMPTY; calls on a handle of another type, as after a cast, return CPAY_OTHER_KIND. Never write into a handle. Never copy a
  * handle in use: the library cannot detect that another copy was freed. You may move it in memory if you forget the old place.
  *
@@ -41,7 +41,8 @@
  *
  * OUTPUT BUFFERS. A call that returns bytes writes them to the front of your buffer, and their number to a `bytes` field or to
  * *size. If the buffer is too small, the call returns CPAY_TOO_SMALL, reports the required size, and nothing is lost: the packet or
- * unit waits for the next call of the same name. So a first call may pass a length of 0.
+ * unit waits for the next call of the same name. So a first call may pass a length of 0. (cpay_history_resend spends nothing, and
+ * keeps nothing waiting.)
  *
  * POINTERS. NULL is allowed with a length of 0; with another length the call returns CPAY_INVALID (false, if it returns a bool).
  * All other pointers must be valid, except the argument of *_free. An argument that a call writes must not overlap any other
@@ -155,7 +156,24 @@ typedef enum {
     CPAY_RTP_EXTENSION_TOO_SHORT = 46,        /**< it ends inside its header extension */
     CPAY_RTP_PADDING_OF_ZERO = 47,            /**< its padding has 0 bytes */
     CPAY_RTP_PADDING_TOO_LONG = 48,           /**< its padding is longer than the bytes after the header */
-    CPAY_RTX_TOO_SHORT = 49 /**< a retransmission ends inside its original sequence number (RFC 4588) */
+    CPAY_RTX_TOO_SHORT = 49, /**< a retransmission ends inside its original sequence number (RFC 4588) */
+    CPAY_RTCP_HEADER_TOO_SHORT = 50, /**< 50 to 65 say why a datagram is not a compound RTCP packet: fewer than 4 bytes are left
+                                          for the header of a packet */
+    CPAY_RTCP_VERSION = 51,          /**< the version of a packet is not 2 */
+    CPAY_RTCP_FIRST_NOT_REPORT = 52, /**< the first packet is not a sender report or a receiver report */
+    CPAY_RTCP_PACKET_TOO_SHORT = 53, /**< the length of a packet passes the end of the datagram */
+    CPAY_RTCP_PADDING_NOT_LAST = 54, /**< a packet that is not the last has padding */
+    CPAY_RTCP_PADDING_OF_ZERO = 55,  /**< the padding has 0 bytes */
+    CPAY_RTCP_PADDING_TOO_LONG = 56, /**< the padding is longer than the bytes after the header */
+    CPAY_RTCP_REPORT_TOO_SHORT = 57, /**< a report ends inside its fixed fields or its report blocks */
+    CPAY_RTCP_CHUNK_TOO_SHORT = 58,  /**< a source description ends inside the SSRC of a chunk */
+    CPAY_RTCP_ITEMS_TOO_SHORT = 59,  /**< it ends inside the items of a chunk, or before the end of the chunk */
+    CPAY_RTCP_BYE_TOO_SHORT = 60,    /**< a BYE ends inside its SSRCs */
+    CPAY_RTCP_REASON_TOO_SHORT = 61, /**< a BYE ends inside its reason for leaving */
+    CPAY_RTCP_FEEDBACK_TOO_SHORT = 62, /**< feedback ends inside its two SSRCs */
+    CPAY_RTCP_NACK_LENGTH = 63,        /**< a generic NACK names no packet, or ends inside an entry */
+    CPAY_RTCP_PLI_LENGTH = 64,         /**< a PLI has bytes after its two SSRCs */
+    CPAY_RTCP_FIR_LENGTH = 65          /**< a FIR has no entries, or ends inside one */
 } cpay_status;
 
 /** Codecs. */
@@ -209,6 +227,10 @@ typedef struct {
 
 typedef struct {
     cpay_handle handle;
+} cpay_history;
+
+typedef struct {
+    cpay_handle handle;
 } cpay_receiver;
 
 typedef struct {
@@ -223,6 +245,7 @@ void cpay_buffer_free(cpay_buffer *buffer);
 void cpay_depacketizer_free(cpay_depacketizer *depacketizer);
 void cpay_red_sender_free(cpay_red_sender *sender);
 void cpay_sender_free(cpay_sender *sender);
+void cpay_history_free(cpay_history *history);
 void cpay_receiver_free(cpay_receiver *receiver);
 void cpay_session_free(cpay_session *session);
 
@@ -540,6 +563,59 @@ typedef struct {
 /** Reports for the moment `now`, in ticks of the RTP clock on the time line of the frames. The moment may lie before or after the
  * last frame. The NTP time of the report must be of the same moment. Does not allocate. */
 CPAY_CHECKED cpay_status cpay_sender_report(cpay_sender *sender, uint64_t now, cpay_sender_report_info *report);
+
+/* ---- A history: the last sent datagrams, which are resent when a receiver requests them by NACK ---- */
+
+/** The most packets that a history keeps. */
+#define CPAY_MAX_HISTORY 32768
+
+typedef struct {
+    size_t limit;              /**< how many packets are kept, 1 to CPAY_MAX_HISTORY: the last ones */
+    uint64_t interval;         /**< how many ticks of your clock have to pass before the same packet is resent again; 0: none. About
+                                    a round-trip time is useful: a receiver that requests the packet again before that has not
+                                    yet seen the answer */
+    uint32_t rtx_ssrc;         /**< with has_rtx: SSRC of the retransmissions */
+    uint16_t rtx_first_number; /**< with has_rtx: sequence number of the first retransmission */
+    uint8_t rtx_payload_type;  /**< with has_rtx: payload type of the retransmissions, 0 to 127 */
+    bool has_rtx;              /**< retransmissions are a stream of their own (RFC 4588). If not, a packet is resent as it was */
+} cpay_history_settings;
+
+/** Creates a history of the sent packets of one stream, in an empty handle. CPAY_INVALID: `limit` or `rtx_payload_type` out of
+ * range. [m] */
+CPAY_CHECKED cpay_status cpay_history_new(cpay_history *history, const cpay_history_settings *settings);
+
+/** Keeps a copy of a datagram as the newest packet. Call it when you send the datagram, before SRTP encrypts it. The oldest packet
+ * leaves a full history. If the number of the packet does not follow the number of the newest packet, all packets before it
+ * leave. CPAY_RTP_HEADER_TOO_SHORT to CPAY_RTP_PADDING_TOO_LONG: not an RTP packet. If the call fails, the history is unchanged.
+ * Once a history is full and its memory has grown to the largest packets, the call does not allocate. [m] */
+CPAY_CHECKED cpay_status cpay_history_keep(cpay_history *history, const uint8_t *datagram, size_t datagram_len);
+
+/** What a call of cpay_history_resend did. */
+enum {
+    CPAY_RESENT_WRITTEN = 0,  /**< the packet is in the output buffer: send it */
+    CPAY_RESENT_NOT_KEPT = 1, /**< the packet is not in the history: it was never sent, or too long ago */
+    CPAY_RESENT_TOO_SOON = 2  /**< the packet was resent less than `interval` ago */
+};
+
+/** Resends the packet with that number at time `now`, in ticks of your clock: writes the datagram to the output buffer, its size to
+ * *size, and what was done to *resent: CPAY_RESENT_WRITTEN and so on. With has_rtx the datagram has the SSRC, the payload type
+ * and the next number of the retransmissions, the original number is in front of its payload, and padding is left out (RFC 4588,
+ * section 4). Otherwise it is the packet as it was. Unless the packet is written, *size is 0, and the output buffer is unchanged.
+ * CPAY_TOO_SMALL: the datagram needs *size bytes. Nothing else has changed, *resent too: the number of the retransmission is not
+ * used, and the packet does not count as resent. So a first call may pass a length of 0, and you may also leave it at that.
+ * If the call fails, the history is unchanged. It allocates only if a datagram is larger than all resent before it. [m] */
+CPAY_CHECKED cpay_status cpay_history_resend(cpay_history *history, uint64_t now, uint16_t number, uint8_t *bytes,
+                                             size_t bytes_len, size_t *size, uint32_t *resent);
+
+/** Reads what RTCP feedback requests of the stream with this SSRC: its sender answers it. `rtcp` is one datagram, a compound packet
+ * (RFC 3550, section 6.1). If `full` is true, it must begin with a report; false also accepts packets of reduced size (RFC 5506).
+ * The sequence numbers of all generic NACKs (RFC 4585, section 6.2.1) go to `numbers` in their order, as many as fit; the rest of
+ * `numbers` is unchanged. A number that is named twice is written twice. *count is how many numbers there are, also those that do
+ * not fit: pass 17 numbers for each four bytes of `rtcp`, and all fit. *wants_keyframe is whether a PLI (RFC 4585, section 6.3.1)
+ * or a FIR (RFC 5104, section 4.3.1) requests a keyframe. Feedback for other streams requests nothing.
+ * CPAY_RTCP_HEADER_TOO_SHORT to CPAY_RTCP_FIR_LENGTH: not a compound RTCP packet. Then nothing of it counts. Does not allocate. */
+CPAY_CHECKED cpay_status cpay_read_requests(const uint8_t *rtcp, size_t rtcp_len, uint32_t ssrc, bool full, uint16_t *numbers,
+                                            size_t numbers_len, size_t *count, bool *wants_keyframe);
 
 /* ---- A receiver: datagrams of a socket in, whole units of one stream out in order ---- */
 
@@ -1141,6 +1217,22 @@ static inline const char *cpay_status_text(cpay_status status) {
     case CPAY_RTP_PADDING_OF_ZERO: return "RTP padding length is 0";
     case CPAY_RTP_PADDING_TOO_LONG: return "RTP padding exceeds the payload";
     case CPAY_RTX_TOO_SHORT: return "the retransmission has no original sequence number";
+    case CPAY_RTCP_HEADER_TOO_SHORT: return "the RTCP packet is shorter than its header";
+    case CPAY_RTCP_VERSION: return "the RTCP version is not 2";
+    case CPAY_RTCP_FIRST_NOT_REPORT: return "the compound RTCP packet does not begin with a report";
+    case CPAY_RTCP_PACKET_TOO_SHORT: return "the RTCP length passes the end";
+    case CPAY_RTCP_PADDING_NOT_LAST: return "RTCP padding before the last packet";
+    case CPAY_RTCP_PADDING_OF_ZERO: return "RTCP padding length is 0";
+    case CPAY_RTCP_PADDING_TOO_LONG: return "RTCP padding exceeds the packet";
+    case CPAY_RTCP_REPORT_TOO_SHORT: return "the RTCP report ends inside its report blocks";
+    case CPAY_RTCP_CHUNK_TOO_SHORT: return "the RTCP SDES ends inside an SSRC";
+    case CPAY_RTCP_ITEMS_TOO_SHORT: return "the RTCP SDES ends inside a chunk";
+    case CPAY_RTCP_BYE_TOO_SHORT: return "the RTCP BYE ends inside its SSRCs";
+    case CPAY_RTCP_REASON_TOO_SHORT: return "the RTCP BYE ends inside its reason";
+    case CPAY_RTCP_FEEDBACK_TOO_SHORT: return "the RTCP feedback ends inside its SSRCs";
+    case CPAY_RTCP_NACK_LENGTH: return "the RTCP NACK has a wrong length";
+    case CPAY_RTCP_PLI_LENGTH: return "the RTCP PLI has a wrong length";
+    case CPAY_RTCP_FIR_LENGTH: return "the RTCP FIR has a wrong length";
     default: return "unknown status";
     }
 }

@@ -114,6 +114,29 @@ public:
     }
 };
 
+/** The last sent datagrams, which are resent when a receiver requests them. */
+class history : public handle<cpay_history, cpay_history_free> {
+public:
+    [[nodiscard]] cpay_status make(const cpay_history_settings &settings) noexcept { return cpay_history_new(get(), &settings); }
+    [[nodiscard]] cpay_status keep(bytes datagram) noexcept { return cpay_history_keep(get(), datagram.data(), datagram.size()); }
+    [[nodiscard]] cpay_status resend(std::uint64_t now, std::uint16_t number, room to, std::size_t &size,
+                                     std::uint32_t &resent) noexcept {
+        return cpay_history_resend(get(), now, number, to.data(), to.size(), &size, &resent);
+    }
+    /** The same into a vector, which grows as needed. It has the datagram with CPAY_RESENT_WRITTEN, and is empty otherwise. */
+    [[nodiscard]] cpay_status resend(std::uint64_t now, std::uint16_t number, std::vector<std::uint8_t> &to,
+                                     std::uint32_t &resent) {
+        std::size_t size = 0;
+        return into(to, size, [&](room it) { return resend(now, number, it, size, resent); });
+    }
+};
+
+/** What RTCP feedback requests of the stream with this SSRC: see cpay_read_requests. */
+[[nodiscard]] inline cpay_status read_requests(bytes rtcp, std::uint32_t ssrc, bool full, view<std::uint16_t> numbers,
+                                               std::size_t &count, bool &wants_keyframe) noexcept {
+    return cpay_read_requests(rtcp.data(), rtcp.size(), ssrc, full, numbers.data(), numbers.size(), &count, &wants_keyframe);
+}
+
 /** Datagrams of a socket in, whole units of one stream out in order. */
 class receiver : public handle<cpay_receiver, cpay_receiver_free> {
 public:

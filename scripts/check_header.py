@@ -23,7 +23,10 @@ NUMBERS = {
 # The one pointer in a struct, which C sees as a pointer to an unknown type.
 FLAT = {"*mut u8": "void *"}
 # The struct of the header for each type that a handle of the library can hold. Each has its own call to free it.
-KINDS = ["cpay_packetizer", "cpay_buffer", "cpay_depacketizer", "cpay_red_sender", "cpay_sender", "cpay_receiver", "cpay_session"]
+KINDS = [
+    "cpay_packetizer", "cpay_buffer", "cpay_depacketizer", "cpay_red_sender", "cpay_sender", "cpay_history", "cpay_receiver",
+    "cpay_session",
+]
 HANDLE = [("cpay_handle", "handle")]
 VERSION = "cpay_version"
 EXPORT = re.compile(

@@ -120,6 +120,29 @@ fn not_again_within_the_interval() -> Result<(), Fail> {
 }
 
 #[test]
+fn a_datagram_that_is_too_large_spends_nothing() -> Result<(), Fail> {
+    let mut history = history(10, 100, Some(STREAM));
+    history.keep(&PACKET)?;
+    let mut out = Vec::new();
+    let within = |history: &mut History, now: u64, most: usize, out: &mut Vec<u8>| {
+        history.resend_within(Ticks(now), 0x1234, most, out)
+    };
+    for most in [0, 28] {
+        assert_eq!(within(&mut history, 50, most, &mut out)?, Resent::Written);
+        assert_eq!(out, AGAIN);
+    }
+    // The same number, at the same time: neither was used.
+    assert_eq!(within(&mut history, 50, 29, &mut out)?, Resent::Written);
+    assert_eq!(out, AGAIN);
+    assert_eq!(within(&mut history, 149, 0, &mut out)?, Resent::TooSoon);
+    assert_eq!(within(&mut history, 150, 29, &mut out)?, Resent::Written);
+    assert_eq!(RtpPacket::parse(&out)?.header.sequence_number, 0);
+    let absent = history.resend_within(Ticks(150), 0x1235, 99, &mut out)?;
+    assert_eq!(absent, Resent::NotKept);
+    Ok(())
+}
+
+#[test]
 fn settings_and_faults() {
     let new = |limit, stream| {
         History::new(HistorySettings {

@@ -228,3 +228,37 @@ void twin_session_free(void *session) {
     cpay_session_free(session);
     free(session);
 }
+
+/* A history by limit, interval, whether there are retransmissions, their SSRC, payload type and first number; NULL if refused. */
+void *twin_history(const uint64_t values[6]) {
+    cpay_history_settings settings = { 0 };
+    settings.limit = values[0];
+    settings.interval = values[1];
+    settings.has_rtx = values[2];
+    settings.rtx_ssrc = (uint32_t)values[3];
+    settings.rtx_payload_type = (uint8_t)values[4];
+    settings.rtx_first_number = (uint16_t)values[5];
+    cpay_history *made = calloc(1, sizeof *made);
+    if (made && !cpay_history_new(made, &settings)) return made;
+    free(made);
+    return NULL;
+}
+
+uint32_t twin_history_keep(void *history, const uint8_t *datagram, size_t datagram_len) {
+    return cpay_history_keep(history, datagram, datagram_len);
+}
+
+uint32_t twin_history_resend(void *history, uint64_t now, uint16_t number, uint8_t *bytes, size_t bytes_len, size_t *size,
+                             uint32_t *resent) {
+    return cpay_history_resend(history, now, number, bytes, bytes_len, size, resent);
+}
+
+void twin_history_free(void *history) {
+    cpay_history_free(history);
+    free(history);
+}
+
+uint32_t twin_read_requests(const uint8_t *rtcp, size_t rtcp_len, uint32_t ssrc, bool full, uint16_t *numbers, size_t numbers_len,
+                            size_t *count, bool *wants_keyframe) {
+    return cpay_read_requests(rtcp, rtcp_len, ssrc, full, numbers, numbers_len, count, wants_keyframe);
+}

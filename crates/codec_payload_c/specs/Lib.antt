@@ -2,6 +2,7 @@ pub mod Assemblers
 pub mod Buffers
 pub mod Extensions
 pub mod Frames
+pub mod Histories
 pub mod Ids
 pub mod Inspect
 pub mod Media

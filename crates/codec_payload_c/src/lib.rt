@@ -6,6 +6,7 @@ mod depacketizer;
 mod extension;
 mod frames;
 mod free;
+mod history;
 mod inspect;
 mod media;
 mod packetizer;

@@ -6,6 +6,7 @@ use Rattle.codec_payload_handle.specs.declared.object.Object.{Object}
 use Rattle.codec_payload_handle.specs.declared.object.Object.TheVariants as objects
 use Rattle.codec_payload_handle.specs.declared.object.FrameReceiver.{FrameReceiver}
 use Rattle.codec_payload_handle.specs.declared.object.FrameSender.{FrameSender}
+use Rattle.codec_payload_handle.specs.declared.object.PacketHistory.{PacketHistory}
 use Rattle.codec_payload_handle.specs.declared.object.PortSession.{PortSession}
 use Rattle.codec_payload_handle.specs.declared.object.StreamReceiver.{StreamReceiver}
 use Rattle.codec_payload_handle.specs.declared.object.StreamSender.{StreamSender}
@@ -73,6 +74,15 @@ abbrev pub OnPortSession : Option Object → (PortSession → PortSession → Ty
 OnPortSession (Some (objects.PortSession r)) Does after = StaysPortSession (Does r.value) after
 OnPortSession _ Does after = Unit {0}
 
+-- the same for a history of sent packets
+abbrev pub StaysPacketHistory : (PacketHistory → Type 0) → Option Object → Type 0
+StaysPacketHistory Done (Some (objects.PacketHistory s)) = Done s.value
+StaysPacketHistory Done _ = ⊥
+
+abbrev pub OnPacketHistory : Option Object → (PacketHistory → PacketHistory → Type 0) → Option Object → Type 0
+OnPacketHistory (Some (objects.PacketHistory r)) Does after = StaysPacketHistory (Does r.value) after
+OnPacketHistory _ Does after = Unit {0}
+
 abbrev pub is_frame_sender : Object → Bool
 is_frame_sender (objects.FrameSender _) = true
 is_frame_sender _ = false
@@ -100,6 +110,10 @@ is_stream_receiver _ = false
 abbrev pub is_port_session : Object → Bool
 is_port_session (objects.PortSession _) = true
 is_port_session _ = false
+
+abbrev pub is_packet_history : Object → Bool
+is_packet_history (objects.PacketHistory _) = true
+is_packet_history _ = false
 
 -- status 34: the handle is empty; status 35: it holds another type; the handle is unchanged
 abbrev pub Refuses : (Object → Bool) → Option Object → ℕ → Option Object → Type 0

@@ -6,6 +6,7 @@ use codec_payload_core::codec::{CodecDepacketizer, CodecExtra, CodecPacketizer};
 use codec_payload_core::payloads::Payloads;
 use codec_payload_core::red::RedSender;
 use codec_payload_core::wire::Frequency;
+use codec_payload_history::retransmission::History;
 use codec_payload_sender::sender::Sender as DatagramSender;
 use codec_payload_session::session::{Event, Session};
 use codec_payload_stream::receiver::Receiver as DatagramReceiver;
@@ -62,6 +63,13 @@ pub struct PortSession {
     pub taken: Option<Depacketized>,
 }
 
+/// A history of sent packets, and memory for the datagram that is resent; it is reused.
+#[derive(Drop)]
+pub struct PacketHistory {
+    pub history: History,
+    pub datagram: Vec<u8>,
+}
+
 /// A value behind a handle. Each has its own box, so that no handle takes the memory of the largest type.
 #[derive(Drop)]
 pub enum Object {
@@ -72,4 +80,5 @@ pub enum Object {
     StreamSender(Box<StreamSender>),
     StreamReceiver(Box<StreamReceiver>),
     PortSession(Box<PortSession>),
+    PacketHistory(Box<PacketHistory>),
 }

@@ -61,3 +61,51 @@ pub const RTP_PADDING_TOO_LONG: u32 = 48;
 
 /// A retransmission ends inside its original sequence number.
 pub const RTX_TOO_SHORT: u32 = 49;
+
+/// Fewer than 4 bytes are left for the header of an RTCP packet.
+pub const RTCP_HEADER_TOO_SHORT: u32 = 50;
+
+/// The version of an RTCP packet is not 2.
+pub const RTCP_VERSION: u32 = 51;
+
+/// A compound RTCP packet does not begin with a report.
+pub const RTCP_FIRST_NOT_REPORT: u32 = 52;
+
+/// The length of an RTCP packet passes the end of the datagram.
+pub const RTCP_PACKET_TOO_SHORT: u32 = 53;
+
+/// An RTCP packet that is not the last has padding.
+pub const RTCP_PADDING_NOT_LAST: u32 = 54;
+
+/// The last byte of an RTCP packet with padding is 0.
+pub const RTCP_PADDING_OF_ZERO: u32 = 55;
+
+/// RTCP padding exceeds the bytes after the header.
+pub const RTCP_PADDING_TOO_LONG: u32 = 56;
+
+/// An RTCP report ends inside its report blocks.
+pub const RTCP_REPORT_TOO_SHORT: u32 = 57;
+
+/// An RTCP source description ends inside an SSRC.
+pub const RTCP_CHUNK_TOO_SHORT: u32 = 58;
+
+/// An RTCP source description ends inside a chunk.
+pub const RTCP_ITEMS_TOO_SHORT: u32 = 59;
+
+/// An RTCP BYE ends inside its SSRCs.
+pub const RTCP_BYE_TOO_SHORT: u32 = 60;
+
+/// An RTCP BYE ends inside its reason.
+pub const RTCP_REASON_TOO_SHORT: u32 = 61;
+
+/// RTCP feedback ends inside its SSRCs.
+pub const RTCP_FEEDBACK_TOO_SHORT: u32 = 62;
+
+/// A generic NACK has no pairs, or ends inside one.
+pub const RTCP_NACK_LENGTH: u32 = 63;
+
+/// A PLI has bytes after its SSRCs.
+pub const RTCP_PLI_LENGTH: u32 = 64;
+
+/// A FIR has no entries, or ends inside one.
+pub const RTCP_FIR_LENGTH: u32 = 65;

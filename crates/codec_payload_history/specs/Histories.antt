@@ -1,5 +1,5 @@
 -- What each call of a history does (RFC 4588, section 4).
-use Rattle.std.specs.Prelude.{◌≡◌, ◌≢◌, ℕ, ◌+◌, ◌-◌, ◌%◌, ◌==◌, nat_lt, ◌||◌, not, if◌then◌else◌, Bool, true, false, List, [], ◌∷◌, ◌++◌, take, slice_get, slice_set, Option, Some, None, Result, Ok, Err}
+use Rattle.std.specs.Prelude.{◌≡◌, ◌≢◌, ℕ, ◌+◌, ◌-◌, ◌%◌, ◌==◌, nat_lt, nat_le, ◌||◌, not, if◌then◌else◌, Bool, true, false, List, [], ◌∷◌, ◌++◌, length, take, slice_get, slice_set, Option, Some, None, Result, Ok, Err}
 use Rattle.std.specs.Int.{w16, to_be_bytes}
 use Rattle.codec_payload_base.specs.declared.wire.Ticks.{Ticks}
 use Rattle.codec_payload_rtp.specs.RtpPackets.{Packet}
@@ -94,3 +94,11 @@ Resends now number h before results.Written bytes t =
 Resends now number h before results.NotKept bytes t = HasNot h number × (bytes ≡ before) × (t ≡ h)
 Resends now number h before results.TooSoon bytes t =
     (place : ℕ) × (p : Sent) × IsAt h number place p × (is_too_soon h.interval now p.resent ≡ true) × (bytes ≡ before) × (t ≡ h)
+
+-- the same, if the datagram has at most that many bytes; if it has more, it is written, and the history stays as it is
+abbrev pub ResendsWithin : (most : ℕ) → Ticks → ℕ → Past → List ℕ → Resent → List ℕ → Past → Type 0
+ResendsWithin most now number h before results.Written bytes t =
+    (place : ℕ) × (p : Sent) × IsAt h number place p × (is_too_soon h.interval now p.resent ≡ false) × Repeats h.stream h.next p.bytes bytes
+    × (t ≡ (if nat_le (length bytes) most then resent_at now place p h else h))
+ResendsWithin most now number h before results.NotKept bytes t = Resends now number h before results.NotKept bytes t
+ResendsWithin most now number h before results.TooSoon bytes t = Resends now number h before results.TooSoon bytes t

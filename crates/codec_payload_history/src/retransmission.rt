@@ -2,7 +2,7 @@
 
 ghost use Rattle.std.specs.Prelude.{◌≡◌, ◌+◌, ◌<◌, ◌≤◌, ◌∷◌, [], ℕ, length, take, slice_get, slice_set, IfOk, IfErr, IfSome, IfNone, OnOk, OnErr, IsTrue, Some, None};
 ghost use Rattle.codec_payload_rtp.specs.RtpValues.{header_of};
-ghost use Rattle.codec_payload_history.specs.Histories.{HasNot, IsAt, IsFault, IsRetransmission, Keeps, Repeats, Resends, count_with, history_by, is_too_soon, next_after, resent_at};
+ghost use Rattle.codec_payload_history.specs.Histories.{HasNot, IsAt, IsFault, IsRetransmission, Keeps, Repeats, Resends, ResendsWithin, count_with, history_by, is_too_soon, next_after, resent_at};
 ghost use Rattle.codec_payload_history.specs.Packets.{Sent, number_in, packets_of, sent_of, stream_fits};
 
 use codec_payload_base::wire::Ticks;
@@ -306,6 +306,35 @@ impl History {
             return Ok(Resent::TooSoon);
         }
         write_again(self.stream, self.next, &packet.bytes, out)?;
+        self.record(now, place);
+        Ok(Resent::Written)
+    }
+
+    /// Writes the packet as [`History::resend`] does, and resends it if the datagram has at most `most` bytes. If it has more, `out`
+    /// has the datagram, [`Resent::Written`] is returned, and the history is unchanged: the number of the retransmission is not
+    /// used, and the packet does not count as resent. So a caller whose memory is limited may try again.
+    ///
+    /// If an allocation fails, `out` is empty and the history is unchanged.
+    pub fn resend_within(
+        &mut self,
+        now: Ticks,
+        number: u16,
+        most: usize,
+        out: &mut Vec<u8>,
+    ) -> Result<Resent, AllocError>
+        ensures ok { IfOk result (λ resent. ResendsWithin most now number self.old out.old.items resent out.new.items self.new) }
+        ensures err { OnErr result ((self.new ≡ self.old) × (out.new.items ≡ [])) }
+    {
+        let Some((place, packet)) = self.find(number) else {
+            return Ok(Resent::NotKept);
+        };
+        if packet.is_too_soon(now, self.interval) {
+            return Ok(Resent::TooSoon);
+        }
+        write_again(self.stream, self.next, &packet.bytes, out)?;
+        if out.len() > most {
+            return Ok(Resent::Written);
+        }
         self.record(now, place);
         Ok(Resent::Written)
     }

@@ -275,6 +275,32 @@ impl History {
         self.record(now, place);
         Ok(Resent::Written)
     }
+
+    /// Writes the packet as [`History::resend`] does, and resends it if the datagram has at most `most` bytes. If it has more, `out`
+    /// has the datagram, [`Resent::Written`] is returned, and the history is unchanged: the number of the retransmission is not
+    /// used, and the packet does not count as resent. So a caller whose memory is limited may try again.
+    ///
+    /// If an allocation fails, `out` is empty and the history is unchanged.
+    pub fn resend_within(
+        &mut self,
+        now: Ticks,
+        number: u16,
+        most: usize,
+        out: &mut Vec<u8>,
+    ) -> Result<Resent, AllocError> {
+        let Some((place, packet)) = self.find(number) else {
+            return Ok(Resent::NotKept);
+        };
+        if packet.is_too_soon(now, self.interval) {
+            return Ok(Resent::TooSoon);
+        }
+        write_again(self.stream, self.next, &packet.bytes, out)?;
+        if out.len() > most {
+            return Ok(Resent::Written);
+        }
+        self.record(now, place);
+        Ok(Resent::Written)
+    }
 }
 
 /// The number of the retransmission after that one.

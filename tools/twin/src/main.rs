@@ -1,14 +1,16 @@
 //! The generated crate beside the proved library, in one process: each call of both answers the same.
 //!
-//! `twin COUNT` makes COUNT random sequences of calls of packetizers, depacketizers, receivers and sessions each; `twin FOLDER`
-//! takes the sequences of depacketizers and receivers from the fuzzer's corpora, FOLDER/depacketize and FOLDER/receiver. `twin
+//! `twin COUNT` makes COUNT random sequences of calls of packetizers, depacketizers, receivers, sessions and histories each; `twin
+//! FOLDER` takes the sequences of depacketizers and receivers from the fuzzer's corpora, FOLDER/depacketize and FOLDER/receiver. `twin
 //! changed COUNT` prints what the crate reads of COUNT changed copies of the session description on its standard input, as
 //! c/descriptions.c does.
 
 #[path = "../../../rust/tests/sdp/dump.rs"]
 mod descriptions;
+mod histories;
 mod input;
 mod proved;
+mod proved_history;
 mod proved_session;
 mod sessions;
 
@@ -18,6 +20,7 @@ use codec_payload::{
     Codec, CodecDepacketizer, CodecExtra, CodecPacketizer, CodecSpec, Depacketizer, Frequency,
     Packetizer, Ticks, Vp8Packetizer, Vp9PacketizerMode,
 };
+use histories::histories;
 use input::{Input, random_bytes};
 use sessions::sessions;
 use std::collections::HashMap;
@@ -360,11 +363,12 @@ fn main() {
     if word == "changed" {
         return print_changed(&words.next().expect("a count"));
     }
-    let sequences: [(&str, Sequence); 4] = [
+    let sequences: [(&str, Sequence); 5] = [
         ("packetize", packetize),
         ("depacketize", depacketize),
         ("receiver", receive),
         ("session", sessions),
+        ("history", histories),
     ];
     let mut calls = 0;
     for (name, sequence) in sequences {
