@@ -108,6 +108,7 @@ impl Choice {
     }
 
     /// Notes the time of a datagram, if it belongs to the stream.
+    #[inline(always)]
     pub(crate) fn note(&mut self, now: Ticks, datagram: &Datagram<'_>)
         ensures { self.new ≡ record self.old { latest = latest_after self.old.latest now.0 (origin_of (datagram_of datagram.now)) } }
     {

@@ -179,6 +179,7 @@ fn is_padding_only(packet: &RtpPacket<'_>) -> bool
 }
 
 /// Sorts a packet with a payload type of the stream.
+#[inline(always)]
 fn media_kind<'a>(packet: RtpPacket<'a>) -> Datagram<'a>
     ensures { datagram_of result ≡ media_kind (packet_of packet.entry) }
 {
@@ -323,6 +324,7 @@ fn red_again_kind<'a>(
 
 impl Stream {
     /// Sorts a datagram, for a stream with this SSRC, if it is known.
+    #[inline(always)]
     pub(crate) fn sort<'a>(
         &self,
         ssrc: Option<u32>,
@@ -341,6 +343,7 @@ impl Stream {
     }
 
     /// Sorts an RTP packet.
+    #[inline(always)]
     fn kind_of<'a>(
         &self,
         ssrc: Option<u32>,
@@ -426,6 +429,7 @@ impl Stream {
     }
 
     /// Stores a packet with media in the jitter buffer.
+    #[inline(always)]
     fn push_packet<B: Depacketizer>(
         &self,
         packets: &mut JitterBuffer<B>,
@@ -545,6 +549,7 @@ impl Stream {
     }
 
     /// Stores a packet with media. If it repeats a block, it counts as a packet without media.
+    #[inline(always)]
     fn push_media<B: Depacketizer>(
         &self,
         packets: &mut JitterBuffer<B>,
@@ -638,6 +643,7 @@ impl Stream {
     }
 
     /// Stores a datagram of the stream in the jitter buffer, or counts it there.
+    #[inline(always)]
     pub(crate) fn take<B: Depacketizer>(
         &self,
         packets: &mut JitterBuffer<B>,
@@ -704,6 +710,7 @@ fn is_restart(outcome: Outcome) -> bool
 }
 
 /// Notes the time of a packet, if it has media and the stream uses RED. A restart forgets all earlier times.
+#[inline(always)]
 fn note_packet(seen: &mut SeenTimes, is_media: bool, outcome: Outcome, time: u32)
     ensures { seen.new ≡ packet_seen is_media outcome time seen.old }
 {
@@ -720,6 +727,7 @@ fn note_packet(seen: &mut SeenTimes, is_media: bool, outcome: Outcome, time: u32
 }
 
 /// Returns the SSRC of the stream after this datagram.
+#[inline(always)]
 pub(crate) fn ssrc_after(ssrc: Option<u32>, datagram: &Datagram<'_>) -> Option<u32>
     ensures { result ≡ ssrc_after ssrc (datagram_of datagram.now) }
 {
@@ -731,6 +739,7 @@ pub(crate) fn ssrc_after(ssrc: Option<u32>, datagram: &Datagram<'_>) -> Option<u
 }
 
 /// Passes a packet of the stream's sender to the statistics.
+#[inline(always)]
 pub(crate) fn observe(statistics: &mut ReceptionStatistics, now: Ticks, datagram: &Datagram<'_>)
     ensures { statistics.new ≡ observed_in statistics.old now.0 (datagram_of datagram.now) }
 {

@@ -103,6 +103,7 @@ impl ReceptionStatistics {
     }
 
     /// Counts a packet with this number and RTP time that arrived at `now`.
+    #[inline(always)]
     pub fn observe(&mut self, now: Ticks, number: u16, timestamp: u32)
         ensures { self.new ≡ observed self.old now.0 number timestamp }
     {

@@ -84,6 +84,7 @@ impl Choice {
     }
 
     /// Notes the time of a datagram, if it belongs to the stream.
+    #[inline(always)]
     pub(crate) fn note(&mut self, now: Ticks, datagram: &Datagram<'_>) {
         if origin_of(datagram).is_some() {
             self.latest = Some(now.0);

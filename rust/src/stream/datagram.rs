@@ -142,6 +142,7 @@ fn is_padding_only(packet: &RtpPacket<'_>) -> bool {
 }
 
 /// Sorts a packet with a payload type of the stream.
+#[inline(always)]
 fn media_kind<'a>(packet: RtpPacket<'a>) -> Datagram<'a> {
     if is_padding_only(&packet) {
         Datagram::NoMedia(packet)
@@ -264,6 +265,7 @@ fn red_again_kind<'a>(
 
 impl Stream {
     /// Sorts a datagram, for a stream with this SSRC, if it is known.
+    #[inline(always)]
     pub(crate) fn sort<'a>(
         &self,
         ssrc: Option<u32>,
@@ -279,6 +281,7 @@ impl Stream {
     }
 
     /// Sorts an RTP packet.
+    #[inline(always)]
     fn kind_of<'a>(
         &self,
         ssrc: Option<u32>,
@@ -350,6 +353,7 @@ impl Stream {
     }
 
     /// Stores a packet with media in the jitter buffer.
+    #[inline(always)]
     fn push_packet<B: Depacketizer>(
         &self,
         packets: &mut JitterBuffer<B>,
@@ -443,6 +447,7 @@ impl Stream {
     }
 
     /// Stores a packet with media. If it repeats a block, it counts as a packet without media.
+    #[inline(always)]
     fn push_media<B: Depacketizer>(
         &self,
         packets: &mut JitterBuffer<B>,
@@ -514,6 +519,7 @@ impl Stream {
     }
 
     /// Stores a datagram of the stream in the jitter buffer, or counts it there.
+    #[inline(always)]
     pub(crate) fn take<B: Depacketizer>(
         &self,
         packets: &mut JitterBuffer<B>,
@@ -568,6 +574,7 @@ fn is_restart(outcome: Outcome) -> bool {
 }
 
 /// Notes the time of a packet, if it has media and the stream uses RED. A restart forgets all earlier times.
+#[inline(always)]
 fn note_packet(seen: &mut SeenTimes, is_media: bool, outcome: Outcome, time: u32) {
     if !is_media {
         return;
@@ -582,6 +589,7 @@ fn note_packet(seen: &mut SeenTimes, is_media: bool, outcome: Outcome, time: u32
 }
 
 /// Returns the SSRC of the stream after this datagram.
+#[inline(always)]
 pub(crate) fn ssrc_after(ssrc: Option<u32>, datagram: &Datagram<'_>) -> Option<u32> {
     match datagram {
         Datagram::NoMedia(packet) | Datagram::Media(packet) => Some(packet.header.ssrc),
@@ -591,6 +599,7 @@ pub(crate) fn ssrc_after(ssrc: Option<u32>, datagram: &Datagram<'_>) -> Option<u
 }
 
 /// Passes a packet of the stream's sender to the statistics.
+#[inline(always)]
 pub(crate) fn observe(statistics: &mut ReceptionStatistics, now: Ticks, datagram: &Datagram<'_>) {
     match datagram {
         Datagram::NoMedia(packet) | Datagram::Media(packet) => {

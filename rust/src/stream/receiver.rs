@@ -397,20 +397,21 @@ impl<B: Depacketizer> Receiver<B> {
 
     /// Receives a datagram, by the SSRC of the stream.
     fn hear(&mut self, now: Ticks, bytes: &[u8]) -> Result<Outcome, ReceiveError> {
-        let Ok(datagram) = self.stream.sort(self.ssrc, bytes) else {
+        let sorted = self.stream.sort(self.ssrc, bytes);
+        let Ok(datagram) = &sorted else {
             return Err(ReceiveError::OutOfMemory);
         };
         let Ok(taken) = self
             .stream
-            .take(&mut self.packets, &mut self.seen, now, &datagram)
+            .take(&mut self.packets, &mut self.seen, now, datagram)
         else {
             return Err(ReceiveError::OutOfMemory);
         };
-        self.ssrc = ssrc_after(self.ssrc, &datagram);
-        self.arrived = with_datagram(self.arrived, &datagram);
-        observe(&mut self.statistics, now, &datagram);
-        self.choice.note(now, &datagram);
-        answer_for(&datagram, taken)
+        self.ssrc = ssrc_after(self.ssrc, datagram);
+        self.arrived = with_datagram(self.arrived, datagram);
+        observe(&mut self.statistics, now, datagram);
+        self.choice.note(now, datagram);
+        answer_for(datagram, taken)
     }
 
     /// Returns the next unit, if one is due at time `now`. See [`JitterBuffer::pop`].

@@ -65,6 +65,7 @@ impl ReceptionStatistics {
     }
 
     /// Counts a packet with this number and RTP time that arrived at `now`.
+    #[inline(always)]
     pub fn observe(&mut self, now: Ticks, number: u16, timestamp: u32) {
         let is_first = self.numbers.greatest().is_none();
         let answer = self.numbers.number(number);
