@@ -10,7 +10,7 @@ use Rattle.codec_payload_buffer.specs.Release.{Release}
 use Rattle.codec_payload_jitter.specs.Receiving.{Receiving, deadline_of, settled, waiting_at}
 use Rattle.codec_payload_stream.specs.Pops.{DropsUnits, PopsGated, PopsOnce, has_left, none_dropped, one_more, without_unit}
 use Rattle.codec_payload_stream.specs.Sessions.{Session as Receiver}
-use Rattle.codec_payload_session.specs.Quiet.{AsksNothing, IsBefore, IsKnown, IsQuiet, IsQuietUntil, MayRest, PopsNothing, Rests, RestsUntil}
+use Rattle.codec_payload_session.specs.Quiet.{AsksNothing, IsBefore, IsKnown, IsQuiet, IsQuietUntil, MayRest, PopsNothing, Rests, RestsUntil, or_none, time_of}
 use Rattle.codec_payload_session.specs.Requests.{Asking, Asks, is_heard, requests_due}
 use Rattle.codec_payload_session.specs.Streams.{Drains, Follows, Plays, Pops, RequestsBy, RestsBy, Steps, StepsBy, Stream, earlier, end_by, is_probation, request_deadline, step_of, work_deadline}
 use Rattle.codec_payload_session.specs.declared.stream.Ending.{Ending}
@@ -141,16 +141,24 @@ earlier_both (Some a) None now before = (before, tt)
 earlier_both (Some a) (Some b) now before = (omega (arith, before), omega (arith, before))
 
 quiet_until : (until : ℕ) (work : Option ℕ) (told : Bool) (stage : Stage) (last : ℕ) (feedback : Option Asking) (r : Receiver)
-    → IsKnown until work told stage last feedback r → IsQuietUntil until work told stage last feedback r
+    → (0 < until → IsKnown until work told stage last feedback r) → IsQuietUntil until work told stage last feedback r
 quiet_until zero work told stage last feedback r known = tt
-quiet_until (suc until) work told stage last feedback r known = known
+quiet_until (suc until) work told stage last feedback r known = known (omega arith)
+
+-- a time after 0 is kept as a number
+time_kept : (work : Option ℕ) → IsBefore work 0 → time_of (or_none work) ≡ work
+time_kept None before = refl
+time_kept (Some zero) before = absurd (omega (arith, before))
+time_kept (Some (suc n)) before = refl
 
 -- a stream that had no unit and nothing to request, and of which no packet left
-pub rests_until : (now until : ℕ) (work : Option ℕ) (r : Receiver) (s t : Stream) → PopsGated now r None s.receiver → RestsBy s.stage now s steps.Nothing t
-    → length t.receiver.packets.buffer.held ≡ length r.packets.buffer.held → work ≡ work_deadline t → RestsUntil until now t
-    → IsQuietUntil until work t.told t.stage t.last t.feedback t.receiver
-rests_until now until work r s t popped rests same work_is can = quiet_until until work t.told t.stage t.last t.feedback t.receiver (record {
-  work_is = work_is;
+pub rests_until : (now until kept : ℕ) (work : Option ℕ) (r : Receiver) (s t : Stream) → PopsGated now r None s.receiver → RestsBy s.stage now s steps.Nothing t
+    → length t.receiver.packets.buffer.held ≡ length r.packets.buffer.held → work ≡ work_deadline t → kept ≡ or_none work → RestsUntil until now t
+    → IsQuietUntil until (time_of kept) t.told t.stage t.last t.feedback t.receiver
+rests_until now until kept work r s t popped rests same work_is kept_is can = quiet_until until (time_of kept) t.told t.stage t.last t.feedback t.receiver (λ some. record {
+  work_is =
+      let it : Rests now 0 t = can 0 some in
+      ap time_of kept_is ∙ (time_kept work (subst (λ (w : Option ℕ). IsBefore w 0) (sym work_is) it.before) ∙ work_is);
   quiet = λ later less.
       let it : Rests now later t = can later less in
       let both = earlier_both (deadline_of t.receiver.packets) (request_deadline t.stage t.feedback) later it.before in

@@ -1,5 +1,5 @@
 -- Streams that are not asked: until a moment they have no event, and nothing changes.
-use Rattle.std.specs.Prelude.{◌≡◌, ◌⊎◌, ◌<◌, ℕ, zero, suc, min, ◌^◌, ◌&&◌, not, Bool, true, false, List, [], ◌∷◌, Option, Some, None, Ok}
+use Rattle.std.specs.Prelude.{◌≡◌, ◌⊎◌, ◌<◌, ℕ, zero, suc, min, ◌^◌, ◌==◌, ◌&&◌, not, if◌then◌else◌, Bool, true, false, List, [], ◌∷◌, Option, Some, None, Ok}
 use Rattle.codec_payload_jitter.specs.Missing.{missing_numbers}
 use Rattle.codec_payload_jitter.specs.Receiving.{PopsWith, Receiving, deadline_of, settled, waiting_at}
 use Rattle.codec_payload_stream.specs.Sessions.{Session as Receiver}
@@ -23,6 +23,14 @@ pub record IsQuiet (now : ℕ) (told : Bool) (stage : Stage) (last : ℕ) (feedb
   pub plays : stage ≡ stages.Playing
   pub pops : PopsNothing now r.packets
   pub asks : AsksNothing feedback now last r
+
+-- a time; 0 stands for none
+abbrev pub time_of : ℕ → Option ℕ
+time_of at = if at == 0 then None else Some at
+
+abbrev pub or_none : Option ℕ → ℕ
+or_none None = 0
+or_none (Some at) = at
 
 -- the same for each time before `until`; `work` is the time at which the stream may have a unit, or a request is due
 pub record IsKnown (until : ℕ) (work : Option ℕ) (told : Bool) (stage : Stage) (last : ℕ) (feedback : Option Asking) (r : Receiver) : Type 0 where

@@ -4,7 +4,7 @@ ghost use Rattle.std.specs.Prelude.{◌≡◌, IfOk, IfSome, true};
 ghost use Rattle.std.specs.Option.{option_map};
 ghost use Rattle.codec_payload_session.specs.Changes.{is_left_behind, is_playing, left_behind, plays};
 ghost use Rattle.codec_payload_session.specs.Pairs.{paired_if};
-ghost use Rattle.codec_payload_session.specs.Quiet.{RestsUntil};
+ghost use Rattle.codec_payload_session.specs.Quiet.{RestsUntil, or_none, time_of};
 ghost use Rattle.codec_payload_session.specs.Requests.{wait_by};
 ghost use Rattle.codec_payload_session.specs.Streams.{Begins, Drains, IsInfo, Pops, RequestsBy, RestsBy, Steps, Takes, due_of, earlier, end_of, heard, heard_unless, is_accepted, is_no_memory, is_of, is_probation, left, left_when, received, step_of, waiting_for, waiting_if, work_deadline};
 ghost use Rattle.codec_payload_session.specs.Turns.{is_nothing};
@@ -90,8 +90,8 @@ pub(crate) struct Stream {
     pub(crate) sender_clock: Option<SenderClock>,
     /// At earlier times a step has no event, unless the stream is idle. 0: it is not known.
     quiet_until: u64,
-    /// Its `work_deadline`, unless `quiet_until` is 0.
-    work: Option<u64>,
+    /// Its `work_deadline`, unless `quiet_until` is 0. 0: there is none.
+    work: u64,
 }
 
 impl Model for Stream {
@@ -99,7 +99,7 @@ impl Model for Stream {
 
     ghost Value = { Stream };
 
-    ghost use Rattle.codec_payload_session.specs.Quiet.{IsQuietUntil};
+    ghost use Rattle.codec_payload_session.specs.Quiet.{IsQuietUntil, time_of};
 
     ghost view = { λ s. record {
       ssrc = s.ssrc;
@@ -114,7 +114,7 @@ impl Model for Stream {
       sender_clock = s.sender_clock;
     } };
 
-    ghost invariant = { λ s. IsQuietUntil s.quiet_until s.work s.told s.stage s.last s.feedback s.receiver };
+    ghost invariant = { λ s. IsQuietUntil s.quiet_until (time_of s.work) s.told s.stage s.last s.feedback s.receiver };
 }
 
 /// A step of a stream: its next event, or nothing.
@@ -160,7 +160,7 @@ impl Stream {
             feedback,
             sender_clock: None,
             quiet_until: 0,
-            work: None,
+            work: 0,
         }))
     }
 
@@ -382,8 +382,10 @@ impl Stream {
                 let step = self.rest(now);
                 if is_nothing(&step) && self.receiver.held() == held {
                     let work = self.find_work();
-                    self.quiet_until = self.quiet_time(now, work);
-                    self.work = work;
+                    let until = self.quiet_time(now, work);
+                    let kept = or_none(work);
+                    self.quiet_until = until;
+                    self.work = kept;
                 }
                 step
             }
@@ -433,7 +435,7 @@ impl Stream {
         ensures { result ≡ work_deadline self.now }
     {
         if self.quiet_until > 0 {
-            return self.work;
+            return time_of(self.work);
         }
         self.find_work()
     }
@@ -497,6 +499,23 @@ fn is_playing(stage: Stage) -> bool
     ensures { result ≡ is_playing stage }
 {
     matches!(stage, Stage::Playing)
+}
+
+/// Returns the time. 0 stands for none.
+fn time_of(at: u64) -> Option<u64>
+    ensures { result ≡ time_of at }
+{
+    if at == 0 { None } else { Some(at) }
+}
+
+/// Returns the time as a number. 0 stands for none.
+fn or_none(time: Option<u64>) -> u64
+    ensures { result ≡ or_none time }
+{
+    match time {
+        Some(at) => at,
+        None => 0,
+    }
 }
 
 /// Returns whether a step has no event.

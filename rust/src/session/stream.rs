@@ -82,8 +82,8 @@ pub(crate) struct Stream {
     pub(crate) sender_clock: Option<SenderClock>,
     /// At earlier times a step has no event, unless the stream is idle. 0: it is not known.
     quiet_until: u64,
-    /// Its `work_deadline`, unless `quiet_until` is 0.
-    work: Option<u64>,
+    /// Its `work_deadline`, unless `quiet_until` is 0. 0: there is none.
+    work: u64,
 }
 
 /// A step of a stream: its next event, or nothing.
@@ -126,7 +126,7 @@ impl Stream {
             feedback,
             sender_clock: None,
             quiet_until: 0,
-            work: None,
+            work: 0,
         }))
     }
 
@@ -308,8 +308,10 @@ impl Stream {
                 let step = self.rest(now);
                 if is_nothing(&step) && self.receiver.held() == held {
                     let work = self.find_work();
-                    self.quiet_until = self.quiet_time(now, work);
-                    self.work = work;
+                    let until = self.quiet_time(now, work);
+                    let kept = or_none(work);
+                    self.quiet_until = until;
+                    self.work = kept;
                 }
                 step
             }
@@ -350,7 +352,7 @@ impl Stream {
     /// Returns when the stream may have a unit, or a request is due.
     fn work_deadline(&self) -> Option<u64> {
         if self.quiet_until > 0 {
-            return self.work;
+            return time_of(self.work);
         }
         self.find_work()
     }
@@ -404,6 +406,19 @@ fn is_probation(stage: Stage) -> bool {
 /// Returns whether a stream at this stage plays.
 fn is_playing(stage: Stage) -> bool {
     matches!(stage, Stage::Playing)
+}
+
+/// Returns the time. 0 stands for none.
+fn time_of(at: u64) -> Option<u64> {
+    if at == 0 { None } else { Some(at) }
+}
+
+/// Returns the time as a number. 0 stands for none.
+fn or_none(time: Option<u64>) -> u64 {
+    match time {
+        Some(at) => at,
+        None => 0,
+    }
 }
 
 /// Returns whether a step has no event.

@@ -14,8 +14,8 @@ invariant_of-self-then-held c =
     let nothing : c.rest-step.result ≡ steps.Nothing = nothing_is c.rest-step.result (sym c.is_nothing.ensures ∙ c.if-is_nothing.true) in
     let rests : RestsBy s.stage c.args.now.0 s c.rest-step.result t = subst (λ (x : Stream). RestsBy s.stage c.args.now.0 s c.rest-step.result x) (sym c.self-in-None.view_is) c.rest-step.ensures in
     let same : length t.receiver.packets.buffer.held ≡ length c.self.inside.receiver.packets.buffer.held = grind (arith, nat_tests, c.if-held.true, c.held.ensures, c.held-held.ensures) in
-    rests_until c.args.now.0 c.quiet_time-self-inside.result c.find_work-work.result c.self.inside.receiver s t c.in-None.ensures.pops
-    (subst (λ (x : Step). RestsBy s.stage c.args.now.0 s x t) nothing rests) same c.find_work-work.ensures c.quiet_time-self-inside.ensures
+    rests_until c.args.now.0 c.quiet_time-until.result c.or_none-kept.result c.find_work-work.result c.self.inside.receiver s t c.in-None.ensures.pops
+    (subst (λ (x : Step). RestsBy s.stage c.args.now.0 s x t) nothing rests) same c.find_work-work.ensures c.or_none-kept.ensures c.quiet_time-until.ensures
 
 pub returns-in-Some : goal.returns-in-Some
 returns-in-Some c =

@@ -1,7 +1,7 @@
 use Rattle.std.proofs.Common.{ℕ, zero, suc, Bool, Option, Some, None, subst, sym}
 use Rattle.codec_payload_stream.specs.Reports.{Reception, reported}
 use Rattle.codec_payload_stream.specs.Sessions.{Session as Receiver}
-use Rattle.codec_payload_session.specs.Quiet.{AsksNothing, IsQuietUntil}
+use Rattle.codec_payload_session.specs.Quiet.{AsksNothing, IsQuietUntil, time_of}
 use Rattle.codec_payload_session.specs.Requests.{Asking}
 use Rattle.codec_payload_session.specs.declared.stream.Stage.{Stage}
 use Rattle.codec_payload_session.proofs.stream.Stream.report.Goals as goal
@@ -26,7 +26,7 @@ quiet_stays (suc until) work told stage last feedback r x known = record {
 
 pub invariant_of-self : goal.invariant_of-self
 invariant_of-self c =
-    subst (λ (r : Receiver). IsQuietUntil c.self.inside.quiet_until c.self.inside.work c.self.inside.told c.self.inside.stage c.self.inside.last c.self.inside.feedback r)
+    subst (λ (r : Receiver). IsQuietUntil c.self.inside.quiet_until (time_of c.self.inside.work) c.self.inside.told c.self.inside.stage c.self.inside.last c.self.inside.feedback r)
     (sym c.report.ensures.after)
-    (quiet_stays c.self.inside.quiet_until c.self.inside.work c.self.inside.told c.self.inside.stage c.self.inside.last c.self.inside.feedback c.self.inside.receiver
+    (quiet_stays c.self.inside.quiet_until (time_of c.self.inside.work) c.self.inside.told c.self.inside.stage c.self.inside.last c.self.inside.feedback c.self.inside.receiver
     (reported c.self.inside.receiver.reception) c.self.invariant)

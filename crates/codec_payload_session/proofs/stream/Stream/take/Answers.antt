@@ -18,7 +18,7 @@ returns c =
       r,
       c.receive-answer.ensures.received,
       c.note_unless.ensures
-      ∙ (ap (λ (x : Stream). heard_unless no_memory c.args.now.0 c.args.probation accepted x) (c.hear_if.ensures ∙ received_same c.args.now.0 c.args.datagram.now accepted r s)
-      ∙ (ap (λ (b : Bool). heard_unless b c.args.now.0 c.args.probation accepted (received c.args.now.0 c.args.datagram.now accepted r s)) c.is_no_memory-no_memory.ensures
-      ∙ ap (λ (b : Bool). heard_unless (is_no_memory c.receive-answer.result) c.args.now.0 c.args.probation b (received c.args.now.0 c.args.datagram.now b r s)) c.is_accepted-accepted.ensures)),
+          ∙ (ap (λ (x : Stream). heard_unless no_memory c.args.now.0 c.args.probation accepted x) (c.hear_if.ensures ∙ received_same c.args.now.0 c.args.datagram.now accepted r s)
+          ∙ (ap (λ (b : Bool). heard_unless b c.args.now.0 c.args.probation accepted (received c.args.now.0 c.args.datagram.now accepted r s)) c.is_no_memory-no_memory.ensures
+          ∙ ap (λ (b : Bool). heard_unless (is_no_memory c.receive-answer.result) c.args.now.0 c.args.probation b (received c.args.now.0 c.args.datagram.now b r s)) c.is_accepted-accepted.ensures)),
     )
