@@ -7,3 +7,18 @@ use Rattle.codec_payload_session.proofs.session.Session.poll.Goals as goal
 pub invariant_of-self : goal.invariant_of-self
 invariant_of-self c =
     turn_keeps c.args.now c.self.inside.settings.idle_timeout c.self.inside.settings c.self.inside.counts c.self.inside.streams c.turn.new.self c.turn.result c.turn.ensures c.self.invariant
+
+pub invariant_of-self-in-None : goal.invariant_of-self-in-None
+invariant_of-self-in-None c =
+    turn_keeps c.args.now c.self.inside.settings.idle_timeout c.self.inside.settings c.self.inside.counts c.self.inside.streams c.turn.new.self c.turn.result c.turn.ensures c.self.invariant
+
+pub returns-in-Some : goal.returns-in-Some
+returns-in-Some c =
+    let t : Session = record { settings = c.self.inside.settings; port = c.turn.new.self; counts = c.self.inside.counts; report_due = c.self.inside.report_due } in
+    subst (λ (s : Session). Polls c.args.now s (Some c.in-Some.event) t) c.self.view_is
+    (record { event = Some c.in-Some.event; port = c.turn.new.self; turn = c.in-Some.ensures; goes_on = (refl, refl) })
+
+pub returns-in-None : goal.returns-in-None
+returns-in-None c =
+    subst (λ (s : Session). Polls c.args.now s c.report_streams.result c.report_streams.new.self) c.self.view_is
+    (record { event = None; port = c.turn.new.self; turn = c.in-None.ensures; goes_on = c.report_streams.ensures })
