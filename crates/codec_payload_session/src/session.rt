@@ -6,7 +6,7 @@ ghost use Rattle.std.specs.Option.{option_map};
 ghost use Rattle.codec_payload_session.specs.Arrivals.{Port};
 ghost use Rattle.codec_payload_session.specs.Ports.{IsSum, MatchInfo, Receives, ReportsIf, counted, counted_if, ends_all, ends_of, new_session, no_counts, receiver_among, taken_in, told_counts, waits_of};
 ghost use Rattle.codec_payload_session.specs.Reports.{clock_among};
-ghost use Rattle.codec_payload_session.specs.Polls.{Polls, SendsReport, TurnsOrReports};
+ghost use Rattle.codec_payload_session.specs.Polls.{Polls, SendsReport, TurnsOrReports, report_event};
 ghost use Rattle.codec_payload_session.specs.Reporting.{report_deadline};
 ghost use Rattle.codec_payload_session.specs.Streams.{due_in, earlier, is_of};
 ghost use Rattle.codec_payload_session.specs.Telephone.{due_before};
@@ -254,13 +254,10 @@ impl Session {
     fn report_streams(&mut self, now: Ticks) -> Option<Event>
         ensures { SendsReport now.0 self.old result self.new }
     {
-        match self
+        let packet = self
             .streams
-            .report_due(&self.settings, now, &mut self.report_due)
-        {
-            Some(packet) => Some(Event::Report { packet }),
-            None => None,
-        }
+            .report_due(&self.settings, now, &mut self.report_due);
+        report_event(packet)
     }
 
     /// Returns when a poll may have an event without a datagram: `Ticks(0)` while telephone events wait, else the time of a
@@ -440,6 +437,16 @@ impl Session {
             ended: self.streams.ended,
             telephone_dropped: self.telephone.dropped(),
         }
+    }
+}
+
+/// Returns the event of a report, if there is one.
+fn report_event(packet: Option<Result<Vec<u8>, AllocError>>) -> Option<Event>
+    ensures { result ≡ report_event packet }
+{
+    match packet {
+        Some(packet) => Some(Event::Report { packet }),
+        None => None,
     }
 }
 

@@ -219,13 +219,10 @@ impl Session {
 
     /// Returns the report about the streams, if one is due.
     fn report_streams(&mut self, now: Ticks) -> Option<Event> {
-        match self
+        let packet = self
             .streams
-            .report_due(&self.settings, now, &mut self.report_due)
-        {
-            Some(packet) => Some(Event::Report { packet }),
-            None => None,
-        }
+            .report_due(&self.settings, now, &mut self.report_due);
+        report_event(packet)
     }
 
     /// Returns when a poll may have an event without a datagram: `Ticks(0)` while telephone events wait, else the time of a
@@ -373,6 +370,14 @@ impl Session {
             ended: self.streams.ended,
             telephone_dropped: self.telephone.dropped(),
         }
+    }
+}
+
+/// Returns the event of a report, if there is one.
+fn report_event(packet: Option<Result<Vec<u8>, AllocError>>) -> Option<Event> {
+    match packet {
+        Some(packet) => Some(Event::Report { packet }),
+        None => None,
     }
 }
 

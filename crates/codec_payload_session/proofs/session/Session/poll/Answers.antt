@@ -10,6 +10,12 @@ invariant_of-self c = record {
   few = stay_fewer c.self.inside.telephone c.take.result c.take.new.self c.take.ensures c.self.invariant.few;
 }
 
+pub invariant_of-self-in-None : goal.invariant_of-self-in-None
+invariant_of-self-in-None c = record {
+  port = c.self.invariant.port;
+  few = stay_fewer c.self.inside.telephone c.take.result c.take.new.self c.take.ensures c.self.invariant.few;
+}
+
 pub returns-in-Some : goal.returns-in-Some
 returns-in-Some c =
     let s : Session = record { settings = c.self.inside.settings; port = c.self.inside.streams; counts = c.self.inside.counts; telephone = c.self.inside.telephone; report_due = c.self.inside.report_due } in

@@ -10,6 +10,12 @@ invariant_of-self c = record {
   few = c.self.invariant.few;
 }
 
+pub invariant_of-self-in-None : goal.invariant_of-self-in-None
+invariant_of-self-in-None c = record {
+  port = turn_keeps c.args.now c.self.inside.settings.idle_timeout c.self.inside.settings c.self.inside.counts c.self.inside.streams c.turn.new.self c.turn.result c.turn.ensures c.self.invariant.port;
+  few = c.self.invariant.few;
+}
+
 pub returns-in-Some : goal.returns-in-Some
 returns-in-Some c =
     let t : Session = record { settings = c.self.inside.settings; port = c.turn.new.self; counts = c.self.inside.counts; telephone = c.self.inside.telephone; report_due = c.self.inside.report_due } in
