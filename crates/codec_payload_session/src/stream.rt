@@ -512,10 +512,7 @@ fn time_of(at: u64) -> Option<u64>
 fn or_none(time: Option<u64>) -> u64
     ensures { result ≡ or_none time }
 {
-    match time {
-        Some(at) => at,
-        None => 0,
-    }
+    time.unwrap_or(0)
 }
 
 /// Returns whether a step has no event.

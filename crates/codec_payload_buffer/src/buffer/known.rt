@@ -167,10 +167,7 @@ impl Known {
     pub(super) fn is_plain(&self) -> bool
         ensures { result ≡ true → plain_meta self.now ≡ self.now }
     {
-        match &self.rare {
-            Some(_) => false,
-            None => true,
-        }
+        self.rare.is_none()
     }
 
     /// Returns the metadata without rare values.
