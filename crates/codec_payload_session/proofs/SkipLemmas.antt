@@ -149,7 +149,9 @@ quiet_until (suc until) work told stage last feedback r known = known (omega ari
 time_kept : (work : Option ℕ) → IsBefore work 0 → time_of (or_none work) ≡ work
 time_kept None before = refl
 time_kept (Some zero) before = absurd (omega (arith, before))
-time_kept (Some (suc n)) before = refl
+time_kept (Some (suc n)) before =
+    let other : (suc n == 0) ≡ false = grind (arith, nat_tests) in
+    ap (λ (b : Bool). if b then None else Some (suc n)) other
 
 -- a stream that had no unit and nothing to request, and of which no packet left
 pub rests_until : (now until kept : ℕ) (work : Option ℕ) (r : Receiver) (s t : Stream) → PopsGated now r None s.receiver → RestsBy s.stage now s steps.Nothing t

@@ -1,6 +1,7 @@
 use Rattle.std.proofs.Common.{◌≡◌, ◌∙◌, None, Some, arith, length, refl, subst, sym}
 use Rattle.std.proofs.lemmas.Bool.Decides.{nat_tests}
-use Rattle.codec_payload_session.specs.Streams.{Pops, RestsBy, Stream}
+use Rattle.codec_payload_session.specs.Quiet.{RestsUntil}
+use Rattle.codec_payload_session.specs.Streams.{Pops, RestsBy, Stream, work_deadline}
 use Rattle.codec_payload_session.specs.declared.stream.Step.{Step}
 use Rattle.codec_payload_session.specs.declared.stream.Step.TheVariants as steps
 use Rattle.codec_payload_session.proofs.QuietLemmas.{nothing_is}
@@ -14,8 +15,10 @@ invariant_of-self-then-held c =
     let nothing : c.rest-step.result ≡ steps.Nothing = nothing_is c.rest-step.result (sym c.is_nothing.ensures ∙ c.if-is_nothing.true) in
     let rests : RestsBy s.stage c.args.now.0 s c.rest-step.result t = subst (λ (x : Stream). RestsBy s.stage c.args.now.0 s c.rest-step.result x) (sym c.self-in-None.view_is) c.rest-step.ensures in
     let same : length t.receiver.packets.buffer.held ≡ length c.self.inside.receiver.packets.buffer.held = grind (arith, nat_tests, c.if-held.true, c.held.ensures, c.held-held.ensures) in
+    let work : c.find_work-work.result ≡ work_deadline t = subst (λ (x : Stream). c.find_work-work.result ≡ work_deadline x) (sym c.self-in-None.view_is) c.find_work-work.ensures in
+    let rest : RestsUntil c.quiet_time-until.result c.args.now.0 t = subst (λ (x : Stream). RestsUntil c.quiet_time-until.result c.args.now.0 x) (sym c.self-in-None.view_is) c.quiet_time-until.ensures in
     rests_until c.args.now.0 c.quiet_time-until.result c.or_none-kept.result c.find_work-work.result c.self.inside.receiver s t c.in-None.ensures.pops
-    (subst (λ (x : Step). RestsBy s.stage c.args.now.0 s x t) nothing rests) same c.find_work-work.ensures c.or_none-kept.ensures c.quiet_time-until.ensures
+    (subst (λ (x : Step). RestsBy s.stage c.args.now.0 s x t) nothing rests) same work c.or_none-kept.ensures rest
 
 pub returns-in-Some : goal.returns-in-Some
 returns-in-Some c =
