@@ -1,6 +1,5 @@
-use Rattle.std.proofs.Common.{◌≡◌, ◌∙◌, List, ap, arith, length, ℕ, ◌++◌, take, drop}
+use Rattle.std.proofs.Common.{◌≡◌, ◌∙◌, ap, arith, length, ℕ, ◌++◌, take, drop}
 use Rattle.codec_payload_session.specs.Reporting.{all_reported}
-use Rattle.codec_payload_session.specs.declared.stream.Stream.{Stream}
 use Rattle.codec_payload_session.proofs.ReporterLemmas.{all_mixed, fraction_more}
 use Rattle.codec_payload_session.proofs.reporter.start_fractions.Goals as goal
 

@@ -1,4 +1,4 @@
-use Rattle.std.proofs.Common.{◌≡◌, ◌∙◌, rules, sym, true}
+use Rattle.std.proofs.Common.{◌≡◌, rules, true}
 use Rattle.codec_payload_session.specs.Reporting.{is_report_due}
 use Rattle.codec_payload_session.proofs.ReporterLemmas.{sends}
 use Rattle.codec_payload_session.proofs.streams.Streams.report_each.Goals as goal
