@@ -12,4 +12,5 @@ mod ReportingLemmas
 mod RestLemmas
 mod SkipLemmas
 mod SourceLemmas
+mod StillLemmas
 mod TelephoneLemmas
