@@ -1,5 +1,5 @@
 -- A stream that had nothing to request has nothing to request later.
-use Rattle.std.proofs.Common.{◌≡◌, ◌∙◌, refl, ap, sym, subst, ℕ, zero, suc, ◌&&◌, not, List, [], ◌∷◌, Bool, true, false, cond, Option, Some, None, Ok, inl, inr, min, take, arith}
+use Rattle.std.proofs.Common.{◌≡◌, ◌∙◌, refl, ap, sym, subst, ℕ, zero, suc, ◌&&◌, not, List, [], ◌∷◌, Bool, true, false, cond, Some, None, Ok, inl, inr, min, take, arith}
 use Rattle.std.proofs.lemmas.Bool.{false≢true}
 use Rattle.codec_payload_feedback.specs.Feedback.{Requests, after_feedback, deadline_of, updated}
 use Rattle.codec_payload_jitter.specs.Missing.{missing_numbers, missing_of}

@@ -1,6 +1,6 @@
 use Rattle.std.proofs.Common.{◌≡◌, ◌∙◌, ℕ, List, Bool, true, false, ap, refl, subst}
 use Rattle.codec_payload_stream.specs.Sessions.{Session as Receiver}
-use Rattle.codec_payload_session.specs.Streams.{Stream, Takes, heard_unless, is_accepted, is_no_memory, received}
+use Rattle.codec_payload_session.specs.Streams.{Stream, Takes, heard_unless, is_no_memory, received}
 use Rattle.codec_payload_session.proofs.SkipLemmas.{seen}
 use Rattle.codec_payload_session.proofs.stream.Stream.take.Goals as goal
 
