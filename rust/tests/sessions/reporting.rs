@@ -192,9 +192,10 @@ fn intervals() -> Result<(), Fail> {
         for now in 8..40 {
             assert_eq!(reports(&mut each, now)?.len(), 1);
         }
-        // At the end of time there is no later report.
+        // A late poll sends one report.
         assert_eq!(reports(&mut each, 100)?.len(), 1);
     }
+    // 64 bits hold no time for it.
     let mut never = begin(Some(u64::MAX))?;
     assert_eq!(reports(&mut never, 7)?, []);
     assert_eq!(reports(&mut never, 25_000)?, []);
@@ -219,9 +220,12 @@ fn an_empty_report() -> Result<(), Fail> {
         feedback.cname = vec![b'n'; 300];
     });
     // RED whose block is longer than the packet.
-    session.receive(Ticks(0), &packet(RED, 5, 1, 0, &[0x80 | OPUS, 0, 0x3f, 0xff, OPUS]))?;
+    session.receive(
+        Ticks(0),
+        &packet(RED, 5, 1, 0, &[0x80 | OPUS, 0, 0x3f, 0xff, OPUS]),
+    )?;
     session.receive(Ticks(0), &bye(5))?;
-    assert_eq!(session.report(Ticks(0), 5, OPUS).is_some(), session.stream_count() == 1 && session.receiver_at(0).is_some_and(|it| it.ssrc().is_none()));
+    assert_eq!(session.report(Ticks(0), 5, OPUS), None);
     assert_eq!(reports(&mut session, 0)?, []);
     let told = reports(&mut session, 50)?;
     assert_eq!(told, [(vec![vec![]], vec![vec![b'n'; 255]])]);
@@ -319,7 +323,10 @@ fn reports_beside_the_counters_of_rfc_3550() -> Result<(), Fail> {
                     let early = counts.get(&ssrc).is_none_or(|it| told >= it.base);
                     if early {
                         session.receive(Ticks(now), &opus(ssrc, told as u16))?;
-                        counts.entry(ssrc).or_default().arrive(now, told, 960 * told);
+                        counts
+                            .entry(ssrc)
+                            .or_default()
+                            .arrive(now, told, 960 * told);
                     }
                 }
             }

@@ -219,7 +219,11 @@ impl Watch {
         for packet in read_compound(CompoundRule::Full, packet).expect("it is RTCP") {
             if let RtcpPacket::ReceiverReport(report) = packet {
                 assert_eq!(report.ssrc, OWN);
-                reported.extend((0..).map_while(|index| report.block(index)).map(|it| it.ssrc));
+                reported.extend(
+                    (0..)
+                        .map_while(|index| report.block(index))
+                        .map(|it| it.ssrc),
+                );
             }
         }
         assert!(!self.announced.is_empty());
