@@ -116,10 +116,7 @@ impl Known {
     /// Returns whether the packet has no rare values.
     #[inline(always)]
     pub(super) fn is_plain(&self) -> bool {
-        match &self.rare {
-            Some(_) => false,
-            None => true,
-        }
+        self.rare.is_none()
     }
 
     /// Returns the metadata without rare values.

@@ -415,10 +415,7 @@ fn time_of(at: u64) -> Option<u64> {
 
 /// Returns the time as a number. 0 stands for none.
 fn or_none(time: Option<u64>) -> u64 {
-    match time {
-        Some(at) => at,
-        None => 0,
-    }
+    time.unwrap_or(0)
 }
 
 /// Returns whether a step has no event.
