@@ -541,7 +541,7 @@ fn report_of_a_session() {
         session.receive(Ticks(2), &opus(7, 5)).unwrap();
         while session.poll(Ticks(2)).is_some() {}
         session.receive(Ticks(3), &opus(7, 8)).unwrap();
-        while !matches!(session.poll(Ticks(900)), None) {}
+        while session.poll(Ticks(900)).is_some() {}
         session
     };
     let wanted = {
