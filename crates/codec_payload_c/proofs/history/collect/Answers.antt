@@ -15,7 +15,7 @@ loop-request-preserved-in-Packet c =
     let step : requests_left c.loop-request.request-iterator ≡ requests.Packet number ∷ left = c.in-Some.ensures.steps ∙ ap (λ (r : Request). r ∷ left) c.in-Packet.is in
     let asked : numbers_asked (requests_left c.loop-request.request-iterator) ≡ number ∷ numbers_asked left = ap numbers_asked step in
     let put : c.put-count.new.numbers ≡ set before n number =
-        c.put-count.ensures.number ∙ ap (λ (i : ℕ). set before i number) c.loop-request.invariant.1 ∙ set_least (2 ^ 64 - 1) n before number c.put-count.ensures.room in (
+    c.put-count.ensures.number ∙ ap (λ (i : ℕ). set before i number) c.loop-request.invariant.1 ∙ set_least (2 ^ 64 - 1) n before number c.put-count.ensures.room in (
       suc n,
       omega (arith, c.put-count.ensures.next, c.loop-request.invariant.1),
       omega (arith, ap length asked, c.loop-request.invariant.2),

@@ -28,11 +28,18 @@ returns-then-not-fill-clause-resends c =
     let due = due_past _ _ _ _ _ _ _ _ c.in-Ok-Written.field-0-is c.in-Ok-Written.ensures.ok past in
     let size : c.len.result ≡ length d = c.len.ensures ∙ sym c.deref.ensures.len ∙ ap length c.deref.ensures.value in
     let untouched : c.fill.new.bytes ≡ before = c.if-not-fill.ensures.written ∙ not_filled c.deref.result.now before (sym c.if-not-fill.ensures.enough) in
-    record { at = at; at_is = refl; answer = Ok results.Written; gives = (d,
-      subst (λ (b : Bool). GivesAgain b at c.args.request.1 c.args.kept.now d 33
-        (record { before = before; bytes = c.fill.new.bytes; size_before = c.args.size.now; size = c.len.result; resent_before = c.args.resent.now; resent = c.args.resent.now })
-        (record { history = c.resend_within.new.self; datagram = c.resend_within.new.out }))
-      (sym past) (refl, due.0, size, untouched, refl, due.1)) }
+    record {
+      at = at;
+      at_is = refl;
+      answer = Ok results.Written;
+      gives = (
+        d,
+        subst (λ (b : Bool). GivesAgain b at c.args.request.1 c.args.kept.now d 33
+            (record { before = before; bytes = c.fill.new.bytes; size_before = c.args.size.now; size = c.len.result; resent_before = c.args.resent.now; resent = c.args.resent.now })
+            (record { history = c.resend_within.new.self; datagram = c.resend_within.new.out }))
+            (sym past) (refl, due.0, size, untouched, refl, due.1),
+      );
+    }
 
 pub returns-else-not-fill-clause-resends : goal.returns-else-not-fill-clause-resends
 returns-else-not-fill-clause-resends c =
@@ -43,8 +50,15 @@ returns-else-not-fill-clause-resends c =
     let again = resends_fitting _ _ _ _ _ _ _ _ c.in-Ok-Written.field-0-is c.in-Ok-Written.ensures.ok fits in
     let size : c.len.result ≡ length d = c.len.ensures ∙ sym c.deref.ensures.len ∙ ap length c.deref.ensures.value in
     let filled_by : c.fill.new.bytes ≡ filled d before = c.if-not-fill.ensures.written ∙ ap (λ (xs : List ℕ). filled xs before) c.deref.ensures.value in
-    record { at = at; at_is = refl; answer = Ok results.Written; gives = (d,
-      subst (λ (b : Bool). GivesAgain b at c.args.request.1 c.args.kept.now d 0
-        (record { before = before; bytes = c.fill.new.bytes; size_before = c.args.size.now; size = c.len.result; resent_before = c.args.resent.now; resent = 0 })
-        (record { history = c.resend_within.new.self; datagram = c.resend_within.new.out }))
-      (sym fits) (refl, refl, again, filled_by, size)) }
+    record {
+      at = at;
+      at_is = refl;
+      answer = Ok results.Written;
+      gives = (
+        d,
+        subst (λ (b : Bool). GivesAgain b at c.args.request.1 c.args.kept.now d 0
+            (record { before = before; bytes = c.fill.new.bytes; size_before = c.args.size.now; size = c.len.result; resent_before = c.args.resent.now; resent = 0 })
+            (record { history = c.resend_within.new.self; datagram = c.resend_within.new.out }))
+            (sym fits) (refl, refl, again, filled_by, size),
+      );
+    }
