@@ -299,7 +299,7 @@ static void requests(void) {
 }
 
 /* Receiver reports (RFC 3550, section 6.4.2): one each second, with a block about the announced stream. */
-static void reports(void) {
+static void sent_reports(void) {
     static const uint8_t first[] = {0x81, 201, 0, 7, 0, 0, 0, 77, 0, 0, 0, 1, 64, 0, 0, 1, 0, 0, 0, 4};
     static const uint8_t second[] = {0x81, 201, 0, 7, 0, 0, 0, 77, 0, 0, 0, 1, 0, 0, 0, 1, 0, 0, 0, 5};
     cpay_session_settings settings = CPAY_LIVE_SESSION;
@@ -608,7 +608,7 @@ int main(void) {
     pairs();
     change_of_format();
     requests();
-    reports();
+    sent_reports();
     redundant();
     telephone();
     video();
