@@ -3,8 +3,10 @@
 
   scripts/rust_speed.py [--fallible]
   scripts/rust_speed.py [--fallible] --sessions
+  scripts/rust_speed.py [--fallible] --orders
 
-With --sessions it prints what a datagram takes in a session beside a receiver alone (tools/speed/src/bin/session.rs).
+With --sessions it prints what a datagram takes in a session beside a receiver alone (tools/speed/src/bin/session.rs). With
+--orders it prints times of packets in orders of arrival, and the memory of held packets (tools/speed/src/bin/orders.rs).
 Needs cargo, and valgrind for instructions. Times depend on the machine and on what else runs on it; instructions do not.
 """
 import os
@@ -61,6 +63,15 @@ def print_sessions():
         print(f"| {name} | " + " | ".join(f"{cell:,.0f}" for cell in cells) + " |", flush=True)
 
 
+def print_orders():
+    print("| order | held | copy, ns | buffer, ns | over a copy | earlier form, ns | map, ns |")
+    print("|---" * 7 + "|", flush=True)
+    for held, rounds in (64, 9), (4_096, 9), (65_536, 2):
+        subprocess.run([f"{SPEED}/target/release/orders", str(held), str(rounds)], check=True)
+    print(flush=True)
+    subprocess.run([f"{SPEED}/target/release/orders", "memory"], check=True)
+
+
 def time_of(program, codec, size, call):
     count = 2_000_000 // (size + 400)
     return float(subprocess.run([program, codec, str(size), call, str(count)], capture_output=True, text=True, check=True).stdout)
@@ -69,9 +80,10 @@ def time_of(program, codec, size, call):
 def main(words):
     features = ["--features", "codec-payload/fallible"] if "--fallible" in words else []
     subprocess.run(["cargo", "build", "--offline", "--quiet", "--release", *features], cwd=SPEED, check=True)
-    if "--sessions" in words:
-        print_sessions()
-        return 0
+    for word, prints in ("--sessions", print_sessions), ("--orders", print_orders):
+        if word in words:
+            prints()
+            return 0
     program = f"{SPEED}/target/release/speed"
     counts = shutil.which("valgrind")
     print("| frame | copy, ns | " + " | ".join(f"{call}: instructions | ratio to the copy" for call in CALLS) + " |")
