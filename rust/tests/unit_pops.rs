@@ -41,7 +41,18 @@ fn datagram(random: &mut Random, codec: Codec, number: u16) -> Vec<u8> {
         let keyframe = frame.is_multiple_of(10);
         bytes.push(if place == 0 { 0x10 } else { 0 });
         if place == 0 {
-            bytes.extend([0x10 | u8::from(!keyframe), 0, 0, 0x9D, 0x01, 0x2A, 0x10, 0, 0x10, 0]);
+            bytes.extend([
+                0x10 | u8::from(!keyframe),
+                0,
+                0,
+                0x9D,
+                0x01,
+                0x2A,
+                0x10,
+                0,
+                0x10,
+                0,
+            ]);
         }
     }
     let length = random.below(30) as usize;
@@ -82,7 +93,10 @@ fn pop_all(pair: &mut [Receiver; 2], unit: &mut PoppedUnit, now: Ticks) -> u64 {
 }
 
 fn compare(random: &mut Random, codec: Codec, from_keyframe: FromKeyframe) -> u64 {
-    let mut pair = [receiver(codec, from_keyframe), receiver(codec, from_keyframe)];
+    let mut pair = [
+        receiver(codec, from_keyframe),
+        receiver(codec, from_keyframe),
+    ];
     let mut unit = PoppedUnit::new();
     let (mut units, mut number) = (0, random.below(65_536) as u16);
     for place in 0..2_000 {
