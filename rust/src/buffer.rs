@@ -13,9 +13,11 @@ mod leaving;
 mod packets;
 mod pair;
 mod placed;
+mod popped;
 mod rows;
 mod search;
 mod unit;
+mod unit_pops;
 
 use crate::codec::{CodecDepacketizer, Depacketizer, NoBox};
 use crate::contiguity::Contiguity;
@@ -34,6 +36,7 @@ use packets::{
 pub use pair::Incoming;
 pub use placed::Placed;
 use placed::placed_among;
+pub use popped::PoppedUnit;
 use rows::row_of_packet;
 pub use unit::{Depacketized, RtpMeta, UnitInfo};
 
@@ -176,6 +179,15 @@ impl<B: Depacketizer> DepacketizingBuffer<B> {
         metas: &mut Vec<RtpMeta>,
     ) -> Option<Result<UnitInfo, PacketError>> {
         self.pop_counted_into(bytes, metas).0
+    }
+
+    /// Does the same as [`DepacketizingBuffer::pop`], and writes the unit to memory that can be used again. If it returns
+    /// `Some(Ok(()))`, `unit` holds the unit; earlier contents are replaced. In every other case the contents are unspecified.
+    ///
+    /// The metadata of the packets move to the unit, and no [`RtpMeta`] is made. So this is the cheapest pop. It allocates only if
+    /// the memory of `unit` has no room for the bytes or the packets.
+    pub fn pop_unit(&mut self, unit: &mut PoppedUnit) -> Option<Result<(), PacketError>> {
+        self.pop_unit_counted(unit).0
     }
 
     /// Returns the number of held packets.

@@ -207,6 +207,14 @@ fn formats() {
                 None => End::OtherFault,
             },
         );
+        refused += refuse_each(
+            &format!("pop_unit {codec}"),
+            || (filled(codec, &packets), PoppedUnit::new()),
+            |(it, unit)| match it.pop_unit(unit) {
+                Some(answer) => end_of(answer),
+                None => End::OtherFault,
+            },
+        );
     }
     println!("formats: {refused} refused");
     assert!(refused > 100, "{refused}");

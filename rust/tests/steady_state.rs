@@ -111,6 +111,10 @@ fn pops() {
     buffer.pop_into(&mut bytes, &mut metas).unwrap().unwrap();
     let again = allocations(|| assert!(buffer.pop_into(&mut bytes, &mut metas).unwrap().is_ok()));
     assert_eq!((again, bytes.len()), (0, 100));
+    let mut unit = PoppedUnit::new();
+    buffer.pop_unit(&mut unit).unwrap().unwrap();
+    let again = allocations(|| assert!(buffer.pop_unit(&mut unit).unwrap().is_ok()));
+    assert_eq!((again, unit.bytes.len()), (0, 100));
 }
 
 /// Payloads of a codec, and of each: whether it begins a unit, and whether it ends one in a packet without the marker and with it.

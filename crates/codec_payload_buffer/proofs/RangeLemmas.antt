@@ -1,10 +1,12 @@
 -- A part of the packets by their numbers is a part by place.
-use Rattle.std.proofs.Common.{◌≡◌, ℕ, suc, ◌≤◌, ◌+◌, ◌-◌, [], ◌∷◌, List, length, take, drop, refl, ap, sym, arith, true, false, cond, ltb, add-one}
+use Rattle.std.proofs.Common.{◌≡◌, ℕ, suc, ◌≤◌, ◌+◌, ◌-◌, [], ◌∷◌, List, length, take, drop, map, refl, ap, sym, arith, true, false, cond, ltb, add-one}
 use Rattle.std.proofs.lemmas.Bool.{cases_lt}
-use Rattle.std.proofs.lemmas.List.{length-take, length-drop}
+use Rattle.std.proofs.lemmas.List.{length-take, length-drop, drop-map, take-map}
 use Rattle.std.proofs.Common.{inl, inr}
 use Rattle.std.proofs.lemmas.Bool.Decides.{nat_tests}
-use Rattle.codec_payload_buffer.specs.Held.{Held, Rises, AllAbove, between, above}
+use Rattle.codec_payload_buffer.specs.Held.{Held, held_of, Rises, AllAbove, between, above}
+use Rattle.codec_payload_buffer.specs.declared.buffer.held_packet.HeldPacket.{HeldPacket}
+use Rattle.std.specs.Prelude.{slice_range}
 use Rattle.codec_payload_buffer.specs.Scan.{place_of, end_of}
 use Rattle.codec_payload_codec.proofs.CaseLemmas.{by_test}
 use Rattle.codec_payload_buffer.proofs.PlaceLemmas.{above_lower}
@@ -60,3 +62,7 @@ end_from_place first last hs r le whole =
     let slice = slice_between first last hs r le in
     let size = end_of last hs - place_of first hs in
     omega (arith, le, whole, slice.order, end_within last hs, ap length slice.part, length-take size (drop (place_of first hs) hs), length-drop (place_of first hs) hs)
+
+-- a part of the entries, as packets
+pub slice-map : (items : List HeldPacket) (from to : ℕ) → slice_range (map held_of items) from to ≡ map held_of (slice_range items from to)
+slice-map items from to = simp (drop-map, take-map)

@@ -1,9 +1,10 @@
 -- A released unit, and the values that it has from its packets.
-use Rattle.std.specs.Prelude.{◌≡◌, ℕ, ◌-◌, ◌%◌, ◌^◌, ◌<◌, ◌≤◌, List, Bool, false, None, Some, All, length, take, slice_get}
+use Rattle.std.specs.Prelude.{◌≡◌, ℕ, ◌-◌, ◌%◌, ◌^◌, ◌<◌, ◌≤◌, List, [], Bool, false, None, Some, All, length, take, slice_get}
 use Rattle.std.specs.Option.{option_or}
 use Rattle.codec_payload_base.specs.Extensions.{no_values}
 use Rattle.codec_payload_base.specs.Time.{Time}
 use Rattle.codec_payload_base.specs.declared.interface.CodecExtra.{CodecExtra}
+use Rattle.codec_payload_base.specs.declared.interface.CodecExtra.TheVariants as extras
 use Rattle.codec_payload_base.specs.declared.wire.extension.ExtensionValues.{ExtensionValues}
 use Rattle.codec_payload_buffer.specs.declared.buffer.unit.RtpMeta.{RtpMeta}
 
@@ -32,6 +33,10 @@ pub record Release : Type 0 where
   pub bytes : List ℕ
   pub codec_extra : CodecExtra
   pub metas : List RtpMeta
+
+-- a unit to which no pop has written
+abbrev pub released_none : Release
+released_none = record { time = record { numer = 0; rate = 90000 }; contiguous = false; bytes = []; codec_extra = extras.None; metas = [] }
 
 -- m is the first metadata
 abbrev pub IsFirst : List RtpMeta → RtpMeta → Type 0

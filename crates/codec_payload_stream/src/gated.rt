@@ -1,7 +1,7 @@
 //! What the keyframe gate of a receiver learns from each pop.
 
 ghost use Rattle.std.specs.Prelude.{◌≡◌, ℕ, List};
-ghost use Rattle.codec_payload_buffer.specs.Steps.{popped_into};
+ghost use Rattle.codec_payload_buffer.specs.Steps.{popped_into, popped_to};
 ghost use Rattle.codec_payload_buffer.specs.declared.buffer.unit.RtpMeta.{RtpMeta};
 ghost use Rattle.codec_payload_codec.specs.Depacketizers.{depacketizer_state_of, kind_of_depacketizer};
 ghost use Rattle.codec_payload_keyframes.specs.UnitGates.{new_gating};
@@ -10,7 +10,7 @@ ghost use Rattle.codec_payload_stream.specs.Sessions.{video_codec};
 
 use codec_payload_base::error::PacketError;
 use codec_payload_base::wire::Codec;
-use codec_payload_buffer::buffer::{Depacketized, UnitInfo};
+use codec_payload_buffer::buffer::{Depacketized, PoppedUnit, UnitInfo};
 use codec_payload_codec::codec::CodecDepacketizer;
 use codec_payload_keyframes::unit_gate::{FromKeyframe, UnitGate};
 
@@ -59,6 +59,25 @@ pub(crate) fn follow_into(
 {
     match answer {
         Some(Ok(unit)) => return gates.release(bytes, unit.contiguous),
+        Some(Err(PacketError::OutOfMemory)) | None => follow_none(gates, has_left),
+        Some(Err(_)) => gates.lose(),
+    }
+    true
+}
+
+/// The same for a pop whose unit is in memory that is used again.
+#[inline(always)]
+pub(crate) fn follow_to(
+    gates: &mut UnitGate,
+    answer: &Option<Result<(), PacketError>>,
+    unit: &PoppedUnit,
+    has_left: bool,
+) -> bool
+    ensures after { gates.new ≡ gates_after gates.old has_left (popped_to answer.now unit.now) }
+    ensures passed { result ≡ is_passed_on gates.old (popped_to answer.now unit.now) }
+{
+    match answer {
+        Some(Ok(())) => return gates.release(unit.bytes.as_slice(), unit.contiguous),
         Some(Err(PacketError::OutOfMemory)) | None => follow_none(gates, has_left),
         Some(Err(_)) => gates.lose(),
     }

@@ -1,12 +1,12 @@
 //! The RTP times of released units.
 
 ghost use Rattle.std.specs.Prelude.{◌≡◌, ℕ, List};
-ghost use Rattle.codec_payload_buffer.specs.Steps.{popped_into};
+ghost use Rattle.codec_payload_buffer.specs.Steps.{popped_into, popped_to};
 ghost use Rattle.codec_payload_buffer.specs.declared.buffer.unit.RtpMeta.{RtpMeta};
 ghost use Rattle.codec_payload_stream.specs.Sessions.{time_with};
 
 use codec_payload_base::error::PacketError;
-use codec_payload_buffer::buffer::{Depacketized, UnitInfo};
+use codec_payload_buffer::buffer::{Depacketized, PoppedUnit, UnitInfo};
 use codec_payload_rtp::times::RtpTimes;
 
 /// Extends the RTP time of a released unit.
@@ -23,6 +23,20 @@ pub(crate) fn extend_into(times: &mut RtpTimes, answer: &Option<Result<UnitInfo,
     ensures { (bytes : List ℕ) (metas : List RtpMeta) → times.new ≡ time_with times.old (popped_into answer.now bytes metas) }
 {
     if let Some(Ok(unit)) = answer {
+        times.extend((unit.time.numer() % (1 << 32)) as u32);
+    }
+}
+
+/// Does the same for a unit that was released into memory that is used again.
+#[inline(always)]
+pub(crate) fn extend_to(
+    times: &mut RtpTimes,
+    answer: &Option<Result<(), PacketError>>,
+    unit: &PoppedUnit,
+)
+    ensures { times.new ≡ time_with times.old (popped_to answer.now unit.now) }
+{
+    if let Some(Ok(())) = answer {
         times.extend((unit.time.numer() % (1 << 32)) as u32);
     }
 }

@@ -98,7 +98,20 @@ impl Known {
         self.seq_no.0
     }
 
+    /// Returns the sequence number, as users see it.
+    #[inline(always)]
+    pub(super) fn seq_no(&self) -> SeqNo {
+        self.seq_no
+    }
+
+    /// Returns the marker of the RTP header.
+    #[inline(always)]
+    pub(super) fn marker(&self) -> bool {
+        self.marker
+    }
+
     /// Returns the RTP time.
+    #[inline(always)]
     pub(super) fn time(&self) -> MediaTime {
         self.time
     }
@@ -108,7 +121,28 @@ impl Known {
         self.rare = None;
     }
 
+    /// Moves the metadata out of a packet that leaves the buffer. Rare values move without a copy. The packet keeps the others.
+    #[inline(always)]
+    pub(super) fn take(&mut self) -> Known {
+        Known {
+            received: self.received,
+            time: self.time,
+            seq_no: self.seq_no,
+            rare: self.rare.take(),
+            timestamp: self.timestamp,
+            ssrc: self.ssrc,
+            sequence_number: self.sequence_number,
+            payload_type: self.payload_type,
+            marker: self.marker,
+            video_orientation: self.video_orientation,
+            video_content_type: self.video_content_type,
+            audio_level: self.audio_level,
+            voice_activity: self.voice_activity,
+        }
+    }
+
     /// Returns the time at which the packet arrived.
+    #[inline(always)]
     pub(super) fn received(&self) -> Ticks {
         self.received
     }
@@ -130,6 +164,22 @@ impl Known {
         match &self.rare {
             Some(rare) => self.meta_with(self.values_with(rare), rare.last_sender_info),
             None => self.plain_meta(),
+        }
+    }
+
+    /// Returns the values of its header extensions.
+    pub(super) fn values(&self) -> ExtensionValues {
+        match &self.rare {
+            Some(rare) => self.values_with(rare),
+            None => self.plain_values(),
+        }
+    }
+
+    /// Returns the values of the latest sender report before the packet.
+    pub(super) fn last_sender_info(&self) -> Option<SenderInfo> {
+        match &self.rare {
+            Some(rare) => rare.last_sender_info,
+            None => None,
         }
     }
 

@@ -62,7 +62,7 @@ impl<B: Depacketizer> DepacketizingBuffer<B> {
 
 /// Returns the number of packets that left because the depacketizer refused a frame of `packets` packets: 0 if memory ran out,
 /// since the frame stays then.
-fn refused_by(fault: &PacketError, packets: usize) -> usize {
+pub(super) fn refused_by(fault: &PacketError, packets: usize) -> usize {
     match fault {
         PacketError::OutOfMemory => 0,
         _ => packets,
@@ -70,7 +70,7 @@ fn refused_by(fault: &PacketError, packets: usize) -> usize {
 }
 
 /// Returns the counts of a pop in which `gone` packets left in total.
-fn left_by(gone: usize, released: usize, skipped: usize, refused: usize) -> Left {
+pub(super) fn left_by(gone: usize, released: usize, skipped: usize, refused: usize) -> Left {
     Left {
         incomplete: gone - released - skipped - refused,
         skipped,

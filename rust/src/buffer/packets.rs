@@ -4,6 +4,7 @@
 
 use super::frames::CompleteFrame;
 use super::held_packet::{HeldPacket, Packet, Tells};
+use super::known::Known;
 use super::search::place_of_number;
 use super::unit::RtpMeta;
 use crate::codec::{CodecDepacketizer, Depacketizer};
@@ -203,4 +204,37 @@ pub(super) fn drop_front(
             keep(spare, entry.packet);
         }
     }
+}
+
+/// Removes the first `count` packets, and appends their metadata to `metas`, which has room for them. Allocates nothing.
+#[inline(always)]
+fn move_front(
+    packets: &mut VecDeque<HeldPacket>,
+    spare: &mut Vec<One<Packet>>,
+    metas: &mut Vec<Known>,
+    count: usize,
+) {
+    let mut left = count;
+    while left > 0 {
+        left -= 1;
+        if let Some(entry) = packets.pop_front() {
+            let mut block = entry.packet;
+            metas.push(block.known.take());
+            keep(spare, block);
+        }
+    }
+}
+
+/// Removes the first `to` packets, and moves the metadata of those from `from` on to `metas`, which is empty and has room for
+/// them. Allocates nothing.
+#[inline(always)]
+pub(super) fn move_frame(
+    packets: &mut VecDeque<HeldPacket>,
+    spare: &mut Vec<One<Packet>>,
+    metas: &mut Vec<Known>,
+    from: usize,
+    to: usize,
+) {
+    drop_front(packets, spare, from);
+    move_front(packets, spare, metas, to - from);
 }

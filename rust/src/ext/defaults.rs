@@ -1,6 +1,7 @@
 //! `Default` for types whose `new` takes nothing.
 
 use crate::av1::Av1Depacketizer;
+use crate::buffer::PoppedUnit;
 use crate::jitter::SequenceNumbers;
 use crate::vp9::Vp9Depacketizer;
 
@@ -19,5 +20,11 @@ impl Default for Av1Depacketizer {
 impl Default for SequenceNumbers {
     fn default() -> Self {
         SequenceNumbers::new()
+    }
+}
+
+impl Default for PoppedUnit {
+    fn default() -> Self {
+        PoppedUnit::new()
     }
 }

@@ -6,6 +6,7 @@
 use alloc::vec::Vec;
 
 mod restarting;
+mod unit_pops;
 
 use crate::buffer::{Depacketized, DepacketizingBuffer, RtpMeta, UnitInfo};
 use crate::codec::{CodecDepacketizer, Depacketizer, NoBox};

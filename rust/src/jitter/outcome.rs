@@ -2,7 +2,7 @@
 
 //! Outcomes of packets, and their counters.
 
-use crate::buffer::{Depacketized, Left, Placed, RtpMeta, UnitInfo};
+use crate::buffer::{Depacketized, Left, Placed, PoppedUnit, RtpMeta, UnitInfo};
 use crate::error::PacketError;
 
 /// What was done with a packet.
@@ -214,6 +214,24 @@ pub(crate) fn packets_into(
 ) -> usize {
     match answer {
         Some(Ok(_)) => metas.len(),
+        _ => 0,
+    }
+}
+
+/// Returns the number of units that were released into memory that is used again: 1 or 0.
+#[inline(always)]
+pub(crate) fn units_to(answer: &Option<Result<(), PacketError>>) -> u64 {
+    match answer {
+        Some(Ok(())) => 1,
+        _ => 0,
+    }
+}
+
+/// Returns the number of packets of the unit that was released into memory that is used again.
+#[inline(always)]
+pub(crate) fn packets_to(answer: &Option<Result<(), PacketError>>, unit: &PoppedUnit) -> usize {
+    match answer {
+        Some(Ok(())) => unit.packets(),
         _ => 0,
     }
 }

@@ -2,7 +2,7 @@
 
 //! What the keyframe gate of a receiver learns from each pop.
 
-use crate::buffer::{Depacketized, UnitInfo};
+use crate::buffer::{Depacketized, PoppedUnit, UnitInfo};
 use crate::codec::CodecDepacketizer;
 use crate::error::PacketError;
 use crate::keyframes::unit_gate::{FromKeyframe, UnitGate};
@@ -45,6 +45,22 @@ pub(crate) fn follow_into(
 ) -> bool {
     match answer {
         Some(Ok(unit)) => return gates.release(bytes, unit.contiguous),
+        Some(Err(PacketError::OutOfMemory)) | None => follow_none(gates, has_left),
+        Some(Err(_)) => gates.lose(),
+    }
+    true
+}
+
+/// The same for a pop whose unit is in memory that is used again.
+#[inline(always)]
+pub(crate) fn follow_to(
+    gates: &mut UnitGate,
+    answer: &Option<Result<(), PacketError>>,
+    unit: &PoppedUnit,
+    has_left: bool,
+) -> bool {
+    match answer {
+        Some(Ok(())) => return gates.release(unit.bytes.as_slice(), unit.contiguous),
         Some(Err(PacketError::OutOfMemory)) | None => follow_none(gates, has_left),
         Some(Err(_)) => gates.lose(),
     }

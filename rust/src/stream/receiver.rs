@@ -2,6 +2,10 @@
 
 //! The receiver of one stream: datagrams in, units out.
 
+use alloc::vec::Vec;
+
+mod unit_pops;
+
 use crate::buffer::{Depacketized, DepacketizingBuffer, RtpMeta, UnitInfo};
 use crate::codec::{CodecDepacketizer, Depacketizer, NoBox};
 use crate::error::PacketError;
@@ -21,7 +25,6 @@ use crate::stream::reports::{ReceptionReport, ReceptionStatistics};
 use crate::stream::seen_times::SeenTimes;
 use crate::stream::unit_times::{extend_into, extend_with};
 use crate::wire::{Frequency, Ticks};
-use alloc::vec::Vec;
 use core::fmt;
 use core::mem;
 

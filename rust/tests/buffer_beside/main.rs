@@ -7,8 +7,8 @@ mod before;
 
 use codec_payload::buffer::Placed;
 use codec_payload::{
-    AbsCaptureTime, Codec, CodecDepacketizer, DepacketizingBuffer, ExtensionValues, MediaTime, Pt,
-    RtpMeta, SenderInfo, SeqNo, Ticks,
+    AbsCaptureTime, Codec, CodecDepacketizer, DepacketizingBuffer, ExtensionValues, MediaTime,
+    PoppedUnit, Pt, RtpMeta, SenderInfo, SeqNo, Ticks,
 };
 
 /// Numbers that seem random, by shifts.
@@ -117,6 +117,7 @@ struct Both {
     before: before::DepacketizingBuffer,
     bytes: [Vec<u8>; 2],
     metas: [Vec<RtpMeta>; 2],
+    unit: PoppedUnit,
 }
 
 impl Both {
@@ -127,6 +128,7 @@ impl Both {
             before: before::DepacketizingBuffer::with_limit(depacketizer(), hold_back, limit),
             bytes: [vec![], vec![]],
             metas: [vec![], vec![]],
+            unit: PoppedUnit::new(),
         }
     }
 
@@ -147,6 +149,37 @@ impl Both {
             assert_eq!(self.metas[0], self.metas[1]);
         }
         unit
+    }
+
+    /// The same for a pop into a unit whose memory is used again.
+    fn pop_unit(&mut self) -> bool {
+        let now = self.now.pop_unit(&mut self.unit);
+        let before = self.before.pop_into(&mut self.bytes[1], &mut self.metas[1]);
+        assert_eq!(now, before.map(|answer| answer.map(|_| ())));
+        let Some(Ok(info)) = before else {
+            return false;
+        };
+        let (unit, metas) = (&self.unit, &self.metas[1]);
+        assert_eq!(unit.time, info.time);
+        assert_eq!(unit.contiguous, info.contiguous);
+        assert_eq!(unit.codec_extra, info.codec_extra);
+        assert_eq!(unit.bytes, self.bytes[1]);
+        assert_eq!(unit.packets(), metas.len());
+        for (place, meta) in metas.iter().enumerate() {
+            assert_eq!(unit.meta(place), *meta);
+        }
+        let (first, last) = (&metas[0], &metas[metas.len() - 1]);
+        assert_eq!(unit.seq_range(), first.seq_no..=last.seq_no);
+        assert_eq!(unit.start_of_talkspurt(), first.header.marker);
+        let received = metas.iter().min_by_key(|meta| meta.received.0).unwrap();
+        assert_eq!(unit.first_network_time(), received.received);
+        assert_eq!(unit.first_sender_info(), received.last_sender_info);
+        let (begins, ends) = (&first.header.ext_vals, &last.header.ext_vals);
+        let capture_time = begins.abs_capture_time.or(ends.abs_capture_time);
+        assert_eq!(unit.ext_vals().abs_capture_time, capture_time);
+        assert_eq!(unit.ext_vals().audio_level, ends.audio_level);
+        assert_eq!(unit.ext_vals().voice_activity, ends.voice_activity);
+        true
     }
 
     fn compare(&self, number: SeqNo) {
@@ -199,6 +232,7 @@ fn round(random: &mut Random, operations: u64) -> u64 {
                 both.now.skip_number(number);
                 both.before.skip_number(number);
             }
+            _ if random.one_in(pops) && random.one_in(2) => units += u64::from(both.pop_unit()),
             _ if random.one_in(pops) => units += u64::from(both.pop()),
             _ => {
                 let number = base.saturating_add(if stream {

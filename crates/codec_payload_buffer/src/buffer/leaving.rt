@@ -85,7 +85,7 @@ impl<B: Depacketizer> DepacketizingBuffer<B> {
 
 /// Returns the number of packets that left because the depacketizer refused a frame of `packets` packets: 0 if memory ran out,
 /// since the frame stays then.
-fn refused_by(fault: &PacketError, packets: usize) -> usize
+pub(super) fn refused_by(fault: &PacketError, packets: usize) -> usize
     ensures stays { fault.now ≡ OutOfMemory → result ≡ 0 }
     ensures leaves { fault.now ≢ OutOfMemory → result ≡ packets }
 {
@@ -96,7 +96,7 @@ fn refused_by(fault: &PacketError, packets: usize) -> usize
 }
 
 /// Returns the counts of a pop in which `gone` packets left in total.
-fn left_by(gone: usize, released: usize, skipped: usize, refused: usize) -> Left
+pub(super) fn left_by(gone: usize, released: usize, skipped: usize, refused: usize) -> Left
     requires { released + skipped + refused ≤ gone }
     ensures incomplete { result.incomplete + released + skipped + refused ≡ gone }
     ensures skipped { result.skipped ≡ skipped }

@@ -1,12 +1,15 @@
 //! Pushes packets into a buffer that holds so many, and pops a unit after each push that ends one:
 //!
-//!   buffer ORDER HELD COUNT      ORDER is opus (in order), rows (32 at a time in reverse) or vp8 (17 packets a frame)
+//!   buffer WAY ORDER HELD COUNT
+//!
+//! - WAY: `into` pops by `pop_into`, `unit` by `pop_unit`.
+//! - ORDER: `opus` is in order, `rows` 32 at a time in reverse, `vp8` has 17 packets a frame.
 //!
 //! The difference of two runs under callgrind, divided by the difference of their counts, is what a packet takes. It includes
 //! the packet's metadata and a copy of its payload of 120 bytes.
 
 use codec_payload::{
-    Codec, CodecDepacketizer, DepacketizingBuffer, MediaTime, Pt, RtpMeta, SeqNo, Ticks,
+    Codec, CodecDepacketizer, DepacketizingBuffer, MediaTime, PoppedUnit, Pt, RtpMeta, SeqNo, Ticks,
 };
 
 /// A packet's number, its time, and whether it has the marker, by its place in the order.
@@ -28,10 +31,30 @@ fn meta(number: u64, time: u64, marker: bool) -> RtpMeta {
     meta
 }
 
+/// What a unit is popped into.
+#[derive(Default)]
+struct Memory {
+    bytes: Vec<u8>,
+    metas: Vec<RtpMeta>,
+    unit: PoppedUnit,
+}
+
+impl Memory {
+    /// Pops a unit, and returns the number of its bytes.
+    fn pop(&mut self, way: &str, buffer: &mut DepacketizingBuffer) -> Option<usize> {
+        if way == "unit" {
+            buffer.pop_unit(&mut self.unit)?.ok()?;
+            return Some(self.unit.bytes.len());
+        }
+        buffer.pop_into(&mut self.bytes, &mut self.metas)?.ok()?;
+        Some(self.bytes.len())
+    }
+}
+
 fn main() {
     let words: Vec<String> = std::env::args().collect();
-    let [_, order, held, count] = &words[..] else {
-        panic!("buffer ORDER HELD COUNT");
+    let [_, way, order, held, count] = &words[..] else {
+        panic!("buffer WAY ORDER HELD COUNT");
     };
     let (held, count): (usize, u64) = (held.parse().unwrap(), count.parse().unwrap());
     let video = order == "vp8";
@@ -43,10 +66,10 @@ fn main() {
     let depacketizer = CodecDepacketizer::from_codec(codec).unwrap();
     let mut buffer: DepacketizingBuffer =
         DepacketizingBuffer::with_limit(depacketizer, hold_back, 65_536);
-    let (mut bytes, mut metas) = (Vec::new(), Vec::new());
+    let mut memory = Memory::default();
     // A unit, and then a gap: so frames wait until more than `hold_back` are there.
     buffer.push(meta(0, 1 << 40, true), vec![0x10, 1]).unwrap();
-    assert!(buffer.pop_into(&mut bytes, &mut metas).is_some());
+    assert!(memory.pop(way, &mut buffer).is_some());
     let mut payload = vec![7; 120];
     let mut released = 0;
     for place in 0..count {
@@ -58,9 +81,9 @@ fn main() {
             .push(meta(number + 2, time, marker), payload.clone())
             .unwrap();
         if (marker || !video)
-            && let Some(Ok(_)) = buffer.pop_into(&mut bytes, &mut metas)
+            && let Some(bytes) = memory.pop(way, &mut buffer)
         {
-            released += bytes.len();
+            released += bytes;
         }
     }
     println!("{released} bytes released, {} packets held", buffer.held());

@@ -1,0 +1,129 @@
+//! `pop_unit` of a receiver beside `pop_into`: two receivers get the same datagrams, and must return the same units.
+
+use codec_payload::keyframes::FromKeyframe;
+use codec_payload::stream::{Receiver, ReceiverSettings};
+use codec_payload::{Codec, CodecDepacketizer, Frequency, PoppedUnit, Ticks};
+
+/// Numbers that seem random, by shifts.
+struct Random(u64);
+
+impl Random {
+    fn below(&mut self, bound: u64) -> u64 {
+        self.0 ^= self.0 << 13;
+        self.0 ^= self.0 >> 7;
+        self.0 ^= self.0 << 17;
+        (self.0 >> 11) % bound
+    }
+}
+
+fn receiver(codec: Codec, from_keyframe: FromKeyframe) -> Receiver {
+    let mut settings = ReceiverSettings::live_video(96, Frequency::NINETY_KHZ);
+    settings.ssrc = Some(7);
+    settings.from_keyframe = from_keyframe;
+    settings.limit = 64;
+    Receiver::new(CodecDepacketizer::from_codec(codec).unwrap(), settings).unwrap()
+}
+
+/// The datagram with this number. A frame has three packets; each tenth frame of VP8 is a keyframe. Some payloads are cut off.
+fn datagram(random: &mut Random, codec: Codec, number: u16) -> Vec<u8> {
+    let (frame, place) = (u32::from(number) / 3, number % 3);
+    let video = codec == Codec::Vp8;
+    let time = if video { frame } else { u32::from(number) } * 3_000;
+    let marker = u8::from(!video || place == 2) << 7;
+    let mut bytes = vec![0x80, 96 | marker];
+    bytes.extend(number.to_be_bytes());
+    bytes.extend(time.to_be_bytes());
+    bytes.extend(7u32.to_be_bytes());
+    if random.below(40) == 0 {
+        return bytes;
+    }
+    if video {
+        let keyframe = frame.is_multiple_of(10);
+        bytes.push(if place == 0 { 0x10 } else { 0 });
+        if place == 0 {
+            bytes.extend([
+                0x10 | u8::from(!keyframe),
+                0,
+                0,
+                0x9D,
+                0x01,
+                0x2A,
+                0x10,
+                0,
+                0x10,
+                0,
+            ]);
+        }
+    }
+    let length = random.below(30) as usize;
+    bytes.extend((0..length).map(|_| random.below(256) as u8));
+    bytes
+}
+
+/// Pops both until no unit is due. Returns how many units came.
+fn pop_all(pair: &mut [Receiver; 2], unit: &mut PoppedUnit, now: Ticks) -> u64 {
+    let (mut bytes, mut metas, mut units) = (Vec::new(), Vec::new(), 0);
+    let [one, other] = pair;
+    loop {
+        let told = one.pop_unit(now, unit);
+        let wanted = other.pop_into(now, &mut bytes, &mut metas);
+        assert_eq!(told, wanted.map(|answer| answer.map(|_| ())));
+        assert_eq!(one.counters(), other.counters());
+        assert_eq!(one.unit_time(), other.unit_time());
+        assert_eq!(one.unit_is_decodable(), other.unit_is_decodable());
+        assert_eq!(one.unit_is_keyframe(), other.unit_is_keyframe());
+        assert_eq!(one.wants_keyframe(), other.wants_keyframe());
+        assert_eq!(one.next_deadline(), other.next_deadline());
+        match wanted {
+            None => return units,
+            Some(Err(_)) => {}
+            Some(Ok(info)) => {
+                units += 1;
+                assert_eq!(unit.time, info.time);
+                assert_eq!(unit.contiguous, info.contiguous);
+                assert_eq!(unit.codec_extra, info.codec_extra);
+                assert_eq!(unit.bytes, bytes);
+                assert_eq!(unit.packets(), metas.len());
+                for (place, meta) in metas.iter().enumerate() {
+                    assert_eq!(unit.meta(place), *meta);
+                }
+            }
+        }
+    }
+}
+
+fn compare(random: &mut Random, codec: Codec, from_keyframe: FromKeyframe) -> u64 {
+    let mut pair = [
+        receiver(codec, from_keyframe),
+        receiver(codec, from_keyframe),
+    ];
+    let mut unit = PoppedUnit::new();
+    let (mut units, mut number) = (0, random.below(65_536) as u16);
+    for place in 0..2_000 {
+        let now = Ticks(place * 7);
+        number = number.wrapping_add([1, 1, 1, 1, 1, 2, 3, 400][random.below(8) as usize]);
+        let sent = number.wrapping_sub(random.below(4) as u16);
+        let bytes = datagram(random, codec, sent);
+        let [one, other] = &mut pair;
+        assert_eq!(one.receive(now, &bytes), other.receive(now, &bytes));
+        if random.below(3) == 0 {
+            units += pop_all(&mut pair, &mut unit, now);
+        }
+    }
+    pair.iter_mut().for_each(Receiver::finish);
+    units + pop_all(&mut pair, &mut unit, Ticks(20_000))
+}
+
+#[test]
+fn units_are_the_same() {
+    let mut random = Random(0x2545_F491_4F6C_DD1D);
+    let mut units = 0;
+    for _ in 0..20 {
+        for codec in [Codec::Opus, Codec::Vp8] {
+            for from_keyframe in [FromKeyframe::Off, FromKeyframe::Mark, FromKeyframe::Drop] {
+                units += compare(&mut random, codec, from_keyframe);
+            }
+        }
+    }
+    assert!(units > 10_000, "{units} units");
+}
