@@ -10,6 +10,7 @@ pub mod frames;
 mod held_packet;
 mod known;
 mod leaving;
+mod packed_header;
 mod packets;
 mod pair;
 mod placed;
@@ -28,7 +29,10 @@ use alloc::collections::VecDeque;
 use ends::{evict, place_at, row_with};
 use frames::{CompleteFrame, frame_of, mend_first, note};
 use held_packet::{HeldPacket, Packet};
+pub use known::PackedMeta;
+use known::are_plain;
 pub use leaving::Left;
+pub use packed_header::PackedHeader;
 use packets::{
     copy_metas, drop_front, find_place, frame_range, give_back, hold, is_at, is_too_late,
     make_room, received_at, starts_next, unpack,
@@ -120,7 +124,22 @@ impl<B: Depacketizer> DepacketizingBuffer<B> {
 
     /// Does the same as [`DepacketizingBuffer::push`], and returns what was done with the packet.
     pub fn store(&mut self, meta: RtpMeta, data: Vec<u8>) -> Result<Placed, PacketError> {
-        let number = meta.seq_no.0;
+        let seq_no = meta.seq_no;
+        if is_too_late(self.cutoff, seq_no.0) {
+            return Ok(Placed::Late);
+        }
+        let is_plain = are_plain(&meta.header.ext_vals, &meta.last_sender_info);
+        if !is_plain && self.holds(seq_no) {
+            return Ok(Placed::Duplicate);
+        }
+        let meta = PackedMeta::of(&meta)?;
+        self.store_packed(meta, data)
+    }
+
+    /// Does the same as [`DepacketizingBuffer::store`], for packed metadata. Rare values were allocated by the caller.
+    #[inline(always)]
+    pub fn store_packed(&mut self, meta: PackedMeta, data: Vec<u8>) -> Result<Placed, PacketError> {
+        let number = meta.number();
         if is_too_late(self.cutoff, number) {
             return Ok(Placed::Late);
         }
@@ -130,13 +149,10 @@ impl<B: Depacketizer> DepacketizingBuffer<B> {
         }
         let placed = placed_among(&self.packets, self.limit);
         let head = self.depacketizer.is_partition_head(&data);
-        let tail = self
-            .depacketizer
-            .is_partition_tail(meta.header.marker, &data);
+        let tail = self.depacketizer.is_partition_tail(meta.marker(), &data);
         self.packets.try_room(1)?;
         self.complete_frames.try_room(1)?;
-        let packet = Packet::of(meta, data, head, tail)?;
-        let entry = hold(&mut self.spare, packet)?;
+        let entry = hold(&mut self.spare, Packet::of(meta, data, head, tail))?;
         let row = row_with(&self.packets, place, row_of_packet(&entry));
         place_at(&mut self.packets, place, entry, row);
         note(&mut self.complete_frames, frame_of(&row));

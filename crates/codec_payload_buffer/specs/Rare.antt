@@ -1,8 +1,9 @@
 -- Rare values of packets, as contracts see them.
-use Rattle.std.specs.Prelude.{ℕ, List, Option, Some, None}
-use Rattle.std.specs.Option.{option_map}
+use Rattle.std.specs.Prelude.{ℕ, List, Bool, ◌&&◌, Option, Some, None}
+use Rattle.std.specs.Option.{is_none, option_map}
 use Rattle.codec_payload_base.specs.declared.wire.SenderInfo.{SenderInfo}
 use Rattle.codec_payload_base.specs.declared.wire.extension.AbsCaptureTime.{AbsCaptureTime}
+use Rattle.codec_payload_base.specs.declared.wire.extension.ExtensionValues.{ExtensionValues}
 use Rattle.codec_payload_base.specs.declared.wire.extension.VideoTiming.{VideoTiming}
 use Rattle.codec_payload_buffer.specs.declared.buffer.known.Rare.{Rare}
 use Rattle.codec_payload_buffer.specs.declared.buffer.unit.RtpMeta.{RtpMeta}
@@ -33,3 +34,7 @@ plain_meta m = record m {
   header = record m.header { ext_vals = record m.header.ext_vals { abs_capture_time = None; video_timing = None; layers_allocation = None } };
   last_sender_info = None;
 }
+
+-- none of these values is rare
+abbrev pub are_plain : ExtensionValues → Option SenderInfo → Bool
+are_plain v info = is_none v.abs_capture_time && is_none v.video_timing && is_none v.layers_allocation && is_none info

@@ -3,7 +3,8 @@
 ghost use Rattle.std.specs.Prelude.{◌≡◌, IfOk, []};
 ghost use Rattle.codec_payload_jitter.specs.NotedTimes.{contradicts, first_places, is_noted, is_soon_after, noted_with, place_of, places_for, spacing_of};
 
-use codec_payload_base::wire::{Frequency, RtpHeader};
+use codec_payload_base::wire::Frequency;
+use codec_payload_buffer::buffer::PackedHeader;
 use std::alloc::{AllocError, Global};
 use std::marker::Model;
 
@@ -123,11 +124,17 @@ fn place_of(backward: u16, number: u64) -> usize
 }
 
 /// Returns whether `later` comes 1 to 16 numbers after `earlier`, and at most 2 seconds of RTP time after it.
-pub(crate) fn is_soon_after(clock_rate: Frequency, earlier: &RtpHeader, later: &RtpHeader) -> bool
+pub(crate) fn is_soon_after(
+    clock_rate: Frequency,
+    earlier: &PackedHeader,
+    later: &PackedHeader,
+) -> bool
     ensures { result ≡ is_soon_after clock_rate earlier.now later.now }
 {
-    let numbers = later.sequence_number.wrapping_sub(earlier.sequence_number);
-    let ticks = later.timestamp.wrapping_sub(earlier.timestamp);
+    let numbers = later
+        .sequence_number()
+        .wrapping_sub(earlier.sequence_number());
+    let ticks = later.timestamp().wrapping_sub(earlier.timestamp());
     let most = 2 * u64::from(clock_rate.get());
     1 <= numbers && numbers <= 16 && u64::from(ticks) <= most
 }

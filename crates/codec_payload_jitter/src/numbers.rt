@@ -32,6 +32,7 @@ pub enum Extended {
 
 impl Extended {
     /// Returns the extended number, if the packet got one.
+    #[inline(always)]
     pub fn number(self) -> Option<u64>
         ensures { result ≡ number_in self }
     {
@@ -170,6 +171,7 @@ impl SequenceNumbers {
     }
 
     /// Raises the highest number to `number`, if it is lower.
+    #[inline(always)]
     fn raise_to(&mut self, number: u64)
         requires far { self.old.greatest ≡ None → 65536 ≤ number }
         ensures { self.new ≡ record self.old { greatest = Some (greater self.old.greatest number) } }
@@ -212,6 +214,7 @@ impl SequenceNumbers {
     }
 
     /// Returns the answer for the next packet.
+    #[inline(always)]
     pub(crate) fn answer_for(&self, low: u16) -> Extended
         ensures value { result ≡ answer_for self.now low }
         ensures far { IfSome (number_in result) (λ x. self.now.greatest ≡ None → 65536 ≤ x) }

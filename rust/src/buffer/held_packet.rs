@@ -2,9 +2,9 @@
 
 //! A packet in the queue of a buffer.
 
-use super::known::Known;
+use super::known::PackedMeta;
 use super::unit::RtpMeta;
-use crate::memory::{AllocError, One};
+use crate::memory::One;
 use alloc::vec::Vec;
 use core::mem::size_of;
 
@@ -20,7 +20,7 @@ pub(super) struct HeldPacket {
 /// The memory block of one packet.
 #[derive(Debug)]
 pub(super) struct Packet {
-    pub(super) known: Known,
+    pub(super) known: PackedMeta,
     /// The payload.
     pub(super) bytes: Vec<u8>,
     /// In the first packet of a row: the number of the last packet. In the last packet: the number of the first. In the packets
@@ -38,23 +38,18 @@ pub(super) struct Packet {
 const _: () = assert!(size_of::<Packet>() <= 128);
 
 impl Packet {
-    /// Makes a packet that is a row by itself. Allocates only for rare values.
+    /// Makes a packet that is a row by itself.
     #[inline(always)]
-    pub(super) fn of(
-        meta: RtpMeta,
-        bytes: Vec<u8>,
-        head: bool,
-        tail: bool,
-    ) -> Result<Self, AllocError> {
-        let number = meta.seq_no.0;
-        Ok(Packet {
-            known: Known::of(meta)?,
+    pub(super) fn of(known: PackedMeta, bytes: Vec<u8>, head: bool, tail: bool) -> Self {
+        let number = known.number();
+        Packet {
+            known,
             bytes,
             other_end: number,
             row_head: if head { Some(number) } else { None },
             head,
             tail,
-        })
+        }
     }
 }
 

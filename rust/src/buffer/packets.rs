@@ -4,7 +4,7 @@
 
 use super::frames::CompleteFrame;
 use super::held_packet::{HeldPacket, Packet, Tells};
-use super::known::Known;
+use super::known::PackedMeta;
 use super::search::place_of_number;
 use super::unit::RtpMeta;
 use crate::codec::{CodecDepacketizer, Depacketizer};
@@ -211,7 +211,7 @@ pub(super) fn drop_front(
 fn move_front(
     packets: &mut VecDeque<HeldPacket>,
     spare: &mut Vec<One<Packet>>,
-    metas: &mut Vec<Known>,
+    metas: &mut Vec<PackedMeta>,
     count: usize,
 ) {
     let mut left = count;
@@ -231,7 +231,7 @@ fn move_front(
 pub(super) fn move_frame(
     packets: &mut VecDeque<HeldPacket>,
     spare: &mut Vec<One<Packet>>,
-    metas: &mut Vec<Known>,
+    metas: &mut Vec<PackedMeta>,
     from: usize,
     to: usize,
 ) {

@@ -2,7 +2,7 @@
 
 //! A popped unit in memory that the next pop uses again.
 
-use super::known::Known;
+use super::known::PackedMeta;
 use super::unit::RtpMeta;
 use crate::interface::CodecExtra;
 use crate::wire::{ExtensionValues, MediaTime, SenderInfo, SeqNo, Ticks};
@@ -23,7 +23,7 @@ pub struct PoppedUnit {
     pub bytes: Vec<u8>,
     /// The codec-specific data of its payloads.
     pub codec_extra: CodecExtra,
-    pub(super) metas: Vec<Known>,
+    pub(super) metas: Vec<PackedMeta>,
 }
 
 impl PoppedUnit {
@@ -127,7 +127,7 @@ impl PoppedUnit {
 
 /// Returns the first of the packets with the earliest time of arrival.
 #[inline(always)]
-fn received_first(metas: &[Known]) -> &Known {
+fn received_first(metas: &[PackedMeta]) -> &PackedMeta {
     let mut first = 0;
     for (i, meta) in metas.iter().enumerate() {
         if meta.received().0 < metas[first].received().0 {

@@ -24,8 +24,9 @@ impl Numbered for CompleteFrame {
     }
 }
 
-/// Returns how many items have a lower number. It inspects the first and the last item, and then goes back from the last item in
-/// steps that double. So the cost grows with the logarithm of the distance from the end, and not with the length of the queue.
+/// Returns how many items have a lower number. It inspects the first and the last item, then the place that is right if no number
+/// is missing between. Then it goes back from the last item in steps that double. So the cost grows with the logarithm of the
+/// distance from the end, and not with the length of the queue.
 #[inline(always)]
 pub(super) fn place_of_number<T: Numbered>(items: &VecDeque<T>, number: u64) -> usize {
     let len = items.len();
@@ -38,11 +39,34 @@ pub(super) fn place_of_number<T: Numbered>(items: &VecDeque<T>, number: u64) -> 
     place_inside(items, number)
 }
 
-/// Does the same, by a search.
+/// Does the same for a number that is not at either end. If no number is missing above it, its distance from the last number
+/// is its distance from the end, and there is no search.
 #[inline(never)]
 fn place_inside<T: Numbered>(items: &VecDeque<T>, number: u64) -> usize {
+    if let Some(place) = place_by_distance(items, number) {
+        return place;
+    }
     let (low, high) = look_back(items, number);
     search_between(items, number, low, high)
+}
+
+/// Returns the place that is as far from the end as the number is from the last number, if it is the place of the number.
+#[inline(always)]
+fn place_by_distance<T: Numbered>(items: &VecDeque<T>, number: u64) -> Option<usize> {
+    let len = items.len();
+    if len == 0 {
+        return None;
+    }
+    let last = items[len - 1].number();
+    if last <= number || last - number >= len as u64 {
+        return None;
+    }
+    let place = len - (last - number) as usize;
+    if items[place - 1].number() < number && number <= items[place].number() {
+        Some(place)
+    } else {
+        None
+    }
 }
 
 /// Returns two places, with the place of the number between them.
@@ -72,6 +96,7 @@ fn search_between<T: Numbered>(items: &VecDeque<T>, number: u64, low: usize, hig
 }
 
 /// Inserts an item at this place. The caller has reserved the room. At the end of the queue nothing moves.
+#[inline(always)]
 pub(super) fn put_at<T>(items: &mut VecDeque<T>, place: usize, item: T) {
     if place == items.len() {
         items.push_back(item);

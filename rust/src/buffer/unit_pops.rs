@@ -3,7 +3,7 @@
 //! Pops that write a unit to memory that can be used again, and move the metadata of its packets.
 
 use super::frames::CompleteFrame;
-use super::known::Known;
+use super::known::PackedMeta;
 use super::leaving::{Left, left_by, refused_by};
 use super::packets::{frame_range, give_back, make_room, move_frame, starts_next, unpack};
 use super::popped::PoppedUnit;
@@ -89,7 +89,13 @@ impl<B: Depacketizer> DepacketizingBuffer<B> {
     /// Removes the frame that is due and all packets below it. The metadata of its packets, from `from` to `to`, move to `metas`,
     /// which is empty and has room for them.
     #[inline(always)]
-    fn leave_to(&mut self, frame: CompleteFrame, from: usize, to: usize, metas: &mut Vec<Known>) {
+    fn leave_to(
+        &mut self,
+        frame: CompleteFrame,
+        from: usize,
+        to: usize,
+        metas: &mut Vec<PackedMeta>,
+    ) {
         move_frame(&mut self.packets, &mut self.spare, metas, from, to);
         self.complete_frames.pop_front();
         give_back(&mut self.packets);

@@ -8,7 +8,9 @@ use alloc::vec::Vec;
 mod restarting;
 mod unit_pops;
 
-use crate::buffer::{Depacketized, DepacketizingBuffer, RtpMeta, UnitInfo};
+use crate::buffer::{
+    Depacketized, DepacketizingBuffer, PackedHeader, PackedMeta, RtpMeta, UnitInfo,
+};
 use crate::codec::{CodecDepacketizer, Depacketizer, NoBox};
 use crate::error::PacketError;
 use crate::jitter::missing::MissingNumbers;
@@ -33,7 +35,7 @@ const AT_ONCE: usize = 2;
 #[derive(Debug)]
 pub struct KeptPacket {
     received: Ticks,
-    header: RtpHeader,
+    header: PackedHeader,
     payload: Vec<u8>,
 }
 
@@ -124,7 +126,19 @@ impl<B: Depacketizer> JitterBuffer<B> {
         header: RtpHeader,
         payload: Vec<u8>,
     ) -> Result<Outcome, PacketError> {
-        let low = header.sequence_number;
+        let header = PackedHeader::new(&header)?;
+        self.push_packed(now, header, payload)
+    }
+
+    /// Does the same as [`JitterBuffer::push`], for a packed header. Rare values were allocated by the caller.
+    #[inline(always)]
+    pub fn push_packed(
+        &mut self,
+        now: Ticks,
+        header: PackedHeader,
+        payload: Vec<u8>,
+    ) -> Result<Outcome, PacketError> {
+        let low = header.sequence_number();
         let answer = self.answer_to_packet(&header);
         let mut numbers = self.numbers;
         numbers.take(answer, low);
@@ -179,7 +193,7 @@ impl<B: Depacketizer> JitterBuffer<B> {
         let lowest = lowest_with(self.lowest, answer);
         let packet = KeptPacket {
             received: now,
-            header,
+            header: PackedHeader::new(&header)?,
             payload,
         };
         let outcome = self.store_and_note(number, packet)?;
@@ -215,7 +229,7 @@ impl<B: Depacketizer> JitterBuffer<B> {
         let lowest = lowest_with(self.lowest, answer);
         let packet = KeptPacket {
             received: now,
-            header,
+            header: PackedHeader::new(&header)?,
             payload,
         };
         self.accept(number, packet)?;
@@ -359,6 +373,7 @@ impl<B: Depacketizer> JitterBuffer<B> {
     }
 
     /// Returns the extended number, or the answer without one, for the next packet with the low bits `low`.
+    #[inline(always)]
     fn answer_to(&self, low: u16) -> Extended {
         if self.is_restarting {
             return self.numbers.answer_anew(low);
@@ -373,22 +388,24 @@ impl<B: Depacketizer> JitterBuffer<B> {
 
     /// Returns the same for a packet with media: if its number arrived before with another RTP time, the packet is suspect, or
     /// it confirms that the sender has restarted.
-    fn answer_to_packet(&self, header: &RtpHeader) -> Extended {
-        let answer = self.answer_to(header.sequence_number);
+    #[inline(always)]
+    fn answer_to_packet(&self, header: &PackedHeader) -> Extended {
+        let answer = self.answer_to(header.sequence_number());
         let Extended::Number(number) = answer else {
             return answer;
         };
-        if !self.is_contradicted(number, header.timestamp) {
+        if !self.is_contradicted(number, header.timestamp()) {
             return answer;
         }
         if self.follows_kept(header) {
-            self.numbers.answer_anew(header.sequence_number)
+            self.numbers.answer_anew(header.sequence_number())
         } else {
             Extended::Suspect
         }
     }
 
     /// Returns whether the number arrived before with another RTP time. Always false while no restart is detected.
+    #[inline(always)]
     fn is_contradicted(&self, number: u64, time: u32) -> bool {
         let packet = NotedTime { number, time };
         let backward = self.numbers.backward();
@@ -396,7 +413,7 @@ impl<B: Depacketizer> JitterBuffer<B> {
     }
 
     /// Returns whether the packet comes soon after the suspect packet.
-    fn follows_kept(&self, header: &RtpHeader) -> bool {
+    fn follows_kept(&self, header: &PackedHeader) -> bool {
         match &self.kept {
             Some(kept) => is_soon_after(self.clock_rate, &kept.header, header),
             None => false,
@@ -446,7 +463,7 @@ impl<B: Depacketizer> JitterBuffer<B> {
     fn store_and_note(&mut self, number: u64, packet: KeptPacket) -> Result<Outcome, PacketError> {
         let noted = NotedTime {
             number,
-            time: packet.header.timestamp,
+            time: packet.header.timestamp(),
         };
         let backward = self.numbers.backward();
         let places = self.noted_times.first_places(backward, noted)?;
@@ -554,20 +571,20 @@ fn store<B: Depacketizer>(
     number: u64,
 ) -> Result<Outcome, PacketError> {
     let meta = meta_for(clock_rate, packet.received, packet.header, number);
-    let placed = buffer.store(meta, packet.payload)?;
+    let placed = buffer.store_packed(meta, packet.payload)?;
     Ok(outcome_of(placed))
 }
 
 /// Returns the metadata of a packet with this number.
 #[inline(always)]
-fn meta_for(clock_rate: Frequency, received: Ticks, header: RtpHeader, number: u64) -> RtpMeta {
-    RtpMeta {
-        received,
-        time: MediaTime::new(u64::from(header.timestamp), clock_rate),
-        seq_no: SeqNo(number),
-        header,
-        last_sender_info: None,
-    }
+fn meta_for(
+    clock_rate: Frequency,
+    received: Ticks,
+    header: PackedHeader,
+    number: u64,
+) -> PackedMeta {
+    let time = MediaTime::new(u64::from(header.timestamp()), clock_rate);
+    PackedMeta::new(received, time, SeqNo(number), header)
 }
 
 /// Returns the outcome that a packet with this number would have.

@@ -2,8 +2,9 @@
 
 //! The RTP times of the latest numbers. If a number arrives again with another time, the sender has restarted.
 
+use crate::buffer::PackedHeader;
 use crate::memory::{AllocError, TryVec};
-use crate::wire::{Frequency, RtpHeader};
+use crate::wire::Frequency;
 use alloc::vec::Vec;
 
 /// The largest backward window for which every fourth number is noted.
@@ -93,9 +94,15 @@ fn place_of(backward: u16, number: u64) -> usize {
 }
 
 /// Returns whether `later` comes 1 to 16 numbers after `earlier`, and at most 2 seconds of RTP time after it.
-pub(crate) fn is_soon_after(clock_rate: Frequency, earlier: &RtpHeader, later: &RtpHeader) -> bool {
-    let numbers = later.sequence_number.wrapping_sub(earlier.sequence_number);
-    let ticks = later.timestamp.wrapping_sub(earlier.timestamp);
+pub(crate) fn is_soon_after(
+    clock_rate: Frequency,
+    earlier: &PackedHeader,
+    later: &PackedHeader,
+) -> bool {
+    let numbers = later
+        .sequence_number()
+        .wrapping_sub(earlier.sequence_number());
+    let ticks = later.timestamp().wrapping_sub(earlier.timestamp());
     let most = 2 * u64::from(clock_rate.get());
     1 <= numbers && numbers <= 16 && u64::from(ticks) <= most
 }

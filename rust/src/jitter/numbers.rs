@@ -27,6 +27,7 @@ pub enum Extended {
 
 impl Extended {
     /// Returns the extended number, if the packet got one.
+    #[inline(always)]
     pub fn number(self) -> Option<u64> {
         match self {
             Extended::Number(number) | Extended::Restarted(number) => Some(number),
@@ -142,6 +143,7 @@ impl SequenceNumbers {
     }
 
     /// Raises the highest number to `number`, if it is lower.
+    #[inline(always)]
     fn raise_to(&mut self, number: u64) {
         self.greatest = Some(match self.greatest {
             Some(greatest) => greatest.max(number),
@@ -172,6 +174,7 @@ impl SequenceNumbers {
     }
 
     /// Returns the answer for the next packet.
+    #[inline(always)]
     pub(crate) fn answer_for(&self, low: u16) -> Extended {
         let low_bits = u64::from(low);
         let Some(greatest) = self.greatest else {

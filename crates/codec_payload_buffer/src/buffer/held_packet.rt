@@ -1,11 +1,10 @@
 //! A packet in the queue of a buffer.
 
-ghost use Rattle.std.specs.Prelude.{◌≡◌, IfOk, Option, if◌then◌else◌, true};
+ghost use Rattle.std.specs.Prelude.{◌≡◌, Option, if◌then◌else◌, true};
 ghost use Rattle.codec_payload_buffer.specs.Rare.{plain_meta};
 
-use super::known::Known;
+use super::known::PackedMeta;
 use super::unit::RtpMeta;
-use std::alloc::{AllocError, Global};
 use std::mem::size_of;
 
 /// An entry of the queue: the number of a held packet, and a pointer to the rest.
@@ -21,7 +20,7 @@ pub(super) struct HeldPacket {
 /// The memory block of one packet.
 #[derive(Debug, Drop)]
 pub(super) struct Packet {
-    pub(super) known: Known,
+    pub(super) known: PackedMeta,
     /// The payload.
     pub(super) bytes: Vec<u8>,
     /// In the first packet of a row: the number of the last packet. In the last packet: the number of the first. In the packets
@@ -39,31 +38,25 @@ pub(super) struct Packet {
 const _: () = prove!(size_of::<Packet>() <= 128);
 
 impl Packet {
-    /// Makes a packet that is a row by itself. Allocates only for rare values.
+    /// Makes a packet that is a row by itself.
     #[inline(always)]
-    pub(super) fn of(
-        alloc: Global,
-        meta: RtpMeta,
-        bytes: Vec<u8>,
-        head: bool,
-        tail: bool,
-    ) -> Result<Self, AllocError>
-        ensures known { IfOk result (λ packet. packet.known ≡ meta) }
-        ensures bytes { IfOk result (λ packet. packet.bytes.items ≡ bytes.items) }
-        ensures head { IfOk result (λ packet. packet.head ≡ head) }
-        ensures tail { IfOk result (λ packet. packet.tail ≡ tail) }
-        ensures other_end { IfOk result (λ packet. packet.other_end ≡ meta.seq_no.0) }
-        ensures row_head { IfOk result (λ packet. packet.row_head ≡ if head then Option.Some meta.seq_no.0 else Option.None) }
+    pub(super) fn of(known: PackedMeta, bytes: Vec<u8>, head: bool, tail: bool) -> Self
+        ensures known { result.known ≡ known }
+        ensures bytes { result.bytes.items ≡ bytes.items }
+        ensures head { result.head ≡ head }
+        ensures tail { result.tail ≡ tail }
+        ensures other_end { result.other_end ≡ known.seq_no.0 }
+        ensures row_head { result.row_head ≡ if head then Option.Some known.seq_no.0 else Option.None }
     {
-        let number = meta.seq_no.0;
-        Ok(Packet {
-            known: Known::of(alloc, meta)?,
+        let number = known.number();
+        Packet {
+            known,
             bytes,
             other_end: number,
             row_head: if head { Some(number) } else { None },
             head,
             tail,
-        })
+        }
     }
 }
 

@@ -1,9 +1,10 @@
-//! The metadata of a held packet.
+//! The metadata of a held packet, packed.
 
-ghost use Rattle.std.specs.Prelude.{◌≡◌, IfOk, Option, true};
+ghost use Rattle.std.specs.Prelude.{◌≡◌, IfOk, IsOk, IsTrue, Option, true};
 ghost use Rattle.std.specs.Option.{option_map};
-ghost use Rattle.codec_payload_buffer.specs.Rare.{capture_of, timing_of, layers_of, plain_meta, sender_info_of};
+ghost use Rattle.codec_payload_buffer.specs.Rare.{are_plain, capture_of, timing_of, layers_of, plain_meta, sender_info_of};
 
+use super::packed_header::PackedHeader;
 use super::unit::RtpMeta;
 use codec_payload_base::wire::{
     AbsCaptureTime, ExtensionValues, MediaTime, Pt, RtpHeader, SenderInfo, SeqNo, Ticks,
@@ -11,10 +12,12 @@ use codec_payload_base::wire::{
 };
 use std::alloc::{AllocError, Global};
 use std::marker::Model;
+use std::mem::size_of;
 
-/// The metadata of a packet. Rare values are in a separate memory block.
+/// The metadata of a packet in 72 bytes. Rare values (a capture time, a timing, a layers allocation, values of a sender report)
+/// are in a separate memory block, which exists only if the packet has any of them.
 #[derive(Debug, Drop)]
-pub(super) struct Known {
+pub struct PackedMeta {
     received: Ticks,
     time: MediaTime,
     seq_no: SeqNo,
@@ -30,29 +33,44 @@ pub(super) struct Known {
     voice_activity: Option<bool>,
 }
 
+/// Packed metadata have at most 72 bytes, without rare values.
+const _: () = prove!(size_of::<PackedMeta>() <= 72);
+
 /// Rare values. A layers allocation, which is larger than all other values together, has a separate memory block.
 #[derive(Debug, Drop)]
-struct Rare {
-    abs_capture_time: Option<AbsCaptureTime>,
-    video_timing: Option<VideoTiming>,
+pub(super) struct Rare {
+    pub(super) abs_capture_time: Option<AbsCaptureTime>,
+    pub(super) video_timing: Option<VideoTiming>,
     layers_allocation: Option<Box<VideoLayersAllocation>>,
     last_sender_info: Option<SenderInfo>,
 }
 
+/// Returns whether none of the values is rare.
+#[inline(always)]
+pub(super) fn are_plain(values: &ExtensionValues, sender_info: &Option<SenderInfo>) -> bool
+    ensures { result ≡ are_plain values.now sender_info.now }
+{
+    values.abs_capture_time.is_none()
+        && values.video_timing.is_none()
+        && values.layers_allocation.is_none()
+        && sender_info.is_none()
+}
+
 impl Rare {
-    /// The rare values, if the packet has any of them.
-    fn of(alloc: Global, meta: &RtpMeta) -> Result<Option<Box<Rare>>, AllocError>
-        ensures capture { IfOk result (λ rare. capture_of (option_map (λ b. b.value) rare) ≡ meta.now.header.ext_vals.abs_capture_time) }
-        ensures timing { IfOk result (λ rare. timing_of (option_map (λ b. b.value) rare) ≡ meta.now.header.ext_vals.video_timing) }
-        ensures layers { IfOk result (λ rare. layers_of (option_map (λ b. b.value) rare) ≡ meta.now.header.ext_vals.layers_allocation) }
-        ensures sender_info { IfOk result (λ rare. sender_info_of (option_map (λ b. b.value) rare) ≡ meta.now.last_sender_info) }
+    /// The rare ones of these values, if there are any.
+    #[inline(always)]
+    pub(super) fn of(
+        alloc: Global,
+        values: &ExtensionValues,
+        sender_info: &Option<SenderInfo>,
+    ) -> Result<Option<Box<Rare>>, AllocError>
+        ensures capture { IfOk result (λ rare. capture_of (option_map (λ b. b.value) rare) ≡ values.now.abs_capture_time) }
+        ensures timing { IfOk result (λ rare. timing_of (option_map (λ b. b.value) rare) ≡ values.now.video_timing) }
+        ensures layers { IfOk result (λ rare. layers_of (option_map (λ b. b.value) rare) ≡ values.now.layers_allocation) }
+        ensures sender_info { IfOk result (λ rare. sender_info_of (option_map (λ b. b.value) rare) ≡ sender_info.now) }
+        ensures plain { IsTrue (are_plain values.now sender_info.now) → IsOk result }
     {
-        let values = &meta.header.ext_vals;
-        if values.abs_capture_time.is_none()
-            && values.video_timing.is_none()
-            && values.layers_allocation.is_none()
-            && meta.last_sender_info.is_none()
-        {
+        if are_plain(values, sender_info) {
             return Ok(None);
         }
         let layers_allocation = match values.layers_allocation {
@@ -63,13 +81,13 @@ impl Rare {
             abs_capture_time: values.abs_capture_time,
             video_timing: values.video_timing,
             layers_allocation,
-            last_sender_info: meta.last_sender_info,
+            last_sender_info: *sender_info,
         };
         Ok(Some(Box::new(alloc, rare)?))
     }
 
     /// Returns the layers allocation, if there is one.
-    fn layers(&self) -> Option<VideoLayersAllocation>
+    pub(super) fn layers(&self) -> Option<VideoLayersAllocation>
         ensures { result ≡ option_map (λ b. b.value) self.now.layers_allocation }
     {
         match &self.layers_allocation {
@@ -79,7 +97,24 @@ impl Rare {
     }
 }
 
-impl Model for Known {
+/// Removes the values of a sender report.
+#[inline(always)]
+fn without_sender_info(rare: Option<Box<Rare>>) -> Option<Box<Rare>>
+    ensures capture { capture_of (option_map (λ b. b.value) result) ≡ capture_of (option_map (λ b. b.value) rare) }
+    ensures timing { timing_of (option_map (λ b. b.value) result) ≡ timing_of (option_map (λ b. b.value) rare) }
+    ensures layers { layers_of (option_map (λ b. b.value) result) ≡ layers_of (option_map (λ b. b.value) rare) }
+    ensures sender_info { sender_info_of (option_map (λ b. b.value) result) ≡ Option.None }
+{
+    match rare {
+        Some(mut rare) => {
+            rare.last_sender_info = None;
+            Some(rare)
+        }
+        None => None,
+    }
+}
+
+impl Model for PackedMeta {
     ghost use Rattle.std.specs.Option.{option_map};
     ghost use Rattle.codec_payload_buffer.specs.declared.buffer.unit.RtpMeta.{RtpMeta as Meta};
     ghost use Rattle.codec_payload_buffer.specs.Rare.{capture_of, timing_of, layers_of, sender_info_of};
@@ -110,16 +145,17 @@ impl Model for Known {
     } };
 }
 
-impl Known {
-    /// Stores the metadata of a packet. Allocates only for rare values.
+impl PackedMeta {
+    /// Packs the metadata of a packet. Allocates only for rare values.
     #[inline(always)]
-    pub(super) fn of(alloc: Global, meta: RtpMeta) -> Result<Self, AllocError>
-        ensures { IfOk result (λ known. known ≡ meta) }
+    pub fn of(alloc: Global, meta: &RtpMeta) -> Result<Self, AllocError>
+        ensures ok { IfOk result (λ packed. packed ≡ meta.now) }
+        ensures plain { IsTrue (are_plain meta.now.header.ext_vals meta.now.last_sender_info) → IsOk result }
     {
-        let rare = Rare::of(alloc, &meta)?;
         let header = &meta.header;
         let values = &header.ext_vals;
-        Ok(Known {
+        let rare = Rare::of(alloc, values, &meta.last_sender_info)?;
+        Ok(PackedMeta {
             received: meta.received,
             time: meta.time,
             seq_no: meta.seq_no,
@@ -136,7 +172,30 @@ impl Known {
         })
     }
 
+    /// Makes the metadata of a packet that arrived at `received`, without a sender report. Allocates nothing.
+    #[inline(always)]
+    pub fn new(received: Ticks, time: MediaTime, seq_no: SeqNo, header: PackedHeader) -> Self
+        ensures { result ≡ record { received = received; time = time; seq_no = seq_no; header = header; last_sender_info = Option.None } }
+    {
+        PackedMeta {
+            received,
+            time,
+            seq_no,
+            rare: without_sender_info(header.rare),
+            timestamp: header.timestamp,
+            ssrc: header.ssrc,
+            sequence_number: header.sequence_number,
+            payload_type: header.payload_type,
+            marker: header.marker,
+            video_orientation: header.video_orientation,
+            video_content_type: header.video_content_type,
+            audio_level: header.audio_level,
+            voice_activity: header.voice_activity,
+        }
+    }
+
     /// Returns the sequence number.
+    #[inline(always)]
     pub(super) fn number(&self) -> u64
         ensures { result ≡ self.now.seq_no.0 }
     {
@@ -151,7 +210,7 @@ impl Known {
         self.seq_no
     }
 
-    /// Returns the marker of the RTP header.
+    /// Returns the marker bit.
     #[inline(always)]
     pub(super) fn marker(&self) -> bool
         ensures { result ≡ self.now.header.marker }
@@ -174,11 +233,11 @@ impl Known {
 
     /// Moves the metadata out of a packet that leaves the buffer. Rare values move without a copy. The packet keeps the others.
     #[inline(always)]
-    pub(super) fn take(&mut self) -> Known
+    pub(super) fn take(&mut self) -> PackedMeta
         ensures taken { result ≡ self.old }
         ensures left { self.new ≡ plain_meta self.old }
     {
-        Known {
+        PackedMeta {
             received: self.received,
             time: self.time,
             seq_no: self.seq_no,
@@ -220,7 +279,7 @@ impl Known {
     }
 
     /// Returns the metadata of the packet, as users see it.
-    pub(super) fn meta(&self) -> RtpMeta
+    pub fn meta(&self) -> RtpMeta
         ensures { result ≡ self.now }
     {
         match &self.rare {

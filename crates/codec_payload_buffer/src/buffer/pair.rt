@@ -16,6 +16,7 @@ use super::DepacketizingBuffer;
 use super::ends::{evict, place_at, row_with};
 use super::frames::{CompleteFrame, frame_of, mend_first, note};
 use super::held_packet::{HeldPacket, Packet};
+use super::known::PackedMeta;
 use super::packets::{find_place, hold, is_at, is_too_late};
 use super::placed::{Placed, placed_among};
 use super::rows::row_of_packet;
@@ -112,8 +113,8 @@ fn entry_of<B: Depacketizer>(
     let head = depacketizer.is_partition_head(&packet.payload);
     let marker = packet.meta.header.marker;
     let tail = depacketizer.is_partition_tail(marker, &packet.payload);
-    let packet = Packet::of(alloc, packet.meta, packet.payload, head, tail)?;
-    Ok(hold(spare, packet)?)
+    let known = PackedMeta::of(alloc, &packet.meta)?;
+    Ok(hold(spare, Packet::of(known, packet.payload, head, tail))?)
 }
 
 /// Stores a packet for which there is memory. Returns the result, and the number of the packet that was evicted.

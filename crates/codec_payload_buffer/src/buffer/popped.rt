@@ -5,7 +5,7 @@ ghost use Rattle.std.specs.Range.{range_inclusive_start, range_inclusive_end, ra
 ghost use Rattle.codec_payload_buffer.specs.Release.{AreValues, IsFirst, IsLast, IsReceivedFirst, released_none};
 ghost use Rattle.codec_payload_buffer.specs.declared.buffer.unit.RtpMeta.{RtpMeta as Meta};
 
-use super::known::Known;
+use super::known::PackedMeta;
 use super::unit::RtpMeta;
 use codec_payload_base::interface::CodecExtra;
 use codec_payload_base::wire::{ExtensionValues, MediaTime, SenderInfo, SeqNo, Ticks};
@@ -27,7 +27,7 @@ pub struct PoppedUnit {
     pub bytes: Vec<u8>,
     /// The codec-specific data of its payloads.
     pub codec_extra: CodecExtra,
-    pub(super) metas: Vec<Known>,
+    pub(super) metas: Vec<PackedMeta>,
 }
 
 impl Model for PoppedUnit {
@@ -149,7 +149,7 @@ impl PoppedUnit {
 
 /// Returns the first of the packets with the earliest time of arrival.
 #[inline(always)]
-fn received_first(metas: &[Known]) -> &Known
+fn received_first(metas: &[PackedMeta]) -> &PackedMeta
     requires { 0 < length metas.now }
     ensures { IsReceivedFirst metas.now result.now }
 {

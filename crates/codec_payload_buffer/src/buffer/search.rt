@@ -1,6 +1,6 @@
 //! Searches in queues that are ordered by a number.
 
-ghost use Rattle.std.specs.Prelude.{◌≡◌, ◌+◌, ◌<◌, ◌≤◌, length, ℕ};
+ghost use Rattle.std.specs.Prelude.{◌≡◌, ◌+◌, ◌<◌, ◌≤◌, length, ℕ, IfSome};
 ghost use Rattle.std.specs.List.{AllWithin, insert};
 ghost use Rattle.std.specs.List.Sorted.{IsNonDecreasingBy, IsPartitionPoint};
 ghost use Rattle.std.specs.VecDeque.{deque_capacity, deque_len};
@@ -34,8 +34,9 @@ impl Numbered for CompleteFrame {
     }
 }
 
-/// Returns how many items have a lower number. It inspects the first and the last item, and then goes back from the last item in
-/// steps that double. So the cost grows with the logarithm of the distance from the end, and not with the length of the queue.
+/// Returns how many items have a lower number. It inspects the first and the last item, then the place that is right if no number
+/// is missing between. Then it goes back from the last item in steps that double. So the cost grows with the logarithm of the
+/// distance from the end, and not with the length of the queue.
 #[inline(always)]
 pub(super) fn place_of_number<T: Numbered>(items: &VecDeque<T>, number: u64) -> usize
     requires { IsNonDecreasingBy T.number_of items.now.items }
@@ -52,15 +53,42 @@ pub(super) fn place_of_number<T: Numbered>(items: &VecDeque<T>, number: u64) -> 
     place_inside(items, number)
 }
 
-/// Does the same, by a search.
+/// Does the same for a number that is not at either end. If no number is missing above it, its distance from the last number
+/// is its distance from the end, and there is no search.
 #[inline(never)]
 fn place_inside<T: Numbered>(items: &VecDeque<T>, number: u64) -> usize
     requires { IsNonDecreasingBy T.number_of items.now.items }
     ensures bound { result ≤ deque_len items.now }
     ensures point { IsPartitionPoint (λ x. T.number_of x < number) (λ x. number ≤ T.number_of x) items.now.items result }
 {
+    if let Some(place) = place_by_distance(items, number) {
+        return place;
+    }
     let (low, high) = look_back(items, number);
     search_between(items, number, low, high)
+}
+
+/// Returns the place that is as far from the end as the number is from the last number, if it is the place of the number.
+#[inline(always)]
+fn place_by_distance<T: Numbered>(items: &VecDeque<T>, number: u64) -> Option<usize>
+    requires { IsNonDecreasingBy T.number_of items.now.items }
+    ensures bound { IfSome result (λ place. place ≤ deque_len items.now) }
+    ensures point { IfSome result (λ place. IsPartitionPoint (λ x. T.number_of x < number) (λ x. number ≤ T.number_of x) items.now.items place) }
+{
+    let len = items.len();
+    if len == 0 {
+        return None;
+    }
+    let last = items[len - 1].number();
+    if last <= number || last - number >= len as u64 {
+        return None;
+    }
+    let place = len - (last - number) as usize;
+    if items[place - 1].number() < number && number <= items[place].number() {
+        Some(place)
+    } else {
+        None
+    }
 }
 
 /// Returns two places, with the place of the number between them.
@@ -104,6 +132,7 @@ fn search_between<T: Numbered>(items: &VecDeque<T>, number: u64, low: usize, hig
 }
 
 /// Inserts an item at this place. The caller has reserved the room. At the end of the queue nothing moves.
+#[inline(always)]
 pub(super) fn put_at<T>(items: &mut VecDeque<T>, place: usize, item: T)
     requires place { place ≤ deque_len items.old }
     requires room { deque_len items.old < deque_capacity items.old }

@@ -9,7 +9,7 @@ ghost use Rattle.codec_payload_buffer.specs.Steps.{HasPacketsIn, HasTaken, OwnPo
 ghost use Rattle.codec_payload_codec.specs.Depacketizers.{is_built_in_depacketizer};
 
 use super::frames::CompleteFrame;
-use super::known::Known;
+use super::known::PackedMeta;
 use super::leaving::{Left, left_by, refused_by};
 use super::packets::{frame_range, give_back, make_room, move_frame, starts_next, unpack};
 use super::popped::PoppedUnit;
@@ -110,7 +110,7 @@ impl<B: Depacketizer> DepacketizingBuffer<B> {
     /// Removes the frame that is due and all packets below it. The metadata of its packets, from `from` to `to`, move to `metas`,
     /// which is empty and has room for them.
     #[inline(always)]
-    fn leave_to(&mut self, frame: CompleteFrame, from: usize, to: usize, metas: &mut Vec<Known>)
+    fn leave_to(&mut self, frame: CompleteFrame, from: usize, to: usize, metas: &mut Vec<PackedMeta>)
         requires due { due_of self.old ≡ Option.Some frame }
         requires order { from ≤ to }
         requires end { to ≡ end_of frame.last self.old.held }

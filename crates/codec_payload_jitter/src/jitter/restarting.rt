@@ -18,7 +18,7 @@ use crate::numbers::kept_number;
 use crate::outcome::{Outcome, outcome_of, with_kept, with_outcome, with_restart};
 use codec_payload_base::error::PacketError;
 use codec_payload_base::wire::Frequency;
-use codec_payload_buffer::buffer::{DepacketizingBuffer, Incoming};
+use codec_payload_buffer::buffer::{DepacketizingBuffer, Incoming, PackedHeader};
 use codec_payload_codec::codec::Depacketizer;
 use std::alloc::AllocError;
 
@@ -88,11 +88,11 @@ impl<B: Depacketizer> JitterBuffer<B> {
     {
         let noted = NotedTime {
             number,
-            time: packet.header.timestamp,
+            time: packet.header.timestamp(),
         };
         let backward = self.numbers.backward();
         let places = self.noted_times.first_places(backward, noted)?;
-        let before = kept_number(number, kept.header.sequence_number);
+        let before = kept_number(number, kept.header.sequence_number());
         let outcomes = store_two(
             &mut self.buffer,
             self.clock_rate,
@@ -114,7 +114,7 @@ impl<B: Depacketizer> JitterBuffer<B> {
         ensures own { is_built_in_depacketizer self.old.buffer.depacketizer ≡ false → OwnStores B.is_head B.is_tail self.old.buffer self.new.buffer }
     {
         self.no_media_numbers.reserve(1)?;
-        let before = kept_number(number, kept.header.sequence_number);
+        let before = kept_number(number, kept.header.sequence_number());
         let outcome = store(&mut self.buffer, self.clock_rate, kept, before)?;
         note_in_room(&mut self.no_media_numbers, number);
         let counters = with_restart(with_outcome(self.counters, Outcome::NoMedia));
@@ -138,7 +138,7 @@ fn copy_of(packet: &KeptPacket) -> Result<KeptPacket, AllocError>
 {
     Ok(KeptPacket {
         received: packet.received,
-        header: packet.header,
+        header: PackedHeader::new(*packet.payload.allocator(), &packet.header.header())?,
         payload: Vec::from_slice(*packet.payload.allocator(), &packet.payload)?,
     })
 }
@@ -168,7 +168,7 @@ fn incoming(clock_rate: Frequency, packet: KeptPacket, number: u64) -> Incoming
     ensures payload { result.payload.items ≡ packet.payload.items }
 {
     Incoming {
-        meta: meta_for(clock_rate, packet.received, packet.header, number),
+        meta: meta_for(clock_rate, packet.received, packet.header, number).meta(),
         payload: packet.payload,
     }
 }

@@ -4,7 +4,7 @@
 //! for one of them, nothing changes.
 
 use super::{JitterBuffer, KeptPacket, meta_for, store};
-use crate::buffer::{DepacketizingBuffer, Incoming};
+use crate::buffer::{DepacketizingBuffer, Incoming, PackedHeader};
 use crate::codec::Depacketizer;
 use crate::error::PacketError;
 use crate::jitter::no_media_numbers::note_in_room;
@@ -64,11 +64,11 @@ impl<B: Depacketizer> JitterBuffer<B> {
     ) -> Result<(), PacketError> {
         let noted = NotedTime {
             number,
-            time: packet.header.timestamp,
+            time: packet.header.timestamp(),
         };
         let backward = self.numbers.backward();
         let places = self.noted_times.first_places(backward, noted)?;
-        let before = kept_number(number, kept.header.sequence_number);
+        let before = kept_number(number, kept.header.sequence_number());
         let outcomes = store_two(
             &mut self.buffer,
             self.clock_rate,
@@ -85,7 +85,7 @@ impl<B: Depacketizer> JitterBuffer<B> {
     /// Notes a number without media that confirms a restart, and stores the suspect packet before it.
     fn note_and_store(&mut self, number: u64, kept: KeptPacket) -> Result<(), PacketError> {
         self.no_media_numbers.try_room(1)?;
-        let before = kept_number(number, kept.header.sequence_number);
+        let before = kept_number(number, kept.header.sequence_number());
         let outcome = store(&mut self.buffer, self.clock_rate, kept, before)?;
         note_in_room(&mut self.no_media_numbers, number);
         let counters = with_restart(with_outcome(self.counters, Outcome::NoMedia));
@@ -105,7 +105,7 @@ impl<B: Depacketizer> JitterBuffer<B> {
 fn copy_of(packet: &KeptPacket) -> Result<KeptPacket, AllocError> {
     Ok(KeptPacket {
         received: packet.received,
-        header: packet.header,
+        header: PackedHeader::new(&packet.header.header())?,
         payload: Vec::try_from_slice(&packet.payload)?,
     })
 }
@@ -127,7 +127,7 @@ fn store_two<B: Depacketizer>(
 /// Returns a packet with this number, as the buffer takes it.
 fn incoming(clock_rate: Frequency, packet: KeptPacket, number: u64) -> Incoming {
     Incoming {
-        meta: meta_for(clock_rate, packet.received, packet.header, number),
+        meta: meta_for(clock_rate, packet.received, packet.header, number).meta(),
         payload: packet.payload,
     }
 }

@@ -14,4 +14,4 @@ returns-clause-outcome g c =
 pub returns-clause-own : goal.returns-clause-own
 returns-clause-own g c = λ other.
     let pushed = c.in_ok-placed.ensures.own other in
-    stores_pushed _ _ c.args.buffer.now c.store.new.self pushed.0 _ _ pushed.1
+    stores_pushed _ _ c.args.buffer.now c.store_packed.new.self pushed.0 _ _ pushed.1

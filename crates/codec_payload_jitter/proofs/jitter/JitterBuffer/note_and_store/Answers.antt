@@ -39,4 +39,4 @@ returns-clause-ok g c =
     let numbers : c.note_in_room.new.no_media_numbers.items ≡ noted_no_media c.args.number r.no_media_numbers =
     c.note_in_room.ensures ∙ ap (λ (ns : List ℕ). noted_no_media c.args.number ns) c.in_ok-reserve.ensures.items in
     noted_both c.args.number (arrival_of c.args.kept) r c.args.self.now _ c.store.new.buffer o c.note_in_room.new.no_media_numbers.items c.with_kept-self-inside.result c.self.view_is
-    (rw c.kept_number-before.ensures at c.in_ok-outcome.ensures.takes) (rw c.kept_number-before.ensures at c.in_ok-outcome.ensures.outcome) numbers counters refl
+    (rw (c.kept_number-before.ensures, c.sequence_number.ensures) at c.in_ok-outcome.ensures.takes) (rw (c.kept_number-before.ensures, c.sequence_number.ensures) at c.in_ok-outcome.ensures.outcome) numbers counters refl

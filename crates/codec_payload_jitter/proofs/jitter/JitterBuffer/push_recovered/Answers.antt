@@ -18,7 +18,7 @@ returns-clause-ok g c =
     let missing : may_recover r n ≡ true = sym c.may_recover.ensures ∙ c.if-not-may_recover.false in
     let numbers : c.take.new.self ≡ numbering_with r.numbering answer low = c.take.ensures ∙ ap (λ (x : Receiving). numbering_with x.numbering answer low) c.self.view_is in
     let lowest : c.lowest_with-lowest.result ≡ lowest_with r.lowest answer = c.lowest_with-lowest.ensures ∙ ap (λ (x : Receiving). lowest_with x.lowest answer) c.self.view_is in
-    recovers_is (record { now = c.args.now; header = c.args.header; bytes = c.args.payload.items }) n r mid c.set_numbers.new.self c.in_ok-accept.field-0 is missing c.in_ok-accept.ensures.ok
+    recovers_is (record { now = c.args.now; header = c.args.header; bytes = c.args.payload.items }) n r mid c.set_numbers.new.self c.in_ok-accept.field-0 is missing (rw c.in_ok-new.ensures at c.in_ok-accept.ensures.ok)
     (c.set_numbers.ensures ∙ (ap (λ (x : Receiving). record x { numbering = c.take.new.self; lowest = c.lowest_with-lowest.result; is_restarting = false }) c.count_recovered.ensures
     ∙ (ap (λ (k : Numbering). record stored { numbering = k; lowest = c.lowest_with-lowest.result; is_restarting = false }) numbers
     ∙ ap (λ (l : Option ℕ). record stored { numbering = numbering_with r.numbering answer low; lowest = l; is_restarting = false }) lowest)))

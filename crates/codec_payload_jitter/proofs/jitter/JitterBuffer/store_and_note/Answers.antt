@@ -26,7 +26,7 @@ returns-clause-ok g c =
     } in
     let back : c.backward-backward.result ≡ mid.numbering.backward =
     c.backward-backward.ensures ∙ (ap (λ (r : Receiving). r.numbering.backward) c.self.view_is ∙ sym (ap (λ (r : Receiving). r.numbering.backward) accepts.3)) in
-    let noted : c.note.new.self ≡ noted_with mid.numbering.backward s.noted x = c.note.ensures ∙ ap (λ (b : ℕ). noted_with b s.noted x) back in (
+    let noted : c.note.new.self ≡ noted_with mid.numbering.backward s.noted x = (rw c.timestamp.ensures at c.note.ensures) ∙ ap (λ (b : ℕ). noted_with b s.noted x) back in (
       mid,
       accepts,
       ap (λ (ns : List NotedTime). record s { noted = ns }) noted ∙ ap (λ (r : Receiving). record r { noted = noted_with mid.numbering.backward r.noted x }) c.self-2.view_is,

@@ -37,4 +37,4 @@ returns-clause-ok g c =
     c.with_kept-self-inside.ensures ∙ (ap (λ (k : PacketCounters). counted_again k both.1) c.with_restart-counters.ensures
     ∙ ap (λ (k : PacketCounters). counted_again (counted_restart k) both.1) c.with_outcome.ensures) in
     stored_both c.args.number (arrival_of c.args.packet) (arrival_of c.args.kept) r c.args.self.now _ c.store_two.new.buffer both c.note.new.self c.with_kept-self-inside.result c.self.view_is
-    (rw c.kept_number-before.ensures at c.in_ok-outcomes.ensures.takes) (rw c.backward-backward.ensures at c.note.ensures) counters refl
+    (rw (c.kept_number-before.ensures, c.sequence_number.ensures) at c.in_ok-outcomes.ensures.takes) (rw (c.backward-backward.ensures, c.timestamp.ensures) at c.note.ensures) counters refl
