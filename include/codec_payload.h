@@ -848,8 +848,8 @@ typedef struct {
     bool pli;                 /**< its sender answers requests for keyframes: a=rtcp-fb with nack pli */
 } cpay_session_format;
 
-/** Two SSRCs of one source, as a=ssrc-group:FID names them (RFC 5576, section 4.2). Without its pair a retransmission is counted
- * as unassociated. */
+/** Two SSRCs of one source, as a=ssrc-group:FID names them (RFC 5576, section 4.2). A session that requests packets also finds
+ * pairs by the answers to its requests: see CPAY_ARRIVAL_UNASSOCIATED. */
 typedef struct {
     uint32_t ssrc;     /**< SSRC of the stream */
     uint32_t rtx_ssrc; /**< SSRC of its retransmissions */
@@ -923,7 +923,10 @@ enum {
     CPAY_ARRIVAL_MALFORMED = 2,   /**< neither RTP nor a valid compound packet of RTCP (RFC 3550, section 6.1) */
     CPAY_ARRIVAL_UNKNOWN = 3,     /**< a payload type that no format names, or one of `no_media` whose SSRC has no stream */
     CPAY_ARRIVAL_REFUSED = 4,     /**< it would begin a stream, but all places are taken, or you called cpay_session_finish */
-    CPAY_ARRIVAL_UNASSOCIATED = 5 /**< a retransmission whose stream is not known */
+    CPAY_ARRIVAL_UNASSOCIATED = 5 /**< a retransmission whose stream is not known: its SSRC is in no pair, and none or several
+                                       streams fit. A stream fits if it plays, has no pair and has requested the packet, and the RTP
+                                       time is within 10 s of its sender's clock (RFC 4588, section 5.3). If one fits, the pair is
+                                       added, and the stream receives the datagram */
 };
 
 typedef struct {

@@ -156,3 +156,26 @@ fn any_capacity_fits_into_a_packet() {
     assert_eq!(numbers.len(), 65_533);
     assert_eq!(due(&mut requests, 1_000), None);
 }
+
+/// Only a number that was in a packet counts as requested, by its 16 bits, and only as long as it is missing.
+#[test]
+fn requested_numbers() {
+    let mut requests = requests();
+    requests.update(Ticks(0), &[65_541, 65_550], false).unwrap();
+    assert!(!requests.has_requested(5));
+    requests
+        .update(Ticks(9), &[65_541, 65_550, 65_551], false)
+        .unwrap();
+    assert_eq!(asked(&due(&mut requests, 10).unwrap()).0, [5, 14]);
+    assert_eq!(
+        [5, 14, 15, 6].map(|n| requests.has_requested(n)),
+        [true, true, false, false]
+    );
+    requests
+        .update(Ticks(11), &[65_550, 65_551], false)
+        .unwrap();
+    assert_eq!(
+        [5, 14, 15].map(|n| requests.has_requested(n)),
+        [false, true, false]
+    );
+}

@@ -2,6 +2,7 @@
 
 ghost use Rattle.std.specs.Prelude.{◌≡◌, ◌≤◌, ◌/◌, IfErr, IfOk, OnErr, OnOk, length};
 ghost use Rattle.std.specs.Option.{option_map};
+ghost use Rattle.codec_payload_requests.specs.NackSchedule.{requested_by};
 ghost use Rattle.codec_payload_requests.specs.Requests.{earlier};
 ghost use Rattle.codec_payload_feedback.specs.Feedback.{AppendsAll, AppendsNack, IsFeedback, after_answered, after_feedback, cname_part, deadline_of, has_any, keyframe_is_due, keyframe_part, new_requests, numbers_due, report_part, source_by, updated};
 
@@ -240,6 +241,13 @@ impl StreamRequests {
         ensures { self.new ≡ after_answered now.0 number self.old }
     {
         self.nack.answered(now, number);
+    }
+
+    /// Returns whether a missing number with these 16 bits was requested.
+    pub fn has_requested(&self, number: u16) -> bool
+        ensures { result ≡ requested_by number self.now.nack }
+    {
+        self.nack.has_requested(number)
     }
 
     /// Returns the measured round-trip time in ticks, once a request was answered.

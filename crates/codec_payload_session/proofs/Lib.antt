@@ -1,4 +1,5 @@
 mod AccountLemmas
+mod AssociationLemmas
 mod CalmLemmas
 mod ChangeLemmas
 mod DueLemmas

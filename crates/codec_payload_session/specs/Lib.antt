@@ -1,4 +1,5 @@
 pub mod Arrivals
+pub mod Associations
 pub mod Changes
 pub mod Formats
 pub mod Pairs

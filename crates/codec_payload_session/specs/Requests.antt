@@ -1,10 +1,11 @@
 -- What a stream requests: the packets that its receiver misses, and a keyframe if its receiver needs one.
-use Rattle.std.specs.Prelude.{◌≡◌, ◌⊎◌, ℕ, ◌+◌, ◌-◌, ◌*◌, ◌/◌, ◌&&◌, ◌||◌, nat_le, if◌then◌else◌, max, min, Bool, List, ◌∷◌, take, Option, Some, None, Result, Ok, Err}
+use Rattle.std.specs.Prelude.{◌≡◌, ◌⊎◌, ℕ, ◌+◌, ◌-◌, ◌*◌, ◌/◌, ◌&&◌, ◌||◌, nat_le, if◌then◌else◌, max, min, Bool, false, List, ◌∷◌, take, Option, Some, None, Result, Ok, Err}
 use Rattle.std.specs.Global.{Vec}
 use Rattle.std.specs.Option.{option_map}
 use Rattle.std.specs.declared.alloc.AllocError.{AllocError}
 use Rattle.codec_payload_feedback.specs.Feedback.{IsFeedback, Requests, Source, after_answered, after_feedback, deadline_of, keyframe_is_due, new_requests, numbers_due, updated}
 use Rattle.codec_payload_jitter.specs.Missing.{missing_numbers}
+use Rattle.codec_payload_requests.specs.NackSchedule.{requested_by}
 use Rattle.codec_payload_requests.specs.declared.nack.NackSettings.{NackSettings}
 use Rattle.codec_payload_rtp.specs.RtpPackets.{Packet}
 use Rattle.codec_payload_rtp.specs.RtpReading.{rtp_at}
@@ -122,6 +123,11 @@ Asks now heard r a (Err e) b = (b ≡ a) ⊎ (b ≡ refreshed now heard r a)
 abbrev pub requests_due : Option Asking → Option ℕ
 requests_due None = None
 requests_due (Some a) = deadline_of a.requests
+
+-- a missing packet with this number was requested
+abbrev pub has_requested : ℕ → Option Asking → Bool
+has_requested number None = false
+has_requested number (Some a) = requested_by number a.requests.nack
 
 -- the measured round trip, of which eight times is kept
 abbrev pub round_trip_of : Option Asking → Option ℕ

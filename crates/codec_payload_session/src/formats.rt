@@ -92,9 +92,10 @@ pub struct SessionSettings {
     ///
     /// [`Event::Telephone`]: crate::session::Event::Telephone
     pub telephone_events: Vec<u8>,
-    /// The SSRCs of retransmissions. A retransmission under any other SSRC is counted as unassociated. Pairs that become known
-    /// later: [`Session::add_pair`].
+    /// The SSRCs of retransmissions. A session that requests packets finds other pairs by the answers to its requests
+    /// ([`Session::receive`]). Pairs that become known later: [`Session::add_pair`].
     ///
+    /// [`Session::receive`]: crate::session::Session::receive
     /// [`Session::add_pair`]: crate::session::Session::add_pair
     pub pairs: Vec<SsrcPair>,
     /// The ids of the header extensions to read.

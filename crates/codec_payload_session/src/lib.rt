@@ -2,6 +2,7 @@
 //! returns the units of all streams, requests what they miss, and reports on them.
 #![tactic(auto)]
 
+mod association;
 mod changes;
 pub mod formats;
 mod goodbyes;

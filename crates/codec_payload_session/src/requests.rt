@@ -3,7 +3,7 @@
 ghost use Rattle.std.specs.Prelude.{◌≡◌, ◌<◌, ℕ, IfOk, OnOk, Option, true};
 ghost use Rattle.codec_payload_jitter.specs.Missing.{missing_numbers};
 ghost use Rattle.codec_payload_session.specs.Quiet.{MayRest, is_calm};
-ghost use Rattle.codec_payload_session.specs.Requests.{Asks, Refreshes, after_number, feedback_by, heard_by, is_heard, number_at, original_number, requests_due, range_for, round_trip_of, source_for, spaced, wait_by, wait_of, wait_within};
+ghost use Rattle.codec_payload_session.specs.Requests.{Asks, Refreshes, after_number, feedback_by, has_requested, heard_by, is_heard, number_at, original_number, requests_due, range_for, round_trip_of, source_for, spaced, wait_by, wait_of, wait_within};
 
 use crate::formats::{FeedbackSettings, Format};
 use codec_payload_base::wire::Ticks;
@@ -193,6 +193,16 @@ pub(crate) fn rest_time(
     }
 }
 
+/// Returns whether a missing packet with this number was requested.
+pub(crate) fn has_requested(feedback: &Option<Feedback>, number: u16) -> bool
+    ensures { result ≡ has_requested number feedback.now }
+{
+    match feedback {
+        Some(feedback) => feedback.requests.has_requested(number),
+        None => false,
+    }
+}
+
 /// Returns the measured round-trip time, once a request was answered.
 pub(crate) fn round_trip(feedback: &Option<Feedback>) -> Option<u64>
     ensures { result ≡ round_trip_of feedback.now }
@@ -284,7 +294,7 @@ fn number_of(format: &Format, datagram: &[u8]) -> Option<u16>
 }
 
 /// Returns the original number of a retransmission.
-fn original_number(payload: &[u8]) -> Option<u16>
+pub(crate) fn original_number(payload: &[u8]) -> Option<u16>
     ensures { result ≡ original_number payload.now }
 {
     match payload {

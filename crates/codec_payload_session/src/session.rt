@@ -4,7 +4,8 @@ ghost use Rattle.std.specs.Prelude.{◌≡◌, ◌<◌, ◌≤◌, IfSome, lengt
 ghost use Rattle.std.specs.List.{position};
 ghost use Rattle.std.specs.Option.{option_map};
 ghost use Rattle.codec_payload_session.specs.Arrivals.{Port};
-ghost use Rattle.codec_payload_session.specs.Ports.{IsSum, MatchInfo, Receives, ReportsIf, counted, counted_if, ends_all, ends_of, new_session, no_counts, receiver_among, taken_in, told_counts, waits_of};
+ghost use Rattle.codec_payload_session.specs.Associations.{Associates};
+ghost use Rattle.codec_payload_session.specs.Ports.{IsSum, MatchInfo, ReportsIf, counted, counted_if, ends_all, ends_of, new_session, no_counts, receiver_among, taken_in, told_counts, waits_of};
 ghost use Rattle.codec_payload_session.specs.Reports.{clock_among};
 ghost use Rattle.codec_payload_session.specs.Polls.{Polls, SendsReport, TurnsOrReports, report_event};
 ghost use Rattle.codec_payload_session.specs.Reporting.{report_deadline};
@@ -12,6 +13,7 @@ ghost use Rattle.codec_payload_session.specs.Streams.{due_in, earlier, is_of};
 ghost use Rattle.codec_payload_session.specs.Telephone.{due_before};
 ghost use Rattle.codec_payload_session.specs.Pairs.{Pairs, with_pair, without_pair};
 
+use crate::association::{add_pair, take_in};
 use crate::formats::{SessionSettings, SsrcPair};
 use crate::pairs::remove_pair;
 use crate::reporter::report_deadline;
@@ -41,7 +43,8 @@ pub enum Arrival {
     Unknown,
     /// The datagram would begin a stream, but all places are taken or the session is finished.
     Refused,
-    /// A retransmission whose stream is not known.
+    /// A retransmission whose stream is not known: no pair names its SSRC, and none or several streams fit
+    /// ([`Session::receive`]).
     Unassociated,
     /// The stream of this SSRC and payload type received the datagram. `answer` is the answer of [`Receiver::receive`], and
     /// never `OutOfMemory`.
@@ -198,21 +201,27 @@ impl Session {
     /// the other streams of its SSRC and kind (audio or video) that took no datagram for `bye_wait`: their sender changed the
     /// format ([`Ending::Changed`]). Telephone events and comfort noise neither end nor are ended so.
     ///
+    /// A retransmission whose SSRC is in no pair gets one first, as by [`Session::add_pair`], if exactly one stream fits (RFC 4588,
+    /// section 5.3). A stream fits if it is announced and does not end, its format has this payload type of retransmissions, it has
+    /// requested the original number, its SSRC has no pair, and the RTP time of the packet is at most 10 s from the clock of its
+    /// sender. The clock is known by the latest packet of the stream. So this needs `feedback` of the settings and `nack` of the
+    /// format. It costs one step for each stream and pair.
+    ///
     /// A packet of telephone events beside audio (`telephone_events` of the settings) is one without media, and waits for a poll
     /// once a stream took it ([`Event::Telephone`]). At most 32 of them wait; further ones are dropped and counted.
     ///
     /// # Errors
     ///
-    /// Out of memory: the datagram is not counted; you can pass it again.
+    /// Out of memory: the datagram is not counted; you can pass it again. A pair may have been added.
     ///
     /// [`Receiver::receive`]: codec_payload_stream::receiver::Receiver::receive
     /// [`StreamInfo::sender_clock`]: crate::stream::StreamInfo::sender_clock
     /// [`Ending::Changed`]: crate::stream::Ending::Changed
     pub fn receive(&mut self, now: Ticks, datagram: &[u8]) -> Result<Arrival, AllocError>
-        ensures { Receives now datagram.now self.old result self.new }
+        ensures { Associates now datagram.now self.old result self.new }
     {
         let noted = self.telephone.note(&self.settings, datagram)?;
-        let answer = self.streams.take_in(&self.settings, now, datagram);
+        let answer = take_in(&mut self.settings, &mut self.streams, now, datagram);
         self.telephone.settle(noted, &answer);
         self.counts = self.counts.with_answer(&answer);
         answer
@@ -359,10 +368,7 @@ impl Session {
             ssrc,
             retransmission,
         };
-        let pairs = self.streams.with_pair(&self.settings.pairs, pair)?;
-        self.settings.pairs = pairs;
-        self.streams.pair(ssrc, &self.settings.pairs);
-        Ok(())
+        add_pair(&mut self.settings, &mut self.streams, pair)
     }
 
     /// Removes the pairs of this stream's SSRC: later retransmissions of it are unassociated. Without such a pair nothing

@@ -495,7 +495,7 @@ fn is_probation(stage: Stage) -> bool
 }
 
 /// Returns whether a stream at this stage plays.
-fn is_playing(stage: Stage) -> bool
+pub(crate) fn is_playing(stage: Stage) -> bool
     ensures { result ≡ is_playing stage }
 {
     matches!(stage, Stage::Playing)

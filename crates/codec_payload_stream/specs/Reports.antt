@@ -1,5 +1,6 @@
 -- The fields of a receiver report (RFC 3550, sections 6.4.1, A.3 and A.8).
 use Rattle.std.specs.Prelude.{◌≡◌, ℕ, ◌+◌, ◌-◌, ◌*◌, ◌/◌, ◌%◌, ◌^◌, ◌==◌, nat_le, min, if◌then◌else◌, Option, Some, None, refl}
+use Rattle.std.specs.Option.{option_map}
 use lib.IntN.{ℤ, pos, neg_ℤ}
 use Rattle.codec_payload_base.specs.Time.{rebased}
 use Rattle.codec_payload_jitter.specs.Numbers.{Numbering, answer_for, numbering_after}
@@ -52,6 +53,10 @@ distance before after = min ((after + (2 ^ 32 - before)) % 2 ^ 32) ((before + (2
 abbrev pub jitter_after : ℕ → Option ℕ → ℕ → ℕ
 jitter_after jitter None transit = jitter
 jitter_after jitter (Some before) transit = jitter + distance before transit - (jitter + 8) / 16
+
+-- how much the transit time of a packet differs from the transit time of the latest packet, the shorter way round
+abbrev pub transit_change : Reception → ℕ → ℕ → Option ℕ
+transit_change r now timestamp = option_map (λ latest. distance latest (transit_of r now timestamp)) r.transit
 
 -- the packets start again with this number (A.1)
 abbrev pub begun : Reception → ℕ → ℕ → Reception

@@ -2,7 +2,7 @@
 
 ghost use Rattle.std.specs.Prelude.{◌≡◌, ◌≤◌, ◌^◌, ◌/◌};
 ghost use Rattle.codec_payload_base.specs.Time.{rebased};
-ghost use Rattle.codec_payload_stream.specs.Reports.{arrival_of, begun, distance, expected_of, fraction_of, gone_on, highest_of, jitter_after, lost_of, no_reception, observed, observed_as, report_of, reported};
+ghost use Rattle.codec_payload_stream.specs.Reports.{arrival_of, begun, distance, expected_of, fraction_of, gone_on, highest_of, jitter_after, lost_of, no_reception, observed, observed_as, report_of, reported, transit_change};
 
 use crate::receiver::Receiver;
 use codec_payload_base::wire::{Frequency, MediaTime, Ticks};
@@ -138,6 +138,17 @@ impl ReceptionStatistics {
         Some(report)
     }
 
+    /// Returns how much the transit time of a packet differs from the transit time of the latest packet.
+    fn transit_change(&self, now: Ticks, rtp_time: u32) -> Option<u32>
+        ensures { result ≡ transit_change self.now now.0 rtp_time }
+    {
+        let transit = self.arrival_of(now).wrapping_sub(rtp_time);
+        match self.transit {
+            Some(latest) => Some(distance(latest, transit)),
+            None => None,
+        }
+    }
+
     /// Converts a time of your clock to the RTP clock, modulo 2^32.
     fn arrival_of(&self, now: Ticks) -> u32
         ensures { result ≡ arrival_of self.now now.0 }
@@ -174,6 +185,15 @@ impl<B> Receiver<B> {
     {
         let mut statistics = self.statistics;
         statistics.report()
+    }
+
+    /// Returns how far the RTP time of a packet that arrives at `now` is from the sender's clock: the difference between the transit
+    /// time of that packet (RFC 3550, appendix A.8) and the transit time of the latest packet that counts for reports. It is in ticks
+    /// of the RTP clock, the shorter way round 32 bits. `None`: no packet counts so far.
+    pub fn transit_change(&self, now: Ticks, rtp_time: u32) -> Option<u32>
+        ensures { result ≡ transit_change self.now.reception now.0 rtp_time }
+    {
+        self.statistics.transit_change(now, rtp_time)
     }
 }
 

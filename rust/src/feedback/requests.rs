@@ -184,6 +184,11 @@ impl StreamRequests {
         self.nack.answered(now, number);
     }
 
+    /// Returns whether a missing number with these 16 bits was requested.
+    pub fn has_requested(&self, number: u16) -> bool {
+        self.nack.has_requested(number)
+    }
+
     /// Returns the measured round-trip time in ticks, once a request was answered.
     pub fn round_trip(&self) -> Option<u64> {
         self.nack.round_trip()

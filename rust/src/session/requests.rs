@@ -165,6 +165,14 @@ pub(crate) fn rest_time(
     }
 }
 
+/// Returns whether a missing packet with this number was requested.
+pub(crate) fn has_requested(feedback: &Option<Feedback>, number: u16) -> bool {
+    match feedback {
+        Some(feedback) => feedback.requests.has_requested(number),
+        None => false,
+    }
+}
+
 /// Returns the measured round-trip time, once a request was answered.
 pub(crate) fn round_trip(feedback: &Option<Feedback>) -> Option<u64> {
     match feedback {
@@ -240,7 +248,7 @@ fn number_of(format: &Format, datagram: &[u8]) -> Option<u16> {
 }
 
 /// Returns the original number of a retransmission.
-fn original_number(payload: &[u8]) -> Option<u16> {
+pub(crate) fn original_number(payload: &[u8]) -> Option<u16> {
     match payload {
         [high, low, ..] => Some(u16::from(*high) * 256 + u16::from(*low)),
         _ => None,

@@ -8,6 +8,7 @@ use crate::jitter::jitter_buffer::WaitLimits;
 use crate::jitter::outcome::Outcome;
 use crate::memory::AllocError;
 use crate::rtcp::items::ReportBlock;
+use crate::session::association::{add_pair, take_in};
 use crate::session::formats::{SessionSettings, SsrcPair};
 use crate::session::pairs::remove_pair;
 use crate::session::reporter::report_deadline;
@@ -31,7 +32,8 @@ pub enum Arrival {
     Unknown,
     /// The datagram would begin a stream, but all places are taken or the session is finished.
     Refused,
-    /// A retransmission whose stream is not known.
+    /// A retransmission whose stream is not known: no pair names its SSRC, and none or several streams fit
+    /// ([`Session::receive`]).
     Unassociated,
     /// The stream of this SSRC and payload type received the datagram. `answer` is the answer of [`Receiver::receive`], and
     /// never `OutOfMemory`.
@@ -171,19 +173,25 @@ impl Session {
     /// the other streams of its SSRC and kind (audio or video) that took no datagram for `bye_wait`: their sender changed the
     /// format ([`Ending::Changed`]). Telephone events and comfort noise neither end nor are ended so.
     ///
+    /// A retransmission whose SSRC is in no pair gets one first, as by [`Session::add_pair`], if exactly one stream fits (RFC 4588,
+    /// section 5.3). A stream fits if it is announced and does not end, its format has this payload type of retransmissions, it has
+    /// requested the original number, its SSRC has no pair, and the RTP time of the packet is at most 10 s from the clock of its
+    /// sender. The clock is known by the latest packet of the stream. So this needs `feedback` of the settings and `nack` of the
+    /// format. It costs one step for each stream and pair.
+    ///
     /// A packet of telephone events beside audio (`telephone_events` of the settings) is one without media, and waits for a poll
     /// once a stream took it ([`Event::Telephone`]). At most 32 of them wait; further ones are dropped and counted.
     ///
     /// # Errors
     ///
-    /// Out of memory: the datagram is not counted; you can pass it again.
+    /// Out of memory: the datagram is not counted; you can pass it again. A pair may have been added.
     ///
     /// [`Receiver::receive`]: crate::stream::receiver::Receiver::receive
     /// [`StreamInfo::sender_clock`]: crate::session::stream::StreamInfo::sender_clock
     /// [`Ending::Changed`]: crate::session::stream::Ending::Changed
     pub fn receive(&mut self, now: Ticks, datagram: &[u8]) -> Result<Arrival, AllocError> {
         let noted = self.telephone.note(&self.settings, datagram)?;
-        let answer = self.streams.take_in(&self.settings, now, datagram);
+        let answer = take_in(&mut self.settings, &mut self.streams, now, datagram);
         self.telephone.settle(noted, &answer);
         self.counts = self.counts.with_answer(&answer);
         answer
@@ -307,10 +315,7 @@ impl Session {
             ssrc,
             retransmission,
         };
-        let pairs = self.streams.with_pair(&self.settings.pairs, pair)?;
-        self.settings.pairs = pairs;
-        self.streams.pair(ssrc, &self.settings.pairs);
-        Ok(())
+        add_pair(&mut self.settings, &mut self.streams, pair)
     }
 
     /// Removes the pairs of this stream's SSRC: later retransmissions of it are unassociated. Without such a pair nothing

@@ -95,6 +95,15 @@ impl ReceptionStatistics {
         Some(report)
     }
 
+    /// Returns how much the transit time of a packet differs from the transit time of the latest packet.
+    fn transit_change(&self, now: Ticks, rtp_time: u32) -> Option<u32> {
+        let transit = self.arrival_of(now).wrapping_sub(rtp_time);
+        match self.transit {
+            Some(latest) => Some(distance(latest, transit)),
+            None => None,
+        }
+    }
+
     /// Converts a time of your clock to the RTP clock, modulo 2^32.
     fn arrival_of(&self, now: Ticks) -> u32 {
         let time = MediaTime::new(now.0, self.tick_rate).rebase(self.clock_rate);
@@ -123,6 +132,13 @@ impl<B> Receiver<B> {
     pub fn peek_report(&self) -> Option<ReceptionReport> {
         let mut statistics = self.statistics;
         statistics.report()
+    }
+
+    /// Returns how far the RTP time of a packet that arrives at `now` is from the sender's clock: the difference between the transit
+    /// time of that packet (RFC 3550, appendix A.8) and the transit time of the latest packet that counts for reports. It is in ticks
+    /// of the RTP clock, the shorter way round 32 bits. `None`: no packet counts so far.
+    pub fn transit_change(&self, now: Ticks, rtp_time: u32) -> Option<u32> {
+        self.statistics.transit_change(now, rtp_time)
     }
 }
 

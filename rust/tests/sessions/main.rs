@@ -1,5 +1,6 @@
 //! Sessions: which stream a datagram is of, what is requested and reported, telephone events, many sessions at once, and a session beside a plain model.
 
+mod associations;
 mod changes;
 mod datagrams;
 mod many;

@@ -1,7 +1,9 @@
 //! A session beside a second writing of its rules (docs/SESSION.md), under random datagrams, polls and ends.
 
 use crate::datagrams::*;
+use codec_payload::feedback::{FeedbackSource, StreamRequests};
 use codec_payload::jitter::Outcome;
+use codec_payload::requests::NackSettings;
 use codec_payload::session::*;
 use codec_payload::stream::{Receiver, ReceiverSettings, RedSettings, Retransmission};
 use codec_payload::*;
@@ -11,8 +13,8 @@ use std::collections::{BTreeMap, VecDeque};
 enum Sent {
     /// Media of a format under an SSRC, in RED or not.
     Media(u32, u8),
-    /// A retransmission of VP8 under an SSRC.
-    Again(u32),
+    /// A retransmission of VP8 under an SSRC: its original number and its RTP time.
+    Again(u32, u16, u32),
     /// Comfort noise under an SSRC.
     Beside(u32),
     /// Telephone events under an SSRC, at an RTP time.
@@ -28,6 +30,8 @@ struct Plain {
     ssrc: u32,
     payload_type: u8,
     receiver: Receiver,
+    /// What a stream of VP8 requests, if the session requests anything.
+    requests: Option<StreamRequests>,
     taken: u64,
     accepted: u64,
     /// Whether it left probation.
@@ -58,7 +62,14 @@ struct Rules {
     probation: u64,
     idle_timeout: u64,
     bye_wait: u64,
+    /// Whether packets of VP8 are requested.
+    requests: bool,
+    /// Whether the pair of SSRCs 1 and 2 is named.
+    is_named: bool,
 }
+
+/// The SSRC of the session.
+const OWN: u32 = 9;
 
 const RED_OVER_OPUS: RedSettings = RedSettings {
     payload_type: RED,
@@ -71,6 +82,7 @@ fn session(rules: Rules) -> Session {
     settings.formats = vec![
         Format {
             retransmission: Some(RTX),
+            nack: rules.requests,
             ..vp8_format()
         },
         Format {
@@ -81,9 +93,16 @@ fn session(rules: Rules) -> Session {
     ];
     settings.no_media.push(NOISE);
     settings.telephone_events.push(EVENTS);
-    settings.pairs.push(SsrcPair {
-        ssrc: 1,
-        retransmission: 2,
+    if rules.is_named {
+        settings.pairs.push(SsrcPair {
+            ssrc: 1,
+            retransmission: 2,
+        });
+    }
+    settings.feedback = Some(FeedbackSettings {
+        longest_wait: None,
+        report_interval: None,
+        ..FeedbackSettings::live(OWN)
     });
     settings.max_streams = rules.max_streams;
     settings.probation = rules.probation;
@@ -92,16 +111,21 @@ fn session(rules: Rules) -> Session {
     Session::new(settings)
 }
 
-/// The receiver that a session has for a stream of this format.
-fn receiver(ssrc: u32, payload_type: u8) -> Receiver {
+/// Retransmissions of VP8 under an SSRC.
+fn retransmission(ssrc: u32) -> Retransmission {
+    Retransmission {
+        ssrc,
+        payload_type: RTX,
+    }
+}
+
+/// The receiver that a session has for a stream of this format. `again` is the SSRC of its retransmissions.
+fn receiver(ssrc: u32, payload_type: u8, again: Option<u32>) -> Receiver {
     let limits = SessionSettings::live();
     let (codec, mut settings) = if payload_type == VP8 {
         let mut settings = ReceiverSettings::live_video(VP8, Frequency::NINETY_KHZ);
         settings.wait_limits = limits.video;
-        settings.retransmission = (ssrc == 1).then_some(Retransmission {
-            ssrc: 2,
-            payload_type: RTX,
-        });
+        settings.retransmission = again.map(retransmission);
         (Codec::Vp8, settings)
     } else {
         let Format { spec, red, .. } = if payload_type == OPUS {
@@ -124,7 +148,8 @@ fn receiver(ssrc: u32, payload_type: u8) -> Receiver {
 }
 
 impl Plain {
-    fn receive(&mut self, now: u64, probation: u64, bytes: &[u8]) {
+    /// `number` is the original number, if the datagram is a retransmission.
+    fn receive(&mut self, now: u64, probation: u64, number: Option<u16>, bytes: &[u8]) {
         let answer = self.receiver.receive(Ticks(now), bytes);
         let is_refused = matches!(
             answer,
@@ -134,6 +159,31 @@ impl Plain {
         self.last = now;
         self.accepted += u64::from(!is_refused);
         self.plays |= self.accepted >= probation;
+        if let (Some(requests), Some(number), false) = (&mut self.requests, number, is_refused) {
+            requests.answered(Ticks(now), number);
+        }
+    }
+
+    /// Whether it is announced, and nothing ends it.
+    fn goes_on(&self) -> bool {
+        self.plays && self.end.is_none() && self.over.is_none()
+    }
+
+    /// The packet with the requests that are due.
+    fn request(&mut self, now: u64) -> Option<Vec<u8>> {
+        if !self.goes_on() {
+            return None;
+        }
+        let requests = self.requests.as_mut()?;
+        let most = if now - self.last <= 2_000 { 1_024 } else { 0 };
+        let missing: Vec<u64> = self.receiver.missing(most).collect();
+        let source = FeedbackSource::new(OWN, Vec::new(), false).expect("the name is short");
+        requests
+            .update(Ticks(now), &missing, false)
+            .expect("there is memory");
+        requests
+            .take_due(Ticks(now), &source)
+            .expect("there is memory")
     }
 
     fn leave(&mut self, why: Ending, at: u64) {
@@ -152,7 +202,7 @@ impl Model {
     fn new(rules: Rules) -> Model {
         Model {
             streams: Vec::new(),
-            pairs: BTreeMap::from([(2, 1)]),
+            pairs: rules.is_named.then_some((2, 1)).into_iter().collect(),
             rules,
             finished: false,
             counts: BTreeMap::new(),
@@ -196,7 +246,9 @@ impl Model {
         self.streams.push(Plain {
             ssrc,
             payload_type,
-            receiver: receiver(ssrc, payload_type),
+            receiver: receiver(ssrc, payload_type, self.again(ssrc)),
+            requests: (self.rules.requests && payload_type == VP8)
+                .then(|| StreamRequests::new(ssrc, NackSettings::live(), 500)),
             taken: 0,
             accepted: 0,
             plays: false,
@@ -208,7 +260,51 @@ impl Model {
         Some(self.streams.len() - 1)
     }
 
+    /// The SSRC of the retransmissions of a stream.
+    fn again(&self, ssrc: u32) -> Option<u32> {
+        let mut pairs = self.pairs.iter();
+        pairs.find(|pair| *pair.1 == ssrc).map(|pair| *pair.0)
+    }
+
+    /// A retransmission without a pair gets the one stream that requested it, has no pair, and whose clock is at most 10 s away.
+    fn associate(&mut self, now: u64, again: u32, number: u16, time: u32) {
+        if self.pairs.contains_key(&again) {
+            return;
+        }
+        let fits = |it: &&Plain| {
+            let has_requested = it
+                .requests
+                .as_ref()
+                .is_some_and(|r| r.has_requested(number));
+            let distance = it.receiver.transit_change(Ticks(now), time);
+            it.goes_on()
+                && has_requested
+                && distance.is_some_and(|distance| distance <= 900_000)
+                && self.again(it.ssrc).is_none()
+        };
+        let fitting: Vec<u32> = self.streams.iter().filter(fits).map(|it| it.ssrc).collect();
+        match fitting[..] {
+            [] => {}
+            [ssrc] => {
+                self.pairs.insert(again, ssrc);
+                for stream in self.streams.iter_mut().filter(|it| it.ssrc == ssrc) {
+                    let of_format = (stream.payload_type == VP8).then(|| retransmission(again));
+                    stream.receiver.set_retransmission(of_format);
+                }
+                self.count("associated", 1);
+            }
+            _ => self.count("several fit", 1),
+        }
+    }
+
     fn receive(&mut self, now: u64, sent: &Sent, bytes: &[u8]) {
+        let number = match sent {
+            Sent::Again(again, number, time) => {
+                self.associate(now, *again, *number, *time);
+                Some(*number)
+            }
+            _ => None,
+        };
         let (place, otherwise) = match sent {
             Sent::Media(ssrc, payload_type) => {
                 let known =
@@ -218,7 +314,7 @@ impl Model {
                     "refused",
                 )
             }
-            Sent::Again(ssrc) => {
+            Sent::Again(ssrc, ..) => {
                 let ssrc = self.pairs.get(ssrc).copied();
                 let known = self.place_of(|it| (Some(it.ssrc), it.payload_type) == (ssrc, VP8));
                 (known, "unassociated")
@@ -235,7 +331,7 @@ impl Model {
         };
         self.count("received", 1);
         match place {
-            Some(place) => self.streams[place].receive(now, self.rules.probation, bytes),
+            Some(place) => self.streams[place].receive(now, self.rules.probation, number, bytes),
             None => self.count(otherwise, 1),
         }
         match (place, sent) {
@@ -252,8 +348,7 @@ impl Model {
 
     /// The other streams of a sender that goes on in this format leave, if they are of its kind and were silent for a while.
     fn change(&mut self, now: u64, ssrc: u32, payload_type: u8) {
-        let goes_on =
-            |it: &Plain| it.ssrc == ssrc && it.plays && it.end.is_none() && it.over.is_none();
+        let goes_on = |it: &Plain| it.ssrc == ssrc && it.goes_on();
         if !self
             .streams
             .iter()
@@ -297,6 +392,9 @@ impl Model {
                 self.count("ended", gone.taken);
                 return Some(format!("{key:?} ends {why:?}"));
             }
+            if let Some(packet) = stream.request(now) {
+                return Some(format!("{key:?} {packet:?} requested"));
+            }
         }
         None
     }
@@ -307,7 +405,15 @@ impl Model {
         }
         let playing = self.streams.iter().filter(|it| it.plays);
         let due = playing.map(|it| {
-            let unit = it.receiver.next_deadline().map_or(u64::MAX, |at| at.0);
+            let requests = it.requests.as_ref().filter(|_| it.goes_on());
+            let request = requests.and_then(StreamRequests::next_deadline);
+            let dues = [it.receiver.next_deadline(), request];
+            let unit = dues
+                .iter()
+                .flatten()
+                .map(|at| at.0)
+                .min()
+                .unwrap_or(u64::MAX);
             if it.announced && it.over.is_none() {
                 unit.min(it.end(self.rules).1)
             } else {
@@ -334,7 +440,15 @@ fn line(event: Event) -> String {
             why,
         } => format!("{:?} ends {why:?}", (ssrc, payload_type)),
         Event::Telephone { ssrc, rtp_time, .. } => format!("{:?} telephone", (ssrc, rtp_time)),
-        Event::Feedback { .. } | Event::Report { .. } => panic!("nothing is sent"),
+        Event::Feedback {
+            ssrc,
+            payload_type,
+            packet,
+        } => {
+            let packet = packet.expect("there is memory");
+            format!("{:?} {packet:?} requested", (ssrc, payload_type))
+        }
+        Event::Report { .. } => panic!("no report is sent"),
     }
 }
 
@@ -358,7 +472,21 @@ fn telephone(dice: &mut Dice, latest: &mut [u16; 6]) -> (Sent, Vec<u8>) {
     (Sent::Telephone(ssrc, time), bytes)
 }
 
-/// A datagram, and what it is. SSRC 2 retransmits what SSRC 1 sends.
+/// A retransmission of a late packet of VP8. Seldom its RTP time is another one.
+fn again(dice: &mut Dice, latest: &[u16; 6]) -> (Sent, Vec<u8>) {
+    let of = 1 + dice.below(5);
+    let original = latest[of as usize].wrapping_sub(dice.below(6) as u16);
+    let payload = [&original.to_be_bytes(), vp8_frame(false)].concat();
+    let from = [2, 3, 12, 13, 14][dice.below(5) as usize];
+    let time = match dice.below(5) {
+        0 => 960 * dice.below(65_536),
+        _ => 960 * u32::from(original),
+    };
+    let bytes = packet(RTX, from, 1, time, &payload);
+    (Sent::Again(from, original, time), bytes)
+}
+
+/// A datagram, and what it is. SSRC 2 retransmits what SSRC 1 sends, if the pair is named.
 fn datagram(dice: &mut Dice, latest: &mut [u16; 6]) -> (Sent, Vec<u8>) {
     let ssrc = 1 + dice.below(5);
     let mut rtp = |payload_type, payload: &[u8], dice: &mut Dice| {
@@ -372,12 +500,7 @@ fn datagram(dice: &mut Dice, latest: &mut [u16; 6]) -> (Sent, Vec<u8>) {
         3 => (Sent::Unknown, rtp(100, &[1], dice)),
         4..6 => (Sent::Beside(ssrc), rtp(NOISE, &[64], dice)),
         6..12 => telephone(dice, latest),
-        12..20 => {
-            let original = latest[1].wrapping_sub(dice.below(6) as u16).to_be_bytes();
-            let payload = [&original[..], vp8_frame(false)].concat();
-            let from = 2 + dice.below(2);
-            (Sent::Again(from), packet(RTX, from, 1, 0, &payload))
-        }
+        12..20 => again(dice, latest),
         20..30 => {
             let payload = [0x80 | OPUS, 0x0f, 0, 2, OPUS, 9, 7, 10, 7];
             let end = if dice.below(10) == 0 { 3 } else { 9 };
@@ -439,6 +562,8 @@ impl Both {
             probation: dice.below(4).into(),
             idle_timeout: (100 + dice.below(2_000)).into(),
             bye_wait: dice.below(300).into(),
+            requests: dice.below(4) > 0,
+            is_named: dice.below(2) > 0,
         };
         Both {
             session: session(rules),
@@ -527,10 +652,13 @@ fn a_session_is_its_plain_model() {
         "ended",
         "telephone",
         "telephone_dropped",
+        "requested",
+        "associated",
     ];
     for name in frequent {
+        let least = if name == "associated" { 50 } else { 300 };
         assert!(
-            seen.get(name).is_some_and(|count| *count > 300),
+            seen.get(name).is_some_and(|count| *count > least),
             "{name}: {seen:?}"
         );
     }

@@ -1,32 +1,23 @@
-use Rattle.std.proofs.Common.{◌≡◌, ◌∙◌, List, ap, refl, subst, sym}
-use Rattle.codec_payload_session.specs.Arrivals.{Port}
-use Rattle.codec_payload_session.specs.Pairs.{Pairs, paired_where, with_pair}
-use Rattle.codec_payload_session.specs.Ports.{IsPort, Session}
-use Rattle.codec_payload_session.specs.declared.formats.SessionSettings.{SessionSettings}
+use Rattle.std.proofs.Common.{OnOk, subst}
+use Rattle.codec_payload_session.specs.Pairs.{Pairs, with_pair}
+use Rattle.codec_payload_session.specs.Ports.{Session}
 use Rattle.codec_payload_session.specs.declared.formats.SsrcPair.{SsrcPair}
-use Rattle.codec_payload_session.proofs.PairLemmas.{paired_keeps}
+use Rattle.codec_payload_session.proofs.AssociationLemmas.{adds_or_stays, named_pair}
 use Rattle.codec_payload_session.proofs.session.Session.add_pair.Goals as goal
 
 pub invariant_of-self : goal.invariant_of-self
 invariant_of-self c =
-    let changed : SessionSettings = record c.self.inside.settings { pairs = c.in_ok-pairs.pairs } in
+    let pair : SsrcPair = record { ssrc = c.args.ssrc; retransmission = c.args.retransmission } in
     record {
-      port = subst (λ (p : Port). IsPort changed p c.self.inside.counts) (sym c.pair.ensures)
-          (paired_keeps c.self.inside.settings changed c.self.inside.counts c.args.ssrc c.deref-2.result.now c.self.inside.streams refl c.self.invariant.port);
+      port = adds_or_stays c.add_pair.result pair c.self.inside.settings c.self.inside.streams c.add_pair.new.settings c.add_pair.new.streams c.self.inside.counts c.add_pair.ensures.ok
+          c.add_pair.ensures.settings c.add_pair.ensures.streams c.self.invariant.port;
       few = c.self.invariant.few;
     }
 
 pub returns-clause-ok : goal.returns-clause-ok
 returns-clause-ok c =
     let pair : SsrcPair = record { ssrc = c.args.ssrc; retransmission = c.args.retransmission } in
-    let changed : SessionSettings = record c.self.inside.settings { pairs = c.in_ok-pairs.pairs } in
-    let t : Session = record { settings = changed; port = c.pair.new.self; counts = c.self.inside.counts; telephone = c.self.inside.telephone; report_due = c.self.inside.report_due } in
-    let has : c.in_ok-pairs.pairs.items ≡ with_pair pair c.self.inside.settings.pairs.items = c.in_ok-pairs.ensures ∙ ap (λ (l : List SsrcPair). with_pair pair l) c.deref.ensures.value in
-    let are : c.deref-2.result.now ≡ with_pair pair c.self.inside.settings.pairs.items = c.deref-2.ensures.value ∙ has in
-    subst (λ (s : Session). Pairs c.args.ssrc (with_pair pair s.settings.pairs.items) s t) c.self.view_is
-    (record {
-      named = c.in_ok-pairs.pairs;
-      has = has;
-      left = ap (λ (p : Port). record t { port = p })
-          (c.pair.ensures ∙ ap (λ (l : List SsrcPair). record c.self.inside.streams { streams = paired_where c.args.ssrc l c.self.inside.streams.streams }) are);
-    })
+    let s : Session = record { settings = c.self.inside.settings; port = c.self.inside.streams; counts = c.self.inside.counts; telephone = c.self.inside.telephone; report_due = c.self.inside.report_due } in
+    let t : Session = record s { settings = c.add_pair.new.settings; port = c.add_pair.new.streams } in
+    subst (λ (x : Session). OnOk c.add_pair.result (Pairs c.args.ssrc (with_pair pair x.settings.pairs.items) x t)) c.self.view_is
+    (named_pair c.add_pair.result pair s c.add_pair.new.settings c.add_pair.new.streams c.add_pair.ensures.ok)

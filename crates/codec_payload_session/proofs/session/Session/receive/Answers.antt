@@ -1,9 +1,11 @@
-use Rattle.std.proofs.Common.{◌≤◌, Bool, Option, ap, inl, length, subst, sym}
+use Rattle.std.proofs.Common.{◌≤◌, Bool, Option, length, subst, sym}
 use Rattle.codec_payload_rtp.specs.RtpPackets.{Packet}
-use Rattle.codec_payload_session.specs.Ports.{IsPort, Receives, Session}
+use Rattle.codec_payload_session.specs.Associations.{Associates, AssociatesBy, pair_at}
+use Rattle.codec_payload_session.specs.Ports.{IsPort, Session}
 use Rattle.codec_payload_session.specs.Telephone.{Queue, is_without_media, telephone_at}
+use Rattle.codec_payload_session.specs.declared.formats.SsrcPair.{SsrcPair}
 use Rattle.codec_payload_session.specs.declared.session.ArrivalCounts.{ArrivalCounts}
-use Rattle.codec_payload_session.proofs.AccountLemmas.{takes_in_keeps}
+use Rattle.codec_payload_session.proofs.AssociationLemmas.{associates, takes_in_by_keeps}
 use Rattle.codec_payload_session.proofs.TelephoneLemmas.{queues_settled, stay_few}
 use Rattle.codec_payload_session.proofs.session.Session.receive.Goals as goal
 
@@ -17,9 +19,11 @@ pub invariant_of-self-2 : goal.invariant_of-self-2
 invariant_of-self-2 c =
     let taken : Bool = is_without_media c.take_in-answer.result in
     let told : Option Packet = telephone_at c.self.inside.settings c.args.datagram.now in
+    let pair : Option SsrcPair = pair_at c.self.inside.settings c.args.now.0 c.args.datagram.now c.self.inside.streams.streams in
     record {
-      port = subst (λ (n : ArrivalCounts). IsPort c.self.inside.settings c.take_in-answer.new.self n) (sym c.with_answer-self-inside.ensures)
-          (takes_in_keeps c.self.inside.settings c.args.now c.args.datagram.now c.self.inside.counts c.self.inside.streams c.take_in-answer.new.self c.take_in-answer.result c.take_in-answer.ensures c.self.invariant.port);
+      port = subst (λ (n : ArrivalCounts). IsPort c.take_in-answer.new.settings c.take_in-answer.new.streams n) (sym c.with_answer-self-inside.ensures)
+          (takes_in_by_keeps pair c.args.now c.args.datagram.now c.self.inside.settings c.self.inside.streams c.take_in-answer.result c.take_in-answer.new.settings c.take_in-answer.new.streams
+          c.self.inside.counts c.take_in-answer.ensures c.self.invariant.port);
       few = stay_few taken told c.self.inside.telephone c.settle.new.self
           (queues_settled taken told c.self.inside.telephone c.in_ok-noted.noted c.note.new.self c.settle.new.self c.in_ok-noted.ensures.ok c.settle.ensures) c.self.invariant.few;
     }
@@ -28,12 +32,10 @@ pub returns : goal.returns
 returns c =
     let taken : Bool = is_without_media c.take_in-answer.result in
     let told : Option Packet = telephone_at c.self.inside.settings c.args.datagram.now in
-    let t : Session = record { settings = c.self.inside.settings; port = c.take_in-answer.new.self; counts = c.with_answer-self-inside.result; telephone = c.settle.new.self; report_due = c.self.inside.report_due } in
-    subst (λ (s : Session). Receives c.args.now c.args.datagram.now s c.take_in-answer.result t) c.self.view_is
-    (inl (record {
-      port = c.take_in-answer.new.self;
-      telephone = c.settle.new.self;
-      takes = c.take_in-answer.ensures;
-      queues = queues_settled taken told c.self.inside.telephone c.in_ok-noted.noted c.note.new.self c.settle.new.self c.in_ok-noted.ensures.ok c.settle.ensures;
-      left = ap (λ (n : ArrivalCounts). record t { counts = n }) c.with_answer-self-inside.ensures;
-    }))
+    let s : Session = record { settings = c.self.inside.settings; port = c.self.inside.streams; counts = c.self.inside.counts; telephone = c.self.inside.telephone; report_due = c.self.inside.report_due } in
+    let t : Session = record { settings = c.take_in-answer.new.settings; port = c.take_in-answer.new.streams; counts = c.with_answer-self-inside.result; telephone = c.settle.new.self; report_due = c.self.inside.report_due } in
+    let pair : Option SsrcPair = pair_at c.self.inside.settings c.args.now.0 c.args.datagram.now c.self.inside.streams.streams in
+    subst (λ (x : Session). Associates c.args.now c.args.datagram.now x c.take_in-answer.result t) c.self.view_is
+    (subst (λ (n : ArrivalCounts). AssociatesBy pair c.args.now c.args.datagram.now s c.take_in-answer.result (record t { counts = n })) (sym c.with_answer-self-inside.ensures)
+    (associates pair c.args.now c.args.datagram.now s c.take_in-answer.result c.take_in-answer.new.settings c.take_in-answer.new.streams c.settle.new.self c.take_in-answer.ensures
+    (queues_settled taken told c.self.inside.telephone c.in_ok-noted.noted c.note.new.self c.settle.new.self c.in_ok-noted.ensures.ok c.settle.ensures)))
