@@ -8,6 +8,7 @@ pub mod ReadingLemmas
 pub mod ReceivingLemmas
 pub mod ReleaseLemmas
 pub mod RepeatLemmas
+pub mod HistoryRunExamples
 pub mod SendingLemmas
 pub mod StepLemmas
 pub mod ValueLemmas

@@ -6,3 +6,4 @@ pub mod WireRunExample
 pub mod HistoryRuns
 pub mod HistoryReleases
 pub mod OwnHistoryRuns
+pub mod HistoryRunExample
