@@ -7,6 +7,7 @@ use Rattle.codec_payload_buffer.specs.Held.{Held}
 use Rattle.codec_payload_buffer.specs.Steps.{State, arrived, pushed}
 use Rattle.codec_payload_buffer.specs.declared.buffer.frames.CompleteFrame.{CompleteFrame}
 use Rattle.codec_payload_buffer.specs.declared.buffer.unit.RtpMeta.{RtpMeta}
+use Rattle.codec_payload_history.specs.declared.retransmission.RetransmissionStream.{RetransmissionStream}
 use Rattle.codec_payload_runs.specs.Arrivals.{AllAreMade, Arrives, Asked, Event, HasArrival, Meets, OnlyArrive, PopsWaiting, Tells}
 use Rattle.codec_payload_runs.specs.Log.{Stretch, Turn, begun, with_pushes}
 use Rattle.codec_payload_rtp.specs.declared.values.ExtensionIds.{ExtensionIds}
@@ -19,7 +20,7 @@ use Rattle.codec_payload_jitter.specs.declared.numbers.Extended.TheVariants as e
 use Rattle.codec_payload_sender.specs.declared.sender.Stream.{Stream}
 use Rattle.codec_payload_stream.specs.Kinds.{Kinds}
 use Rattle.codec_payload_stream.specs.Sessions.{Session, ended}
-use Rattle.codec_payload_wire.proofs.ReceivingLemmas.{AllNumbered, IsListening, KeepsLimits, finishes_as, keeps_then, pops_as, pushes, wait_same}
+use Rattle.codec_payload_wire.proofs.ReceivingLemmas.{AllNumbered, IsListening, KeepsLimits, finishes_as, keeps_then, pops_as, pushes_copy, wait_same}
 use Rattle.codec_payload_wire.proofs.StepLemmas.{Takes}
 use Rattle.codec_payload_wire.specs.Releases.{AreDatagrams, HasValuesOf, HaveNoPops, ReadsAs, delivered}
 use Rattle.codec_payload_wire.specs.WireLogs.{AnswersTurn, IsLogOf, wait_of}
@@ -103,10 +104,10 @@ pub record IsMet (r : Receiving) (stream : Stream) (packets : List Packet) (all_
   pub values : AllHaveValues s.stream.ids stream packets events
   pub logs : (w : Stretch) → w.now ≡ s.packets.buffer → HasLog (IsRead s.stream.ids stream packets) packets r s.packets.ended all_steps w answers t.packets.buffer
 
-module _ (stream : Stream) (types : (stream.payload_type < 64) ⊎ (95 < stream.payload_type)) (first : ℕ) (packets : List Packet) (datagrams : List (List ℕ))
+module _ (again : Option RetransmissionStream) (stream : Stream) (types : (stream.payload_type < 64) ⊎ (95 < stream.payload_type)) (first : ℕ) (packets : List Packet) (datagrams : List (List ℕ))
     (are : AreDatagrams stream packets datagrams) (numbered : AreNumbered first packets) (r : Receiving) where
-  pub met : (all_steps : List DatagramStep) (s t : Session) (answers : List Answer) → IsListening stream s → KeepsLimits r s.packets
-      → AllNumbered first s.packets.numbering (delivered all_steps) → AreTimesOf (times_from first packets) s.packets.noted → Takes all_steps datagrams s answers t
+  pub met : (all_steps : List DatagramStep) (s t : Session) (answers : List Answer) → IsListening again stream s → KeepsLimits r s.packets
+      → AllNumbered first s.packets.numbering (delivered all_steps) → AreTimesOf (times_from first packets) s.packets.noted → Takes again all_steps datagrams s answers t
       → IsMet r stream packets all_steps s answers t
   met [] s t answers listening keeps numbers times takes = record {
     events = [];
@@ -125,7 +126,7 @@ module _ (stream : Stream) (types : (stream.payload_type < 64) ⊎ (95 < stream.
         logs = λ w is. let l = rest.logs w is in record { turns = l.turns; end = l.end; is_log = l.is_log; answers_are = l.answers_are; left = l.left };
       }
   met (steps.Deliver k now ∷ later) s t answers listening keeps numbers times takes =
-      let mid : Session = takes.3 in
+      let mid : Session = takes.5 in
       let p = packet_at_index stream first packets datagrams k takes.0 are numbered takes.1 in
       let q : Packet = p.0 in
       let p_at : slice_get packets k ≡ Some q = p.1 in
@@ -133,9 +134,9 @@ module _ (stream : Stream) (types : (stream.payload_type < 64) ⊎ (95 < stream.
       subst (λ (n : ℕ). answer_for s.packets.numbering (n % 2 ^ 16) ≡ extended.Number n) (sym p.3) numbers.0 in
       let place : k ≡ q.number - first = omega (arith, p.3) in
       let time : q.rtp_time ≡ times_from first packets q.number = time_at packets k q p.1 ∙ ap (time_in packets) place in
-      let one = pushes (times_from first packets) stream now q takes.0 s mid takes.2 types listening p.2 number times time takes.4 in
+      let one = pushes_copy again (times_from first packets) stream now q takes.0 takes.2 s mid takes.4 types listening p.2 takes.3 number times time takes.6 in
       let numbering : mid.packets.numbering ≡ numbering_after s.packets.numbering ((first + k) % 2 ^ 16) = one.numbering ∙ ap (λ (n : ℕ). numbering_after s.packets.numbering (n % 2 ^ 16)) p.3 in
-      let rest = met later mid t answers one.listening (keeps_then r s.packets mid.packets keeps one.limits) (subst (λ (n : Numbering). AllNumbered first n (delivered later)) (sym numbering) numbers.1) one.times takes.5 in
+      let rest = met later mid t answers one.listening (keeps_then r s.packets mid.packets keeps one.limits) (subst (λ (n : Numbering). AllNumbered first n (delivered later)) (sym numbering) numbers.1) one.times takes.7 in
       record {
         events = Arrives k one.meta ∷ rest.events;
         meets = (q, p.1, one.tells, subst (λ (b : State). Meets stream.clock_rate packets rest.events b answers t.packets.buffer) one.buffer rest.meets);
@@ -157,7 +158,7 @@ module _ (stream : Stream) (types : (stream.payload_type < 64) ⊎ (95 < stream.
       }
   met (steps.Pop now ∷ later) s t answers listening keeps numbers times takes =
       let mid : Session = takes.2 in
-      let one = pops_as stream now takes.0 s mid listening takes.4 takes.5 in
+      let one = pops_as again stream now takes.0 s mid listening takes.4 takes.5 in
       let rest = met later mid t takes.1 one.listening (keeps_then r s.packets mid.packets keeps one.limits) (subst (λ (n : Numbering). AllNumbered first n (delivered later)) (sym one.numbering) numbers) (subst (AreTimesOf (times_from first packets)) (sym one.noted) times) takes.6 in
       record {
         events = Asked one.wait ∷ rest.events;
@@ -180,7 +181,7 @@ module _ (stream : Stream) (types : (stream.payload_type < 64) ⊎ (95 < stream.
             };
       }
   met (steps.Finish ∷ later) s t answers listening keeps numbers times takes =
-      let at_end : takes.0 ≡ ended s = finishes_as stream s takes.0 listening takes.1 in
+      let at_end : takes.0 ≡ ended s = finishes_as again stream s takes.0 listening takes.1 in
       let rest = met later (ended s) t answers (record {
         payload_type = listening.payload_type;
         named = listening.named;
@@ -192,7 +193,8 @@ module _ (stream : Stream) (types : (stream.payload_type < 64) ⊎ (95 < stream.
         of_codec = listening.of_codec;
         no_block_seen = listening.no_block_seen;
         drops_none = listening.drops_none;
-      }) (record { wait_limits = keeps.wait_limits; room = keeps.room }) numbers times (subst (λ (x : Session). Takes later datagrams x answers t) at_end takes.2) in
+        heard = listening.heard;
+      }) (record { wait_limits = keeps.wait_limits; room = keeps.room }) numbers times (subst (λ (x : Session). Takes again later datagrams x answers t) at_end takes.2) in
       record {
         events = rest.events;
         meets = rest.meets;

@@ -1,3 +1,4 @@
+pub mod Courses
 pub mod DeliveredLemmas
 pub mod EventLemmas
 pub mod GapLemmas
@@ -6,6 +7,8 @@ pub mod NewReceivers
 pub mod ReadingLemmas
 pub mod ReceivingLemmas
 pub mod ReleaseLemmas
+pub mod RepeatLemmas
+pub mod HistoryRunExamples
 pub mod SendingLemmas
 pub mod StepLemmas
 pub mod ValueLemmas

@@ -1,8 +1,10 @@
--- A receiver sorts a datagram of its sender as a packet with media.
-use Rattle.std.proofs.Common.{◌≡◌, ◌∙◌, refl, sym, subst, ℕ, ◌/◌, ◌%◌, ◌^◌, ◌*◌, ◌<◌, ◌≤◌, ◌⊎◌, inl, inr, List, [], ◌∷◌, Bool, true, false, eqb, cond, Option, Some, None, Result, Ok, Err, arith, leb}
-use Rattle.std.specs.Int.{w16, w32, from_be_bytes}
+-- A receiver sorts a datagram of its sender as a packet with media, and a retransmission of it as that packet again.
+use Rattle.std.proofs.Common.{◌≡◌, ◌∙◌, refl, sym, subst, ℕ, ◌+◌, ◌/◌, ◌%◌, ◌^◌, ◌*◌, ◌<◌, ◌≤◌, ◌⊎◌, inl, inr, List, [], ◌∷◌, ◌++◌, Bool, true, false, eqb, cond, Option, Some, None, Result, Ok, Err, arith, leb}
+use Rattle.std.specs.Int.{w16, w32, from_be_bytes, to_be_bytes}
 use Rattle.std.proofs.lemmas.Bool.{and_parts, eq-eqb, false_from_ne_true, leb-true}
 use Rattle.codec_payload_send.specs.Packets.{Packet}
+use Rattle.codec_payload_history.specs.Histories.{IsRetransmission}
+use Rattle.codec_payload_history.specs.declared.retransmission.RetransmissionStream.{RetransmissionStream}
 use Rattle.codec_payload_rtp.proofs.RtpFields.{bind_ok, ok_is}
 use Rattle.codec_payload_rtp.specs.RtpPackets.{Header, is_rtcp}
 use Rattle.codec_payload_rtp.specs.RtpPackets as rtp
@@ -11,7 +13,7 @@ use Rattle.codec_payload_rtp.specs.declared.rtp.RtpError.{RtpError}
 use Rattle.codec_payload_rtp.specs.declared.rtp.RtpError.TheVariants as errors
 use Rattle.codec_payload_sender.specs.Datagrams.{header_with}
 use Rattle.codec_payload_sender.specs.declared.sender.Stream.{Stream}
-use Rattle.codec_payload_stream.specs.Kinds.{Kinds, WithMedia, datagram_at, is_other, is_sent_again}
+use Rattle.codec_payload_stream.specs.Kinds.{Again, Kinds, Original, WithMedia, again_read, datagram_at, is_other, is_sent_again}
 use Rattle.codec_payload_stream.specs.declared.receiver.Retransmission.{Retransmission}
 use Rattle.codec_payload_wire.specs.Releases.{ReadsAs, is_sent_again_by}
 
@@ -96,3 +98,41 @@ datagram_is kinds ssrc stream q bytes reads payload_type types own not_again =
     let again : is_sent_again kinds.retransmission (packet_at stream q).header ≡ false = again_same kinds.retransmission stream q ∙ not_again in
     let media : eqb stream.payload_type kinds.payload_type ≡ true = eq-eqb stream.payload_type kinds.payload_type (sym payload_type) in
     rw (no_rtcp, reads, again, own, media) refl
+
+-- a retransmission of the packet, under a number of the stream of retransmissions
+abbrev pub header_again : RetransmissionStream → ℕ → Stream → Packet → Header
+header_again again next stream q = record (packet_at stream q).header { payload_type = again.payload_type; sequence_number = next; ssrc = again.ssrc }
+
+abbrev pub original_at : RetransmissionStream → ℕ → Stream → Packet → Original
+original_at again next stream q = record { header = header_again again next stream q; number = q.number % 2 ^ 16; ssrc = stream.ssrc; bytes = q.payload }
+
+again_reads : (known : Option ℕ) (h : Header) (n ssrc : ℕ) (bytes : List ℕ) → n < 65536 → known ≡ Some ssrc
+    → again_read known h (to_be_bytes w16 n ++ bytes) ≡ Again (record { header = h; number = n; ssrc = ssrc; bytes = bytes })
+again_reads known h n ssrc bytes small is =
+    let number : n / 256 % 256 * 256 + n % 256 ≡ n = omega (arith, small) in
+    rw (is, number) refl
+
+retransmission_reads : (again : RetransmissionStream) (next : ℕ) (stream : Stream) (q : Packet) (datagram bytes : List ℕ) → ReadsAs stream q datagram
+    → IsRetransmission again next datagram bytes
+    → rtp_at bytes ≡ Ok (record { header = header_again again next stream q; payload = to_be_bytes w16 (q.number % 2 ^ 16) ++ q.payload; padding = 0 })
+retransmission_reads again next stream q datagram bytes reads is =
+    let same : packet_at stream q ≡ is.original = ok_is (packet_at stream q) is.original (sym reads ∙ is.was) in
+    subst (λ (p : rtp.Packet). rtp_at bytes ≡ Ok (record {
+      header = record p.header { payload_type = again.payload_type; sequence_number = next; ssrc = again.ssrc };
+      payload = to_be_bytes w16 p.header.sequence_number ++ p.payload;
+      padding = 0;
+    })) (sym same) is.reads
+
+-- a receiver that knows the stream of retransmissions reads the packet again
+pub again_is : (kinds : Kinds) (ssrc : Option ℕ) (again : RetransmissionStream) (next : ℕ) (stream : Stream) (q : Packet) (datagram bytes : List ℕ)
+    → ReadsAs stream q datagram → IsRetransmission again next datagram bytes → ssrc ≡ Some stream.ssrc
+    → kinds.retransmission ≡ Some (record { ssrc = again.ssrc; payload_type = again.payload_type }) → (again.payload_type < 64) ⊎ (95 < again.payload_type)
+    → datagram_at kinds ssrc bytes ≡ Again (original_at again next stream q)
+again_is kinds ssrc again next stream q datagram bytes reads is known heard types =
+    let small : q.number % 2 ^ 16 < 65536 = omega arith in
+    let there = retransmission_reads again next stream q datagram bytes reads is in
+    let no_rtcp : is_rtcp bytes ≡ false = is_no_rtcp bytes _ there types in
+    let same_ssrc : eqb again.ssrc again.ssrc ≡ true = eq-eqb again.ssrc again.ssrc refl in
+    let same_type : eqb again.payload_type again.payload_type ≡ true = eq-eqb again.payload_type again.payload_type refl in
+    let sent_again : is_sent_again kinds.retransmission (header_again again next stream q) ≡ true = rw (heard, same_ssrc, same_type) refl in
+    rw (no_rtcp, there, sent_again) (again_reads ssrc (header_again again next stream q) (q.number % 2 ^ 16) stream.ssrc q.payload small known)

@@ -8,31 +8,37 @@ use Rattle.codec_payload_codec.specs.Depacketizers.{is_built_in_depacketizer}
 use Rattle.codec_payload_codec.specs.Packetizers.{NullPacketizing}
 use Rattle.codec_payload_buffer.specs.Steps.{State, arrived, pushed, Pops}
 use Rattle.codec_payload_buffer.specs.declared.buffer.unit.RtpMeta.{RtpMeta}
+use Rattle.codec_payload_history.specs.Histories.{IsRetransmission}
+use Rattle.codec_payload_history.specs.declared.retransmission.RetransmissionStream.{RetransmissionStream}
 use Rattle.codec_payload_runs.proofs.units.BuiltInRuns.{pop_exactly, push_keeps}
 use Rattle.codec_payload_runs.specs.Arrivals.{PopsWaiting, Tells}
 use Rattle.codec_payload_send.specs.Packets.{Packet}
 use Rattle.codec_payload_runs.specs.Schedule.{Answer, RunState, run_state}
 use Rattle.codec_payload_jitter.specs.NoMediaNumbers.{passed_no_media, no_media_left}
 use Rattle.codec_payload_jitter.specs.NotedTimes.{AreTimesOf, noted_with}
-use Rattle.codec_payload_jitter.specs.Numbers.{Numbering, answer_for, numbering_after, numbering_with}
-use Rattle.codec_payload_jitter.specs.Receiving.{Arrival, GoesOn, PopsWith, Receives, ReceivesAs, Receiving, answer_to, is_starting, meta_for, settled, waiting_at, with_noted, would_store}
+use Rattle.codec_payload_jitter.specs.Numbers.{Numbering, answer_for, number_within, numbering_after, numbering_with}
+use Rattle.codec_payload_jitter.specs.Receiving.{Arrival, GoesOn, PopsWith, Receives, ReceivesAgain, ReceivesAgainAs, ReceivesAs, Receiving}
+use Rattle.codec_payload_jitter.specs.Receiving.{answer_to, counted_in_again, is_starting, meta_for, number_again, numbered, settled, waiting_at, with_noted, would_store}
 use Rattle.codec_payload_jitter.specs.Waiting.{most_held_back}
 use Rattle.codec_payload_jitter.proofs.RestartLemmas.{answer_to_is, still_times}
 use Rattle.codec_payload_jitter.specs.declared.noted_times.NotedTime.{NotedTime}
 use Rattle.codec_payload_jitter.specs.declared.numbers.Extended.{Extended}
 use Rattle.codec_payload_jitter.specs.declared.numbers.Extended.TheVariants as extended
 use Rattle.codec_payload_jitter.specs.declared.outcome.Outcome.{Outcome}
+use Rattle.codec_payload_jitter.specs.declared.outcome.PacketCounters.{PacketCounters}
 use Rattle.codec_payload_sender.specs.declared.sender.Stream.{Stream}
-use Rattle.codec_payload_stream.specs.Kinds.{Datagram, WithMedia, datagram_at, header_for, is_other}
+use Rattle.codec_payload_stream.specs.Kinds.{Again, Datagram, Kinds, WithMedia, datagram_at, header_for, is_other}
 use Rattle.codec_payload_stream.specs.Choice.{is_silent, origin_of, verdict_of}
-use Rattle.codec_payload_stream.specs.Sessions.{Finishes, Heard, Hears, ReceivesBy, ReceivesBytes, Session, SettlesOn, TakesMedia, ended, first_waiting, is_none_of, is_open, is_repeat, packet_seen}
+use Rattle.codec_payload_stream.specs.Sessions.{Finishes, Heard, Hears, ReceivesBy, ReceivesBytes, Session, SettlesOn, TakesAgain, TakesMedia, ended, first_waiting, is_none_of, is_open, is_repeat, packet_seen}
 use Rattle.codec_payload_stream.specs.declared.choice.Candidate.{Candidate}
 use Rattle.codec_payload_stream.specs.Pops.{PopsOnce}
 use Rattle.codec_payload_stream.specs.declared.receiver.ReceiveError.TheVariants as refusals
 use Rattle.codec_payload_stream.proofs.PopLemmas.{drops_stay, pops_at_once}
 use Rattle.codec_payload_stream.specs.RedOnce.{HasNoBlock}
 use Rattle.codec_payload_stream.proofs.BlockTimeLemmas.{and_false, packet_has_no_block}
-use Rattle.codec_payload_wire.proofs.ReadingLemmas.{datagram_is, packet_at}
+use Rattle.codec_payload_wire.proofs.ReadingLemmas.{again_is, datagram_is, original_at, packet_at}
+use Rattle.codec_payload_wire.proofs.Courses.{IsCopy}
+use Rattle.codec_payload_wire.specs.HistoryReleases.{AreHeard}
 use Rattle.codec_payload_wire.specs.Releases.{ReadsAs, is_sent_again_by, values_read}
 use Rattle.codec_payload_jitter.specs.declared.waiting.WaitLimits.{WaitLimits}
 use Rattle.codec_payload_wire.specs.WireLogs.{wait_of}
@@ -43,8 +49,9 @@ abbrev pub AllNumbered : ℕ → Numbering → List ℕ → Type 0
 AllNumbered first s [] = Unit {0}
 AllNumbered first s (k ∷ ks) = (answer_for s ((first + k) % 2 ^ 16) ≡ extended.Number (first + k)) × AllNumbered first (numbering_after s ((first + k) % 2 ^ 16)) ks
 
--- a receiver of the stream, without numbers without media, without blocks of RED, and without an announced restart
-pub record IsListening (stream : Stream) (s : Session) : Type 0 where
+-- a receiver of the stream and of its retransmissions, without numbers without media, without blocks of RED, and without an
+-- announced restart
+pub record IsListening (again : Option RetransmissionStream) (stream : Stream) (s : Session) : Type 0 where
   pub payload_type : s.stream.payload_type ≡ stream.payload_type
   pub named : s.named ≡ Some stream.ssrc
   pub ssrc : s.ssrc ≡ Some stream.ssrc
@@ -55,6 +62,7 @@ pub record IsListening (stream : Stream) (s : Session) : Type 0 where
   pub of_codec : is_built_in_depacketizer s.packets.buffer.depacketizer ≡ true
   pub no_block_seen : HasNoBlock s.seen
   pub drops_none : s.gates.drops ≡ false
+  pub heard : AreHeard again s.stream.retransmission
 
 -- Receiving
 
@@ -72,9 +80,9 @@ second : {X : Type 0} (P : X → Type 0) (b : Bool) (x y : X) → b ≡ false �
 second P b x y taken known = subst (λ (c : Bool). P (cond c x y)) taken known
 
 -- a receiver with a named SSRC receives each datagram by its stream
-heard_at_once : (stream : Stream) (now : Ticks) (bytes : List ℕ) (s t : Session) (receipt : Receipt) → IsListening stream s
+heard_at_once : (again : Option RetransmissionStream) (stream : Stream) (now : Ticks) (bytes : List ℕ) (s t : Session) (receipt : Receipt) → IsListening again stream s
     → Delivers now bytes s receipt t → Heard now (datagram_at s.stream s.ssrc bytes) s receipt t
-heard_at_once stream now bytes s t receipt listening delivers = by_case delivers.1
+heard_at_once again stream now bytes s t receipt listening delivers = by_case delivers.1
   where
     settled_already : is_open s now.0 ≡ false
     settled_already = ap (λ (named : Option ℕ). is_none_of named && not s.packets.ended && (is_none_of s.ssrc || is_silent s.choice now.0)) listening.named
@@ -87,12 +95,12 @@ heard_at_once stream now bytes s t receipt listening delivers = by_case delivers
     by_case (inr got) = absurd (delivers.0 got.0)
 
 -- its SSRC is the same
-same_ssrc : (stream : Stream) (s : Session) → IsListening stream s → is_other s.ssrc stream.ssrc ≡ false
-same_ssrc stream s listening = ap (λ (o : Option ℕ). is_other o stream.ssrc) listening.ssrc ∙ ap not (eq-eqb stream.ssrc stream.ssrc refl)
+same_ssrc : (again : Option RetransmissionStream) (stream : Stream) (s : Session) → IsListening again stream s → is_other s.ssrc stream.ssrc ≡ false
+same_ssrc again stream s listening = ap (λ (o : Option ℕ). is_other o stream.ssrc) listening.ssrc ∙ ap not (eq-eqb stream.ssrc stream.ssrc refl)
 
 -- at the end of the stream no packet waits for the choice
-pub finishes_as : (stream : Stream) (s t : Session) → IsListening stream s → Finishes s t → t ≡ ended s
-finishes_as stream s t listening finishes =
+pub finishes_as : (again : Option RetransmissionStream) (stream : Stream) (s t : Session) → IsListening again stream s → Finishes s t → t ≡ ended s
+finishes_as again stream s t listening finishes =
     let none : first_waiting s ≡ None = ap (λ (o : Option ℕ). cond (is_none_of o) (slice_get s.choice.candidates 0) None) listening.ssrc in
     let stays : SettlesOn None finishes.0 s finishes.1 = subst (λ (o : Option Candidate). SettlesOn o finishes.0 s finishes.1) none finishes.2 in
     finishes.3 ∙ ap ended stays.1
@@ -122,36 +130,54 @@ pub record TakesIn (time_of : ℕ → ℕ) (n : ℕ) (a : Arrival) (r t : Receiv
   pub limits : KeepsLimits r t
   pub ended : t.ended ≡ r.ended
 
-takes_in : (time_of : ℕ → ℕ) (n : ℕ) (a : Arrival) (r t : Receiving) (outcome : Outcome) → r.is_restarting ≡ false → is_built_in_depacketizer r.buffer.depacketizer ≡ true
-    → answer_for r.numbering a.header.sequence_number ≡ extended.Number n → AreTimesOf time_of r.noted → a.header.timestamp ≡ time_of n
-    → Receives a r outcome t → TakesIn time_of n a r t
-takes_in time_of n a r t outcome running of_codec numbered times time receives =
+-- a packet that was stored under this number
+went_in : (time_of : ℕ → ℕ) (n : ℕ) (a : Arrival) (r mid t : Receiving) (outcome : Outcome) (counters : PacketCounters) (e : Extended)
+    → is_built_in_depacketizer r.buffer.depacketizer ≡ true → answer_for r.numbering a.header.sequence_number ≡ extended.Number n → e ≡ extended.Number n
+    → AreTimesOf time_of r.noted → a.header.timestamp ≡ time_of n → GoesOn n a r outcome mid
+    → t ≡ numbered r e a.header.sequence_number (record mid { counters = counters }) → TakesIn time_of n a r t
+went_in time_of n a r mid t outcome counters e of_codec is answer times time went left =
     let low : ℕ = a.header.sequence_number in
-    let is : answer_to r a.header ≡ extended.Number n = answer_to_is time_of r a.header n running times numbered time in
-    let mid : Receiving = receives.0 in
-    let went : GoesOn n a r outcome mid = subst (λ (e : Extended). ReceivesAs e a r outcome mid) is receives.1 in
     let trusted : mid ≡ with_noted n a went.0 = went.2 in
     let accepted = went.1.3 in
     let packet : went.1.1.0 ≡ arrived r.buffer.depacketizer (meta_for a.now r.rate a.header n) a.bytes = went.1.1.1.2 of_codec in
     let x : NotedTime = record { number = n; time = a.header.timestamp } in
     let noted : t.noted ≡ noted_with r.numbering.backward r.noted x =
-    ap (λ (y : Receiving). y.noted) receives.2 ∙ (ap (λ (y : Receiving). y.noted) trusted ∙ ap (λ (y : Receiving). noted_with y.numbering.backward y.noted x) accepted) in
+    ap (λ (y : Receiving). y.noted) left ∙ (ap (λ (y : Receiving). y.noted) trusted ∙ ap (λ (y : Receiving). noted_with y.numbering.backward y.noted x) accepted) in
     record {
       times = subst (AreTimesOf time_of) (sym noted) (still_times time_of r.numbering.backward r.noted x time times);
-      buffer = ap (λ (x : Receiving). x.buffer) receives.2 ∙ (ap (λ (x : Receiving). x.buffer) trusted ∙ (ap (λ (x : Receiving). x.buffer) accepted ∙ (went.1.1.2 ∙ ap (pushed r.buffer) packet)));
-      numbering = ap (λ (x : Receiving). x.numbering) receives.2 ∙ ap (λ (e : Extended). numbering_with r.numbering e low) (is ∙ sym numbered);
-      rate = ap (λ (x : Receiving). x.rate) receives.2 ∙ (ap (λ (x : Receiving). x.rate) trusted ∙ ap (λ (x : Receiving). x.rate) accepted);
-      running = ap (λ (x : Receiving). x.is_restarting) receives.2;
-      no_media_numbers = ap (λ (x : Receiving). x.no_media_numbers) receives.2 ∙ (ap (λ (x : Receiving). x.no_media_numbers) trusted ∙ ap (λ (x : Receiving). x.no_media_numbers) accepted);
+      buffer = ap (λ (x : Receiving). x.buffer) left ∙ (ap (λ (x : Receiving). x.buffer) trusted ∙ (ap (λ (x : Receiving). x.buffer) accepted ∙ (went.1.1.2 ∙ ap (pushed r.buffer) packet)));
+      numbering = ap (λ (x : Receiving). x.numbering) left ∙ ap (λ (e : Extended). numbering_with r.numbering e low) (answer ∙ sym is);
+      rate = ap (λ (x : Receiving). x.rate) left ∙ (ap (λ (x : Receiving). x.rate) trusted ∙ ap (λ (x : Receiving). x.rate) accepted);
+      running = ap (λ (x : Receiving). x.is_restarting) left;
+      no_media_numbers = ap (λ (x : Receiving). x.no_media_numbers) left ∙ (ap (λ (x : Receiving). x.no_media_numbers) trusted ∙ ap (λ (x : Receiving). x.no_media_numbers) accepted);
       limits = record {
-        wait_limits = ap (λ (x : Receiving). x.wait_limits) receives.2 ∙ (ap (λ (x : Receiving). x.wait_limits) trusted ∙ ap (λ (x : Receiving). x.wait_limits) accepted);
-        room = ap (λ (x : Receiving). x.room) receives.2 ∙ (ap (λ (x : Receiving). x.room) trusted ∙ ap (λ (x : Receiving). x.room) accepted);
+        wait_limits = ap (λ (x : Receiving). x.wait_limits) left ∙ (ap (λ (x : Receiving). x.wait_limits) trusted ∙ ap (λ (x : Receiving). x.wait_limits) accepted);
+        room = ap (λ (x : Receiving). x.room) left ∙ (ap (λ (x : Receiving). x.room) trusted ∙ ap (λ (x : Receiving). x.room) accepted);
       };
-      ended = ap (λ (x : Receiving). x.ended) receives.2 ∙ (ap (λ (x : Receiving). x.ended) trusted ∙ ap (λ (x : Receiving). x.ended) accepted);
+      ended = ap (λ (x : Receiving). x.ended) left ∙ (ap (λ (x : Receiving). x.ended) trusted ∙ ap (λ (x : Receiving). x.ended) accepted);
     }
 
--- a datagram of the sender is a push of its packet
-pub record IsPushed (time_of : ℕ → ℕ) (stream : Stream) (now : Ticks) (q : Packet) (s t : Session) : Type 0 where
+takes_in : (time_of : ℕ → ℕ) (n : ℕ) (a : Arrival) (r t : Receiving) (outcome : Outcome) → r.is_restarting ≡ false → is_built_in_depacketizer r.buffer.depacketizer ≡ true
+    → answer_for r.numbering a.header.sequence_number ≡ extended.Number n → AreTimesOf time_of r.noted → a.header.timestamp ≡ time_of n
+    → Receives a r outcome t → TakesIn time_of n a r t
+takes_in time_of n a r t outcome running of_codec is times time receives =
+    let answer : answer_to r a.header ≡ extended.Number n = answer_to_is time_of r a.header n running times is time in
+    let mid : Receiving = receives.0 in
+    let went : GoesOn n a r outcome mid = subst (λ (e : Extended). ReceivesAs e a r outcome mid) answer receives.1 in
+    went_in time_of n a r mid t outcome mid.counters (answer_to r a.header) of_codec is answer times time went receives.2
+
+-- the same for a retransmitted packet
+takes_in_again : (time_of : ℕ → ℕ) (n : ℕ) (a : Arrival) (r t : Receiving) (outcome : Outcome) → r.is_restarting ≡ false → is_built_in_depacketizer r.buffer.depacketizer ≡ true
+    → answer_for r.numbering a.header.sequence_number ≡ extended.Number n → AreTimesOf time_of r.noted → a.header.timestamp ≡ time_of n
+    → ReceivesAgain a r outcome t → TakesIn time_of n a r t
+takes_in_again time_of n a r t outcome running of_codec is times time receives =
+    let number : number_again r a.header.sequence_number ≡ Some n =
+    ap (λ (b : Bool). cond b None (number_within (answer_for r.numbering a.header.sequence_number))) running ∙ ap number_within is in
+    let here : ReceivesAgainAs (Some n) a r outcome t = subst (λ (o : Option ℕ). ReceivesAgainAs o a r outcome t) number receives in
+    went_in time_of n a r here.0 t outcome (counted_in_again here.0.counters outcome) (extended.Number n) of_codec is refl times time here.1 here.2
+
+-- a copy of a datagram of the sender is a push of its packet
+pub record IsPushed (again : Option RetransmissionStream) (time_of : ℕ → ℕ) (stream : Stream) (now : Ticks) (q : Packet) (s t : Session) : Type 0 where
   pub times : AreTimesOf time_of t.packets.noted
   pub meta : RtpMeta
   pub tells : Tells stream.clock_rate q meta
@@ -159,32 +185,33 @@ pub record IsPushed (time_of : ℕ → ℕ) (stream : Stream) (now : Ticks) (q :
   pub received : meta.received ≡ now
   pub buffer : t.packets.buffer ≡ pushed s.packets.buffer (arrived s.packets.buffer.depacketizer meta q.payload)
   pub numbering : t.packets.numbering ≡ numbering_after s.packets.numbering (q.number % 2 ^ 16)
-  pub listening : IsListening stream t
+  pub listening : IsListening again stream t
   pub kinds : t.stream ≡ s.stream
   pub limits : KeepsLimits s.packets t.packets
   pub ended : t.packets.ended ≡ s.packets.ended
 
-pub pushes : (time_of : ℕ → ℕ) (stream : Stream) (now : Ticks) (q : Packet) (bytes : List ℕ) (s t : Session) (receipt : Receipt) → (stream.payload_type < 64)
-    ⊎ (95 < stream.payload_type) → IsListening stream s → ReadsAs stream q bytes
-    → answer_for s.packets.numbering (q.number % 2 ^ 16) ≡ extended.Number q.number → AreTimesOf time_of s.packets.noted → q.rtp_time ≡ time_of q.number
-    → Delivers now bytes s receipt t → IsPushed time_of stream now q s t
-pushes time_of stream now q bytes s t receipt types listening reads numbered times time delivers =
-    let is : datagram_at s.stream s.ssrc bytes ≡ WithMedia (packet_at stream q) =
-    datagram_is s.stream s.ssrc stream q bytes reads listening.payload_type types (same_ssrc stream s listening) listening.not_again in
-    let hears : Hears now (WithMedia (packet_at stream q)) s receipt t =
-    subst (λ (d : Datagram). Hears now d s receipt t) is (heard now (datagram_at s.stream s.ssrc bytes) s t receipt delivers.0 (heard_at_once stream now bytes s t receipt listening delivers)) in
-    let a : Arrival = record { now = now; header = header_for s.stream (packet_at stream q).header; bytes = q.payload } in
-    let new : is_repeat s.stream s.seen s.packets a.header.timestamp a.header.sequence_number ≡ false =
-    ap (λ (b : Bool). (is_some s.stream.red && b) && would_store s.packets a.header.sequence_number) (listening.no_block_seen a.header.timestamp)
-    ∙ ap (λ (b : Bool). b && would_store s.packets a.header.sequence_number) (and_false (is_some s.stream.red)) in
-    let receives : Receives a s.packets hears.outcome hears.packets = subst (λ (b : Bool). TakesMedia b a s.packets hears.outcome hears.packets) new hears.takes.0 in
-    let one = takes_in time_of q.number a s.packets hears.packets hears.outcome listening.running listening.of_codec numbered times time receives in
-    let seen : t.seen ≡ packet_seen (is_some s.stream.red) hears.outcome a.header.timestamp s.seen = ap (λ (x : Session). x.seen) hears.left ∙ hears.takes.1 in
+-- the packet on arrival
+abbrev arrival_at : Stream → Ticks → Packet → Session → Arrival
+arrival_at stream now q s = record { now = now; header = header_for s.stream (packet_at stream q).header; bytes = q.payload }
+
+-- the jitter buffer has stored the packet, and the rest of the receiver is as before, as far as the stream is concerned
+record HasStored (time_of : ℕ → ℕ) (stream : Stream) (now : Ticks) (q : Packet) (s t : Session) : Type 0 where
+  takes : TakesIn time_of q.number (arrival_at stream now q s) s.packets t.packets
+  kinds : t.stream ≡ s.stream
+  named : t.named ≡ s.named
+  ssrc : t.ssrc ≡ Some stream.ssrc
+  seen : HasNoBlock t.seen
+  drops : t.gates.drops ≡ s.gates.drops
+
+stored_is_pushed : (again : Option RetransmissionStream) (time_of : ℕ → ℕ) (stream : Stream) (now : Ticks) (q : Packet) (s t : Session) → IsListening again stream s
+    → HasStored time_of stream now q s t → IsPushed again time_of stream now q s t
+stored_is_pushed again time_of stream now q s t listening has =
+    let one = has.takes in
+    let a : Arrival = arrival_at stream now q s in
     let meta : RtpMeta = meta_for now s.packets.rate a.header q.number in
-    let packets : t.packets ≡ hears.packets = ap (λ (x : Session). x.packets) hears.left in
-    let buffer : t.packets.buffer ≡ pushed s.packets.buffer (arrived s.packets.buffer.depacketizer meta q.payload) = ap (λ (x : Receiving). x.buffer) packets ∙ one.buffer in
+    let buffer : t.packets.buffer ≡ pushed s.packets.buffer (arrived s.packets.buffer.depacketizer meta q.payload) = one.buffer in
     record {
-      times = subst (λ (x : Receiving). AreTimesOf time_of x.noted) (sym packets) one.times;
+      times = one.times;
       meta = meta;
       tells = record {
         number = refl;
@@ -194,24 +221,93 @@ pushes time_of stream now q bytes s t receipt types listening reads numbered tim
       values = refl;
       received = refl;
       buffer = buffer;
-      numbering = ap (λ (x : Receiving). x.numbering) packets ∙ one.numbering;
+      numbering = one.numbering;
       listening = record {
-        payload_type = ap (λ (x : Session). x.stream.payload_type) hears.left ∙ listening.payload_type;
-        named = ap (λ (x : Session). x.named) hears.left ∙ listening.named;
-        ssrc = ap (λ (x : Session). x.ssrc) hears.left;
-        not_again = ap (λ (x : Session). is_sent_again_by x.stream.retransmission stream) hears.left ∙ listening.not_again;
-        rate = ap (λ (x : Receiving). x.rate) packets ∙ (one.rate ∙ listening.rate);
-        running = ap (λ (x : Receiving). x.is_restarting) packets ∙ one.running;
-        none_noted = ap (λ (x : Receiving). x.no_media_numbers) packets ∙ (one.no_media_numbers ∙ listening.none_noted);
+        payload_type = ap (λ (x : Kinds). x.payload_type) has.kinds ∙ listening.payload_type;
+        named = has.named ∙ listening.named;
+        ssrc = has.ssrc;
+        not_again = ap (λ (x : Kinds). is_sent_again_by x.retransmission stream) has.kinds ∙ listening.not_again;
+        rate = one.rate ∙ listening.rate;
+        running = one.running;
+        none_noted = one.no_media_numbers ∙ listening.none_noted;
         of_codec = ap (λ (x : State). is_built_in_depacketizer x.depacketizer) buffer
             ∙ (ap is_built_in_depacketizer (push_keeps s.packets.buffer (arrived s.packets.buffer.depacketizer meta q.payload)) ∙ listening.of_codec);
-        no_block_seen = subst HasNoBlock (sym seen) (packet_has_no_block (is_some s.stream.red) hears.outcome a.header.timestamp s.seen listening.no_block_seen);
-        drops_none = ap (λ (x : Session). x.gates.drops) hears.left ∙ listening.drops_none;
+        no_block_seen = has.seen;
+        drops_none = has.drops ∙ listening.drops_none;
+        heard = subst (λ (x : Kinds). AreHeard again x.retransmission) (sym has.kinds) listening.heard;
       };
-      kinds = ap (λ (x : Session). x.stream) hears.left;
-      limits = record { wait_limits = ap (λ (x : Receiving). x.wait_limits) packets ∙ one.limits.wait_limits; room = ap (λ (x : Receiving). x.room) packets ∙ one.limits.room };
-      ended = ap (λ (x : Receiving). x.ended) packets ∙ one.ended;
+      kinds = has.kinds;
+      limits = one.limits;
+      ended = one.ended;
     }
+
+-- no packet repeats a block
+not_repeated : (again : Option RetransmissionStream) (stream : Stream) (s : Session) (time low : ℕ) → IsListening again stream s → is_repeat s.stream s.seen s.packets time low ≡ false
+not_repeated again stream s time low listening =
+    ap (λ (b : Bool). (is_some s.stream.red && b) && would_store s.packets low) (listening.no_block_seen time) ∙ ap (λ (b : Bool). b && would_store s.packets low) (and_false (is_some s.stream.red))
+
+-- a datagram of the sender
+pushes : (again : Option RetransmissionStream) (time_of : ℕ → ℕ) (stream : Stream) (now : Ticks) (q : Packet) (bytes : List ℕ) (s t : Session) (receipt : Receipt) → (stream.payload_type < 64)
+    ⊎ (95 < stream.payload_type) → IsListening again stream s → ReadsAs stream q bytes
+    → answer_for s.packets.numbering (q.number % 2 ^ 16) ≡ extended.Number q.number → AreTimesOf time_of s.packets.noted → q.rtp_time ≡ time_of q.number
+    → Delivers now bytes s receipt t → IsPushed again time_of stream now q s t
+pushes again time_of stream now q bytes s t receipt types listening reads numbered times time delivers =
+    let is : datagram_at s.stream s.ssrc bytes ≡ WithMedia (packet_at stream q) =
+    datagram_is s.stream s.ssrc stream q bytes reads listening.payload_type types (same_ssrc again stream s listening) listening.not_again in
+    let hears : Hears now (WithMedia (packet_at stream q)) s receipt t =
+    subst (λ (d : Datagram). Hears now d s receipt t) is (heard now (datagram_at s.stream s.ssrc bytes) s t receipt delivers.0 (heard_at_once again stream now bytes s t receipt listening delivers)) in
+    let a : Arrival = arrival_at stream now q s in
+    let new = not_repeated again stream s a.header.timestamp a.header.sequence_number listening in
+    let receives : Receives a s.packets hears.outcome hears.packets = subst (λ (b : Bool). TakesMedia b a s.packets hears.outcome hears.packets) new hears.takes.0 in
+    let packets : t.packets ≡ hears.packets = ap (λ (x : Session). x.packets) hears.left in
+    let one = takes_in time_of q.number a s.packets hears.packets hears.outcome listening.running listening.of_codec numbered times time receives in
+    let seen : t.seen ≡ packet_seen (is_some s.stream.red) hears.outcome a.header.timestamp s.seen = ap (λ (x : Session). x.seen) hears.left ∙ hears.takes.1 in
+    stored_is_pushed again time_of stream now q s t listening (record {
+      takes = subst (TakesIn time_of q.number a s.packets) (sym packets) one;
+      kinds = ap (λ (x : Session). x.stream) hears.left;
+      named = ap (λ (x : Session). x.named) hears.left;
+      ssrc = ap (λ (x : Session). x.ssrc) hears.left;
+      seen = subst HasNoBlock (sym seen) (packet_has_no_block (is_some s.stream.red) hears.outcome a.header.timestamp s.seen listening.no_block_seen);
+      drops = ap (λ (x : Session). x.gates.drops) hears.left;
+    })
+
+-- a retransmission of it
+pushes_again : (again : RetransmissionStream) (next : ℕ) (time_of : ℕ → ℕ) (stream : Stream) (now : Ticks) (q : Packet) (datagram bytes : List ℕ) (s t : Session) (receipt : Receipt)
+    → IsListening (Some again) stream s → ReadsAs stream q datagram → IsRetransmission again next datagram bytes
+    → answer_for s.packets.numbering (q.number % 2 ^ 16) ≡ extended.Number q.number → AreTimesOf time_of s.packets.noted → q.rtp_time ≡ time_of q.number
+    → Delivers now bytes s receipt t → IsPushed (Some again) time_of stream now q s t
+pushes_again again next time_of stream now q datagram bytes s t receipt listening reads repeats numbered times time delivers =
+    let is : datagram_at s.stream s.ssrc bytes ≡ Again (original_at again next stream q) =
+    again_is s.stream s.ssrc again next stream q datagram bytes reads repeats listening.ssrc listening.heard.0 listening.heard.1 in
+    let hears : Hears now (Again (original_at again next stream q)) s receipt t =
+    subst (λ (d : Datagram). Hears now d s receipt t) is
+    (heard now (datagram_at s.stream s.ssrc bytes) s t receipt delivers.0 (heard_at_once (Some again) stream now bytes s t receipt listening delivers)) in
+    let a : Arrival = arrival_at stream now q s in
+    let new = not_repeated (Some again) stream s a.header.timestamp a.header.sequence_number listening in
+    let receives : ReceivesAgain a s.packets hears.outcome hears.packets = subst (λ (b : Bool). TakesAgain b a s.packets hears.outcome hears.packets) new hears.takes.0 in
+    let packets : t.packets ≡ hears.packets = ap (λ (x : Session). x.packets) hears.left in
+    let one = takes_in_again time_of q.number a s.packets hears.packets hears.outcome listening.running listening.of_codec numbered times time receives in
+    let seen : t.seen ≡ packet_seen (is_some s.stream.red) hears.outcome a.header.timestamp s.seen = ap (λ (x : Session). x.seen) hears.left ∙ hears.takes.1 in
+    stored_is_pushed (Some again) time_of stream now q s t listening (record {
+      takes = subst (TakesIn time_of q.number a s.packets) (sym packets) one;
+      kinds = ap (λ (x : Session). x.stream) hears.left;
+      named = ap (λ (x : Session). x.named) hears.left;
+      ssrc = ap (λ (x : Session). x.ssrc) hears.left ∙ listening.ssrc;
+      seen = subst HasNoBlock (sym seen) (packet_has_no_block (is_some s.stream.red) hears.outcome a.header.timestamp s.seen listening.no_block_seen);
+      drops = ap (λ (x : Session). x.gates.drops) hears.left;
+    })
+
+-- any copy of it
+pub pushes_copy : (again : Option RetransmissionStream) (time_of : ℕ → ℕ) (stream : Stream) (now : Ticks) (q : Packet) (datagram bytes : List ℕ) (s t : Session) (receipt : Receipt)
+    → (stream.payload_type < 64) ⊎ (95 < stream.payload_type) → IsListening again stream s → ReadsAs stream q datagram → IsCopy again datagram bytes
+    → answer_for s.packets.numbering (q.number % 2 ^ 16) ≡ extended.Number q.number → AreTimesOf time_of s.packets.noted → q.rtp_time ≡ time_of q.number
+    → Delivers now bytes s receipt t → IsPushed again time_of stream now q s t
+pushes_copy again time_of stream now q datagram bytes s t receipt types listening reads (inl same) numbered times time delivers =
+    pushes again time_of stream now q bytes s t receipt types listening (subst (ReadsAs stream q) (sym same) reads) numbered times time delivers
+pushes_copy None time_of stream now q datagram bytes s t receipt types listening reads (inr repeated) numbered times time delivers =
+    pushes None time_of stream now q bytes s t receipt types listening (subst (ReadsAs stream q) (sym repeated.1) reads) numbered times time delivers
+pushes_copy (Some again) time_of stream now q datagram bytes s t receipt types listening reads (inr repeated) numbered times time delivers =
+    pushes_again again repeated.0 time_of stream now q datagram bytes s t receipt listening reads repeated.1 numbered times time delivers
 
 -- Pops
 
@@ -227,13 +323,13 @@ pop_stays s t answer of_codec not_memory pops =
     (pop_exactly [] 0 (c s) (c t) [] (answer ∷ []) refl of_codec (refl, answer, t, refl, not_memory, pops, refl)).1
 
 -- a pop of the receiver is one of its buffer
-pub record IsPopped (stream : Stream) (now : Ticks) (answer : Answer) (s t : Session) : Type 0 where
+pub record IsPopped (again : Option RetransmissionStream) (stream : Stream) (now : Ticks) (answer : Answer) (s t : Session) : Type 0 where
   pub wait : Option ℕ
   pub at_end : s.packets.ended ≡ true → wait ≡ Some 0
   pub pops : PopsWaiting wait s.packets.buffer answer t.packets.buffer
   pub noted : t.packets.noted ≡ s.packets.noted
   pub numbering : t.packets.numbering ≡ s.packets.numbering
-  pub listening : IsListening stream t
+  pub listening : IsListening again stream t
   pub kinds : t.stream ≡ s.stream
   pub limits : KeepsLimits s.packets t.packets
   pub wait_is : wait ≡ waiting_at s.packets now.0
@@ -281,9 +377,9 @@ waits_for_nothing : (r : Receiving) (now : ℕ) → r.ended ≡ true → waiting
 waits_for_nothing r now at_end =
     ap (λ (b : Bool). cond b (Some 0) (cond (is_starting r) None (Some (most_held_back r.wait_limits.hold_back)))) (or_left r.ended _ at_end)
 
-pub pops_as : (stream : Stream) (now : Ticks) (answer : Answer) (s t : Session) → IsListening stream s → answer ≢ Some (Err faults.OutOfMemory)
-    → PopsUnit now s answer t → IsPopped stream now answer s t
-pops_as stream now answer s t listening not_memory gated =
+pub pops_as : (again : Option RetransmissionStream) (stream : Stream) (now : Ticks) (answer : Answer) (s t : Session) → IsListening again stream s → answer ≢ Some (Err faults.OutOfMemory)
+    → PopsUnit now s answer t → IsPopped again stream now answer s t
+pops_as again stream now answer s t listening not_memory gated =
     let popped : PopsOnce now.0 s answer t = pops_at_once now.0 s answer t listening.drops_none gated in
     let r : Receiving = s.packets in
     let settled_is : settled r ≡ r = settled_none r listening.none_noted in
@@ -308,6 +404,7 @@ pops_as stream now answer s t listening not_memory gated =
         of_codec = ap (λ (x : Receiving). is_built_in_depacketizer x.buffer.depacketizer) packets ∙ turn.of_codec;
         no_block_seen = subst HasNoBlock (sym (ap (λ (x : Session). x.seen) popped.2)) listening.no_block_seen;
         drops_none = ap (λ (x : Session). x.gates.drops) popped.2 ∙ (drops_stay s.gates _ answer ∙ listening.drops_none);
+        heard = subst (λ (x : Session). AreHeard again x.stream.retransmission) (sym popped.2) listening.heard;
       };
       kinds = ap (λ (x : Session). x.stream) popped.2;
       limits = record { wait_limits = ap (λ (x : Receiving). x.wait_limits) packets ∙ turn.limits.wait_limits; room = ap (λ (x : Receiving). x.room) packets ∙ turn.limits.room };

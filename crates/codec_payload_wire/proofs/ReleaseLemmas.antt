@@ -1,6 +1,6 @@
 -- The units that a run over datagrams releases, from three parts: what it sends, what it receives, and the theorem of the
 -- buffer.
-use Rattle.std.proofs.Common.{◌≡◌, ◌∙◌, refl, sym, ap, subst, ℕ, ◌+◌, ◌-◌, ◌*◌, ◌/◌, ◌%◌, ◌^◌, ◌<◌, max, List, [], ◌∷◌, map, false, Bool, None, Some, length, arith}
+use Rattle.std.proofs.Common.{◌≡◌, ◌∙◌, refl, sym, ap, subst, ℕ, ◌+◌, ◌-◌, ◌*◌, ◌/◌, ◌%◌, ◌^◌, ◌<◌, max, List, [], ◌∷◌, map, false, Bool, Option, None, Some, length, arith}
 use Rattle.std.proofs.lemmas.Option.{same_Some, slice_get_within}
 use Rattle.codec_payload_buffer.proofs.MemberLemmas.{contains_in, in_contains}
 use Rattle.codec_payload_buffer.specs.ContiguityTable.{contiguity_for}
@@ -8,6 +8,7 @@ use Rattle.codec_payload_codec.specs.Depacketizers.{DepacketizerKind, is_built_i
 use Rattle.codec_payload_codec.proofs.CodecLemmas.{codec_payloads}
 use Rattle.codec_payload_codec.specs.Packetizers.{payloads_by, may_split}
 use Rattle.codec_payload_buffer.specs.declared.buffer.unit.RtpMeta.{RtpMeta}
+use Rattle.codec_payload_history.specs.declared.retransmission.RetransmissionStream.{RetransmissionStream}
 use Rattle.codec_payload_runs.proofs.order.ArrivalLemmas.{AllKnown, met_all, met_in_order}
 use Rattle.codec_payload_runs.proofs.units.BuiltInRuns.{plainly, unused_exactly}
 use Rattle.codec_payload_runs.proofs.order.RunSettings.{empty, fresh, may_go, nothing, ready, setting, tracked}
@@ -36,6 +37,7 @@ use Rattle.codec_payload_sender.specs.Senders.{Sending}
 use Rattle.codec_payload_stream.specs.Sessions.{Session}
 use Rattle.codec_payload_stream.specs.RedOnce.{HasNoBlock}
 use Rattle.codec_payload_stream.proofs.BlockTimeLemmas.{new_has_no_block}
+use Rattle.codec_payload_wire.proofs.Courses.{Proceeds, proceeds}
 use Rattle.codec_payload_wire.proofs.DeliveredLemmas.{AllIn, delivered_before}
 use Rattle.codec_payload_wire.proofs.EventLemmas.{Brings, HasLog, IsMet, IsRead, delivery_of, met, split_at_end, times_from}
 use Rattle.codec_payload_wire.proofs.GapLemmas.{only_past_gap}
@@ -45,10 +47,11 @@ use Rattle.codec_payload_wire.proofs.ReceivingLemmas.{AllNumbered, IsListening}
 use Rattle.codec_payload_wire.proofs.SendingLemmas.{SendsRun, running, same_count, sends_run}
 use Rattle.codec_payload_wire.proofs.StepLemmas.{ComesTo, Takes, comes_to}
 use Rattle.codec_payload_wire.proofs.ValueLemmas.{has_values}
+use Rattle.codec_payload_wire.specs.HistoryReleases.{AreHeard}
 use Rattle.codec_payload_wire.specs.Releases.{is_sent_again_by, AllComeFirst, AreDatagrams, ComeWithin, HasValuesOf, StayWithin, IsDelivery}
 use Rattle.codec_payload_wire.specs.Releases.{IsWithinWindows, ReleaseOverDatagrams, ReleasesUnits, delivered, received_steps, sending_steps}
 use Rattle.codec_payload_wire.specs.WireLogs.{IsLogOf, KeepsPromises, PromisesOverDatagrams, WireLog}
-use Rattle.codec_payload_wire.specs.WireRuns.{Runs, Wire, begins}
+use Rattle.codec_payload_wire.specs.WireRuns.{Wire, begins}
 use Rattle.codec_payload_wire.specs.declared.run.DatagramStep.{DatagramStep}
 use Rattle.codec_payload_wire.specs.declared.run.DatagramStep.TheVariants as steps
 use Rattle.codec_payload_wire.specs.declared.run.SentSample.{SentSample}
@@ -100,12 +103,12 @@ AllBelow bound [] = Unit {0}
 AllBelow bound (k ∷ ks) = (k < bound) × AllBelow bound ks
 
 -- the numbers of datagrams that were sent
-takes_below : (later : List DatagramStep) (datagrams : List (List ℕ)) (s t : Session) (answers : List Answer) → Takes later datagrams s answers t → AllBelow (length datagrams) (delivered later)
-takes_below [] datagrams s t answers takes = tt
-takes_below (steps.Send i ∷ later) datagrams s t answers takes = takes_below later datagrams s t answers takes
-takes_below (steps.Deliver k now ∷ later) datagrams s t answers takes = (slice_get_within datagrams k takes.0 takes.1, takes_below later datagrams takes.3 t answers takes.5)
-takes_below (steps.Pop now ∷ later) datagrams s t answers takes = takes_below later datagrams takes.2 t takes.1 takes.6
-takes_below (steps.Finish ∷ later) datagrams s t answers takes = takes_below later datagrams takes.0 t answers takes.2
+takes_below : (again : Option RetransmissionStream) (later : List DatagramStep) (datagrams : List (List ℕ)) (s t : Session) (answers : List Answer) → Takes again later datagrams s answers t → AllBelow (length datagrams) (delivered later)
+takes_below again [] datagrams s t answers takes = tt
+takes_below again (steps.Send i ∷ later) datagrams s t answers takes = takes_below again later datagrams s t answers takes
+takes_below again (steps.Deliver k now ∷ later) datagrams s t answers takes = (slice_get_within datagrams k takes.0 takes.1, takes_below again later datagrams takes.5 t answers takes.7)
+takes_below again (steps.Pop now ∷ later) datagrams s t answers takes = takes_below again later datagrams takes.2 t takes.1 takes.6
+takes_below again (steps.Finish ∷ later) datagrams s t answers takes = takes_below again later datagrams takes.0 t answers takes.2
 
 max_more : (number g k : ℕ) → max (number + g) (number + k) ≡ number + max g k
 max_more number g k = omega arith
@@ -132,7 +135,8 @@ numbered_within forward backward number bound (k ∷ ks) windows low few below w
 
 -- The theorem
 
-module _ (samples : List Sample) (all_steps : List DatagramStep) (sender : Sending) (receiver : Session) (t : Wire) (run : Runs samples all_steps (begins sender receiver) t)
+module _ (again : Option RetransmissionStream) (samples : List Sample) (all_steps : List DatagramStep) (sender : Sending) (receiver : Session) (t : Wire)
+    (run : Proceeds again samples all_steps (begins sender receiver) t) (hears : AreHeard again receiver.stream.retransmission)
     (within : IsWithinWindows samples all_steps sender receiver t.sends) where
   abbrev received : List DatagramStep
   received = received_steps samples 0 all_steps t.sends
@@ -149,12 +153,12 @@ module _ (samples : List Sample) (all_steps : List DatagramStep) (sender : Sendi
   abbrev first : ℕ
   first = first_for number (delivered received)
 
-  comes : ComesTo samples all_steps (begins sender receiver) t
-  comes = comes_to samples all_steps (begins sender receiver) t run
+  comes : ComesTo again samples all_steps (begins sender receiver) t
+  comes = comes_to again samples all_steps (begins sender receiver) t run
 
-  takes : Takes received t.datagrams receiver t.pops t.session
-  takes = subst (λ (answers : List Answer). Takes received t.datagrams receiver answers t.session) (sym comes.pops)
-      (subst (λ (sends : List SentSample). Takes (received_steps samples 0 all_steps sends) t.datagrams receiver comes.answers t.session) (sym comes.sends) comes.takes)
+  takes : Takes again received t.datagrams receiver t.pops t.session
+  takes = subst (λ (answers : List Answer). Takes again received t.datagrams receiver answers t.session) (sym comes.pops)
+      (subst (λ (sends : List SentSample). Takes again (received_steps samples 0 all_steps sends) t.datagrams receiver comes.answers t.session) (sym comes.sends) comes.takes)
 
   abbrev forward : ℕ
   forward = within.settings.forward
@@ -165,7 +169,7 @@ module _ (samples : List Sample) (all_steps : List DatagramStep) (sender : Sendi
   begun : IsBegun within.settings within.depacketizer receiver
   begun = new_is_begun within.settings within.depacketizer receiver within.new
 
-  listening : IsListening sender.stream receiver
+  listening : IsListening again sender.stream receiver
   listening = record {
     payload_type = ap (λ (x : Session). x.stream.payload_type) begun.is ∙ within.one_stream.payload_type;
     named = ap (λ (x : Session). x.named) begun.is ∙ within.one_stream.ssrc;
@@ -177,13 +181,14 @@ module _ (samples : List Sample) (all_steps : List DatagramStep) (sender : Sendi
     of_codec = ap (λ (x : Session). is_built_in_depacketizer x.packets.buffer.depacketizer) begun.is ∙ (ap is_codec within.one_stream.alike ∙ codec_payloads sender.packetizer within.one_stream.built_in);
     no_block_seen = subst HasNoBlock (sym (ap (λ (x : Session). x.seen) begun.is)) new_has_no_block;
     drops_none = ap (λ (x : Session). x.gates.drops) begun.is ∙ within.one_stream.drops_none;
+    heard = hears;
   }
 
   -- from a number with these low bits on
   sends_from : (start : ℕ) → start < 2 ^ 32 → sender.stream.number % 2 ^ 16 ≡ (start + 0) % 2 ^ 16
       → SendsRun receiver.packets.buffer sender.stream sender.mtu start 0 samples all_steps (begins sender receiver) t []
   sends_from start small same =
-      sends_run receiver.packets.buffer sender.stream sender.mtu start small samples 0 all_steps (begins sender receiver) t []
+      sends_run receiver.packets.buffer sender.stream sender.mtu start small samples again 0 all_steps (begins sender receiver) t []
       (record { mtu = refl; built_in = within.one_stream.built_in; kept = refl; number = same; reads = tt; numbered = tt; few = omega arith }) run
 
   few : length t.datagrams < 2 ^ 63
@@ -191,7 +196,7 @@ module _ (samples : List Sample) (all_steps : List DatagramStep) (sender : Sendi
 
   numbers : AllNumbered first receiver.packets.numbering (delivered received)
   numbers = subst (λ (n : Numbering). AllNumbered first n (delivered received)) (sym (ap (λ (x : Session). x.packets.numbering) begun.is))
-      (numbered_within forward backward number (length t.datagrams) (delivered received) begun.windows low few (takes_below received t.datagrams receiver t.session t.pops takes) within.within)
+      (numbered_within forward backward number (length t.datagrams) (delivered received) begun.windows low few (takes_below again received t.datagrams receiver t.session t.pops takes) within.within)
 
   sent : SendsRun receiver.packets.buffer sender.stream sender.mtu first 0 samples all_steps (begins sender receiver) t []
   sent = sends_from first (first_small forward backward number (delivered received) low within.within) (first_low forward backward sender.stream.number (delivered received) within.within)
@@ -200,7 +205,7 @@ module _ (samples : List Sample) (all_steps : List DatagramStep) (sender : Sendi
   nothing_noted = subst (λ (x : Session). AreTimesOf (times_from first sent.all) x.packets.noted) (sym begun.is) (λ k d below. absurd (omega (arith, below)))
 
   come : IsMet receiver.packets sender.stream sent.all received receiver t.pops t.session
-  come = met sender.stream within.one_stream.not_rtcp first sent.all t.datagrams sent.at.reads sent.at.numbered receiver.packets received receiver t.session t.pops listening (record { wait_limits = refl; room = refl }) numbers nothing_noted takes
+  come = met again sender.stream within.one_stream.not_rtcp first sent.all t.datagrams sent.at.reads sent.at.numbered receiver.packets received receiver t.session t.pops listening (record { wait_limits = refl; room = refl }) numbers nothing_noted takes
 
   abbrev start : RunState
   start = running receiver.packets.buffer first rate sender []
@@ -339,8 +344,15 @@ module _ (samples : List Sample) (all_steps : List DatagramStep) (sender : Sendi
         (nothing samples sends start after units_sent unused within.readable Known faithful units lawful (sym whole.whole)) (chain l);
   }
 
+  pub releases_all : ReleasesUnits samples all_steps (begins sender receiver) t
+  releases_all = releases_units
+
+-- Runs without retransmissions
+
 pub promises_over_datagrams : PromisesOverDatagrams
-promises_over_datagrams samples all_steps sender receiver t run within = keeps_promises samples all_steps sender receiver t run within
+promises_over_datagrams samples all_steps sender receiver t run within =
+    keeps_promises None samples all_steps sender receiver t (proceeds None samples all_steps (begins sender receiver) t run) tt within
 
 pub release_over_datagrams : ReleaseOverDatagrams
-release_over_datagrams samples all_steps sender receiver t run within = releases_units samples all_steps sender receiver t run within
+release_over_datagrams samples all_steps sender receiver t run within =
+    releases_all None samples all_steps sender receiver t (proceeds None samples all_steps (begins sender receiver) t run) tt within

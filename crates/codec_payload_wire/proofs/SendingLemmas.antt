@@ -16,16 +16,17 @@ use Rattle.codec_payload_send.specs.Packets.{Packet, AreNumbered}
 use Rattle.codec_payload_runs.specs.Schedule as core
 use Rattle.codec_payload_runs.specs.Schedule.{Answer, RunState, run_state, packets_sent}
 use Rattle.codec_payload_send.specs.Sending.{Sample, AreAs, is_last, packet_for, packets_from, rtp_time_at}
+use Rattle.codec_payload_history.specs.declared.retransmission.RetransmissionStream.{RetransmissionStream}
 use Rattle.codec_payload_runs.specs.declared.run.Sent.{Sent}
 use Rattle.codec_payload_runs.specs.declared.run.Step.{Step}
 use Rattle.codec_payload_rtp.specs.RtpPackets.{Header}
 use Rattle.codec_payload_sender.specs.Datagrams.{IsSentAt, header_at, header_with}
 use Rattle.codec_payload_sender.specs.Senders.{Refuses, Sending, Sends}
 use Rattle.codec_payload_sender.specs.declared.sender.Stream.{Stream}
+use Rattle.codec_payload_wire.proofs.Courses.{DeliversCopy, Proceeds}
 use Rattle.codec_payload_wire.specs.Releases.{AreDatagrams, ReadsAs, sending_steps}
 use Rattle.codec_payload_base.specs.declared.wire.Ticks.{Ticks}
-use Rattle.codec_payload_stream.specs.Sessions.{Session}
-use Rattle.codec_payload_wire.specs.WireRuns.{Delivers, Receipt, Runs, SendsIt, SendsOrRefuses, Wire, sent_sample}
+use Rattle.codec_payload_wire.specs.WireRuns.{SendsIt, SendsOrRefuses, Wire, sent_sample}
 use Rattle.codec_payload_wire.specs.declared.run.DatagramStep.{DatagramStep}
 use Rattle.codec_payload_wire.specs.declared.run.DatagramStep.TheVariants as steps
 use Rattle.codec_payload_wire.specs.declared.run.SentSample.{SentSample}
@@ -337,28 +338,26 @@ module _ (buffer : State) (stream : Stream) (budget start : ℕ) (small : start 
       }
 
   -- a delivery leaves the sender and its datagrams unchanged
-  delivery_leaves : (o : Option (List ℕ)) (now : Ticks) (s mid : Wire)
-      → MatchOption o (mid ≡ s) (λ bytes. (receipt : Receipt) × (session : Session) × Delivers now bytes s.session receipt session
-      × (mid ≡ record s { session = session; receipts = s.receipts ++ receipt ∷ [] }))
+  delivery_leaves : (again : Option RetransmissionStream) (o : Option (List ℕ)) (now : Ticks) (s mid : Wire) → DeliversCopy again o now s mid
       → (mid.sending ≡ s.sending) × (mid.datagrams ≡ s.datagrams)
-  delivery_leaves None now s mid same = (ap (λ (x : Wire). x.sending) same, ap (λ (x : Wire). x.datagrams) same)
-  delivery_leaves (Some bytes) now s mid done = (ap (λ (x : Wire). x.sending) done.3, ap (λ (x : Wire). x.datagrams) done.3)
+  delivery_leaves again None now s mid same = (ap (λ (x : Wire). x.sending) same, ap (λ (x : Wire). x.datagrams) same)
+  delivery_leaves again (Some datagram) now s mid done = (ap (λ (x : Wire). x.sending) done.5, ap (λ (x : Wire). x.datagrams) done.5)
 
-  pub sends_run : (place : ℕ) (all_steps : List DatagramStep) (s t : Wire) (packets : List Packet) → At s packets → Runs samples all_steps s t → Goes place all_steps s t packets
-  sends_run place [] s t packets at run = record {
+  pub sends_run : (again : Option RetransmissionStream) (place : ℕ) (all_steps : List DatagramStep) (s t : Wire) (packets : List Packet) → At s packets → Proceeds again samples all_steps s t → Goes place all_steps s t packets
+  sends_run again place [] s t packets at run = record {
     all = packets;
     entries = [];
     runs = (refl, refl, ap (λ (x : Wire). running buffer start stream.clock_rate x.sending packets) run);
     at = at_same s t packets (ap (λ (x : Wire). x.sending) run) (ap (λ (x : Wire). x.datagrams) run) at;
   }
-  sends_run place (steps.Send i ∷ later) s t packets at run =
-      sends_one (slice_get samples i) place i later s run.0 t packets refl at run.1 (λ more next. sends_run (place + 1) later run.0 t more next run.2)
-  sends_run place (steps.Deliver k now ∷ later) s t packets at run =
-      let leaves = delivery_leaves (slice_get s.datagrams k) now s run.0 run.1 in
-      stays place (steps.Deliver k now) later s run.0 t packets refl leaves.0 (sends_run place later run.0 t packets (at_same s run.0 packets leaves.0 leaves.1 at) run.2)
-  sends_run place (steps.Pop now ∷ later) s t packets at run =
+  sends_run again place (steps.Send i ∷ later) s t packets at run =
+      sends_one (slice_get samples i) place i later s run.0 t packets refl at run.1 (λ more next. sends_run again (place + 1) later run.0 t more next run.2)
+  sends_run again place (steps.Deliver k now ∷ later) s t packets at run =
+      let leaves = delivery_leaves again (slice_get s.datagrams k) now s run.0 run.1 in
+      stays place (steps.Deliver k now) later s run.0 t packets refl leaves.0 (sends_run again place later run.0 t packets (at_same s run.0 packets leaves.0 leaves.1 at) run.2)
+  sends_run again place (steps.Pop now ∷ later) s t packets at run =
       let sending : run.0.sending ≡ s.sending = ap (λ (x : Wire). x.sending) run.1.4 in
-      stays place (steps.Pop now) later s run.0 t packets refl sending (sends_run place later run.0 t packets (at_same s run.0 packets sending (ap (λ (x : Wire). x.datagrams) run.1.4) at) run.2)
-  sends_run place (steps.Finish ∷ later) s t packets at run =
+      stays place (steps.Pop now) later s run.0 t packets refl sending (sends_run again place later run.0 t packets (at_same s run.0 packets sending (ap (λ (x : Wire). x.datagrams) run.1.4) at) run.2)
+  sends_run again place (steps.Finish ∷ later) s t packets at run =
       let sending : run.0.sending ≡ s.sending = ap (λ (x : Wire). x.sending) run.1.2 in
-      stays place steps.Finish later s run.0 t packets refl sending (sends_run place later run.0 t packets (at_same s run.0 packets sending (ap (λ (x : Wire). x.datagrams) run.1.2) at) run.2)
+      stays place steps.Finish later s run.0 t packets refl sending (sends_run again place later run.0 t packets (at_same s run.0 packets sending (ap (λ (x : Wire). x.datagrams) run.1.2) at) run.2)

@@ -3,3 +3,7 @@ pub mod Releases
 pub mod WireLogs
 pub mod OwnRuns
 pub mod WireRunExample
+pub mod HistoryRuns
+pub mod HistoryReleases
+pub mod OwnHistoryRuns
+pub mod HistoryRunExample

@@ -89,20 +89,30 @@ pub fn run_datagrams<P: Packetizer, D: Depacketizer>(
     ensures own { IfOk result (λ run. AsksInRun (AsksPacketizer P.state P.packetize_step P.marker_step P.marks_spurts) (AsksForEnds D.is_head D.is_tail) (AsksForUnit D.state D.depacketize_step)
         (map sample_of samples.now) steps.now (begins sender.old receiver.old) (wire_of sender.new receiver.new run)) }
 {
-    let mut run = DatagramRun {
-        datagrams: Vec::new(alloc),
-        sends: Vec::new(alloc),
-        receipts: Vec::new(alloc),
-        pops: Vec::new(alloc),
-    };
+    let mut run = no_results(alloc);
     for step in steps {
         do_step(alloc, sender, receiver, samples, *step, &mut run)?;
     }
     Ok(run)
 }
 
+/// The results before any step.
+pub(crate) fn no_results(alloc: Global) -> DatagramRun
+    ensures datagrams { result.datagrams.items ≡ [] }
+    ensures sends { result.sends.items ≡ [] }
+    ensures receipts { result.receipts.items ≡ [] }
+    ensures pops { result.pops.items ≡ [] }
+{
+    DatagramRun {
+        datagrams: Vec::new(alloc),
+        sends: Vec::new(alloc),
+        receipts: Vec::new(alloc),
+        pops: Vec::new(alloc),
+    }
+}
+
 /// Executes one step, and records its result.
-fn do_step<P: Packetizer, D: Depacketizer>(
+pub(crate) fn do_step<P: Packetizer, D: Depacketizer>(
     alloc: Global,
     sender: &mut Sender<P>,
     receiver: &mut Receiver<D>,
@@ -216,7 +226,7 @@ fn copy_datagrams<P: Packetizer>(
 /// # Errors
 ///
 /// `OutOfMemory`: memory ran out for the datagram, which then has no receipt.
-fn deliver<D: Depacketizer>(
+pub(crate) fn deliver<D: Depacketizer>(
     receiver: &mut Receiver<D>,
     now: Ticks,
     bytes: &[u8],

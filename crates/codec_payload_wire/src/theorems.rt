@@ -1,9 +1,16 @@
 //! Theorems on runs over datagrams. These functions exist for their proofs and do nothing.
 
+ghost use Rattle.codec_payload_wire.specs.HistoryRunExample.{HistoryCanBeMet};
 ghost use Rattle.codec_payload_wire.specs.WireRunExample.{CanBeMet};
 
 /// The premises of a run over datagrams can be met: datagrams of Opus that arrive in another order, one of them twice, are
 /// within the windows, and all arrive before the stream ends.
 pub fn premises_can_be_met()
     ensures { CanBeMet }
+{}
+
+/// The premises of a run with retransmissions can be met: of three datagrams of Opus one is lost, and one of its retransmissions
+/// too. The other retransmission arrives before the stream ends, so each packet has arrived.
+pub fn history_premises_can_be_met()
+    ensures { HistoryCanBeMet }
 {}

@@ -3,7 +3,12 @@
 //! Whole runs over datagrams: samples are sent, some of their datagrams are delivered, in any order, and units are popped.
 
 #[doc(hidden)]
+pub mod history_run;
+#[doc(hidden)]
 pub mod run;
+
+#[doc(inline)]
+pub use history_run::{HistoryRun, HistoryStep, Link, run_with_history};
 
 #[doc(inline)]
 pub use run::{DatagramRun, DatagramStep, SentSample, run_datagrams};

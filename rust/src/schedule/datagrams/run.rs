@@ -64,20 +64,25 @@ pub fn run_datagrams<P: Packetizer, D: Depacketizer>(
     samples: &[ToPayload],
     steps: &[DatagramStep],
 ) -> Result<DatagramRun, PacketError> {
-    let mut run = DatagramRun {
-        datagrams: Vec::new(),
-        sends: Vec::new(),
-        receipts: Vec::new(),
-        pops: Vec::new(),
-    };
+    let mut run = no_results();
     for step in steps {
         do_step(sender, receiver, samples, *step, &mut run)?;
     }
     Ok(run)
 }
 
+/// The results before any step.
+pub(crate) fn no_results() -> DatagramRun {
+    DatagramRun {
+        datagrams: Vec::new(),
+        sends: Vec::new(),
+        receipts: Vec::new(),
+        pops: Vec::new(),
+    }
+}
+
 /// Executes one step, and records its result.
-fn do_step<P: Packetizer, D: Depacketizer>(
+pub(crate) fn do_step<P: Packetizer, D: Depacketizer>(
     sender: &mut Sender<P>,
     receiver: &mut Receiver<D>,
     samples: &[ToPayload],
@@ -168,7 +173,7 @@ fn copy_datagrams<P: Packetizer>(
 /// # Errors
 ///
 /// `OutOfMemory`: memory ran out for the datagram, which then has no receipt.
-fn deliver<D: Depacketizer>(
+pub(crate) fn deliver<D: Depacketizer>(
     receiver: &mut Receiver<D>,
     now: Ticks,
     bytes: &[u8],
