@@ -8,7 +8,7 @@ use Rattle.std.proofs.lemmas.List.{length-append, length-set, length-take}
 use Rattle.std.proofs.lemmas.Option.{same_Some, slice_get-get_or, slice_get_within}
 use Rattle.codec_payload_base.specs.declared.error.PacketError.{PacketError}
 use Rattle.codec_payload_base.specs.declared.wire.Ticks.{Ticks}
-use Rattle.codec_payload_history.specs.Histories.{Keeps, Repeats, Resends, count_with, first_of, history_by}
+use Rattle.codec_payload_history.specs.Histories.{Keeps, Repeats, Resends, count_with, first_of, history_by, next_after}
 use Rattle.codec_payload_history.specs.Packets.{Past, Sent, number_in, number_of, stream_fits}
 use Rattle.codec_payload_history.specs.declared.retransmission.HistoryError.TheVariants as errors
 use Rattle.codec_payload_history.specs.declared.retransmission.HistorySettings.{HistorySettings}
@@ -22,7 +22,8 @@ use Rattle.codec_payload_stream.specs.Sessions.{Session}
 use Rattle.codec_payload_wire.proofs.Courses.{DeliversCopy, IsCopy, Proceeds, makes}
 use Rattle.codec_payload_wire.proofs.ReleaseLemmas.{keeps_promises, releases_all}
 use Rattle.codec_payload_wire.proofs.StepLemmas.{get_append}
-use Rattle.codec_payload_wire.specs.HistoryReleases.{AnswersReceiver, PromisesWithHistory, ReleaseWithHistory, latest_with, plain_steps, plain_steps_of, repeated_by, sends_by, sent_by}
+use Rattle.codec_payload_wire.specs.HistoryReleases.{AreRepeats, PromisesWithHistory, ReleaseWithHistory, RepeatsWithHistory}
+use Rattle.codec_payload_wire.specs.HistoryReleases.{latest_with, plain_steps, plain_steps_of, repeated_by, repeated_in, repeated_of, sends_by, sent_by}
 use Rattle.codec_payload_wire.specs.HistoryRuns.{HistoryRuns, IsPacket, KeepsAll, Resending, begins_with, sent_since, written}
 use Rattle.codec_payload_wire.specs.WireRuns.{Delivers, DoesStep, Receipt, SendsIt, SendsOrRefuses, Wire, begins, sent_sample}
 use Rattle.codec_payload_wire.specs.declared.history_run.HistoryStep.{HistoryStep}
@@ -194,12 +195,13 @@ latest_set datagrams packets place p resent there latest i q now =
     let at = latest i was.0 was.1 in
     (at.0, at.1 ∙ ap Some was.2)
 
--- a history that keeps what these datagrams were
-record IsOf (again : Option RetransmissionStream) (datagrams : List (List ℕ)) (h : Past) : Type 0 where
+-- a history of these datagrams, whose next retransmission has this number
+record IsOf (again : Option RetransmissionStream) (number : ℕ) (datagrams : List (List ℕ)) (h : Past) : Type 0 where
   latest : AreLatest datagrams h.packets
   few : length h.packets ≤ 32768
   limit : h.limit ≤ 32768
   stream : h.stream ≡ again
+  next : h.next ≡ number
 
 count_few : (h : Past) (number : ℕ) → h.limit ≤ 32768 → count_with h number ≤ 32768
 count_few h number limit = by_test (eqb number ((h.newest + 1) % 65536))
@@ -208,8 +210,8 @@ count_few h number limit = by_test (eqb number ((h.newest + 1) % 65536))
     by_test true = limit
     by_test false = omega arith
 
-keeps_one : (again : Option RetransmissionStream) (datagrams : List (List ℕ)) (d : List ℕ) (h t : Past) → IsOf again datagrams h → Keeps h d t → IsOf again (datagrams ++ d ∷ []) t
-keeps_one again datagrams d h t of keeps =
+keeps_one : (again : Option RetransmissionStream) (next : ℕ) (datagrams : List (List ℕ)) (d : List ℕ) (h t : Past) → IsOf again next datagrams h → Keeps h d t → IsOf again next (datagrams ++ d ∷ []) t
+keeps_one again next datagrams d h t of keeps =
     let number : ℕ = keeps.packet.header.sequence_number in
     let all : List Sent = record { bytes = d; resent = None } ∷ h.packets in
     let packets : t.packets ≡ take (count_with h number) all = ap (λ (x : Past). x.packets) keeps.left in
@@ -219,62 +221,66 @@ keeps_one again datagrams d h t of keeps =
       few = omega (arith, ap length packets, length-take (count_with h number) all, count_few h number of.limit);
       limit = omega (arith, limit, of.limit);
       stream = ap (λ (x : Past). x.stream) keeps.left ∙ of.stream;
+      next = ap (λ (x : Past). x.next) keeps.left ∙ of.next;
     }
 
-keeps_all : (again : Option RetransmissionStream) (datagrams new : List (List ℕ)) (h t : Past) → IsOf again datagrams h → KeepsAll h new t → IsOf again (datagrams ++ new) t
-keeps_all again datagrams [] h t of keeps = subst (λ (x : Past). IsOf again (datagrams ++ []) x) (sym keeps) (subst (λ (ds : List (List ℕ)). IsOf again ds h) (sym (append-nil datagrams)) of)
-keeps_all again datagrams (d ∷ new) h t of keeps =
-    subst (λ (ds : List (List ℕ)). IsOf again ds t) (append_assoc datagrams (d ∷ []) new)
-    (keeps_all again (datagrams ++ d ∷ []) new keeps.0 t (keeps_one again datagrams d h keeps.0 of keeps.1) keeps.2)
+keeps_all : (again : Option RetransmissionStream) (next : ℕ) (datagrams new : List (List ℕ)) (h t : Past) → IsOf again next datagrams h → KeepsAll h new t → IsOf again next (datagrams ++ new) t
+keeps_all again next datagrams [] h t of keeps = subst (λ (x : Past). IsOf again next (datagrams ++ []) x) (sym keeps) (subst (λ (ds : List (List ℕ)). IsOf again next ds h) (sym (append-nil datagrams)) of)
+keeps_all again next datagrams (d ∷ new) h t of keeps =
+    subst (λ (ds : List (List ℕ)). IsOf again next ds t) (append_assoc datagrams (d ∷ []) new)
+    (keeps_all again next (datagrams ++ d ∷ []) new keeps.0 t (keeps_one again next datagrams d h keeps.0 of keeps.1) keeps.2)
 
 -- Retransmissions
 
--- each of these is a copy of the datagram with the index beside it
-abbrev AreCopies : Option RetransmissionStream → List (List ℕ) → List (List ℕ) → List ℕ → Type 0
-AreCopies again datagrams [] [] = Unit {0}
-AreCopies again datagrams [] (k ∷ ks) = ⊥
-AreCopies again datagrams (bytes ∷ more) [] = ⊥
-AreCopies again datagrams (bytes ∷ more) (k ∷ ks) =
-    ((d : List ℕ) × (slice_get datagrams k ≡ Some d) × IsCopy again d bytes) × AreCopies again datagrams more ks
+-- the number after that many retransmissions
+abbrev advanced : Option RetransmissionStream → ℕ → ℕ → ℕ
+advanced again next zero = next
+advanced again next (suc n) = advanced again (next_after again next) n
 
-copies_append : (again : Option RetransmissionStream) (datagrams bs : List (List ℕ)) (ks : List ℕ) (cs : List (List ℕ)) (js : List ℕ) → AreCopies again datagrams bs ks → AreCopies again datagrams cs js
-    → AreCopies again datagrams (bs ++ cs) (ks ++ js)
-copies_append again datagrams [] [] cs js here more = more
-copies_append again datagrams [] (k ∷ ks) cs js here more = absurd here
-copies_append again datagrams (b ∷ bs) [] cs js here more = absurd here
-copies_append again datagrams (b ∷ bs) (k ∷ ks) cs js here more = (here.0, copies_append again datagrams bs ks cs js here.1 more)
+advanced_append : (again : Option RetransmissionStream) (next : ℕ) (bs cs : List (List ℕ)) → advanced again (advanced again next (length bs)) (length cs) ≡ advanced again next (length (bs ++ cs))
+advanced_append again next [] cs = refl
+advanced_append again next (b ∷ bs) cs = advanced_append again (next_after again next) bs cs
 
-copies_more : (again : Option RetransmissionStream) (datagrams new bs : List (List ℕ)) (ks : List ℕ) → AreCopies again datagrams bs ks → AreCopies again (datagrams ++ new) bs ks
-copies_more again datagrams new [] [] here = tt
-copies_more again datagrams new [] (k ∷ ks) here = absurd here
-copies_more again datagrams new (b ∷ bs) [] here = absurd here
-copies_more again datagrams new (b ∷ bs) (k ∷ ks) here =
-    ((here.0.0, get_append datagrams new k here.0.0 here.0.1, here.0.2), copies_more again datagrams new bs ks here.1)
+repeats_append : (again : Option RetransmissionStream) (next : ℕ) (datagrams bs : List (List ℕ)) (ks : List ℕ) (cs : List (List ℕ)) (js : List ℕ) → AreRepeats again next datagrams bs ks
+    → AreRepeats again (advanced again next (length bs)) datagrams cs js → AreRepeats again next datagrams (bs ++ cs) (ks ++ js)
+repeats_append again next datagrams [] [] cs js here more = more
+repeats_append again next datagrams [] (k ∷ ks) cs js here more = absurd here
+repeats_append again next datagrams (b ∷ bs) [] cs js here more = absurd here
+repeats_append again next datagrams (b ∷ bs) (k ∷ ks) cs js here more = (here.0, repeats_append again (next_after again next) datagrams bs ks cs js here.1 more)
 
-copy_at : (again : Option RetransmissionStream) (datagrams bs : List (List ℕ)) (ks : List ℕ) (j : ℕ) (bytes : List ℕ) → AreCopies again datagrams bs ks → slice_get bs j ≡ Some bytes
+repeats_more : (again : Option RetransmissionStream) (next : ℕ) (datagrams new bs : List (List ℕ)) (ks : List ℕ) → AreRepeats again next datagrams bs ks
+    → AreRepeats again next (datagrams ++ new) bs ks
+repeats_more again next datagrams new [] [] here = tt
+repeats_more again next datagrams new [] (k ∷ ks) here = absurd here
+repeats_more again next datagrams new (b ∷ bs) [] here = absurd here
+repeats_more again next datagrams new (b ∷ bs) (k ∷ ks) here =
+    ((here.0.0, get_append datagrams new k here.0.0 here.0.1, here.0.2), repeats_more again (next_after again next) datagrams new bs ks here.1)
+
+copy_at : (again : Option RetransmissionStream) (next : ℕ) (datagrams bs : List (List ℕ)) (ks : List ℕ) (j : ℕ) (bytes : List ℕ) → AreRepeats again next datagrams bs ks → slice_get bs j ≡ Some bytes
     → (k : ℕ) × (slice_get ks j ≡ Some k) × (d : List ℕ) × (slice_get datagrams k ≡ Some d) × IsCopy again d bytes
-copy_at again datagrams [] ks j bytes copies there = absurd (cc)
-copy_at again datagrams (b ∷ bs) [] j bytes copies there = absurd copies
-copy_at again datagrams (b ∷ bs) (k ∷ ks) zero bytes copies there =
-    (k, refl, copies.0.0, copies.0.1, subst (IsCopy again copies.0.0) (same_Some b bytes there) copies.0.2)
-copy_at again datagrams (b ∷ bs) (k ∷ ks) (suc j) bytes copies there = copy_at again datagrams bs ks j bytes copies.1 there
+copy_at again next datagrams [] ks j bytes repeats there = absurd (cc)
+copy_at again next datagrams (b ∷ bs) [] j bytes repeats there = absurd repeats
+copy_at again next datagrams (b ∷ bs) (k ∷ ks) zero bytes repeats there =
+    (k, refl, repeats.0.0, repeats.0.1, subst (IsCopy again repeats.0.0) (same_Some b bytes there) (inr (next, repeats.0.2)))
+copy_at again next datagrams (b ∷ bs) (k ∷ ks) (suc j) bytes repeats there = copy_at again (next_after again next) datagrams bs ks j bytes repeats.1 there
 
-no_copy_at : (again : Option RetransmissionStream) (datagrams bs : List (List ℕ)) (ks : List ℕ) (j : ℕ) → AreCopies again datagrams bs ks → slice_get bs j ≡ None → slice_get ks j ≡ None
-no_copy_at again datagrams [] [] j copies none = refl
-no_copy_at again datagrams [] (k ∷ ks) j copies none = absurd copies
-no_copy_at again datagrams (b ∷ bs) [] j copies none = absurd copies
-no_copy_at again datagrams (b ∷ bs) (k ∷ ks) zero copies none = absurd (cc)
-no_copy_at again datagrams (b ∷ bs) (k ∷ ks) (suc j) copies none = no_copy_at again datagrams bs ks j copies.1 none
+no_copy_at : (again : Option RetransmissionStream) (next : ℕ) (datagrams bs : List (List ℕ)) (ks : List ℕ) (j : ℕ) → AreRepeats again next datagrams bs ks → slice_get bs j ≡ None → slice_get ks j ≡ None
+no_copy_at again next datagrams [] [] j repeats none = refl
+no_copy_at again next datagrams [] (k ∷ ks) j repeats none = absurd repeats
+no_copy_at again next datagrams (b ∷ bs) [] j repeats none = absurd repeats
+no_copy_at again next datagrams (b ∷ bs) (k ∷ ks) zero repeats none = absurd (cc)
+no_copy_at again next datagrams (b ∷ bs) (k ∷ ks) (suc j) repeats none = no_copy_at again (next_after again next) datagrams bs ks j repeats.1 none
 
 -- the datagram at that place from the end is the latest with its number
 latest_is : (first sent place number : ℕ) → place < sent → place < 65536 → number ≡ (first + (sent - 1 - place)) % 65536 → latest_with first sent number ≡ sent - 1 - place
 latest_is first sent place number within few is = omega (arith, within, few, is)
 
--- the answer of the history is a copy of the latest datagram with the number
-resends_copy : (again : Option RetransmissionStream) (first : ℕ) (datagrams : List (List ℕ)) (now : Ticks) (number : ℕ) (h t : Past) (answer : Resent) (bytes : List ℕ)
-    → From first datagrams → IsOf again datagrams h → Resends now number h [] answer bytes t
-    → IsOf again datagrams t × AreCopies again datagrams (written answer bytes) (repeated_by answer (latest_with first (length datagrams) number))
-resends_copy again first datagrams now number h t results.Written bytes from of resends =
+-- the answer of the history repeats the latest datagram with the number
+resends_copy : (again : Option RetransmissionStream) (first next : ℕ) (datagrams : List (List ℕ)) (now : Ticks) (number : ℕ) (h t : Past) (answer : Resent) (bytes : List ℕ)
+    → From first datagrams → IsOf again next datagrams h → Resends now number h [] answer bytes t
+    → IsOf again (advanced again next (length (written answer bytes))) datagrams t
+    × AreRepeats again next datagrams (written answer bytes) (repeated_by answer (latest_with first (length datagrams) number))
+resends_copy again first next datagrams now number h t results.Written bytes from of resends =
     let place : ℕ = resends.0 in
     let p : Sent = resends.1 in
     let at = of.latest place p resends.2.found in
@@ -282,35 +288,39 @@ resends_copy again first datagrams now number h t results.Written bytes from of 
     let is : number ≡ (first + (length datagrams - 1 - place)) % 65536 =
     same_Some number _ (sym resends.2.numbered ∙ from_at first (length datagrams - 1 - place) datagrams p.bytes from at.1) in
     let index : latest_with first (length datagrams) number ≡ length datagrams - 1 - place = latest_is first (length datagrams) place number at.0 (omega (arith, few, of.few)) is in
-    let repeats : Repeats again h.next p.bytes bytes = subst (λ (o : Option RetransmissionStream). Repeats o h.next p.bytes bytes) of.stream resends.4 in
+    let repeats : Repeats again next p.bytes bytes =
+    subst (λ (n : ℕ). Repeats again n p.bytes bytes) of.next (subst (λ (o : Option RetransmissionStream). Repeats o h.next p.bytes bytes) of.stream resends.4) in
     let packets : t.packets ≡ set h.packets place (record p { resent = Some now }) = ap (λ (x : Past). x.packets) resends.5 in (
       record {
         latest = subst (AreLatest datagrams) (sym packets) (latest_set datagrams h.packets place p (Some now) resends.2.found of.latest);
         few = omega (arith, ap length packets, length-set h.packets place (record p { resent = Some now }), of.few);
         limit = omega (arith, ap (λ (x : Past). x.limit) resends.5, of.limit);
         stream = ap (λ (x : Past). x.stream) resends.5 ∙ of.stream;
+        next = ap (λ (x : Past). x.next) resends.5 ∙ (ap (λ (o : Option RetransmissionStream). next_after o h.next) of.stream ∙ ap (next_after again) of.next);
       },
-      ((p.bytes, subst (λ (k : ℕ). slice_get datagrams k ≡ Some p.bytes) (sym index) at.1, inr (h.next, repeats)), tt),
+      ((p.bytes, subst (λ (k : ℕ). slice_get datagrams k ≡ Some p.bytes) (sym index) at.1, repeats), tt),
     )
-resends_copy again first datagrams now number h t results.NotKept bytes from of resends = (subst (IsOf again datagrams) (sym resends.2) of, tt)
-resends_copy again first datagrams now number h t results.TooSoon bytes from of resends = (subst (IsOf again datagrams) (sym resends.5) of, tt)
+resends_copy again first next datagrams now number h t results.NotKept bytes from of resends = (subst (IsOf again next datagrams) (sym resends.2) of, tt)
+resends_copy again first next datagrams now number h t results.TooSoon bytes from of resends = (subst (IsOf again next datagrams) (sym resends.5) of, tt)
 
 -- Whole runs
 
--- a state of a run with a history; `repeated` has the indices of the datagrams that the retransmissions repeat
-record IsAt (again : Option RetransmissionStream) (first : ℕ) (s : Resending) (repeated : List ℕ) : Type 0 where
+-- a state of a run with a history; `repeated` has the indices of the datagrams that the retransmissions repeat, from the number
+-- `begin` on
+record IsAt (again : Option RetransmissionStream) (first begin : ℕ) (s : Resending) (repeated : List ℕ) : Type 0 where
   numbers : From first s.wire.datagrams
   next : s.wire.sending.stream.number % 65536 ≡ (first + length s.wire.datagrams) % 65536
-  kept : IsOf again s.wire.datagrams s.history
-  copies : AreCopies again s.wire.datagrams s.retransmissions repeated
+  kept : IsOf again (advanced again begin (length s.retransmissions)) s.wire.datagrams s.history
+  repeats : AreRepeats again begin s.wire.datagrams s.retransmissions repeated
 
 -- the run without a history
-record Comes (again : Option RetransmissionStream) (first : ℕ) (samples : List Sample) (all_steps : List HistoryStep) (s t : Resending) (repeated : List ℕ) : Type 0 where
+record Comes (again : Option RetransmissionStream) (first begin : ℕ) (samples : List Sample) (all_steps : List HistoryStep) (s t : Resending) (repeated : List ℕ) : Type 0 where
   later : List SentSample
   sends : t.wire.sends ≡ s.wire.sends ++ later
   more : List Resent
   answers : t.answers ≡ s.answers ++ more
   course : Proceeds again samples (plain_steps first samples (length s.wire.datagrams) repeated all_steps later more) s.wire t.wire
+  repeats : AreRepeats again begin t.wire.datagrams t.retransmissions (repeated_in first samples (length s.wire.datagrams) repeated all_steps later more)
 
 -- how a step of the run without a history changes what is left to send
 record Follows (samples : List Sample) (step : DatagramStep) (s t : Wire) (rest : List SentSample) : Type 0 where
@@ -358,10 +368,10 @@ follows samples (steps.Pop now) s t rest does =
 follows samples steps.Finish s t rest does =
     follows_same samples steps.Finish s t rest refl refl (ap (λ (x : Wire). x.sends) does.2) (ap (λ (x : Wire). x.datagrams) does.2)
 
-module _ (again : Option RetransmissionStream) (first : ℕ) (samples : List Sample) where
+module _ (again : Option RetransmissionStream) (first begin : ℕ) (samples : List Sample) where
   -- the state after a step of the run without a history
-  plain_at : (step : DatagramStep) (s mid : Resending) (repeated : List ℕ) → IsAt again first s repeated → DoesStep samples step s.wire mid.wire
-      → KeepsAll s.history (sent_since s.wire mid.wire) mid.history → mid.retransmissions ≡ s.retransmissions → IsAt again first mid repeated
+  plain_at : (step : DatagramStep) (s mid : Resending) (repeated : List ℕ) → IsAt again first begin s repeated → DoesStep samples step s.wire mid.wire
+      → KeepsAll s.history (sent_since s.wire mid.wire) mid.history → mid.retransmissions ≡ s.retransmissions → IsAt again first begin mid repeated
   plain_at step s mid repeated at does keeps same =
       let g = grows samples step s.wire mid.wire does in
       let count : length mid.wire.datagrams ≡ length s.wire.datagrams + length g.new = ap length g.whole ∙ length-append s.wire.datagrams g.new in
@@ -369,15 +379,17 @@ module _ (again : Option RetransmissionStream) (first : ℕ) (samples : List Sam
         numbers = subst (From first) (sym g.whole) (from_append first s.wire.datagrams g.new at.numbers
             (from_same s.wire.sending.stream.number (first + length s.wire.datagrams) g.new at.next g.numbers));
         next = omega (arith, g.next, at.next, count);
-        kept = subst (λ (ds : List (List ℕ)). IsOf again ds mid.history) (sym g.whole)
-            (keeps_all again s.wire.datagrams g.new s.history mid.history at.kept (subst (λ (ds : List (List ℕ)). KeepsAll s.history ds mid.history) (new_is s.wire mid.wire g) keeps));
-        copies = subst (λ (ds : List (List ℕ)). AreCopies again ds mid.retransmissions repeated) (sym g.whole)
-            (subst (λ (bs : List (List ℕ)). AreCopies again (s.wire.datagrams ++ g.new) bs repeated) (sym same)
-            (copies_more again s.wire.datagrams g.new s.retransmissions repeated at.copies));
+        kept = subst (λ (ds : List (List ℕ)). IsOf again (advanced again begin (length mid.retransmissions)) ds mid.history) (sym g.whole)
+            (subst (λ (bs : List (List ℕ)). IsOf again (advanced again begin (length bs)) (s.wire.datagrams ++ g.new) mid.history) (sym same)
+            (keeps_all again (advanced again begin (length s.retransmissions)) s.wire.datagrams g.new s.history mid.history at.kept
+            (subst (λ (ds : List (List ℕ)). KeepsAll s.history ds mid.history) (new_is s.wire mid.wire g) keeps)));
+        repeats = subst (λ (ds : List (List ℕ)). AreRepeats again begin ds mid.retransmissions repeated) (sym g.whole)
+            (subst (λ (bs : List (List ℕ)). AreRepeats again begin (s.wire.datagrams ++ g.new) bs repeated) (sym same)
+            (repeats_more again begin s.wire.datagrams g.new s.retransmissions repeated at.repeats));
       }
 
   plain_comes : (step : DatagramStep) (later : List HistoryStep) (s mid t : Resending) (repeated : List ℕ) → DoesStep samples step s.wire mid.wire → mid.answers ≡ s.answers
-      → Comes again first samples later mid t repeated → Comes again first samples (history_steps.Plain step ∷ later) s t repeated
+      → Comes again first begin samples later mid t repeated → Comes again first begin samples (history_steps.Plain step ∷ later) s t repeated
   plain_comes step later s mid t repeated does same comes =
       let f = follows samples step s.wire mid.wire comes.later does in
       record {
@@ -391,31 +403,34 @@ module _ (again : Option RetransmissionStream) (first : ℕ) (samples : List Sam
           subst (λ (n : ℕ). Proceeds again samples (plain_steps first samples n repeated later (sends_by samples step f.later) comes.more) mid.wire t.wire) (sym f.sent)
               (subst (λ (es : List SentSample). Proceeds again samples (plain_steps first samples (length mid.wire.datagrams) repeated later es comes.more) mid.wire t.wire) (sym f.left) comes.course),
         );
+        repeats = subst (λ (n : ℕ). AreRepeats again begin t.wire.datagrams t.retransmissions (repeated_in first samples n repeated later (sends_by samples step f.later) comes.more)) (sym f.sent)
+            (subst (λ (es : List SentSample). AreRepeats again begin t.wire.datagrams t.retransmissions (repeated_in first samples (length mid.wire.datagrams) repeated later es comes.more)) (sym f.left) comes.repeats);
       }
 
   -- a delivered retransmission
   again_comes : (o : Option (List ℕ)) (j : ℕ) (now : Ticks) (later : List HistoryStep) (s mid t : Resending) (repeated : List ℕ) → slice_get s.retransmissions j ≡ o
-      → IsAt again first s repeated
+      → IsAt again first begin s repeated
       → MatchOption o (mid ≡ s) (λ bytes. (receipt : Receipt) × (session : Session) × Delivers now bytes s.wire.session receipt session
       × (mid ≡ record s { wire = record s.wire { session = session; receipts = s.wire.receipts ++ receipt ∷ [] } }))
-      → (IsAt again first mid repeated → Comes again first samples later mid t repeated) → Comes again first samples (history_steps.DeliverAgain j now ∷ later) s t repeated
+      → (IsAt again first begin mid repeated → Comes again first begin samples later mid t repeated) → Comes again first begin samples (history_steps.DeliverAgain j now ∷ later) s t repeated
   again_comes None j now later s mid t repeated is at same rest =
-      let c : Comes again first samples later s t repeated =
-      subst (λ (x : Resending). Comes again first samples later x t repeated) same (rest (subst (λ (x : Resending). IsAt again first x repeated) (sym same) at)) in
-      let none : slice_get repeated j ≡ None = no_copy_at again s.wire.datagrams s.retransmissions repeated j at.copies is in
+      let c : Comes again first begin samples later s t repeated =
+      subst (λ (x : Resending). Comes again first begin samples later x t repeated) same (rest (subst (λ (x : Resending). IsAt again first begin x repeated) (sym same) at)) in
+      let none : slice_get repeated j ≡ None = no_copy_at again begin s.wire.datagrams s.retransmissions repeated j at.repeats is in
       record {
         later = c.later;
         sends = c.sends;
         more = c.more;
         answers = c.answers;
         course = rw none c.course;
+        repeats = c.repeats;
       }
   again_comes (Some bytes) j now later s mid t repeated is at done rest =
       let next : Resending = record s { wire = record s.wire { session = done.1; receipts = s.wire.receipts ++ done.0 ∷ [] } } in
-      let c : Comes again first samples later next t repeated =
-      subst (λ (x : Resending). Comes again first samples later x t repeated) done.3
-      (rest (subst (λ (x : Resending). IsAt again first x repeated) (sym done.3) (record { numbers = at.numbers; next = at.next; kept = at.kept; copies = at.copies }))) in
-      let copy = copy_at again s.wire.datagrams s.retransmissions repeated j bytes at.copies is in
+      let c : Comes again first begin samples later next t repeated =
+      subst (λ (x : Resending). Comes again first begin samples later x t repeated) done.3
+      (rest (subst (λ (x : Resending). IsAt again first begin x repeated) (sym done.3) (record { numbers = at.numbers; next = at.next; kept = at.kept; repeats = at.repeats }))) in
+      let copy = copy_at again begin s.wire.datagrams s.retransmissions repeated j bytes at.repeats is in
       let delivers : DeliversCopy again (slice_get s.wire.datagrams copy.0) now s.wire next.wire =
       subst (λ (o : Option (List ℕ)). DeliversCopy again o now s.wire next.wire) (sym copy.3) (bytes, copy.4, done.0, done.1, done.2, refl) in
       record {
@@ -424,16 +439,18 @@ module _ (again : Option RetransmissionStream) (first : ℕ) (samples : List Sam
         more = c.more;
         answers = c.answers;
         course = rw copy.1 (next.wire, delivers, c.course);
+        repeats = c.repeats;
       }
 
-  history_comes : (all_steps : List HistoryStep) (s t : Resending) (repeated : List ℕ) → IsAt again first s repeated → HistoryRuns samples all_steps s t
-      → Comes again first samples all_steps s t repeated
+  history_comes : (all_steps : List HistoryStep) (s t : Resending) (repeated : List ℕ) → IsAt again first begin s repeated → HistoryRuns samples all_steps s t
+      → Comes again first begin samples all_steps s t repeated
   history_comes [] s t repeated at run = record {
     later = [];
     sends = ap (λ (x : Resending). x.wire.sends) run ∙ sym (append-nil s.wire.sends);
     more = [];
     answers = ap (λ (x : Resending). x.answers) run ∙ sym (append-nil s.answers);
     course = ap (λ (x : Resending). x.wire) run;
+    repeats = subst (λ (x : Resending). AreRepeats again begin x.wire.datagrams x.retransmissions repeated) (sym run) at.repeats;
   }
   history_comes (history_steps.Plain step ∷ later) s t repeated at run =
       let mid : Resending = run.0 in
@@ -451,23 +468,24 @@ module _ (again : Option RetransmissionStream) (first : ℕ) (samples : List Sam
       let wire : mid.wire ≡ s.wire = ap (λ (x : Resending). x.wire) does.4 in
       let index : ℕ = latest_with first (length s.wire.datagrams) number in
       let more : List ℕ = repeated ++ repeated_by does.0 index in
-      let copies = resends_copy again first s.wire.datagrams now number s.history does.2 does.0 does.1 at.numbers at.kept does.3 in
+      let here = resends_copy again first (advanced again begin (length s.retransmissions)) s.wire.datagrams now number s.history does.2 does.0 does.1 at.numbers at.kept does.3 in
       let next : Resending = record s { history = does.2; retransmissions = s.retransmissions ++ written does.0 does.1; answers = s.answers ++ does.0 ∷ [] } in
-      let next_at : IsAt again first next more = record {
+      let next_at : IsAt again first begin next more = record {
         numbers = at.numbers;
         next = at.next;
-        kept = copies.0;
-        copies = copies_append again s.wire.datagrams s.retransmissions repeated (written does.0 does.1) (repeated_by does.0 index) at.copies copies.1;
+        kept = subst (λ (n : ℕ). IsOf again n s.wire.datagrams does.2) (advanced_append again begin s.retransmissions (written does.0 does.1)) here.0;
+        repeats = repeats_append again begin s.wire.datagrams s.retransmissions repeated (written does.0 does.1) (repeated_by does.0 index) at.repeats here.1;
       } in
-      let c : Comes again first samples later next t more =
-      subst (λ (x : Resending). Comes again first samples later x t more) does.4
-      (history_comes later mid t more (subst (λ (x : Resending). IsAt again first x more) (sym does.4) next_at) run.2) in
+      let c : Comes again first begin samples later next t more =
+      subst (λ (x : Resending). Comes again first begin samples later x t more) does.4
+      (history_comes later mid t more (subst (λ (x : Resending). IsAt again first begin x more) (sym does.4) next_at) run.2) in
       record {
         later = c.later;
         sends = c.sends;
         more = does.0 ∷ c.more;
         answers = c.answers ∙ append_assoc s.answers (does.0 ∷ []) c.more;
         course = c.course;
+        repeats = c.repeats;
       }
   history_comes (history_steps.DeliverAgain j now ∷ later) s t repeated at run =
       again_comes (slice_get s.retransmissions j) j now later s run.0 t repeated refl at run.1 (λ next. history_comes later run.0 t repeated next run.2)
@@ -493,16 +511,16 @@ new_history settings h new =
     (ap (λ (x : Past). x.packets) (sym made), omega (arith, few, limit))
 
 module _ (samples : List Sample) (all_steps : List HistoryStep) (sender : Sending) (history : Past) (receiver : Session) (t : Resending)
-    (run : HistoryRuns samples all_steps (begins_with sender history receiver) t) (answers : AnswersReceiver history receiver) where
+    (run : HistoryRuns samples all_steps (begins_with sender history receiver) t) (settings : HistorySettings) (is_new : history_by settings ≡ Ok history) where
   abbrev again : Option RetransmissionStream
   again = history.stream
 
   abbrev first : ℕ
   first = sender.stream.number
 
-  begun_at : IsAt again first (begins_with sender history receiver) []
+  begun_at : IsAt again first history.next (begins_with sender history receiver) []
   begun_at =
-      let new = new_history answers.settings history answers.new in
+      let new = new_history settings history is_new in
       record {
         numbers = tt;
         next = omega arith;
@@ -511,23 +529,31 @@ module _ (samples : List Sample) (all_steps : List HistoryStep) (sender : Sendin
           few = omega (arith, ap length new.0);
           limit = new.1;
           stream = refl;
+          next = refl;
         };
-        copies = tt;
+        repeats = tt;
       }
 
-  comes : Comes again first samples all_steps (begins_with sender history receiver) t []
-  comes = history_comes again first samples all_steps (begins_with sender history receiver) t [] begun_at run
+  comes : Comes again first history.next samples all_steps (begins_with sender history receiver) t []
+  comes = history_comes again first history.next samples all_steps (begins_with sender history receiver) t [] begun_at run
 
   pub course : Proceeds again samples (plain_steps_of samples all_steps (begins_with sender history receiver) t) (begins sender receiver) t.wire
   course = subst (λ (as' : List Resent). Proceeds again samples (plain_steps first samples 0 [] all_steps t.wire.sends as') (begins sender receiver) t.wire) (sym comes.answers)
       (subst (λ (es : List SentSample). Proceeds again samples (plain_steps first samples 0 [] all_steps es comes.more) (begins sender receiver) t.wire) (sym comes.sends) comes.course)
 
+  pub repeats : AreRepeats again history.next t.wire.datagrams t.retransmissions (repeated_of samples all_steps (begins_with sender history receiver) t)
+  repeats = subst (λ (as' : List Resent). AreRepeats again history.next t.wire.datagrams t.retransmissions (repeated_in first samples 0 [] all_steps t.wire.sends as')) (sym comes.answers)
+      (subst (λ (es : List SentSample). AreRepeats again history.next t.wire.datagrams t.retransmissions (repeated_in first samples 0 [] all_steps es comes.more)) (sym comes.sends) comes.repeats)
+
+pub repeats_with_history : RepeatsWithHistory
+repeats_with_history samples all_steps sender history receiver t run settings is_new = repeats samples all_steps sender history receiver t run settings is_new
+
 pub promises_with_history : PromisesWithHistory
 promises_with_history samples all_steps sender history receiver t run answers within =
     keeps_promises history.stream samples (plain_steps_of samples all_steps (begins_with sender history receiver) t) sender receiver t.wire
-    (course samples all_steps sender history receiver t run answers) answers.heard within
+    (course samples all_steps sender history receiver t run answers.settings answers.new) answers.heard within
 
 pub release_with_history : ReleaseWithHistory
 release_with_history samples all_steps sender history receiver t run answers within =
     releases_all history.stream samples (plain_steps_of samples all_steps (begins_with sender history receiver) t) sender receiver t.wire
-    (course samples all_steps sender history receiver t run answers) answers.heard within
+    (course samples all_steps sender history receiver t run answers.settings answers.new) answers.heard within

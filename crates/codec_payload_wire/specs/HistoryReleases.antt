@@ -2,7 +2,7 @@
 -- premises and guarantees are those of the run without a history.
 use Rattle.std.specs.Prelude.{◌≡◌, ℕ, ◌+◌, ◌-◌, ◌%◌, ◌<◌, ◌⊎◌, List, [], ◌∷◌, ◌++◌, Option, Some, None, Ok, slice_get, refl}
 use Rattle.codec_payload_base.specs.declared.wire.Ticks.{Ticks}
-use Rattle.codec_payload_history.specs.Histories.{history_by}
+use Rattle.codec_payload_history.specs.Histories.{Repeats, history_by, next_after}
 use Rattle.codec_payload_history.specs.Packets.{Past}
 use Rattle.codec_payload_history.specs.declared.retransmission.HistorySettings.{HistorySettings}
 use Rattle.codec_payload_history.specs.declared.retransmission.Resent.{Resent}
@@ -68,6 +68,34 @@ plain_steps first samples sent repeated (history_steps.DeliverAgain j now ∷ la
 abbrev pub plain_steps_of : List Sample → List HistoryStep → Resending → Resending → List DatagramStep
 plain_steps_of samples all_steps s t = plain_steps s.wire.sending.stream.number samples 0 [] all_steps t.wire.sends t.answers
 
+-- the indices of the datagrams that the retransmissions repeat, after these steps
+abbrev pub repeated_in : (first : ℕ) → List Sample → (sent : ℕ) → (repeated : List ℕ) → List HistoryStep → List SentSample → List Resent → List ℕ
+repeated_in first samples sent repeated [] sends answers = repeated
+repeated_in first samples sent repeated (history_steps.Plain step ∷ later) sends answers =
+    repeated_in first samples (sent_by samples sent step sends) repeated later (sends_by samples step sends) answers
+repeated_in first samples sent repeated (history_steps.Resend number now ∷ later) sends [] = repeated_in first samples sent repeated later sends []
+repeated_in first samples sent repeated (history_steps.Resend number now ∷ later) sends (answer ∷ answers) =
+    repeated_in first samples sent (repeated ++ repeated_by answer (latest_with first sent number)) later sends answers
+repeated_in first samples sent repeated (history_steps.DeliverAgain j now ∷ later) sends answers = repeated_in first samples sent repeated later sends answers
+
+-- the same for a whole run
+abbrev pub repeated_of : List Sample → List HistoryStep → Resending → Resending → List ℕ
+repeated_of samples all_steps s t = repeated_in s.wire.sending.stream.number samples 0 [] all_steps t.wire.sends t.answers
+
+-- these bytes are retransmissions of the datagrams with these indices, and have consecutive numbers of their stream from `next` on
+abbrev pub AreRepeats : Option RetransmissionStream → ℕ → List (List ℕ) → List (List ℕ) → List ℕ → Type 0
+AreRepeats again next datagrams [] [] = Unit {0}
+AreRepeats again next datagrams [] (k ∷ ks) = ⊥
+AreRepeats again next datagrams (bytes ∷ more) [] = ⊥
+AreRepeats again next datagrams (bytes ∷ more) (k ∷ ks) =
+    ((datagram : List ℕ) × (slice_get datagrams k ≡ Some datagram) × Repeats again next datagram bytes) × AreRepeats again (next_after again next) datagrams more ks
+
+-- each retransmission of a run with a new history repeats the datagram with its index
+abbrev pub RepeatsDatagrams : List Sample → List HistoryStep → Resending → Resending → Type 0
+RepeatsDatagrams samples all_steps s t =
+    (settings : HistorySettings) → history_by settings ≡ Ok s.history
+    → AreRepeats s.history.stream s.history.next t.wire.datagrams t.retransmissions (repeated_of samples all_steps s t)
+
 -- Premises
 
 -- A receiver with these settings reads the retransmissions: their SSRC and payload type are those of its settings, and they are not
@@ -107,6 +135,11 @@ abbrev pub PromisesWithHistory : Type 0
 PromisesWithHistory =
     (samples : List Sample) (all_steps : List HistoryStep) (sender : Sending) (history : Past) (receiver : Session) (t : Resending)
     → HistoryRuns samples all_steps (begins_with sender history receiver) t → KeepsPromisesWithHistory samples all_steps (begins_with sender history receiver) t
+
+abbrev pub RepeatsWithHistory : Type 0
+RepeatsWithHistory =
+    (samples : List Sample) (all_steps : List HistoryStep) (sender : Sending) (history : Past) (receiver : Session) (t : Resending)
+    → HistoryRuns samples all_steps (begins_with sender history receiver) t → RepeatsDatagrams samples all_steps (begins_with sender history receiver) t
 
 -- Examples
 

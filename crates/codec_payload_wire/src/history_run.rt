@@ -5,7 +5,7 @@ ghost use Rattle.codec_payload_base.specs.declared.error.PacketError.TheVariants
 ghost use Rattle.codec_payload_history.specs.Histories.{Resends};
 ghost use Rattle.codec_payload_history.specs.declared.retransmission.Resent.{Resent as Answer};
 ghost use Rattle.codec_payload_send.specs.Sending.{sample_of};
-ghost use Rattle.codec_payload_wire.specs.HistoryReleases.{KeepsPromisesWithHistory, ReleasesWithHistory};
+ghost use Rattle.codec_payload_wire.specs.HistoryReleases.{KeepsPromisesWithHistory, ReleasesWithHistory, RepeatsDatagrams};
 ghost use Rattle.codec_payload_wire.specs.HistoryRuns.{DoesHistoryStep, HistoryRuns, HistoryStops, HistoryStopsAt, IsPacket, KeepsAll, KeepsSome, begins_with, resending_of, written};
 ghost use Rattle.codec_payload_wire.specs.OwnHistoryRuns.{AsksInHistoryRun, AsksInHistoryStep};
 ghost use Rattle.codec_payload_wire.specs.OwnRuns.{AsksForEnds, AsksForUnit, AsksPacketizer};
@@ -72,6 +72,8 @@ pub fn run_with_history<P: Packetizer, D: Depacketizer>(
     ensures units { IfOk result (λ run. ReleasesWithHistory (map sample_of samples.now) steps.now (begins_with link.old.sender link.old.history link.old.receiver) (resending_of link.new.sender link.new.history link.new.receiver run)) }
     // Pop by pop: what the receiver holds, which units are contiguous, and that none is lost silently.
     ensures promises { IfOk result (λ run. KeepsPromisesWithHistory (map sample_of samples.now) steps.now (begins_with link.old.sender link.old.history link.old.receiver) (resending_of link.new.sender link.new.history link.new.receiver run)) }
+    // Which datagram each retransmission repeats.
+    ensures repeats { IfOk result (λ run. RepeatsDatagrams (map sample_of samples.now) steps.now (begins_with link.old.sender link.old.history link.old.receiver) (resending_of link.new.sender link.new.history link.new.receiver run)) }
     ensures stops { OnErr result (HistoryStops (map sample_of samples.now) steps.now (begins_with link.old.sender link.old.history link.old.receiver) link.new.sender link.new.history link.new.receiver) }
     ensures fault { IfErr result (λ fault. fault ≡ OutOfMemory) }
     // Custom codecs are asked in each step, as `specs/OwnHistoryRuns.antt` says.

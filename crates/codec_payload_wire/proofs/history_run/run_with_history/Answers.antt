@@ -2,7 +2,7 @@ use Rattle.std.proofs.Common.{inl, inr, refl, sym, subst, map, List}
 use Rattle.std.proofs.lemmas.List.{drop_all, drop_more}
 use Rattle.codec_payload_codec.proofs.AnswerLemmas.{on_err}
 use Rattle.codec_payload_send.specs.Sending.{sample_of}
-use Rattle.codec_payload_wire.proofs.RepeatLemmas.{promises_with_history, release_with_history}
+use Rattle.codec_payload_wire.proofs.RepeatLemmas.{promises_with_history, release_with_history, repeats_with_history}
 use Rattle.codec_payload_wire.specs.HistoryRuns.{HistoryRuns, HistoryStops, Resending, resending_of}
 use Rattle.codec_payload_wire.specs.OwnHistoryRuns.{AsksInHistoryRun}
 use Rattle.codec_payload_wire.specs.OwnRuns.{AsksForEnds, AsksForUnit, AsksPacketizer}
@@ -53,6 +53,13 @@ pub returns-clause-promises : goal.returns-clause-promises
 returns-clause-promises g c =
     let end : Resending = resending_of c.loop-step.link.sender c.loop-step.link.history c.loop-step.link.receiver c.loop-step.run in
     promises_with_history (map sample_of c.args.samples.now) c.args.steps.now c.args.link.now.sender c.args.link.now.history c.args.link.now.receiver end
+    (c.loop-step.invariant.runs end
+    (subst (λ (xs : List HistoryStep). HistoryRuns (map sample_of c.args.samples.now) xs end end) (sym (drop_all c.loop-step.step-index c.args.steps.now c.loop-step-test.false)) refl))
+
+pub returns-clause-repeats : goal.returns-clause-repeats
+returns-clause-repeats g c =
+    let end : Resending = resending_of c.loop-step.link.sender c.loop-step.link.history c.loop-step.link.receiver c.loop-step.run in
+    repeats_with_history (map sample_of c.args.samples.now) c.args.steps.now c.args.link.now.sender c.args.link.now.history c.args.link.now.receiver end
     (c.loop-step.invariant.runs end
     (subst (λ (xs : List HistoryStep). HistoryRuns (map sample_of c.args.samples.now) xs end end) (sym (drop_all c.loop-step.step-index c.args.steps.now c.loop-step-test.false)) refl))
 
