@@ -10,8 +10,9 @@ use Rattle.codec_payload_handle.specs.Bytes.{filled}
 use Rattle.codec_payload_handle.specs.Units.{TellsUnit, no_unit}
 use Rattle.codec_payload_handle.specs.declared.object.PortSession.{PortSession}
 use Rattle.codec_payload_handle.specs.declared.unit.Unit.{Unit as CUnit}
+use Rattle.codec_payload_session.specs.Associations.{Associates}
 use Rattle.codec_payload_session.specs.Polls.{Polls}
-use Rattle.codec_payload_session.specs.Ports.{Receives, Session}
+use Rattle.codec_payload_session.specs.Ports.{Session}
 use Rattle.codec_payload_session.specs.declared.session.Arrival.{Arrival}
 use Rattle.codec_payload_session.specs.declared.session.Arrival.TheVariants as arrivals
 use Rattle.codec_payload_session.specs.declared.session.Event.{Event}
@@ -48,7 +49,7 @@ pub record ReceivesDatagram (r : PortSession) (now : ℕ) (bytes : List ℕ) (st
   pub at : Ticks
   pub at_is : at.0 ≡ now
   pub answer : Result Arrival AllocError
-  pub receives : Receives at bytes r.session answer s.session
+  pub receives : Associates at bytes r.session answer s.session
   pub tells : TellsAnswer answer status before after
   pub waiting : s.waiting ≡ r.waiting
   pub taken : s.taken ≡ r.taken
