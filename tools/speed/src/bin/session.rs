@@ -2,9 +2,9 @@
 //!
 //!   session WAY KIND STREAMS COUNT
 //!
-//! - WAY: `bare` is one receiver for each stream, of which the one that got the datagram is popped until it has no unit. `poll`
-//!   is a session that is polled until it has no event. `deadline` also asks for the next deadline then. `receive` is a session
-//!   that is not polled.
+//! - WAY: `bare` is one receiver for each stream, of which the one that got the datagram is popped until it has no unit. `unit`
+//!   is the same by `pop_unit`. `poll` is a session that is polled until it has no event. `deadline` also asks for the next
+//!   deadline then. `receive` is a session that is not polled.
 //! - KIND: `audio` is Opus, 120 bytes a packet. `video` is VP8, three packets of 1,000 bytes a frame. `requests` is the same
 //!   video, and the session requests what it misses; nothing is lost. After two packets of audio of each stream, `goodbyes` are
 //!   datagrams of 300 BYEs that name nobody, and `strays` are packets of ever new SSRCs, each of which takes the place of the
@@ -15,7 +15,7 @@
 
 use codec_payload::session::{Event, FeedbackSettings, Format, Session, SessionSettings};
 use codec_payload::stream::{Receiver, ReceiverSettings};
-use codec_payload::{Codec, CodecDepacketizer, CodecSpec, Frequency, Ticks};
+use codec_payload::{Codec, CodecDepacketizer, CodecSpec, Frequency, PoppedUnit, Ticks};
 
 const VP8: u8 = 96;
 const OPUS: u8 = 111;
@@ -105,6 +105,7 @@ fn write_packet(out: &mut Vec<u8>, is_video: bool, ssrc: u32, place: u32) {
 struct Load {
     session: Session,
     receivers: Vec<Receiver>,
+    unit: PoppedUnit,
     units: u64,
 }
 
@@ -115,6 +116,14 @@ impl Load {
             receiver.receive(now, datagram).unwrap();
             while let Some(unit) = receiver.pop(now) {
                 self.units += u64::from(unit.is_ok());
+            }
+            return;
+        }
+        if way == "unit" {
+            let receiver = &mut self.receivers[place];
+            receiver.receive(now, datagram).unwrap();
+            while let Some(answer) = receiver.pop_unit(now, &mut self.unit) {
+                self.units += u64::from(answer.is_ok());
             }
             return;
         }
@@ -143,6 +152,7 @@ fn main() {
         receivers: (0..streams)
             .map(|ssrc| receiver(is_video(kind), ssrc))
             .collect(),
+        unit: PoppedUnit::new(),
         units: 0,
     };
     let mut datagram = Vec::new();
