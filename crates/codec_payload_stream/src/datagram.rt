@@ -18,12 +18,13 @@ use crate::reports::ReceptionStatistics;
 use crate::seen_times::{SeenTime, SeenTimes};
 use codec_payload_base::error::PacketError;
 use codec_payload_base::wire::{ExtensionValues, Pt, RtpHeader as Header, Ticks};
+use codec_payload_buffer::buffer::PackedHeader;
 use codec_payload_codec::codec::Depacketizer;
 use codec_payload_jitter::jitter::{JitterBuffer, Outcome};
 use codec_payload_red::red::{Recovered, RedBlock, RedDecoder, RedReceiver};
 use codec_payload_rtp::rtp::{RtpError, RtpHeader, RtpPacket, is_rtcp};
 use codec_payload_rtp::values::ExtensionIds;
-use std::alloc::Global;
+use std::alloc::{AllocError, Global};
 use std::marker::Model;
 
 /// The reason why a datagram is malformed.
@@ -365,6 +366,7 @@ impl Stream {
     }
 
     /// Sorts an RTP packet that is not a retransmission.
+    #[inline(always)]
     fn first_kind<'a>(
         &self,
         ssrc: Option<u32>,
@@ -415,6 +417,7 @@ impl Stream {
     }
 
     /// Returns the header of a packet, with the fields that payloads of the stream have.
+    #[inline(always)]
     fn header_for(&self, header: &RtpHeader<'_>) -> Header
         ensures { result ≡ header_for self.now (header_of header.now) }
     {
@@ -426,6 +429,23 @@ impl Stream {
             marker: header.marker,
             ext_vals: self.ids.values(&header.extension),
         }
+    }
+
+    /// Returns the same header, packed. Allocates only for rare values.
+    #[inline(always)]
+    fn packed_header_for(&self, header: &RtpHeader<'_>) -> Result<PackedHeader, AllocError>
+        ensures { IfOk result (λ packed. packed ≡ header_for self.now (header_of header.now)) }
+    {
+        if header.extension.is_some() {
+            return PackedHeader::new(self.alloc, &self.header_for(header));
+        }
+        Ok(PackedHeader::plain(
+            Pt::new_with_value(self.payload_type),
+            header.sequence_number,
+            header.timestamp,
+            header.ssrc,
+            header.marker,
+        ))
     }
 
     /// Stores a packet with media in the jitter buffer.
@@ -443,7 +463,7 @@ impl Stream {
         ensures own { is_built_in_depacketizer packets.old.buffer.depacketizer ≡ false → OwnStores B.is_head B.is_tail packets.old.buffer packets.new.buffer }
     {
         let payload = Vec::from_slice(self.alloc, payload)?;
-        packets.push(now, self.header_for(header), payload)
+        packets.push_packed(now, self.packed_header_for(header)?, payload)
     }
 
     /// Stores a retransmitted packet in the jitter buffer, under its original number.
@@ -474,6 +494,7 @@ impl Stream {
 
     /// Returns whether a packet with this time and number repeats a block: a block with its time was stored under another
     /// number.
+    #[inline(always)]
     fn is_repeat<B: Depacketizer>(
         &self,
         seen: &SeenTimes,

@@ -150,6 +150,7 @@ impl ReceptionStatistics {
     }
 
     /// Converts a time of your clock to the RTP clock, modulo 2^32.
+    #[inline(always)]
     fn arrival_of(&self, now: Ticks) -> u32
         ensures { result ≡ arrival_of self.now now.0 }
     {
@@ -169,6 +170,7 @@ impl ReceptionStatistics {
     }
 
     /// Counts one more packet.
+    #[inline(always)]
     fn go_on(&mut self, transit: u32)
         ensures { self.new ≡ gone_on self.old transit }
     {

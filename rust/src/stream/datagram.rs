@@ -2,10 +2,11 @@
 
 //! Which datagrams belong to a stream, and how they reach its jitter buffer.
 
+use crate::buffer::PackedHeader;
 use crate::codec::Depacketizer;
 use crate::error::PacketError;
 use crate::jitter::jitter_buffer::{JitterBuffer, Outcome};
-use crate::memory::TryVec;
+use crate::memory::{AllocError, TryVec};
 use crate::red::{Recovered, RedBlock, RedDecoder, RedReceiver};
 use crate::rtp::packet::{PacketHeader, RtpError, RtpPacket, is_rtcp};
 use crate::rtp::values::ExtensionIds;
@@ -300,6 +301,7 @@ impl Stream {
     }
 
     /// Sorts an RTP packet that is not a retransmission.
+    #[inline(always)]
     fn first_kind<'a>(
         &self,
         ssrc: Option<u32>,
@@ -341,6 +343,7 @@ impl Stream {
     }
 
     /// Returns the header of a packet, with the fields that payloads of the stream have.
+    #[inline(always)]
     fn header_for(&self, header: &PacketHeader<'_>) -> Header {
         Header {
             payload_type: Pt::new_with_value(self.payload_type),
@@ -350,6 +353,21 @@ impl Stream {
             marker: header.marker,
             ext_vals: self.ids.values(&header.extension),
         }
+    }
+
+    /// Returns the same header, packed. Allocates only for rare values.
+    #[inline(always)]
+    fn packed_header_for(&self, header: &PacketHeader<'_>) -> Result<PackedHeader, AllocError> {
+        if header.extension.is_some() {
+            return PackedHeader::new(&self.header_for(header));
+        }
+        Ok(PackedHeader::plain(
+            Pt::new_with_value(self.payload_type),
+            header.sequence_number,
+            header.timestamp,
+            header.ssrc,
+            header.marker,
+        ))
     }
 
     /// Stores a packet with media in the jitter buffer.
@@ -362,7 +380,7 @@ impl Stream {
         payload: &[u8],
     ) -> Result<Outcome, PacketError> {
         let payload = Vec::try_from_slice(payload)?;
-        packets.push(now, self.header_for(header), payload)
+        packets.push_packed(now, self.packed_header_for(header)?, payload)
     }
 
     /// Stores a retransmitted packet in the jitter buffer, under its original number.
@@ -386,6 +404,7 @@ impl Stream {
 
     /// Returns whether a packet with this time and number repeats a block: a block with its time was stored under another
     /// number.
+    #[inline(always)]
     fn is_repeat<B: Depacketizer>(
         &self,
         seen: &SeenTimes,

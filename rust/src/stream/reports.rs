@@ -105,6 +105,7 @@ impl ReceptionStatistics {
     }
 
     /// Converts a time of your clock to the RTP clock, modulo 2^32.
+    #[inline(always)]
     fn arrival_of(&self, now: Ticks) -> u32 {
         let time = MediaTime::new(now.0, self.tick_rate).rebase(self.clock_rate);
         (time.numer() % (1 << 32)) as u32
@@ -120,6 +121,7 @@ impl ReceptionStatistics {
     }
 
     /// Counts one more packet.
+    #[inline(always)]
     fn go_on(&mut self, transit: u32) {
         self.jitter = jitter_after(self.jitter, self.transit, transit);
         self.received = self.received.wrapping_add(1);
