@@ -7,7 +7,7 @@ ghost use Rattle.codec_payload_handle.specs.Units.{TellsUnit, TellsValues, no_un
 
 use crate::extension_values::{ExtensionValues, values_between};
 use crate::extra::{Extra, nothing, tell_extra};
-use codec_payload_core::buffer::{Depacketized, RtpMeta, UnitInfo};
+use codec_payload_core::buffer::{Depacketized, PoppedUnit, RtpMeta, UnitInfo};
 
 /// A unit, without its bytes.
 #[repr(C)]
@@ -117,6 +117,25 @@ pub fn describe(unit: &mut Unit, info: &UnitInfo, bytes: &[u8], metas: &[RtpMeta
     unit.decodable = true;
     unit.keyframe = false;
     tell_extra(&mut unit.extra, &info.codec_extra);
+}
+
+/// Describes a unit in memory that is used again for C, in place of what `unit` has.
+#[inline(always)]
+pub fn describe_popped(unit: &mut Unit, popped: &PoppedUnit)
+    requires { 0 < length popped.now.metas }
+    ensures { TellsUnit popped.now unit.new }
+{
+    let numbers = popped.seq_range();
+    unit.first = numbers.start().0;
+    unit.last = numbers.end().0;
+    unit.rtp_time = popped.time.numer();
+    unit.received = popped.first_network_time().0;
+    unit.bytes = popped.bytes.len();
+    unit.contiguous = popped.contiguous;
+    unit.starts_talk_spurt = popped.start_of_talkspurt();
+    unit.decodable = true;
+    unit.keyframe = false;
+    tell_extra(&mut unit.extra, &popped.codec_extra);
 }
 
 /// Describes a unit for C.
