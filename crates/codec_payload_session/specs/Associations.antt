@@ -34,7 +34,7 @@ unpaired_by (roles.Media f) ssrc number p = None
 unpaired_by roles.NoMedia ssrc number p = None
 unpaired_by roles.Unknown ssrc number p = None
 
--- a packet with a payload type of retransmissions and an original number, whose SSRC is that of no pair's retransmissions
+-- a packet with a payload type of retransmissions and an original number; no pair names its SSRC as the SSRC of retransmissions
 abbrev pub unpaired_of : SessionSettings → Packet → Option Unpaired
 unpaired_of s p = unpaired_by (role_of s p.header.payload_type) (stream_of p.header.ssrc s.pairs.items) (original_number p.payload) p
 

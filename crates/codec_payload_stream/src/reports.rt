@@ -189,9 +189,9 @@ impl<B> Receiver<B> {
         statistics.report()
     }
 
-    /// Returns how far the RTP time of a packet that arrives at `now` is from the sender's clock: the difference between the transit
-    /// time of that packet (RFC 3550, appendix A.8) and the transit time of the latest packet that counts for reports. It is in ticks
-    /// of the RTP clock, the shorter way round 32 bits. `None`: no packet counts so far.
+    /// Returns how far the RTP time of a packet that arrives at `now` is from the sender's clock. This is the difference between the
+    /// transit times (RFC 3550, appendix A.8) of the packet and of the latest packet that counts for reports, in ticks of the RTP
+    /// clock, the shorter way round 32 bits. `None`: no packet counts so far.
     pub fn transit_change(&self, now: Ticks, rtp_time: u32) -> Option<u32>
         ensures { result ≡ transit_change self.now.reception now.0 rtp_time }
     {
