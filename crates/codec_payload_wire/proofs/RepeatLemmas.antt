@@ -322,7 +322,7 @@ record Comes (again : Option RetransmissionStream) (first begin : ℕ) (samples 
   course : Proceeds again samples (plain_steps first samples (length s.wire.datagrams) repeated all_steps later more) s.wire t.wire
   repeats : AreRepeats again begin t.wire.datagrams t.retransmissions (repeated_in first samples (length s.wire.datagrams) repeated all_steps later more)
 
--- how a step of the run without a history changes what is left to send
+-- the entries of sends from a step of the run without a history on, and how many datagrams were sent after it
 record Follows (samples : List Sample) (step : DatagramStep) (s t : Wire) (rest : List SentSample) : Type 0 where
   later : List SentSample
   sends : t.sends ++ rest ≡ s.sends ++ later

@@ -1,5 +1,5 @@
--- The units that a run with retransmissions releases. A retransmission counts as a delivery of the datagram that it repeats, so
--- premises and guarantees are those of the run without a history.
+-- The units that a run with retransmissions releases. The delivery of a retransmission counts as a delivery of the datagram that it
+-- repeats. Otherwise premises and guarantees are the same as in a run without a history.
 use Rattle.std.specs.Prelude.{◌≡◌, ℕ, ◌+◌, ◌-◌, ◌%◌, ◌<◌, ◌⊎◌, List, [], ◌∷◌, ◌++◌, Option, Some, None, Ok, slice_get, refl}
 use Rattle.codec_payload_base.specs.declared.wire.Ticks.{Ticks}
 use Rattle.codec_payload_history.specs.Histories.{Repeats, history_by, next_after}
@@ -52,8 +52,8 @@ delivery_of None now = []
 delivery_of (Some k) now = steps.Deliver k now ∷ []
 
 -- The steps of the run without a history that delivers the same packets: each delivered retransmission is a delivery of the
--- datagram that it repeats. Before these steps `sent` datagrams were sent, of which the first has the number `first`, and `repeated`
--- has the indices of the datagrams that the retransmissions so far repeat. `sends` and `answers` have the results of the steps
+-- datagram that it repeats. Before these steps `sent` datagrams were sent, the first with the number `first`; `repeated` has the
+-- indices of the datagrams that the retransmissions so far repeat. `sends` and `answers` have the results of the steps
 abbrev pub plain_steps : (first : ℕ) → List Sample → (sent : ℕ) → (repeated : List ℕ) → List HistoryStep → List SentSample → List Resent → List DatagramStep
 plain_steps first samples sent repeated [] sends answers = []
 plain_steps first samples sent repeated (history_steps.Plain step ∷ later) sends answers =
@@ -98,8 +98,8 @@ RepeatsDatagrams samples all_steps s t =
 
 -- Premises
 
--- A receiver with these settings reads the retransmissions: their SSRC and payload type are those of its settings, and they are not
--- RTCP (RFC 5761, section 4). Without a stream of retransmissions a packet is resent as it was
+-- A receiver with these settings reads the retransmissions: the settings name their SSRC and payload type, and none of them looks
+-- like RTCP (RFC 5761, section 4). Without a stream of retransmissions a packet is resent as it was
 abbrev pub AreHeard : Option RetransmissionStream → Option Retransmission → Type 0
 AreHeard None r = Unit {0}
 AreHeard (Some stream) r =

@@ -58,13 +58,13 @@ PopsAllUnits s t =
     (r : ReleasesUnits frames_sent (plain_steps_of frames_sent resent_steps s t) s.wire t.wire)
     × AnswersAll (IsKnownOf frames_sent (plain_steps_of frames_sent resent_steps s t) s.wire t.wire r.units) 0 r.units t.wire.pops
 
--- the premises of a run with a history can be met, and those of the promise that all units are popped
+-- the premises of a run with a history can be met, also the premise under which all units are popped
 pub record HistoryCanBeMet : Type 0 where
   pub answers : (no_media : Vec ℕ) → AnswersReceiver new_history (resent_receiver no_media)
   pub within : (no_media : Vec ℕ) → IsWithinWindows frames_sent plain opus_sender (resent_receiver no_media) one_each
   pub all_come : AllComeFirst 4096 3 (received_steps frames_sent 0 plain one_each)
   -- the packets that it delivers
   pub are_delivered : delivered (received_steps frames_sent 0 plain one_each) ≡ 0 ∷ 2 ∷ 1 ∷ []
-  -- each run of these steps in which each sample is sent in one datagram, and the history answers so, pops all units
+  -- a run with this schedule pops all units, if each sample is sent in one datagram, and the history gives these answers
   pub all_popped : (no_media : Vec ℕ) (t : Resending) → HistoryRuns frames_sent resent_steps (example_begins no_media) t
       → t.wire.sends ≡ one_each → length t.wire.datagrams ≡ 3 → t.answers ≡ answered → PopsAllUnits (example_begins no_media) t
