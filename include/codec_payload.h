@@ -652,6 +652,8 @@ typedef struct {
     uint8_t payload_type;     /**< 0 to 127 */
     uint8_t red_payload_type; /**< with has_red: payload type of RED; must differ from `payload_type`, which the blocks have */
     uint8_t rtx_payload_type; /**< with has_rtx: payload type of retransmissions */
+    uint8_t red_rtx_payload_type; /**< with has_red_rtx: payload type of retransmitted RED packets, 0 to 127: the one whose `apt`
+                                       (RFC 4588, section 8.1) is `red_payload_type`; must differ from all other payload types */
     uint8_t from_keyframe;    /**< what happens to video units that a decoder cannot show: CPAY_KEYFRAME_OFF, CPAY_KEYFRAME_MARK
                                    or CPAY_KEYFRAME_DROP */
     bool has_max_wait;
@@ -659,6 +661,7 @@ typedef struct {
     bool has_red; /**< the stream uses RED (RFC 2198): redundant blocks fill in missing packets. No two packets may have the same
                        RTP time, as in audio: no time of the latest 64 is stored twice */
     bool has_rtx; /**< retransmissions arrive in a separate stream (RFC 4588) */
+    bool has_red_rtx; /**< with has_red and has_rtx: RED packets are retransmitted in that stream too; otherwise it is ignored */
     cpay_extension_ids extension_ids; /**< for cpay_receiver_values; two equal ids read the same element */
 } cpay_receiver_settings;
 
@@ -668,7 +671,7 @@ typedef struct {
  * 1000 packets per second. */
 #define CPAY_SETTINGS_THAT_WAIT(start, max_wait, has_max_wait, forward, backward) \
     { { 0, 0, 0, false, false, false }, CPAY_NO_HOLD_BACK, start, 4096, max_wait, 0, 1000, 0, 0, forward, backward, 0, 0, 0, \
-      CPAY_KEYFRAME_MARK, has_max_wait, false, false, false, { 0, 0, 0, 0, 0, 0 } }
+      0, CPAY_KEYFRAME_MARK, has_max_wait, false, false, false, false, { 0, 0, 0, 0, 0, 0 } }
 
 /** Live audio or video without retransmission: a lost packet delays frames by at most 100 ms. */
 #define CPAY_LIVE_AUDIO CPAY_SETTINGS_THAT_WAIT(1, 100, true, 3000, 1000)
@@ -842,8 +845,11 @@ typedef struct {
     uint8_t payload_type;     /**< 0 to 127; if two formats have the same payload type, the first counts */
     uint8_t red_payload_type; /**< with has_red: payload type of RED, 0 to 127; must differ from `payload_type` */
     uint8_t rtx_payload_type; /**< with has_rtx: payload type of retransmissions, 0 to 127 */
+    uint8_t red_rtx_payload_type; /**< with has_red_rtx: payload type of retransmitted RED packets, 0 to 127: the one whose `apt`
+                                       (RFC 4588, section 8.1) is `red_payload_type`; must differ from all other payload types */
     bool has_red;             /**< packets of the format may arrive in RED (RFC 2198) */
     bool has_rtx;             /**< packets of the format may be retransmitted under another SSRC (RFC 4588); see cpay_ssrc_pair */
+    bool has_red_rtx;         /**< with has_red and has_rtx: RED packets may be retransmitted too; otherwise it is ignored */
     bool nack;                /**< its sender answers requests for missing packets: a=rtcp-fb with nack (RFC 4585, section 4.2) */
     bool pli;                 /**< its sender answers requests for keyframes: a=rtcp-fb with nack pli */
 } cpay_session_format;

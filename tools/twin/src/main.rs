@@ -214,7 +214,7 @@ fn settings(spec: &CodecSpec, input: &mut Input) -> (ReceiverSettings, [u64; 9])
     ours.red = (step > 0).then_some(RedSettings {
         payload_type: 63,
         step,
-        retransmission: None,
+        retransmission: (retransmission > 0).then_some(99),
     });
     ours.retransmission = (retransmission > 0).then_some(Retransmission {
         ssrc: 2,
@@ -248,7 +248,8 @@ fn datagram(kind: u8, how: u8, number: &mut u16, input: &mut Input) -> Vec<u8> {
         _ => *number,
     };
     let flags = input.byte();
-    let payload_type = [96, 63, 98, 97, 96, 96, 96, 96][usize::from(flags >> 4 & 7)];
+    let payload_type = [96, 63, 98, 97, 99, 96, 96, 96][usize::from(flags >> 4 & 7)];
+    let is_again = payload_type == 98 || payload_type == 99;
     let mut bytes = vec![
         0x80 | if flags & 0x80 != 0 {
             input.byte() & 0x3f
@@ -263,8 +264,8 @@ fn datagram(kind: u8, how: u8, number: &mut u16, input: &mut Input) -> Vec<u8> {
     } else {
         u32::from(input.word())
     }));
-    bytes.extend(u32::to_be_bytes(if payload_type == 98 { 2 } else { 1 }));
-    if payload_type == 98 {
+    bytes.extend(u32::to_be_bytes(if is_again { 2 } else { 1 }));
+    if is_again {
         bytes.extend(number.wrapping_sub(u16::from(how / 16)).to_be_bytes());
     }
     bytes.extend(input.some());
