@@ -28,8 +28,8 @@
  * output buffer and its other output arguments are unchanged. Exception: with CPAY_TOO_SMALL it writes the required size, and the
  * other outputs except the bytes, unless its comment says otherwise.
  *
- * HANDLES. A packetizer, a depacketizer, a buffer, a RED sender, a sender, a history, a receiver and a session each live in a
- * handle: a struct of that type in your own memory. Initialise it with CPAY_INIT, create the object by the call named *_new, and
+ * HANDLES. A packetizer, a depacketizer, a buffer, a RED sender, a sender, a history, a receiver, an adaptive wait and a session
+ * each live in a handle: a struct of that type in your own memory. Initialise it with CPAY_INIT, create the object by the call named *_new, and
  * end with the call named *_free, which leaves the handle empty. You may free an empty handle. Other calls on an empty handle return
  * CPAY_EMPTY; calls on a handle of another type, as after a cast, return CPAY_OTHER_KIND. Never write into a handle. Never copy a
  * handle in use: the library cannot detect that another copy was freed. You may move it in memory if you forget the old place.
@@ -235,6 +235,10 @@ typedef struct {
 
 typedef struct {
     cpay_handle handle;
+} cpay_adaptive_wait;
+
+typedef struct {
+    cpay_handle handle;
 } cpay_session;
 
 #define CPAY_INIT { { false, { NULL } } }
@@ -247,6 +251,7 @@ void cpay_red_sender_free(cpay_red_sender *sender);
 void cpay_sender_free(cpay_sender *sender);
 void cpay_history_free(cpay_history *history);
 void cpay_receiver_free(cpay_receiver *receiver);
+void cpay_adaptive_wait_free(cpay_adaptive_wait *wait);
 void cpay_session_free(cpay_session *session);
 
 /** A codec with its settings. Settings of other codecs are ignored, with two exceptions: `rate` is always checked, and
@@ -835,6 +840,39 @@ typedef struct {
 } cpay_receiver_counts_info;
 
 CPAY_CHECKED cpay_status cpay_receiver_counts(cpay_receiver *receiver, cpay_receiver_counts_info *counts);
+
+/* ---- An adaptive wait: a limit of waiting that follows how late missing packets arrive ---- */
+
+/** Within which bounds the limit moves, in ticks of your clock. Any values are accepted. Begin with CPAY_LIVE_ADAPTIVE_WAIT. */
+typedef struct {
+    uint64_t shortest;   /**< the lowest limit */
+    uint64_t longest;    /**< the highest limit; if it is below `shortest` or `first`, it wins */
+    uint64_t first;      /**< the lowest limit while fewer than 8 missing packets arrived or were lost */
+    uint64_t lost_after; /**< a packet that is missing for this number of ticks is lost. It then counts as a packet that arrived at
+                              once, since waiting longer would not have helped */
+} cpay_adaptive_wait_settings;
+
+/** For a clock of milliseconds: 20 ms to 400 ms, at first at least 200 ms; a packet is lost after 1 s. */
+#define CPAY_LIVE_ADAPTIVE_WAIT { 20, 400, 200, 1000 }
+
+/** Creates the limit of one stream in an empty handle. The limit is 5/4 of the greatest of the latest 32 ages, within the bounds. The
+ * age of a missing packet is the time from the first report that it is missing until its arrival. If missing packets never
+ * arrive, the limit falls to `shortest`. The latest 64 missing packets are followed. docs/C.md has the loop around a receiver.
+ * It takes about 2 kB. [m] */
+CPAY_CHECKED cpay_status cpay_adaptive_wait_new(cpay_adaptive_wait *wait, const cpay_adaptive_wait_settings *settings);
+
+/** Records that a packet arrived at time `now`. `number` is its sequence number; for a retransmission (RFC 4588) it is the original
+ * number. If the packet was missing, its age is noted. Does not allocate. */
+CPAY_CHECKED cpay_status cpay_adaptive_wait_arrived(cpay_adaptive_wait *wait, uint64_t now, uint16_t number);
+
+/** Records at time `now` that packets are missing: the numbers that cpay_receiver_missing wrote. A number that is not above all
+ * numbers before it changes nothing, so you may pass all missing numbers again and again. Does not allocate. */
+CPAY_CHECKED cpay_status cpay_adaptive_wait_missing(cpay_adaptive_wait *wait, uint64_t now, const uint64_t *numbers,
+                                                    size_t numbers_len);
+
+/** Reports the limit in ticks: the `max_wait` for cpay_receiver_set_wait_limits, or for cpay_session_set_wait_limits. Does not
+ * allocate. */
+CPAY_CHECKED cpay_status cpay_adaptive_wait_limit(cpay_adaptive_wait *wait, uint64_t *limit);
 
 /* ---- A session: all datagrams of a port in, the events of its streams out ---- */
 

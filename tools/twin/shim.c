@@ -233,6 +233,28 @@ void twin_session_free(void *session) {
     free(session);
 }
 
+/* A limit of waiting by shortest, longest, first and lost_after. */
+void *twin_wait(const uint64_t values[4]) {
+    const cpay_adaptive_wait_settings settings = { values[0], values[1], values[2], values[3] };
+    cpay_adaptive_wait *made = calloc(1, sizeof *made);
+    if (made && !cpay_adaptive_wait_new(made, &settings)) return made;
+    free(made);
+    return NULL;
+}
+
+uint32_t twin_wait_arrived(void *wait, uint64_t now, uint16_t number) { return cpay_adaptive_wait_arrived(wait, now, number); }
+
+uint32_t twin_wait_missing(void *wait, uint64_t now, const uint64_t *numbers, size_t numbers_len) {
+    return cpay_adaptive_wait_missing(wait, now, numbers, numbers_len);
+}
+
+uint32_t twin_wait_limit(void *wait, uint64_t *limit) { return cpay_adaptive_wait_limit(wait, limit); }
+
+void twin_wait_free(void *wait) {
+    cpay_adaptive_wait_free(wait);
+    free(wait);
+}
+
 /* A history by limit, interval, whether there are retransmissions, their SSRC, payload type and first number; NULL if refused. */
 void *twin_history(const uint64_t values[6]) {
     cpay_history_settings settings = { 0 };

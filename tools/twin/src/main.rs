@@ -1,7 +1,7 @@
 //! The generated crate beside the proved library, in one process: each call of both answers the same.
 //!
-//! `twin COUNT` makes COUNT random sequences of calls of packetizers, depacketizers, receivers, sessions and histories each; `twin
-//! FOLDER` takes the sequences of depacketizers and receivers from the fuzzer's corpora, FOLDER/depacketize and FOLDER/receiver. `twin
+//! `twin COUNT` makes COUNT random sequences of calls of packetizers, depacketizers, receivers, sessions, histories and limits of
+//! waiting each; `twin FOLDER` takes the sequences of depacketizers and receivers from the fuzzer's corpora, FOLDER/depacketize and FOLDER/receiver. `twin
 //! changed COUNT` prints what the crate reads of COUNT changed copies of the session description on its standard input, as
 //! c/descriptions.c does.
 
@@ -13,6 +13,7 @@ mod proved;
 mod proved_history;
 mod proved_session;
 mod sessions;
+mod waits;
 
 use codec_payload::jitter::WaitLimits;
 use codec_payload::stream::{Receiver, ReceiverSettings, RedSettings, Retransmission};
@@ -25,6 +26,7 @@ use input::{Input, random_bytes};
 use sessions::sessions;
 use std::collections::HashMap;
 use std::fmt::Debug;
+use waits::waits;
 
 const FLEXIBLE: u32 = 1;
 const VP8_IDS: u32 = 2;
@@ -364,12 +366,13 @@ fn main() {
     if word == "changed" {
         return print_changed(&words.next().expect("a count"));
     }
-    let sequences: [(&str, Sequence); 5] = [
+    let sequences: [(&str, Sequence); 6] = [
         ("packetize", packetize),
         ("depacketize", depacketize),
         ("receiver", receive),
         ("session", sessions),
         ("history", histories),
+        ("wait", waits),
     ];
     let mut calls = 0;
     for (name, sequence) in sequences {
