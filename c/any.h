@@ -12,6 +12,7 @@ typedef union {
     cpay_sender sender;
     cpay_history history;
     cpay_receiver receiver;
+    cpay_adaptive_wait adaptive_wait;
     cpay_session session;
 } any;
 

@@ -39,6 +39,10 @@ void cpay_receiver_free(cpay_receiver *receiver) {
     if (receiver) proved_cpay_free(&receiver->handle);
 }
 
+void cpay_adaptive_wait_free(cpay_adaptive_wait *wait) {
+    if (wait) proved_cpay_free(&wait->handle);
+}
+
 void cpay_session_free(cpay_session *session) {
     if (session) proved_cpay_free(&session->handle);
 }
@@ -290,6 +294,27 @@ cpay_status cpay_receiver_report(cpay_receiver *receiver, cpay_report_info *repo
 cpay_status proved_cpay_receiver_counts(cpay_handle *receiver, cpay_receiver_counts_info *counts);
 cpay_status cpay_receiver_counts(cpay_receiver *receiver, cpay_receiver_counts_info *counts) {
     return proved_cpay_receiver_counts(&receiver->handle, counts);
+}
+
+cpay_status proved_cpay_adaptive_wait_new(cpay_handle *wait, const cpay_adaptive_wait_settings *settings);
+cpay_status cpay_adaptive_wait_new(cpay_adaptive_wait *wait, const cpay_adaptive_wait_settings *settings) {
+    return proved_cpay_adaptive_wait_new(&wait->handle, settings);
+}
+
+cpay_status proved_cpay_adaptive_wait_arrived(cpay_handle *wait, uint64_t now, uint16_t number);
+cpay_status cpay_adaptive_wait_arrived(cpay_adaptive_wait *wait, uint64_t now, uint16_t number) {
+    return proved_cpay_adaptive_wait_arrived(&wait->handle, now, number);
+}
+
+cpay_status proved_cpay_adaptive_wait_missing(cpay_handle *wait, uint64_t now, const uint64_t *numbers, size_t numbers_len);
+cpay_status cpay_adaptive_wait_missing(cpay_adaptive_wait *wait, uint64_t now, const uint64_t *numbers, size_t numbers_len) {
+    if (!numbers && numbers_len) return CPAY_INVALID;
+    return proved_cpay_adaptive_wait_missing(&wait->handle, now, numbers ? numbers : (const uint64_t *)nothing, numbers_len);
+}
+
+cpay_status proved_cpay_adaptive_wait_limit(cpay_handle *wait, uint64_t *limit);
+cpay_status cpay_adaptive_wait_limit(cpay_adaptive_wait *wait, uint64_t *limit) {
+    return proved_cpay_adaptive_wait_limit(&wait->handle, limit);
 }
 
 cpay_status proved_cpay_session_new(cpay_handle *session, const cpay_session_settings *settings,

@@ -138,13 +138,14 @@ static void settings(void) {
     REFUSED(from_keyframe, 3);
     REFUSED(spec.rate, 0);
     REFUSED(spec.codec, 6);
-    right.has_red = right.has_rtx = true;
+    right.has_red = right.has_rtx = right.has_red_rtx = true;
     right.red_step = 1;
     REFUSED(red_step, 0);
     REFUSED(red_step, 16384);
     REFUSED(red_payload_type, 128);
     REFUSED(red_payload_type, TYPE);
     REFUSED(rtx_payload_type, 128);
+    REFUSED(red_rtx_payload_type, 128);
     sends.payload_type = 128;
     CHECK(cpay_sender_new(&it.sender, &sends) == CPAY_INVALID);
     sends.payload_type = TYPE;
@@ -578,6 +579,43 @@ static void red_once(void) {
     cpay_receiver_free(&receiver);
 }
 
+/* RFC 4588 over RFC 2198: the retransmission of RED packet 12, which repeats packet 11; both are lost. A receiver that does not
+ * know its payload type, or has no stream of retransmissions, takes it for another stream's. */
+static void red_sent_again(void) {
+    static const uint8_t original[] = {0, 12, 0xef, 0x0f, 0, 2, 0x6f, 11, 11, 12, 12};
+    cpay_receiver_settings settings = settings_of(opus());
+    uint8_t bytes[32];
+    uint32_t outcome = 99;
+    settings.has_red = settings.has_rtx = settings.has_red_rtx = true;
+    settings.red_payload_type = 63;
+    settings.red_step = 960;
+    settings.rtx_ssrc = 0x0a0b0c0d;
+    settings.rtx_payload_type = 112;
+    settings.red_rtx_payload_type = 113;
+    cpay_receiver receiver = receiver_of(&settings);
+    CHECK(came(&receiver, 0, TYPE, 10) == CPAY_HELD && came(&receiver, 0, TYPE, 13) == CPAY_HELD);
+    CHECK(next(&receiver, 0) == 10 && next(&receiver, 0) == -1);
+    size_t size = packet(bytes, 113, 500, 12 * 960, sizeof original);
+    memcpy(bytes + 8, "\x0a\x0b\x0c\x0d", 4);
+    memcpy(bytes + 12, original, sizeof original);
+    CHECK(cpay_receiver_receive(&receiver, 0, bytes, size, &outcome) == CPAY_OK && outcome == CPAY_HELD);
+    for (long number = 11; number < 14; number++) CHECK(next(&receiver, 0) == number);
+    CHECK(counts_of(&receiver).retransmitted == 1 && counts_of(&receiver).recovered == 1);
+    CHECK(cpay_receiver_receive(&receiver, 0, bytes, 13, &outcome) == CPAY_RTX_TOO_SHORT);
+    CHECK(cpay_receiver_receive(&receiver, 0, bytes, 15, &outcome) == CPAY_RED_CORRUPTED);
+    cpay_receiver_free(&receiver);
+    for (int without = 0; without < 2; without++) {
+        cpay_receiver_settings less = settings;
+        if (without == 0) less.has_red_rtx = false;
+        else less.has_rtx = false;
+        less.red_rtx_payload_type = without == 0 ? 255 : 113; /* ignored without has_red_rtx */
+        receiver = receiver_of(&less);
+        CHECK(came(&receiver, 0, TYPE, 10) == CPAY_HELD);
+        CHECK(cpay_receiver_receive(&receiver, 0, bytes, size, &outcome) == CPAY_OK && outcome == CPAY_OTHER_STREAM);
+        cpay_receiver_free(&receiver);
+    }
+}
+
 /* RFC 4588, section 4: the original number of two bytes precedes the payload, under another SSRC and payload type. */
 static void sent_again(void) {
     cpay_receiver_settings settings = settings_of(opus());
@@ -713,6 +751,7 @@ int main(void) {
     told_anew();
     red();
     red_once();
+    red_sent_again();
     windows_by_rate();
     sent_again();
     times();

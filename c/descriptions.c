@@ -61,6 +61,7 @@ static void print_receiver(const cpay_sdp_media *it, uint8_t payload_type) {
     cpay_receiver_free(&receiver);
     printf("receiver of %u: wait %u", payload_type, (unsigned)settings.max_wait);
     if (settings.has_red) printf(", RED %u step %u", settings.red_payload_type, settings.red_step);
+    if (settings.has_red_rtx) printf(" RTX %u", settings.red_rtx_payload_type);
     if (settings.has_ssrc) printf(", SSRC %u", settings.ssrc);
     if (settings.has_rtx) printf(", RTX %u SSRC %u", settings.rtx_payload_type, settings.rtx_ssrc);
     if (no_media_len > 0) printf(", no media in");

@@ -284,6 +284,24 @@ static int history(int *met) {
     return kept == before ? 0 : 9;
 }
 
+/* A limit of waiting: two numbers are missing, and one arrives. Only the first call allocates. */
+static int waiting(int *met) {
+    long before = kept;
+    const cpay_adaptive_wait_settings settings = CPAY_LIVE_ADAPTIVE_WAIT;
+    static const uint64_t numbers[2] = {65536, 65537};
+    cpay_adaptive_wait wait = CPAY_INIT;
+    uint64_t limit = 0;
+    cpay_status status;
+    AGAIN(status, cpay_adaptive_wait_new(&wait, &settings));
+    if (status) return 1;
+    long made = asked;
+    if (cpay_adaptive_wait_missing(&wait, 0, numbers, 2) || cpay_adaptive_wait_arrived(&wait, 300, 1)) return 2;
+    if (cpay_adaptive_wait_limit(&wait, &limit) || limit != 375) return 3;
+    if (asked != made || kept == before) return 4;
+    cpay_adaptive_wait_free(&wait);
+    return kept == before ? 0 : 5;
+}
+
 /* A packet of Opus: its header of 12 bytes, and the payload. */
 static size_t packet(uint8_t *out, uint8_t type, uint8_t ssrc, uint8_t number, const char *payload, size_t size) {
     const uint8_t header[12] = {0x80, type, 0, number, 0, 0, 0, number, 0, 0, 0, ssrc};
@@ -529,6 +547,7 @@ static int too_large(void) {
     const cpay_session_settings port = CPAY_LIVE_SESSION;
     const cpay_session_format format = {.spec = opus, .payload_type = 111};
     const cpay_history_settings keeps = {.limit = 512};
+    const cpay_adaptive_wait_settings waits = CPAY_LIVE_ADAPTIVE_WAIT;
     static const uint32_t distance = 1;
     cpay_receiver_settings receives = CPAY_LIVE_AUDIO;
     any it = ANY_INIT;
@@ -544,6 +563,7 @@ static int too_large(void) {
     TAKES(1200, "sender", cpay_sender_new(&it.sender, &sends));
     TAKES(200, "history", cpay_history_new(&it.history, &keeps));
     TAKES(2600, "receiver", cpay_receiver_new(&it.receiver, &receives, NULL, 0));
+    TAKES(1900, "adaptive wait", cpay_adaptive_wait_new(&it.adaptive_wait, &waits));
     TAKES(1200, "session", cpay_session_new(&it.session, &port, &format, 1, NULL, 0, NULL, 0));
     return bad;
 }
@@ -612,6 +632,7 @@ static int session(int *met) {
     int ended = red(met);
     if (!ended) ended = datagrams(met);
     if (!ended) ended = history(met);
+    if (!ended) ended = waiting(met);
     if (!ended) ended = port(met);
     return ended ? ended : recovery(met);
 }

@@ -161,6 +161,18 @@ void over_a_history() {
     CHECK(kept.resend(9, numbers[1], found, resent) == CPAY_OK && resent == CPAY_RESENT_NOT_KEPT && found.empty());
 }
 
+void over_an_adaptive_wait() {
+    const cpay_adaptive_wait_settings settings = CPAY_LIVE_ADAPTIVE_WAIT;
+    std::uint64_t limit = 0;
+    cpay::adaptive_wait wait;
+    CHECK(wait.limit(limit) == CPAY_EMPTY && wait.make(settings) == CPAY_OK && wait.make(settings) == CPAY_FULL);
+    CHECK(wait.limit(limit) == CPAY_OK && limit == 200);
+    const std::vector<std::uint64_t> numbers = {65536, 65537, 65538, 65539, 65540, 65541, 65542, 65543};
+    CHECK(wait.missing(0, numbers) == CPAY_OK);
+    for (std::uint16_t number = 0; number < 8; number++) CHECK(wait.arrived(80, number) == CPAY_OK);
+    CHECK(wait.limit(limit) == CPAY_OK && limit == 100);
+}
+
 void over_red() {
     const std::uint32_t distances[] = {1};
     const std::uint8_t payload[] = {1, 2, 3};
@@ -183,6 +195,7 @@ int main() {
     over_a_port();
     over_payloads();
     over_a_history();
+    over_an_adaptive_wait();
     over_red();
     return checked();
 }

@@ -555,17 +555,32 @@ static const cpay_sdp_format *red_over(const cpay_sdp_media *media, uint8_t payl
     return other;
 }
 
-static void set_source(cpay_receiver_settings *settings, const cpay_sdp_media *media, uint8_t payload_type) {
-    if (media->source_count != 1) return;
-    settings->has_ssrc = true;
-    settings->ssrc = media->sources[0].ssrc;
-    for (size_t i = 0; i < media->format_count && media->sources[0].has_rtx && !settings->has_rtx; i++) {
+/* The first retransmissions of a payload type. Returns whether there are any. */
+static bool retransmission_of(const cpay_sdp_media *media, uint8_t payload_type, uint8_t *found) {
+    for (size_t i = 0; i < media->format_count; i++) {
         const cpay_sdp_format *format = &media->formats[i];
         if (format->role != CPAY_SDP_RETRANSMISSION || !format->has_of || format->of != payload_type) continue;
-        settings->has_rtx = true;
-        settings->rtx_payload_type = format->payload_type;
-        settings->rtx_ssrc = media->sources[0].rtx_ssrc;
+        *found = format->payload_type;
+        return true;
     }
+    return false;
+}
+
+static void set_red(cpay_receiver_settings *settings, const cpay_sdp_media *media, const cpay_sdp_format *red) {
+    settings->has_red = true;
+    settings->red_payload_type = red->payload_type;
+    settings->red_step = red_step(media, settings->spec.rate);
+    settings->has_red_rtx = retransmission_of(media, red->payload_type, &settings->red_rtx_payload_type);
+}
+
+static void set_source(cpay_receiver_settings *settings, const cpay_sdp_media *media) {
+    const cpay_sdp_source *source = &media->sources[0];
+    if (media->source_count != 1) return;
+    settings->has_ssrc = true;
+    settings->ssrc = source->ssrc;
+    if (!source->has_rtx || !retransmission_of(media, settings->payload_type, &settings->rtx_payload_type)) return;
+    settings->has_rtx = true;
+    settings->rtx_ssrc = source->rtx_ssrc;
 }
 
 cpay_status cpay_sdp_receiver(const cpay_sdp_media *media, uint8_t payload_type, cpay_receiver_settings *settings,
@@ -580,12 +595,8 @@ cpay_status cpay_sdp_receiver(const cpay_sdp_media *media, uint8_t payload_type,
     settings->spec.octet_align = format->octet_align;
     settings->payload_type = payload_type;
     settings->extension_ids = media->extension_ids;
-    if (red) {
-        settings->has_red = true;
-        settings->red_payload_type = red->payload_type;
-        settings->red_step = red_step(media, format->clock_rate);
-    }
-    set_source(settings, media, payload_type);
+    if (red) set_red(settings, media, red);
+    set_source(settings, media);
     for (size_t i = 0; i < media->format_count; i++)
         if (media->formats[i].role >= CPAY_SDP_EVENTS) no_media[count++] = media->formats[i].payload_type;
     *no_media_len = count;

@@ -4,7 +4,7 @@
 #include "check.h"
 #include "codec_payload.h"
 
-enum { AUDIO = 111, VIDEO = 96, RED = 63, RTX = 112, EVENTS = 101, NOISE = 13 };
+enum { AUDIO = 111, VIDEO = 96, RED = 63, RTX = 112, RED_RTX = 113, EVENTS = 101, NOISE = 13 };
 
 static const cpay_session_format FORMATS[2] = {
     {.spec = {.codec = CPAY_OPUS, .rate = 48000},
@@ -13,7 +13,9 @@ static const cpay_session_format FORMATS[2] = {
      .red_payload_type = RED,
      .red_step = 960,
      .has_rtx = true,
-     .rtx_payload_type = RTX},
+     .rtx_payload_type = RTX,
+     .has_red_rtx = true,
+     .red_rtx_payload_type = RED_RTX},
     {.spec = {.codec = CPAY_VP8, .rate = 90000}, .payload_type = VIDEO},
 };
 static const uint8_t NO_MEDIA[2] = {NOISE, EVENTS + CPAY_TELEPHONE};
@@ -534,6 +536,7 @@ static void settings(void) {
     REFUSED_FORMAT(red_step, 0);
     REFUSED_FORMAT(red_step, 16384);
     REFUSED_FORMAT(rtx_payload_type, 128);
+    REFUSED_FORMAT(red_rtx_payload_type, 128);
     formats[0] = FORMATS[0];
     formats[1].spec.rate = 0;
     CHECK(cpay_session_new(&session, &right, formats, 2, NULL, 0, NULL, 0) == CPAY_INVALID);
@@ -547,9 +550,46 @@ static void settings(void) {
     /* without RED and retransmissions their numbers are ignored */
     formats[0] = FORMATS[0];
     formats[0].has_red = formats[0].has_rtx = false;
-    formats[0].red_payload_type = formats[0].rtx_payload_type = 255;
+    formats[0].red_payload_type = formats[0].rtx_payload_type = formats[0].red_rtx_payload_type = 255;
     CHECK(cpay_session_new(&session, &right, formats, 1, NO_MEDIA, 1, PAIRS, 1) == CPAY_OK);
     cpay_session_free(&session);
+    formats[0] = FORMATS[0];
+    formats[0].has_red_rtx = false;
+    formats[0].red_rtx_payload_type = 255;
+    CHECK(cpay_session_new(&session, &right, formats, 1, NO_MEDIA, 1, PAIRS, 1) == CPAY_OK);
+    cpay_session_free(&session);
+}
+
+/* A retransmitted RED packet (RFC 4588 over RFC 2198): the original number, then the RED payload, under the payload type whose
+ * `apt` is that of RED. Number 4 repeats number 3; both are lost. A format that names no such payload type does not know it. */
+static void redundant_again(void) {
+    static const uint8_t original[] = {0, 4, 0xef, 0x0f, 0, 1, 0x6f, 3, 4};
+    const cpay_session_settings live_settings = CPAY_LIVE_SESSION;
+    cpay_session session = live();
+    opus(&session, 0, 1, 1);
+    opus(&session, 0, 1, 2);
+    opus(&session, 20, 1, 5);
+    CHECK(happens(&session, 20, "B1:111 U1:1 U1:2 ."));
+    cpay_arrival it = sent(&session, 40, RED_RTX, 9, 4, original, sizeof original);
+    CHECK(it.kind == CPAY_ARRIVAL_STREAM && it.ssrc == 1 && it.payload_type == AUDIO);
+    CHECK(it.status == CPAY_OK && it.outcome == CPAY_HELD);
+    CHECK(happens(&session, 40, "U1:3 U1:4 U1:5 ."));
+    it = sent(&session, 50, RED_RTX, 9, 4, original, 1);
+    CHECK(it.kind == CPAY_ARRIVAL_STREAM && it.status == CPAY_RTX_TOO_SHORT);
+    it = sent(&session, 50, RED_RTX, 9, 4, original, 3);
+    CHECK(it.kind == CPAY_ARRIVAL_STREAM && it.status == CPAY_RED_CORRUPTED);
+    CHECK(sent(&session, 50, RED_RTX, 8, 4, original, sizeof original).kind == CPAY_ARRIVAL_UNASSOCIATED);
+    CHECK(counts_of(&session).unknown == 0);
+    cpay_session_free(&session);
+    for (int without = 0; without < 2; without++) {
+        cpay_session_format format = FORMATS[0];
+        if (without == 0) format.has_red_rtx = false;
+        else format.has_rtx = false;
+        CHECK(cpay_session_new(&session, &live_settings, &format, 1, NULL, 0, PAIRS, 1) == CPAY_OK);
+        opus(&session, 0, 1, 1);
+        CHECK(sent(&session, 0, RED_RTX, 9, 4, original, sizeof original).kind == CPAY_ARRIVAL_UNKNOWN);
+        cpay_session_free(&session);
+    }
 }
 
 /* Calls on handles that are empty or of another type, which change no output. */
@@ -610,6 +650,7 @@ int main(void) {
     requests();
     sent_reports();
     redundant();
+    redundant_again();
     telephone();
     video();
     reports();

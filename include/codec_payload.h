@@ -28,8 +28,8 @@
  * output buffer and its other output arguments are unchanged. Exception: with CPAY_TOO_SMALL it writes the required size, and the
  * other outputs except the bytes, unless its comment says otherwise.
  *
- * HANDLES. A packetizer, a depacketizer, a buffer, a RED sender, a sender, a history, a receiver and a session each live in a
- * handle: a struct of that type in your own memory. Initialise it with CPAY_INIT, create the object by the call named *_new, and
+ * HANDLES. A packetizer, a depacketizer, a buffer, a RED sender, a sender, a history, a receiver, an adaptive wait and a session
+ * each live in a handle: a struct of that type in your own memory. Initialise it with CPAY_INIT, create the object by the call named *_new, and
  * end with the call named *_free, which leaves the handle empty. You may free an empty handle. Other calls on an empty handle return
  * CPAY_EMPTY; calls on a handle of another type, as after a cast, return CPAY_OTHER_KIND. Never write into a handle. Never copy a
  * handle in use: the library cannot detect that another copy was freed. You may move it in memory if you forget the old place.
@@ -235,6 +235,10 @@ typedef struct {
 
 typedef struct {
     cpay_handle handle;
+} cpay_adaptive_wait;
+
+typedef struct {
+    cpay_handle handle;
 } cpay_session;
 
 #define CPAY_INIT { { false, { NULL } } }
@@ -247,6 +251,7 @@ void cpay_red_sender_free(cpay_red_sender *sender);
 void cpay_sender_free(cpay_sender *sender);
 void cpay_history_free(cpay_history *history);
 void cpay_receiver_free(cpay_receiver *receiver);
+void cpay_adaptive_wait_free(cpay_adaptive_wait *wait);
 void cpay_session_free(cpay_session *session);
 
 /** A codec with its settings. Settings of other codecs are ignored, with two exceptions: `rate` is always checked, and
@@ -652,6 +657,8 @@ typedef struct {
     uint8_t payload_type;     /**< 0 to 127 */
     uint8_t red_payload_type; /**< with has_red: payload type of RED; must differ from `payload_type`, which the blocks have */
     uint8_t rtx_payload_type; /**< with has_rtx: payload type of retransmissions */
+    uint8_t red_rtx_payload_type; /**< with has_red_rtx: payload type of retransmitted RED packets, 0 to 127: the one whose `apt`
+                                       (RFC 4588, section 8.1) is `red_payload_type`; must differ from all other payload types */
     uint8_t from_keyframe;    /**< what happens to video units that a decoder cannot show: CPAY_KEYFRAME_OFF, CPAY_KEYFRAME_MARK
                                    or CPAY_KEYFRAME_DROP */
     bool has_max_wait;
@@ -659,6 +666,7 @@ typedef struct {
     bool has_red; /**< the stream uses RED (RFC 2198): redundant blocks fill in missing packets. No two packets may have the same
                        RTP time, as in audio: no time of the latest 64 is stored twice */
     bool has_rtx; /**< retransmissions arrive in a separate stream (RFC 4588) */
+    bool has_red_rtx; /**< with has_red and has_rtx: RED packets are retransmitted in that stream too; otherwise it is ignored */
     cpay_extension_ids extension_ids; /**< for cpay_receiver_values; two equal ids read the same element */
 } cpay_receiver_settings;
 
@@ -668,7 +676,7 @@ typedef struct {
  * 1000 packets per second. */
 #define CPAY_SETTINGS_THAT_WAIT(start, max_wait, has_max_wait, forward, backward) \
     { { 0, 0, 0, false, false, false }, CPAY_NO_HOLD_BACK, start, 4096, max_wait, 0, 1000, 0, 0, forward, backward, 0, 0, 0, \
-      CPAY_KEYFRAME_MARK, has_max_wait, false, false, false, { 0, 0, 0, 0, 0, 0 } }
+      0, CPAY_KEYFRAME_MARK, has_max_wait, false, false, false, false, { 0, 0, 0, 0, 0, 0 } }
 
 /** Live audio or video without retransmission: a lost packet delays frames by at most 100 ms. */
 #define CPAY_LIVE_AUDIO CPAY_SETTINGS_THAT_WAIT(1, 100, true, 3000, 1000)
@@ -833,6 +841,39 @@ typedef struct {
 
 CPAY_CHECKED cpay_status cpay_receiver_counts(cpay_receiver *receiver, cpay_receiver_counts_info *counts);
 
+/* ---- An adaptive wait: a limit of waiting that follows how late missing packets arrive ---- */
+
+/** Within which bounds the limit moves, in ticks of your clock. Any values are accepted. Begin with CPAY_LIVE_ADAPTIVE_WAIT. */
+typedef struct {
+    uint64_t shortest;   /**< the lowest limit */
+    uint64_t longest;    /**< the highest limit; if it is below `shortest` or `first`, it wins */
+    uint64_t first;      /**< the lowest limit while fewer than 8 missing packets arrived or were lost */
+    uint64_t lost_after; /**< a packet that is missing for this number of ticks is lost. It then counts as a packet that arrived at
+                              once, since waiting longer would not have helped */
+} cpay_adaptive_wait_settings;
+
+/** For a clock of milliseconds: 20 ms to 400 ms, at first at least 200 ms; a packet is lost after 1 s. */
+#define CPAY_LIVE_ADAPTIVE_WAIT { 20, 400, 200, 1000 }
+
+/** Creates the limit of one stream in an empty handle. The limit is 5/4 of the greatest of the latest 32 ages, within the bounds. The
+ * age of a missing packet is the time from the first report that it is missing until its arrival. If missing packets never
+ * arrive, the limit falls to `shortest`. The latest 64 missing packets are followed. docs/C.md has the loop around a receiver.
+ * It takes about 2 kB. [m] */
+CPAY_CHECKED cpay_status cpay_adaptive_wait_new(cpay_adaptive_wait *wait, const cpay_adaptive_wait_settings *settings);
+
+/** Records that a packet arrived at time `now`. `number` is its sequence number; for a retransmission (RFC 4588) it is the original
+ * number. If the packet was missing, its age is noted. Does not allocate. */
+CPAY_CHECKED cpay_status cpay_adaptive_wait_arrived(cpay_adaptive_wait *wait, uint64_t now, uint16_t number);
+
+/** Records at time `now` that packets are missing: the numbers that cpay_receiver_missing wrote. A number that is not above all
+ * numbers before it changes nothing, so you may pass all missing numbers again and again. Does not allocate. */
+CPAY_CHECKED cpay_status cpay_adaptive_wait_missing(cpay_adaptive_wait *wait, uint64_t now, const uint64_t *numbers,
+                                                    size_t numbers_len);
+
+/** Reports the limit in ticks: the `max_wait` for cpay_receiver_set_wait_limits, or for cpay_session_set_wait_limits. Does not
+ * allocate. */
+CPAY_CHECKED cpay_status cpay_adaptive_wait_limit(cpay_adaptive_wait *wait, uint64_t *limit);
+
 /* ---- A session: all datagrams of a port in, the events of its streams out ---- */
 
 /** A payload format of a port, as a=rtpmap and a=fmtp of a session description name it (RFC 8866, section 6). */
@@ -842,8 +883,11 @@ typedef struct {
     uint8_t payload_type;     /**< 0 to 127; if two formats have the same payload type, the first counts */
     uint8_t red_payload_type; /**< with has_red: payload type of RED, 0 to 127; must differ from `payload_type` */
     uint8_t rtx_payload_type; /**< with has_rtx: payload type of retransmissions, 0 to 127 */
+    uint8_t red_rtx_payload_type; /**< with has_red_rtx: payload type of retransmitted RED packets, 0 to 127: the one whose `apt`
+                                       (RFC 4588, section 8.1) is `red_payload_type`; must differ from all other payload types */
     bool has_red;             /**< packets of the format may arrive in RED (RFC 2198) */
     bool has_rtx;             /**< packets of the format may be retransmitted under another SSRC (RFC 4588); see cpay_ssrc_pair */
+    bool has_red_rtx;         /**< with has_red and has_rtx: RED packets may be retransmitted too; otherwise it is ignored */
     bool nack;                /**< its sender answers requests for missing packets: a=rtcp-fb with nack (RFC 4585, section 4.2) */
     bool pli;                 /**< its sender answers requests for keyframes: a=rtcp-fb with nack pli */
 } cpay_session_format;

@@ -171,6 +171,21 @@ public:
     [[nodiscard]] cpay_status counts(cpay_receiver_counts_info &counts) noexcept { return cpay_receiver_counts(get(), &counts); }
 };
 
+/** A limit of waiting that follows how late missing packets arrive. */
+class adaptive_wait : public handle<cpay_adaptive_wait, cpay_adaptive_wait_free> {
+public:
+    [[nodiscard]] cpay_status make(const cpay_adaptive_wait_settings &settings) noexcept {
+        return cpay_adaptive_wait_new(get(), &settings);
+    }
+    [[nodiscard]] cpay_status arrived(std::uint64_t now, std::uint16_t number) noexcept {
+        return cpay_adaptive_wait_arrived(get(), now, number);
+    }
+    [[nodiscard]] cpay_status missing(std::uint64_t now, view<const std::uint64_t> numbers) noexcept {
+        return cpay_adaptive_wait_missing(get(), now, numbers.data(), numbers.size());
+    }
+    [[nodiscard]] cpay_status limit(std::uint64_t &limit) noexcept { return cpay_adaptive_wait_limit(get(), &limit); }
+};
+
 /** All datagrams of a port in, the events of its streams out. */
 class session : public handle<cpay_session, cpay_session_free> {
 public:

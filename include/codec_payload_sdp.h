@@ -122,7 +122,7 @@ const cpay_sdp_format *cpay_sdp_format_of(const cpay_sdp_media *media, uint8_t p
  *
  * - Wait limits: for live audio or video, with retransmission if `a=rtcp-fb` has nack for the payload type.
  * - RED: the RED format over the payload type, or one that names no payload type. The step is `a=ptime`, 20 ms by default, in ticks
- *   of the RTP clock, 1 to 16383.
+ *   of the RTP clock, 1 to 16383. If a format of RTX has the payload type of RED as `apt`, retransmitted RED is set too.
  * - If the section has exactly one SSRC of media, it is the SSRC of the stream. If it has retransmissions, and a format of RTX has the
  *   payload type as `apt`, they are set too.
  * - Ids of header extensions.

@@ -71,7 +71,8 @@ void twin_depacketizer_free(void *depacketizer) {
 }
 
 /* A receiver by settings in the order of the fields of cpay_receiver_settings. A `hold_back` of SIZE_MAX
- * sets no bound by count, a `max_wait` of UINT64_MAX none by time; 0 means no RED, or no retransmissions. */
+ * sets no bound by count, a `max_wait` of UINT64_MAX none by time; 0 means no RED, or no retransmissions. With both, RED is
+ * retransmitted with payload type 99. */
 void *twin_receiver(uint32_t codec, uint32_t rate, uint32_t flags, const uint64_t values[9]) {
     cpay_receiver_settings settings = CPAY_FILE;
     settings.spec = spec_of(codec, rate, flags, 0);
@@ -92,6 +93,8 @@ void *twin_receiver(uint32_t codec, uint32_t rate, uint32_t flags, const uint64_
     settings.has_rtx = values[8];
     settings.rtx_ssrc = (uint32_t)values[8];
     settings.rtx_payload_type = 98;
+    settings.has_red_rtx = settings.has_red && settings.has_rtx;
+    settings.red_rtx_payload_type = 99;
     static const uint8_t no_media[] = { 97, 13 };
     cpay_receiver *made = calloc(1, sizeof *made);
     if (made && !cpay_receiver_new(made, &settings, no_media, sizeof no_media)) return made;
@@ -137,8 +140,8 @@ void twin_receiver_free(void *receiver) {
     free(receiver);
 }
 
-/* A session of two formats: the given one with payload type 96, RED 63 and retransmissions 98, and Opus with payload type 100. The
- * values are max_wait, start, limit, max_streams, probation, idle_timeout, bye_wait and from_keyframe. */
+/* A session of two formats: the given one with payload type 96, RED 63, retransmissions 98 and retransmissions of RED 99, and Opus
+ * with payload type 100. The values are max_wait, start, limit, max_streams, probation, idle_timeout, bye_wait and from_keyframe. */
 void *twin_session(uint32_t codec, uint32_t rate, uint32_t flags, const uint64_t values[8]) {
     cpay_session_settings settings = CPAY_LIVE_SESSION;
     cpay_session_format formats[2] = { { .red_step = 0 }, { .red_step = 0 } };
@@ -146,10 +149,11 @@ void *twin_session(uint32_t codec, uint32_t rate, uint32_t flags, const uint64_t
     static const cpay_ssrc_pair pairs[] = { { 1, 2 } };
     formats[0].spec = spec_of(codec, rate, flags, 0);
     formats[0].payload_type = 96;
-    formats[0].has_red = formats[0].has_rtx = true;
+    formats[0].has_red = formats[0].has_rtx = formats[0].has_red_rtx = true;
     formats[0].red_payload_type = 63;
     formats[0].red_step = 90;
     formats[0].rtx_payload_type = 98;
+    formats[0].red_rtx_payload_type = 99;
     formats[1].spec = spec_of(CPAY_OPUS, 48000, 0, 0);
     formats[1].payload_type = 100;
     settings.audio.max_wait = settings.video.max_wait = values[0];
@@ -227,6 +231,28 @@ uint32_t twin_session_counts(void *session, uint64_t counts[9]) {
 void twin_session_free(void *session) {
     cpay_session_free(session);
     free(session);
+}
+
+/* A limit of waiting by shortest, longest, first and lost_after. */
+void *twin_wait(const uint64_t values[4]) {
+    const cpay_adaptive_wait_settings settings = { values[0], values[1], values[2], values[3] };
+    cpay_adaptive_wait *made = calloc(1, sizeof *made);
+    if (made && !cpay_adaptive_wait_new(made, &settings)) return made;
+    free(made);
+    return NULL;
+}
+
+uint32_t twin_wait_arrived(void *wait, uint64_t now, uint16_t number) { return cpay_adaptive_wait_arrived(wait, now, number); }
+
+uint32_t twin_wait_missing(void *wait, uint64_t now, const uint64_t *numbers, size_t numbers_len) {
+    return cpay_adaptive_wait_missing(wait, now, numbers, numbers_len);
+}
+
+uint32_t twin_wait_limit(void *wait, uint64_t *limit) { return cpay_adaptive_wait_limit(wait, limit); }
+
+void twin_wait_free(void *wait) {
+    cpay_adaptive_wait_free(wait);
+    free(wait);
 }
 
 /* A history by limit, interval, whether there are retransmissions, their SSRC, payload type and first number; NULL if refused. */

@@ -1,6 +1,7 @@
 -- A receiver is made exactly if all settings are in range.
 use Rattle.std.proofs.Common.{◌≡◌, ◌∙◌, ap, refl, sym, ℕ, Bool, true, false, List, Option, Some, None, Result, Ok, Err, ◌&&◌, ◌||◌, ◌==◌, not, nat_le, nat_lt, if◌then◌else◌, is_ok}
-use Rattle.codec_payload_c.specs.StreamReceivers.{AreSettings, is_in_range, red_in_range, rtx_in_range}
+use Rattle.codec_payload_c.specs.StreamReceivers.{AreSettings, is_in_range, red_in_range, red_rtx_in_range, rtx_in_range}
+use Rattle.codec_payload_c.specs.Inspect.{given_if}
 use Rattle.codec_payload_core.specs.Depacketizers.{DepacketizerState}
 use Rattle.codec_payload_jitter.specs.Numbers.{Numbering, numbering_within}
 use Rattle.codec_payload_stream.specs.declared.datagram.RedStream.{RedStream}
@@ -63,18 +64,19 @@ turned false true false = refl
 turned false false true = refl
 turned false false false = refl
 
-with_both : (x t k : Bool) → true ≡ (t && k) → x ≡ ((x && t) && k)
-with_both true t k h = h
-with_both false t k h = refl
+with_all : (x t k q : Bool) → true ≡ (t && k && q) → x ≡ (x && t && k && q)
+with_all true t k q h = h
+with_all false t k q h = refl
 
-in_order : (a b c r d e f g t k : Bool) → true ≡ (t && k) → (a && ((b && c) && (r && (d && ((e && f) && g))))) ≡ (a && b && c && e && f && g && t && k && d && r)
-in_order false b c r d e f g t k h = refl
-in_order true false c r d e f g t k h = refl
-in_order true true false r d e f g t k h = refl
-in_order true true true r d e f g t k h = turned r d ((e && f) && g) ∙ ap (λ (x : Bool). (x && d) && r) (with_both ((e && f) && g) t k h)
+in_order : (a b c r d e f g t k q : Bool) → true ≡ (t && k && q)
+    → (a && ((b && c) && (r && (d && ((e && f) && g))))) ≡ (a && b && c && e && f && g && t && k && q && d && r)
+in_order false b c r d e f g t k q h = refl
+in_order true false c r d e f g t k q h = refl
+in_order true true false r d e f g t k q h = refl
+in_order true true true r d e f g t k q h = turned r d ((e && f) && g) ∙ ap (λ (x : Bool). (x && d) && r) (with_all ((e && f) && g) t k q h)
 
 -- of settings as C gave them, whether they are in range
-pub ok_settings : (s : ReceiverSettings) (types : List ℕ) (t : Settings) (d : DepacketizerState) → AreSettings s types t → true ≡ (nat_lt 0 s.tick_rate && nat_le s.from_keyframe 2)
+pub ok_settings : (s : ReceiverSettings) (types : List ℕ) (t : Settings) (d : DepacketizerState) → AreSettings s types t → true ≡ (nat_lt 0 s.tick_rate && nat_le s.from_keyframe 2 && red_rtx_in_range s)
     → is_ok (session_by t d) ≡ is_in_range s
 ok_settings s types t d a h =
     ok_if (nat_le t.payload_type 127) _ settings.PayloadType
@@ -85,5 +87,5 @@ ok_settings s types t d a h =
     ∙ (λ i. nat_le (a.payload_type i) 127 && ((nat_le 1 (a.limit i) && nat_le (a.limit i) 65536) && (retransmission_fits (a.retransmission i)
     && (is_ok (red_within (a.payload_type i) (a.red i)) && ((nat_lt 0 (a.forward i) && nat_le (a.forward i) 32768) && nat_lt (a.backward i) (a.forward i))))))
     ∙ (λ i. nat_le s.payload_type 127 && ((nat_le 1 s.limit && nat_le s.limit 65536) && (fits_if s.has_rtx (record { ssrc = s.rtx_ssrc; payload_type = s.rtx_payload_type }) i
-    && (ok_red_if s.payload_type s.has_red (record { payload_type = s.red_payload_type; step = s.red_step; retransmission = None }) i && ((nat_lt 0 s.forward && nat_le s.forward 32768) && nat_lt s.backward s.forward)))))
-    ∙ in_order (nat_le s.payload_type 127) (nat_le 1 s.limit) (nat_le s.limit 65536) (rtx_in_range s) (red_in_range s) (nat_lt 0 s.forward) (nat_le s.forward 32768) (nat_lt s.backward s.forward) (nat_lt 0 s.tick_rate) (nat_le s.from_keyframe 2) h
+    && (ok_red_if s.payload_type s.has_red (record { payload_type = s.red_payload_type; step = s.red_step; retransmission = given_if s.has_red_rtx s.red_rtx_payload_type }) i && ((nat_lt 0 s.forward && nat_le s.forward 32768) && nat_lt s.backward s.forward)))))
+    ∙ in_order (nat_le s.payload_type 127) (nat_le 1 s.limit) (nat_le s.limit 65536) (rtx_in_range s) (red_in_range s) (nat_lt 0 s.forward) (nat_le s.forward 32768) (nat_lt s.backward s.forward) (nat_lt 0 s.tick_rate) (nat_le s.from_keyframe 2) (red_rtx_in_range s) h

@@ -1,3 +1,4 @@
+pub mod AdaptiveWaits
 pub mod Assemblers
 pub mod Buffers
 pub mod Extensions

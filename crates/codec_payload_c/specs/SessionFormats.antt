@@ -10,6 +10,7 @@ use Rattle.codec_payload_session.specs.declared.formats.FeedbackSettings.{Feedba
 use Rattle.codec_payload_session.specs.declared.formats.Format.{Format}
 use Rattle.codec_payload_session.specs.declared.formats.SessionSettings.{SessionSettings as Settings}
 use Rattle.codec_payload_session.specs.declared.formats.SsrcPair.{SsrcPair as Pair}
+use Rattle.codec_payload_stream.specs.declared.receiver.RedSettings.{RedSettings}
 use Rattle.codec_payload_c.specs.Ids.{ids_given}
 use Rattle.codec_payload_c.specs.Inspect.{given_if}
 use Rattle.codec_payload_c.specs.StreamReceivers.{from_keyframe_numbered, wait_limits_given}
@@ -20,9 +21,12 @@ use Rattle.codec_payload_c.specs.declared.session_settings.SsrcPair.{SsrcPair}
 
 -- ---- ranges
 
--- RED, if it is used: its payload type differs from the format's, and the step is in range
+-- RED, if it is used: its payload type differs from the format's, and the step and the payload type of its retransmissions are in
+-- range
 abbrev pub red_fits : SessionFormat → Bool
-red_fits f = not f.has_red || (nat_le f.red_payload_type 127 && not (f.red_payload_type == f.payload_type) && nat_le 1 f.red_step && nat_le f.red_step 16383)
+red_fits f =
+    not f.has_red || (nat_le f.red_payload_type 127 && not (f.red_payload_type == f.payload_type) && nat_le 1 f.red_step && nat_le f.red_step 16383
+    && (not f.has_red_rtx || nat_le f.red_rtx_payload_type 127))
 
 -- the payload types and the step of RED are in range
 abbrev pub types_fit : SessionFormat → Bool
@@ -42,11 +46,17 @@ is_in_range s formats = session_in_range s && list_all format_in_range formats
 
 -- ---- from C
 
+-- RED, with the payload type of its retransmissions, if there are any
+abbrev pub red_given : SessionFormat → Option RedSettings
+red_given f =
+    if f.has_red then Some (record { payload_type = f.red_payload_type; step = f.red_step; retransmission = given_if f.has_red_rtx f.red_rtx_payload_type })
+    else None
+
 abbrev pub format_with : SessionFormat → Format
 format_with f = record {
   payload_type = f.payload_type;
   spec = record { codec = codec_numbered f.spec.codec; clock_rate = f.spec.rate; octet_align = f.spec.octet_align };
-  red = if f.has_red then Some (record { payload_type = f.red_payload_type; step = f.red_step; retransmission = None }) else None;
+  red = red_given f;
   retransmission = given_if f.has_rtx f.rtx_payload_type;
   nack = f.nack;
   pli = f.pli;

@@ -38,6 +38,10 @@ use Rattle.codec_payload_c.specs.declared.receiver.ReportInfo.{ReportInfo}
 abbrev pub red_in_range : ReceiverSettings → Bool
 red_in_range s = not s.has_red || (nat_le s.red_payload_type 127 && not (s.red_payload_type == s.payload_type) && nat_le 1 s.red_step && nat_le s.red_step 16383)
 
+-- retransmitted RED packets, if there are any
+abbrev pub red_rtx_in_range : ReceiverSettings → Bool
+red_rtx_in_range s = not s.has_red || not s.has_red_rtx || nat_le s.red_rtx_payload_type 127
+
 -- retransmissions, if there are any
 abbrev pub rtx_in_range : ReceiverSettings → Bool
 rtx_in_range s = not s.has_rtx || nat_le s.rtx_payload_type 127
@@ -47,7 +51,7 @@ abbrev pub is_in_range : ReceiverSettings → Bool
 is_in_range s =
     nat_le s.payload_type 127 && nat_le 1 s.limit && nat_le s.limit 65536
     && nat_lt 0 s.forward && nat_le s.forward 32768 && nat_lt s.backward s.forward
-    && nat_lt 0 s.tick_rate && nat_le s.from_keyframe 2 && red_in_range s && rtx_in_range s
+    && nat_lt 0 s.tick_rate && nat_le s.from_keyframe 2 && red_rtx_in_range s && red_in_range s && rtx_in_range s
 
 -- the largest number means no bound
 abbrev pub bound_given : ℕ → Option ℕ
@@ -61,7 +65,7 @@ abbrev pub wait_limits_given : CWaitLimits → WaitLimits
 wait_limits_given p = record { hold_back = bound_given p.hold_back; start = p.start; max_wait = given_if p.has_max_wait p.max_wait }
 
 abbrev pub red_set : ReceiverSettings → Option RedSettings
-red_set s = if s.has_red then Some (record { payload_type = s.red_payload_type; step = s.red_step; retransmission = None }) else None
+red_set s = if s.has_red then Some (record { payload_type = s.red_payload_type; step = s.red_step; retransmission = given_if s.has_red_rtx s.red_rtx_payload_type }) else None
 
 abbrev pub rtx_set : ReceiverSettings → Option Retransmission
 rtx_set s = if s.has_rtx then Some (record { ssrc = s.rtx_ssrc; payload_type = s.rtx_payload_type }) else None

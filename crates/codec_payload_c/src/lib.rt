@@ -1,6 +1,7 @@
 //! The C API. Each call returns a status; `status.rt` has the numbers.
 #![tactic(auto)]
 
+mod adaptive_wait;
 mod buffer;
 mod depacketizer;
 mod extension;

@@ -7,7 +7,7 @@ ghost use Rattle.codec_payload_jitter.specs.Receiving.{deadline_of};
 ghost use Rattle.codec_payload_stream.specs.Reports.{report_of, reported};
 ghost use Rattle.codec_payload_stream.specs.Sessions.{Finishes, restarted};
 ghost use Rattle.codec_payload_c.specs.Refusals.{RefusesSettings};
-ghost use Rattle.codec_payload_c.specs.StreamReceivers.{AreSettings, HandsOver, IsNewStream, IsStreamReceiverOf, PopsUnit, Takes, Tells, TellsCounts, TellsMissing, TellsNumber, TellsReport, TellsTaken, without_units, bound_given, from_keyframe_numbered, is_in_range, judged_by, outcome_number, red_set, rtx_set, restarted_as, wait_limits_given, waiting_by};
+ghost use Rattle.codec_payload_c.specs.StreamReceivers.{AreSettings, HandsOver, IsNewStream, IsStreamReceiverOf, PopsUnit, Takes, Tells, TellsCounts, TellsMissing, TellsNumber, TellsReport, TellsTaken, without_units, bound_given, from_keyframe_numbered, is_in_range, judged_by, outcome_number, red_rtx_in_range, red_set, rtx_set, restarted_as, wait_limits_given, waiting_by};
 ghost use Rattle.codec_payload_handle.specs.Kinds.{Makes, OnStreamReceiver, Refuses, is_stream_receiver};
 ghost use Rattle.codec_payload_handle.specs.Settings.{depacketizer_set};
 
@@ -60,6 +60,8 @@ pub struct ReceiverSettings {
     pub red_payload_type: u8,
     /// The payload type of retransmissions, 0 to 127.
     pub rtx_payload_type: u8,
+    /// The payload type of retransmitted RED packets, 0 to 127.
+    pub red_rtx_payload_type: u8,
     /// What happens to units of video that a decoder cannot show. 0: nothing; 1: they are marked; 2: they are dropped.
     pub from_keyframe: u8,
     /// Whether `max_wait` is set. If not, frames wait for as long as `hold_back` and `start` say.
@@ -70,6 +72,8 @@ pub struct ReceiverSettings {
     pub has_red: bool,
     /// Whether there is a stream of retransmissions.
     pub has_rtx: bool,
+    /// Whether RED packets are retransmitted there too.
+    pub has_red_rtx: bool,
     /// The ids of the header extensions to read.
     pub extension_ids: ExtensionIds,
 }
@@ -152,8 +156,19 @@ fn red_of(settings: &ReceiverSettings) -> Option<RedSettings>
     Some(RedSettings {
         payload_type: settings.red_payload_type,
         step: settings.red_step,
-        retransmission: None,
+        retransmission: if settings.has_red_rtx {
+            Some(settings.red_rtx_payload_type)
+        } else {
+            None
+        },
     })
+}
+
+/// Returns whether the payload type of retransmitted RED packets, if it is used, is in range.
+fn red_rtx_fits(settings: &ReceiverSettings) -> bool
+    ensures { result ≡ red_rtx_in_range settings.now }
+{
+    !settings.has_red || !settings.has_red_rtx || settings.red_rtx_payload_type <= 127
 }
 
 /// Returns the SSRC and payload type of retransmissions.
@@ -207,18 +222,22 @@ pub(crate) fn waiting_for(wait_limits: WaitLimits) -> Waiting
     }
 }
 
-/// Converts the settings of C. `None`: the clock has no rate, or `from_keyframe` is out of range.
+/// Converts the settings of C. `None`: the clock has no rate, or `from_keyframe` or the payload type of retransmitted RED
+/// packets is out of range.
 fn settings_of(
     settings: &ReceiverSettings,
     clock_rate: Frequency,
     no_media: Vec<u8>,
 ) -> Option<Settings>
     requires clock { clock_rate ≡ settings.now.spec.rate }
-    ensures made { is_some result ≡ (nat_lt 0 settings.now.tick_rate && nat_le settings.now.from_keyframe 2) }
+    ensures made { is_some result ≡ (nat_lt 0 settings.now.tick_rate && nat_le settings.now.from_keyframe 2 && red_rtx_in_range settings.now) }
     ensures settings { IfSome result (AreSettings settings.now no_media.items) }
 {
     let tick_rate = Frequency::make(settings.tick_rate)?;
     let from_keyframe = from_keyframe_of(settings.from_keyframe)?;
+    if !red_rtx_fits(settings) {
+        return None;
+    }
     Some(Settings {
         payload_type: settings.payload_type,
         no_media,

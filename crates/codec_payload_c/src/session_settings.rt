@@ -3,7 +3,7 @@
 ghost use Rattle.std.specs.Prelude.{◌≡◌, ◌&&◌, is_some, map, filter_map, IfErr, IfOk, IfSome, Option, Bool};
 ghost use Rattle.std.specs.List.{list_all};
 ghost use Rattle.codec_payload_c.specs.Refusals.{RefusesSettings};
-ghost use Rattle.codec_payload_c.specs.SessionFormats.{HasPlainSettings, IsNewSession, MatchFeedback, format_given, format_in_range, is_in_range, pair_given, red_fits, session_in_range, telephone_given, types_fit};
+ghost use Rattle.codec_payload_c.specs.SessionFormats.{HasPlainSettings, IsNewSession, MatchFeedback, format_given, format_in_range, is_in_range, pair_given, red_fits, red_given, session_in_range, telephone_given, types_fit};
 
 use crate::extension::{ExtensionIds, ids_of};
 use crate::receiver::{WaitLimits, from_keyframe_of, waiting_for};
@@ -32,10 +32,14 @@ pub struct SessionFormat {
     pub red_payload_type: u8,
     /// The payload type of retransmissions, 0 to 127.
     pub rtx_payload_type: u8,
+    /// The payload type of retransmitted RED packets, 0 to 127.
+    pub red_rtx_payload_type: u8,
     /// Whether the format is sent in RED too.
     pub has_red: bool,
     /// Whether there are retransmissions of the format.
     pub has_rtx: bool,
+    /// Whether RED packets of the format are retransmitted too.
+    pub has_red_rtx: bool,
     /// Whether its sender answers requests for missing packets.
     pub nack: bool,
     /// Whether its sender answers requests for keyframes.
@@ -124,7 +128,8 @@ fn red_fits(format: &SessionFormat) -> bool
         || (format.red_payload_type <= 127
             && format.red_payload_type != format.payload_type
             && format.red_step >= 1
-            && format.red_step <= 16_383)
+            && format.red_step <= 16_383
+            && (!format.has_red_rtx || format.red_rtx_payload_type <= 127))
 }
 
 /// Returns whether the payload types and the step of RED are in range.
@@ -134,6 +139,24 @@ fn types_fit(format: &SessionFormat) -> bool
     format.payload_type <= 127
         && red_fits(format)
         && (!format.has_rtx || format.rtx_payload_type <= 127)
+}
+
+/// Returns how the format uses RED.
+fn red_of(format: &SessionFormat) -> Option<RedSettings>
+    ensures { result ≡ red_given format.now }
+{
+    if !format.has_red {
+        return None;
+    }
+    Some(RedSettings {
+        payload_type: format.red_payload_type,
+        step: format.red_step,
+        retransmission: if format.has_red_rtx {
+            Some(format.red_rtx_payload_type)
+        } else {
+            None
+        },
+    })
 }
 
 /// Converts a format of C. `None`: the codec is unsupported, or a number is out of range.
@@ -156,15 +179,7 @@ fn format_of(alloc: Global, format: &SessionFormat) -> Option<Format>
             clock_rate,
             octet_align: format.spec.octet_align,
         },
-        red: if format.has_red {
-            Some(RedSettings {
-                payload_type: format.red_payload_type,
-                step: format.red_step,
-                retransmission: None,
-            })
-        } else {
-            None
-        },
+        red: red_of(format),
         retransmission: if format.has_rtx {
             Some(format.rtx_payload_type)
         } else {

@@ -1,5 +1,6 @@
 -- The contents of a handle before and after a call.
 use Rattle.std.specs.Prelude.{◌≡◌, ◌⊎◌, ℕ, Bool, true, false, Option, Some, None}
+use Rattle.codec_payload_adaptive_wait.specs.Waits.{Wait}
 use Rattle.codec_payload_core.specs.RedLevels.{Sender as RedSender}
 use Rattle.codec_payload_handle.specs.declared.object.Assembler.{Assembler}
 use Rattle.codec_payload_handle.specs.declared.object.Object.{Object}
@@ -83,6 +84,15 @@ abbrev pub OnPacketHistory : Option Object → (PacketHistory → PacketHistory 
 OnPacketHistory (Some (objects.PacketHistory r)) Does after = StaysPacketHistory (Does r.value) after
 OnPacketHistory _ Does after = Unit {0}
 
+-- the same for a limit of waiting that follows how late missing packets arrive
+abbrev pub StaysAdaptiveWait : (Wait → Type 0) → Option Object → Type 0
+StaysAdaptiveWait Done (Some (objects.AdaptiveWait s)) = Done s.value
+StaysAdaptiveWait Done _ = ⊥
+
+abbrev pub OnAdaptiveWait : Option Object → (Wait → Wait → Type 0) → Option Object → Type 0
+OnAdaptiveWait (Some (objects.AdaptiveWait r)) Does after = StaysAdaptiveWait (Does r.value) after
+OnAdaptiveWait _ Does after = Unit {0}
+
 abbrev pub is_frame_sender : Object → Bool
 is_frame_sender (objects.FrameSender _) = true
 is_frame_sender _ = false
@@ -114,6 +124,10 @@ is_port_session _ = false
 abbrev pub is_packet_history : Object → Bool
 is_packet_history (objects.PacketHistory _) = true
 is_packet_history _ = false
+
+abbrev pub is_adaptive_wait : Object → Bool
+is_adaptive_wait (objects.AdaptiveWait _) = true
+is_adaptive_wait _ = false
 
 -- status 34: the handle is empty; status 35: it holds another type; the handle is unchanged
 abbrev pub Refuses : (Object → Bool) → Option Object → ℕ → Option Object → Type 0

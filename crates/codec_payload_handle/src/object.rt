@@ -1,6 +1,7 @@
 //! The contents of a handle.
 
 use crate::slot::UnitSlot;
+use codec_payload_adaptive_wait::adaptive_wait::AdaptiveWait;
 use codec_payload_core::buffer::{Depacketized, DepacketizingBuffer};
 use codec_payload_core::codec::{CodecDepacketizer, CodecExtra, CodecPacketizer};
 use codec_payload_core::payloads::Payloads;
@@ -81,4 +82,5 @@ pub enum Object {
     StreamReceiver(Box<StreamReceiver>),
     PortSession(Box<PortSession>),
     PacketHistory(Box<PacketHistory>),
+    AdaptiveWait(Box<AdaptiveWait>),
 }

@@ -116,6 +116,9 @@ fn add_receiver(out: &mut String, media: &Media<'_>, format: &Format<'_>) -> std
     write!(out, "receiver of {}: wait {wait}", format.payload_type)?;
     if let Some(red) = &settings.red {
         write!(out, ", RED {} step {}", red.payload_type, red.step)?;
+        if let Some(rtx) = red.retransmission {
+            write!(out, " RTX {rtx}")?;
+        }
     }
     if let Some(ssrc) = settings.ssrc {
         write!(out, ", SSRC {ssrc}")?;

@@ -1,7 +1,7 @@
 //! The generated crate beside the proved library, in one process: each call of both answers the same.
 //!
-//! `twin COUNT` makes COUNT random sequences of calls of packetizers, depacketizers, receivers, sessions and histories each; `twin
-//! FOLDER` takes the sequences of depacketizers and receivers from the fuzzer's corpora, FOLDER/depacketize and FOLDER/receiver. `twin
+//! `twin COUNT` makes COUNT random sequences of calls of packetizers, depacketizers, receivers, sessions, histories and limits of
+//! waiting each; `twin FOLDER` takes the sequences of depacketizers and receivers from the fuzzer's corpora, FOLDER/depacketize and FOLDER/receiver. `twin
 //! changed COUNT` prints what the crate reads of COUNT changed copies of the session description on its standard input, as
 //! c/descriptions.c does.
 
@@ -13,6 +13,7 @@ mod proved;
 mod proved_history;
 mod proved_session;
 mod sessions;
+mod waits;
 
 use codec_payload::jitter::WaitLimits;
 use codec_payload::stream::{Receiver, ReceiverSettings, RedSettings, Retransmission};
@@ -25,6 +26,7 @@ use input::{Input, random_bytes};
 use sessions::sessions;
 use std::collections::HashMap;
 use std::fmt::Debug;
+use waits::waits;
 
 const FLEXIBLE: u32 = 1;
 const VP8_IDS: u32 = 2;
@@ -214,7 +216,7 @@ fn settings(spec: &CodecSpec, input: &mut Input) -> (ReceiverSettings, [u64; 9])
     ours.red = (step > 0).then_some(RedSettings {
         payload_type: 63,
         step,
-        retransmission: None,
+        retransmission: (retransmission > 0).then_some(99),
     });
     ours.retransmission = (retransmission > 0).then_some(Retransmission {
         ssrc: 2,
@@ -248,7 +250,8 @@ fn datagram(kind: u8, how: u8, number: &mut u16, input: &mut Input) -> Vec<u8> {
         _ => *number,
     };
     let flags = input.byte();
-    let payload_type = [96, 63, 98, 97, 96, 96, 96, 96][usize::from(flags >> 4 & 7)];
+    let payload_type = [96, 63, 98, 97, 99, 96, 96, 96][usize::from(flags >> 4 & 7)];
+    let is_again = payload_type == 98 || payload_type == 99;
     let mut bytes = vec![
         0x80 | if flags & 0x80 != 0 {
             input.byte() & 0x3f
@@ -263,8 +266,8 @@ fn datagram(kind: u8, how: u8, number: &mut u16, input: &mut Input) -> Vec<u8> {
     } else {
         u32::from(input.word())
     }));
-    bytes.extend(u32::to_be_bytes(if payload_type == 98 { 2 } else { 1 }));
-    if payload_type == 98 {
+    bytes.extend(u32::to_be_bytes(if is_again { 2 } else { 1 }));
+    if is_again {
         bytes.extend(number.wrapping_sub(u16::from(how / 16)).to_be_bytes());
     }
     bytes.extend(input.some());
@@ -363,12 +366,13 @@ fn main() {
     if word == "changed" {
         return print_changed(&words.next().expect("a count"));
     }
-    let sequences: [(&str, Sequence); 5] = [
+    let sequences: [(&str, Sequence); 6] = [
         ("packetize", packetize),
         ("depacketize", depacketize),
         ("receiver", receive),
         ("session", sessions),
         ("history", histories),
+        ("wait", waits),
     ];
     let mut calls = 0;
     for (name, sequence) in sequences {

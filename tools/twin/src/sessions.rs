@@ -27,7 +27,7 @@ fn formats(spec: CodecSpec) -> Vec<Format> {
     let red = RedSettings {
         payload_type: 63,
         step: 90,
-        retransmission: None,
+        retransmission: Some(99),
     };
     vec![
         format(96, spec, Some(red), Some(98)),
@@ -98,7 +98,7 @@ fn datagram(how: u8, numbers: &mut [u16; 5], input: &mut Input) -> Vec<u8> {
     };
     let flags = input.byte();
     let payload_type = if ssrc == 2 && flags & 8 == 0 {
-        98
+        98 + (flags >> 1 & 1)
     } else {
         [96, 96, 96, 63, 100, 97, 98, 77][usize::from(flags >> 4 & 7)]
     };
@@ -106,7 +106,7 @@ fn datagram(how: u8, numbers: &mut [u16; 5], input: &mut Input) -> Vec<u8> {
     bytes.extend(number.to_be_bytes());
     bytes.extend(u32::to_be_bytes(u32::from(*number / 3) * 90));
     bytes.extend(u32::to_be_bytes(ssrc.into()));
-    if payload_type == 98 {
+    if payload_type == 98 || payload_type == 99 {
         bytes.extend(numbers[1].wrapping_sub(u16::from(flags & 7)).to_be_bytes());
     }
     bytes.extend(input.some());
