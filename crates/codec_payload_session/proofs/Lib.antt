@@ -14,3 +14,4 @@ mod SkipLemmas
 mod SourceLemmas
 mod StillLemmas
 mod TelephoneLemmas
+mod WakingLemmas

@@ -14,3 +14,4 @@ mod sort;
 pub mod stream;
 mod streams;
 mod telephone;
+mod waking;
