@@ -20,6 +20,7 @@ mod sort;
 pub mod stream;
 mod streams;
 mod telephone;
+mod waking;
 
 #[doc(inline)]
 pub use formats::{FeedbackSettings, Format, SessionSettings, SsrcPair};

@@ -1,6 +1,6 @@
 -- Streams that their sender left.
-use Rattle.std.proofs.Common.{◌≡◌, ℕ, suc, List, [], ◌∷◌, length, map, Bool, true, false, ap, refl, arith}
-use Rattle.codec_payload_session.specs.Changes.{continued, is_left_behind, left_behind}
+use Rattle.std.proofs.Common.{◌≡◌, ◌∙◌, ◌||◌, ℕ, suc, List, [], ◌∷◌, length, map, Bool, true, false, ap, refl, arith}
+use Rattle.codec_payload_session.specs.Changes.{any_left_behind, continued, is_left_behind, left_behind}
 use Rattle.codec_payload_session.specs.Ports.{taken_in}
 use Rattle.codec_payload_session.specs.Streams.{left_when}
 use Rattle.codec_payload_session.specs.declared.formats.Format.{Format}
@@ -30,3 +30,20 @@ taken_continued false now wait ssrc f ss = refl
 pub length_continued : (b : Bool) (now wait ssrc : ℕ) (f : Format) (ss : List Stream) → length (continued b now wait ssrc f ss) ≡ length ss
 length_continued true now wait ssrc f ss = length_mapped now wait ssrc f ss
 length_continued false now wait ssrc f ss = refl
+
+-- ---- no stream is left behind
+
+all_stay : (now wait ssrc : ℕ) (f : Format) (ss : List Stream) → any_left_behind now wait ssrc f ss ≡ false → map (left_behind now wait ssrc f) ss ≡ ss
+all_stay now wait ssrc f [] none = refl
+all_stay now wait ssrc f (s ∷ ss) none = by_test (is_left_behind now wait ssrc f s) refl none (all_stay now wait ssrc f ss)
+  where
+    by_test : (b : Bool) → is_left_behind now wait ssrc f s ≡ b → (b || any_left_behind now wait ssrc f ss) ≡ false
+        → (any_left_behind now wait ssrc f ss ≡ false → map (left_behind now wait ssrc f) ss ≡ ss) → left_behind now wait ssrc f s ∷ map (left_behind now wait ssrc f) ss ≡ s ∷ ss
+    by_test true is other rest = absurd (cc)
+    by_test false is other rest =
+        ap (λ (c : Bool). left_when c endings.Changed now s ∷ map (left_behind now wait ssrc f) ss) is ∙ ap (λ (l : List Stream). s ∷ l) (rest other)
+
+-- if no stream is left behind, none changes
+pub none_left : (go : Bool) (now wait ssrc : ℕ) (f : Format) (ss : List Stream) → any_left_behind now wait ssrc f ss ≡ false → continued go now wait ssrc f ss ≡ ss
+none_left false now wait ssrc f ss none = refl
+none_left true now wait ssrc f ss none = all_stay now wait ssrc f ss none

@@ -15,3 +15,4 @@ mod SkipLemmas
 mod SourceLemmas
 mod StillLemmas
 mod TelephoneLemmas
+mod WakingLemmas

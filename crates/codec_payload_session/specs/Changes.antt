@@ -1,5 +1,5 @@
 -- A sender that continues in another format: its earlier stream leaves.
-use Rattle.std.specs.Prelude.{ℕ, ◌-◌, ◌==◌, ◌&&◌, not, nat_le, Bool, true, false, List, map}
+use Rattle.std.specs.Prelude.{ℕ, ◌-◌, ◌==◌, ◌&&◌, ◌||◌, not, nat_le, Bool, true, false, List, [], ◌∷◌, map}
 use Rattle.std.specs.List.{position}
 use Rattle.std.specs.Option.{is_some}
 use Rattle.codec_payload_base.specs.declared.wire.Codec.{Codec}
@@ -56,6 +56,11 @@ abbrev pub is_left_behind : ℕ → ℕ → ℕ → Format → Stream → Bool
 is_left_behind now wait ssrc f s =
     (s.ssrc == ssrc) && not (s.format.payload_type == f.payload_type) && not (takes_turns s.format.spec.codec)
     && are_alike (is_video s.format.spec.codec) (is_video f.spec.codec) && is_playing s.stage && nat_le wait (now - s.last)
+
+-- the sender left one of the streams for this format
+abbrev pub any_left_behind : ℕ → ℕ → ℕ → Format → List Stream → Bool
+any_left_behind now wait ssrc f [] = false
+any_left_behind now wait ssrc f (s ∷ ss) = is_left_behind now wait ssrc f s || any_left_behind now wait ssrc f ss
 
 abbrev pub left_behind : ℕ → ℕ → ℕ → Format → Stream → Stream
 left_behind now wait ssrc f s = left_when (is_left_behind now wait ssrc f s) endings.Changed now s

@@ -13,3 +13,4 @@ pub mod Sorting
 pub mod Streams
 pub mod Telephone
 pub mod Turns
+pub mod Waking

@@ -15,3 +15,4 @@ mod sort;
 pub mod stream;
 mod streams;
 mod telephone;
+mod waking;

@@ -14,6 +14,7 @@ use crate::reports::block_about;
 use crate::requests::LONGEST_NAME;
 use crate::stream::Stream;
 use crate::streams::Streams;
+use crate::waking::Waking;
 use codec_payload_base::wire::{Frequency, Ticks};
 use codec_payload_rtcp::items::ReportBlock;
 use codec_payload_rtcp::packet::ReceiverReport;
@@ -75,6 +76,7 @@ impl Streams {
         let mut blocks = Vec::new(self.alloc);
         append_blocks(&self.list, now, tick_rate, &mut blocks)?;
         let packet = write_report(self.alloc, feedback, &blocks)?;
+        self.waking = Waking::unknown();
         start_fractions(&mut self.list);
         Ok(packet)
     }

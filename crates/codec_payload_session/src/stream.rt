@@ -8,6 +8,7 @@ ghost use Rattle.codec_payload_session.specs.Quiet.{RestsUntil, or_none, time_of
 ghost use Rattle.codec_payload_session.specs.Requests.{wait_by};
 ghost use Rattle.codec_payload_session.specs.Streams.{Begins, Drains, IsInfo, Pops, RequestsBy, RestsBy, Steps, Takes, due_of, earlier, end_of, heard, heard_unless, is_accepted, is_no_memory, is_of, is_probation, left, left_when, received, step_of, waiting_for, waiting_if, work_deadline};
 ghost use Rattle.codec_payload_session.specs.Turns.{is_nothing};
+ghost use Rattle.codec_payload_session.specs.Waking.{Sleeps, or_max};
 ghost use Rattle.codec_payload_session.specs.declared.stream.Step.TheVariants as steps;
 
 use crate::changes::{are_alike, takes_turns};
@@ -272,7 +273,7 @@ impl Stream {
     }
 
     /// Returns whether the sender left the stream for this format: it took no datagram for `wait` ticks.
-    fn is_left_behind(&self, now: u64, wait: u64, ssrc: u32, format: &Format) -> bool
+    pub(crate) fn is_left_behind(&self, now: u64, wait: u64, ssrc: u32, format: &Format) -> bool
         ensures { result ≡ is_left_behind now wait ssrc format.now self.now }
     {
         self.ssrc == ssrc
@@ -470,6 +471,33 @@ impl Stream {
         earlier(end, self.work_deadline())
     }
 
+    /// Returns the same time, and 2^64 - 1 without one.
+    #[inline(always)]
+    pub(crate) fn due_or_max(&self, idle_timeout: u64) -> u64
+        ensures { result ≡ or_max (due_of idle_timeout self.now) }
+    {
+        if self.quiet_until == 0 {
+            return or_max(self.due(idle_timeout));
+        }
+        let end = self.last.saturating_add(idle_timeout);
+        if self.work == 0 {
+            end
+        } else {
+            end.min(self.work)
+        }
+    }
+
+    /// Returns until when the stream has no event, and when its latest datagram arrived. A stream in probation has none.
+    pub(crate) fn asleep(&self) -> (u64, u64)
+        ensures { Sleeps result.0 result.1 self.now }
+    {
+        if is_probation(self.stage) {
+            (u64::MAX, u64::MAX)
+        } else {
+            (self.quiet_until, self.last)
+        }
+    }
+
     /// Describes the stream, as a caller sees it.
     pub(crate) fn info(&self) -> StreamInfo
         ensures { IsInfo self.now result }
@@ -513,6 +541,13 @@ fn or_none(time: Option<u64>) -> u64
     ensures { result ≡ or_none time }
 {
     time.unwrap_or(0)
+}
+
+/// Returns the time, or 2^64 - 1 without one.
+fn or_max(time: Option<u64>) -> u64
+    ensures { result ≡ or_max time }
+{
+    time.unwrap_or(u64::MAX)
 }
 
 /// Returns whether a step has no event.

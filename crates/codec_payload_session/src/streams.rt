@@ -7,21 +7,24 @@ ghost use Rattle.codec_payload_base.specs.Answers.{Finds};
 ghost use Rattle.codec_payload_rtcp.specs.RtcpReading.{compound_at, packets_left};
 ghost use Rattle.codec_payload_rtcp.specs.RtcpValues.{packet_of};
 ghost use Rattle.codec_payload_session.specs.Reports.{noted_at};
-ghost use Rattle.codec_payload_session.specs.Streams.{due_in, is_of, waiting_if, waiting_where};
+ghost use Rattle.codec_payload_session.specs.Streams.{is_of, waiting_if, waiting_where};
 ghost use Rattle.codec_payload_session.specs.Turns.{StepsFirst, TakesTurn, after_step, told_by};
 ghost use Rattle.codec_payload_session.specs.Arrivals.{BeginsIf, BeginsOrFeeds, Feeds, TakesIn, added, goodbye_at, has_place, has_ssrc, includes, leaving, left_if, left_where, on_probation, removed, TakesMedia};
 ghost use Rattle.codec_payload_session.specs.Ports.{ReportsIf, ReportsOn, everyone, no_port};
 ghost use Rattle.codec_payload_session.specs.declared.stream.Ending.TheVariants as endings;
 ghost use Rattle.codec_payload_session.specs.Pairs.{paired_where, with_pair};
+ghost use Rattle.codec_payload_session.specs.Changes.{any_left_behind, continued, continues};
+ghost use Rattle.codec_payload_session.specs.Waking.{FeedsOne, StepsPort};
 
-use crate::changes::{continues, leave_behind};
+use crate::changes::{any_left_behind, continues, leave_behind};
 use crate::formats::{Format, SessionSettings, SsrcPair};
 use crate::goodbyes::leave_by_name;
 use crate::pairs::{pair, with_pair};
 use crate::reports::note_reports;
 use crate::session::{Arrival, Event};
 use crate::sort::{Sorted, sort};
-use crate::stream::{Ending, Step, Stream, earlier, is_no_memory, is_nothing};
+use crate::stream::{Ending, Step, Stream, is_no_memory, is_nothing};
+use crate::waking::{Waking, step_excepted};
 use codec_payload_base::wire::{Frequency, Ticks};
 use codec_payload_jitter::jitter::WaitLimits;
 use codec_payload_rtcp::items::ReportBlock;
@@ -37,13 +40,15 @@ pub(crate) struct Streams {
     pub(crate) finished: bool,
     /// How many datagrams the removed streams took.
     pub(crate) ended: u64,
+    /// Until when the streams have no event.
+    pub(crate) waking: Waking,
 }
 
 /// The step of the stream at a place.
 #[derive(Debug, Drop)]
 pub(crate) struct Turn {
-    place: usize,
-    step: Step,
+    pub(crate) place: usize,
+    pub(crate) step: Step,
 }
 
 /// The streams to end.
@@ -59,7 +64,11 @@ impl Model for Streams {
 
     ghost Value = { Port };
 
+    ghost use Rattle.codec_payload_session.specs.Waking.{IsBound};
+
     ghost view = { λ s. record { streams = s.list.items; finished = s.finished; ended = s.ended } };
+
+    ghost invariant = { λ s. IsBound s.waking s.list.items };
 }
 
 impl Streams {
@@ -72,6 +81,7 @@ impl Streams {
             list: Vec::new(alloc),
             finished: false,
             ended: 0,
+            waking: Waking::unknown(),
         }
     }
 
@@ -122,10 +132,30 @@ impl Streams {
         ensures { TakesMedia settings.now of.0 of.1 now datagram.now self.old result self.new }
     {
         let answer = self.feed_or_begin(settings, of, now, datagram);
-        if answer.is_ok() && continues(&self.list, of.0, &of.1) {
-            leave_behind(&mut self.list, now.0, settings.bye_wait, of);
+        if answer.is_ok() {
+            self.leave_behind(now.0, settings.bye_wait, of.0, &of.1);
         }
         answer
+    }
+
+    /// Ends the streams that the sender left for this format, if its stream is announced.
+    fn leave_behind(&mut self, now: u64, wait: u64, ssrc: u32, format: &Format)
+        ensures { self.new ≡ record self.old { streams = continued (continues ssrc format.now self.old.streams) now wait ssrc format.now self.old.streams } }
+    {
+        if !self.has_left_behind(now, wait, ssrc, format) {
+            return;
+        }
+        if continues(&self.list, ssrc, format) {
+            self.waking = Waking::unknown();
+            leave_behind(&mut self.list, now, wait, (ssrc, *format));
+        }
+    }
+
+    /// Returns whether the sender left a stream for this format, if its stream is announced.
+    fn has_left_behind(&self, now: u64, wait: u64, ssrc: u32, format: &Format) -> bool
+        ensures { result ≡ any_left_behind now wait ssrc format.now self.now.streams }
+    {
+        any_left_behind(&self.list, now, wait, ssrc, format)
     }
 
     /// Passes a datagram to its stream, or begins a stream with it.
@@ -155,17 +185,9 @@ impl Streams {
         requires { place < length self.old.streams }
         ensures { Feeds probation place now datagram.now self.old result self.new }
     {
-        let stream = &self.list[place];
-        let (ssrc, payload_type) = (stream.ssrc, stream.format.payload_type);
-        let answer = self.list[place].take(now, probation, datagram);
-        if is_no_memory(&answer) {
-            return Err(AllocError);
-        }
-        Ok(Arrival::Stream {
-            ssrc,
-            payload_type,
-            answer,
-        })
+        self.waking = self.waking.except(place, &self.list);
+        let stream = &mut self.list[place];
+        feed_one(stream, probation, now, datagram)
     }
 
     /// Begins a stream with a datagram, if there is a place for it.
@@ -210,6 +232,7 @@ impl Streams {
         ensures err { OnErr result (self.new ≡ self.old) }
     {
         let place = leaving(max_streams, &self.list);
+        self.waking = Waking::unknown();
         self.list.push(stream)?;
         if let Some(place) = place {
             self.remove(place);
@@ -222,6 +245,7 @@ impl Streams {
         requires { place < length self.old.streams }
         ensures { self.new ≡ removed place self.old }
     {
+        self.waking = Waking::unknown();
         let gone = self.list.remove(place);
         self.ended = self.ended.wrapping_add(gone.taken);
     }
@@ -230,10 +254,33 @@ impl Streams {
     pub(crate) fn turn(&mut self, now: Ticks, idle_timeout: u64) -> Option<Event>
         ensures { TakesTurn now idle_timeout self.old result self.new }
     {
-        match step_first(&mut self.list, now, idle_timeout) {
+        match self.step(now, idle_timeout) {
             Some(turn) => self.tell(turn),
             None => None,
         }
+    }
+
+    /// Returns the first step with an event. As long as the bound holds, only the stream that is excepted is asked.
+    fn step(&mut self, now: Ticks, idle_timeout: u64) -> Option<Turn>
+        ensures { StepsPort now idle_timeout self.old result self.new }
+    {
+        if self.waking.holds(now, idle_timeout) {
+            step_excepted(&mut self.list, self.waking, now, idle_timeout)
+        } else {
+            self.step_all(now, idle_timeout)
+        }
+    }
+
+    /// Asks all streams in order, until one has an event. Without an event it is known until when they have none.
+    fn step_all(&mut self, now: Ticks, idle_timeout: u64) -> Option<Turn>
+        ensures { StepsPort now idle_timeout self.old result self.new }
+    {
+        self.waking = Waking::unknown();
+        let turn = step_first(&mut self.list, now, idle_timeout);
+        if turn.is_none() {
+            self.waking = Waking::of(&self.list);
+        }
+        turn
     }
 
     /// Returns the event of the stream at a place. A stream that ended is removed.
@@ -278,6 +325,7 @@ impl Streams {
     pub(crate) fn leave(&mut self, who: Who, why: Ending, at: u64)
         ensures { self.new ≡ record self.old { streams = left_where (includes who) why at self.old.streams } }
     {
+        self.waking = Waking::unknown();
         leave(&mut self.list, who, why, at);
     }
 
@@ -285,6 +333,7 @@ impl Streams {
     fn leave_by_name(&mut self, compound: &[u8], at: u64)
         ensures { self.new ≡ record self.old { streams = left_where (goodbye_at compound.now) endings.Bye at self.old.streams } }
     {
+        self.waking = Waking::unknown();
         leave_by_name(&mut self.list, compound, at);
     }
 
@@ -292,6 +341,7 @@ impl Streams {
     fn note_reports(&mut self, now: Ticks, compound: &[u8])
         ensures { self.new ≡ record self.old { streams = noted_at now compound.now self.old.streams } }
     {
+        self.waking = Waking::unknown();
         note_reports(&mut self.list, now, compound);
     }
 
@@ -299,6 +349,7 @@ impl Streams {
     pub(crate) fn set_wait_limits(&mut self, ssrc: u32, payload_type: u8, wait_limits: WaitLimits)
         ensures { self.new ≡ record self.old { streams = waiting_where ssrc payload_type wait_limits self.old.streams } }
     {
+        self.waking = Waking::unknown();
         set_wait_limits(&mut self.list, ssrc, payload_type, wait_limits);
     }
 
@@ -324,6 +375,7 @@ impl Streams {
         ensures reports { ReportsOn place tick_rate now.0 self.old result self.new }
         ensures fits { IfSome result (λ block. block.cumulative_lost < 16777216) }
     {
+        self.waking = Waking::unknown();
         self.list[place].report(now, tick_rate)
     }
 
@@ -342,6 +394,7 @@ impl Streams {
     pub(crate) fn pair(&mut self, ssrc: u32, pairs: &[SsrcPair])
         ensures { self.new ≡ record self.old { streams = paired_where ssrc pairs.now self.old.streams } }
     {
+        self.waking = Waking::unknown();
         pair(&mut self.list, ssrc, pairs);
     }
 
@@ -350,8 +403,30 @@ impl Streams {
         ensures { self.new ≡ record self.old { streams = left_where everyone endings.Told at self.old.streams; finished = true } }
     {
         self.finished = true;
+        self.waking = Waking::unknown();
         leave(&mut self.list, Who::All, Ending::Told, at);
     }
+}
+
+/// Passes a datagram to the stream.
+fn feed_one(
+    stream: &mut Stream,
+    probation: u64,
+    now: Ticks,
+    datagram: &[u8],
+) -> Result<Arrival, AllocError>
+    ensures { FeedsOne probation now datagram.now stream.old result stream.new }
+{
+    let (ssrc, payload_type) = (stream.ssrc, stream.format.payload_type);
+    let answer = stream.take(now, probation, datagram);
+    if is_no_memory(&answer) {
+        return Err(AllocError);
+    }
+    Ok(Arrival::Stream {
+        ssrc,
+        payload_type,
+        answer,
+    })
 }
 
 /// Returns the place of the stream with this SSRC and payload type.
@@ -401,17 +476,6 @@ fn step_first(streams: &mut [Stream], now: Ticks, idle_timeout: u64) -> Option<T
         }
     }
     None
-}
-
-/// Returns when a stream may have an event without a datagram.
-pub(crate) fn due_in(streams: &[Stream], idle_timeout: u64) -> Option<u64>
-    ensures { result ≡ due_in idle_timeout streams.now }
-{
-    let mut due = None;
-    for stream in streams {
-        due = earlier(due, stream.due(idle_timeout));
-    }
-    due
 }
 
 /// Ends these streams at that time.

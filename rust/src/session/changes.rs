@@ -26,6 +26,22 @@ fn playing(streams: &[Stream], ssrc: u32, payload_type: u8) -> Option<usize> {
     streams.iter().position(|s| s.plays(ssrc, payload_type))
 }
 
+/// Returns whether the sender left a stream for this format, if its stream is announced.
+pub(crate) fn any_left_behind(
+    streams: &[Stream],
+    now: u64,
+    wait: u64,
+    ssrc: u32,
+    format: &Format,
+) -> bool {
+    for stream in streams {
+        if stream.is_left_behind(now, wait, ssrc, format) {
+            return true;
+        }
+    }
+    false
+}
+
 /// Ends the streams that the sender left for this format.
 pub(crate) fn leave_behind(streams: &mut [Stream], now: u64, wait: u64, of: (u32, Format)) {
     for place in 0..streams.len() {

@@ -12,6 +12,7 @@ use crate::session::reports::block_about;
 use crate::session::requests::LONGEST_NAME;
 use crate::session::stream::Stream;
 use crate::session::streams::Streams;
+use crate::session::waking::Waking;
 use crate::wire::{Frequency, Ticks};
 use alloc::vec::Vec;
 
@@ -62,6 +63,7 @@ impl Streams {
         let mut blocks = Vec::new();
         append_blocks(&self.list, now, tick_rate, &mut blocks)?;
         let packet = write_report(feedback, &blocks)?;
+        self.waking = Waking::unknown();
         start_fractions(&mut self.list);
         Ok(packet)
     }

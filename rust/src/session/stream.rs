@@ -218,7 +218,7 @@ impl Stream {
     }
 
     /// Returns whether the sender left the stream for this format: it took no datagram for `wait` ticks.
-    fn is_left_behind(&self, now: u64, wait: u64, ssrc: u32, format: &Format) -> bool {
+    pub(crate) fn is_left_behind(&self, now: u64, wait: u64, ssrc: u32, format: &Format) -> bool {
         self.ssrc == ssrc
             && self.format.payload_type != format.payload_type
             && !takes_turns(self.format.spec.codec)
@@ -383,6 +383,29 @@ impl Stream {
         earlier(end, self.work_deadline())
     }
 
+    /// Returns the same time, and 2^64 - 1 without one.
+    #[inline(always)]
+    pub(crate) fn due_or_max(&self, idle_timeout: u64) -> u64 {
+        if self.quiet_until == 0 {
+            return or_max(self.due(idle_timeout));
+        }
+        let end = self.last.saturating_add(idle_timeout);
+        if self.work == 0 {
+            end
+        } else {
+            end.min(self.work)
+        }
+    }
+
+    /// Returns until when the stream has no event, and when its latest datagram arrived. A stream in probation has none.
+    pub(crate) fn asleep(&self) -> (u64, u64) {
+        if is_probation(self.stage) {
+            (u64::MAX, u64::MAX)
+        } else {
+            (self.quiet_until, self.last)
+        }
+    }
+
     /// Describes the stream, as a caller sees it.
     pub(crate) fn info(&self) -> StreamInfo {
         StreamInfo {
@@ -416,6 +439,11 @@ fn time_of(at: u64) -> Option<u64> {
 /// Returns the time as a number. 0 stands for none.
 fn or_none(time: Option<u64>) -> u64 {
     time.unwrap_or(0)
+}
+
+/// Returns the time, or 2^64 - 1 without one.
+fn or_max(time: Option<u64>) -> u64 {
+    time.unwrap_or(u64::MAX)
 }
 
 /// Returns whether a step has no event.

@@ -5,14 +5,15 @@
 use crate::jitter::jitter_buffer::WaitLimits;
 use crate::memory::{AllocError, TryVec};
 use crate::rtcp::items::ReportBlock;
-use crate::session::changes::{continues, leave_behind};
+use crate::session::changes::{any_left_behind, continues, leave_behind};
 use crate::session::formats::{Format, SessionSettings, SsrcPair};
 use crate::session::goodbyes::leave_by_name;
 use crate::session::pairs::{pair, with_pair};
 use crate::session::reports::note_reports;
 use crate::session::sessions::{Arrival, Event};
 use crate::session::sort::{Sorted, sort};
-use crate::session::stream::{Ending, Step, Stream, earlier, is_no_memory, is_nothing};
+use crate::session::stream::{Ending, Step, Stream, is_no_memory, is_nothing};
+use crate::session::waking::{Waking, step_excepted};
 use crate::wire::{Frequency, Ticks};
 use alloc::vec::Vec;
 
@@ -24,13 +25,15 @@ pub(crate) struct Streams {
     pub(crate) finished: bool,
     /// How many datagrams the removed streams took.
     pub(crate) ended: u64,
+    /// Until when the streams have no event.
+    pub(crate) waking: Waking,
 }
 
 /// The step of the stream at a place.
 #[derive(Debug)]
 pub(crate) struct Turn {
-    place: usize,
-    step: Step,
+    pub(crate) place: usize,
+    pub(crate) step: Step,
 }
 
 /// The streams to end.
@@ -48,6 +51,7 @@ impl Streams {
             list: Vec::new(),
             finished: false,
             ended: 0,
+            waking: Waking::unknown(),
         }
     }
 
@@ -92,10 +96,26 @@ impl Streams {
         datagram: &[u8],
     ) -> Result<Arrival, AllocError> {
         let answer = self.feed_or_begin(settings, of, now, datagram);
-        if answer.is_ok() && continues(&self.list, of.0, &of.1) {
-            leave_behind(&mut self.list, now.0, settings.bye_wait, of);
+        if answer.is_ok() {
+            self.leave_behind(now.0, settings.bye_wait, of.0, &of.1);
         }
         answer
+    }
+
+    /// Ends the streams that the sender left for this format, if its stream is announced.
+    fn leave_behind(&mut self, now: u64, wait: u64, ssrc: u32, format: &Format) {
+        if !self.has_left_behind(now, wait, ssrc, format) {
+            return;
+        }
+        if continues(&self.list, ssrc, format) {
+            self.waking = Waking::unknown();
+            leave_behind(&mut self.list, now, wait, (ssrc, *format));
+        }
+    }
+
+    /// Returns whether the sender left a stream for this format, if its stream is announced.
+    fn has_left_behind(&self, now: u64, wait: u64, ssrc: u32, format: &Format) -> bool {
+        any_left_behind(&self.list, now, wait, ssrc, format)
     }
 
     /// Passes a datagram to its stream, or begins a stream with it.
@@ -120,17 +140,9 @@ impl Streams {
         now: Ticks,
         datagram: &[u8],
     ) -> Result<Arrival, AllocError> {
-        let stream = &self.list[place];
-        let (ssrc, payload_type) = (stream.ssrc, stream.format.payload_type);
-        let answer = self.list[place].take(now, probation, datagram);
-        if is_no_memory(&answer) {
-            return Err(AllocError);
-        }
-        Ok(Arrival::Stream {
-            ssrc,
-            payload_type,
-            answer,
-        })
+        self.waking = self.waking.except(place, &self.list);
+        let stream = &mut self.list[place];
+        feed_one(stream, probation, now, datagram)
     }
 
     /// Begins a stream with a datagram, if there is a place for it.
@@ -168,6 +180,7 @@ impl Streams {
     /// Adds a stream. If all places are taken, the first stream in probation is removed.
     fn add(&mut self, max_streams: usize, stream: Stream) -> Result<(), AllocError> {
         let place = leaving(max_streams, &self.list);
+        self.waking = Waking::unknown();
         self.list.try_push(stream)?;
         if let Some(place) = place {
             self.remove(place);
@@ -177,16 +190,36 @@ impl Streams {
 
     /// Removes the stream at this place.
     fn remove(&mut self, place: usize) {
+        self.waking = Waking::unknown();
         let gone = self.list.remove(place);
         self.ended = self.ended.wrapping_add(gone.taken);
     }
 
     /// Returns the next event.
     pub(crate) fn turn(&mut self, now: Ticks, idle_timeout: u64) -> Option<Event> {
-        match step_first(&mut self.list, now, idle_timeout) {
+        match self.step(now, idle_timeout) {
             Some(turn) => self.tell(turn),
             None => None,
         }
+    }
+
+    /// Returns the first step with an event. As long as the bound holds, only the stream that is excepted is asked.
+    fn step(&mut self, now: Ticks, idle_timeout: u64) -> Option<Turn> {
+        if self.waking.holds(now, idle_timeout) {
+            step_excepted(&mut self.list, self.waking, now, idle_timeout)
+        } else {
+            self.step_all(now, idle_timeout)
+        }
+    }
+
+    /// Asks all streams in order, until one has an event. Without an event it is known until when they have none.
+    fn step_all(&mut self, now: Ticks, idle_timeout: u64) -> Option<Turn> {
+        self.waking = Waking::unknown();
+        let turn = step_first(&mut self.list, now, idle_timeout);
+        if turn.is_none() {
+            self.waking = Waking::of(&self.list);
+        }
+        turn
     }
 
     /// Returns the event of the stream at a place. A stream that ended is removed.
@@ -225,21 +258,25 @@ impl Streams {
 
     /// Ends these streams at that time.
     pub(crate) fn leave(&mut self, who: Who, why: Ending, at: u64) {
+        self.waking = Waking::unknown();
         leave(&mut self.list, who, why, at);
     }
 
     /// Ends the streams that a BYE of the compound packet names, at that time.
     fn leave_by_name(&mut self, compound: &[u8], at: u64) {
+        self.waking = Waking::unknown();
         leave_by_name(&mut self.list, compound, at);
     }
 
     /// Notes the sender reports of a compound packet.
     fn note_reports(&mut self, now: Ticks, compound: &[u8]) {
+        self.waking = Waking::unknown();
         note_reports(&mut self.list, now, compound);
     }
 
     /// Replaces the wait limits of the stream with this SSRC and payload type.
     pub(crate) fn set_wait_limits(&mut self, ssrc: u32, payload_type: u8, wait_limits: WaitLimits) {
+        self.waking = Waking::unknown();
         set_wait_limits(&mut self.list, ssrc, payload_type, wait_limits);
     }
 
@@ -258,6 +295,7 @@ impl Streams {
 
     /// Returns the report block about the sender of the stream at this place.
     fn report_at(&mut self, place: usize, now: Ticks, tick_rate: Frequency) -> Option<ReportBlock> {
+        self.waking = Waking::unknown();
         self.list[place].report(now, tick_rate)
     }
 
@@ -272,14 +310,35 @@ impl Streams {
 
     /// Gives the streams of this SSRC the retransmissions that they have by these pairs.
     pub(crate) fn pair(&mut self, ssrc: u32, pairs: &[SsrcPair]) {
+        self.waking = Waking::unknown();
         pair(&mut self.list, ssrc, pairs);
     }
 
     /// Ends all streams at that time, and refuses new ones from now on.
     pub(crate) fn finish(&mut self, at: u64) {
         self.finished = true;
+        self.waking = Waking::unknown();
         leave(&mut self.list, Who::All, Ending::Told, at);
     }
+}
+
+/// Passes a datagram to the stream.
+fn feed_one(
+    stream: &mut Stream,
+    probation: u64,
+    now: Ticks,
+    datagram: &[u8],
+) -> Result<Arrival, AllocError> {
+    let (ssrc, payload_type) = (stream.ssrc, stream.format.payload_type);
+    let answer = stream.take(now, probation, datagram);
+    if is_no_memory(&answer) {
+        return Err(AllocError);
+    }
+    Ok(Arrival::Stream {
+        ssrc,
+        payload_type,
+        answer,
+    })
 }
 
 /// Returns the place of the stream with this SSRC and payload type.
@@ -315,15 +374,6 @@ fn step_first(streams: &mut [Stream], now: Ticks, idle_timeout: u64) -> Option<T
         }
     }
     None
-}
-
-/// Returns when a stream may have an event without a datagram.
-pub(crate) fn due_in(streams: &[Stream], idle_timeout: u64) -> Option<u64> {
-    let mut due = None;
-    for stream in streams {
-        due = earlier(due, stream.due(idle_timeout));
-    }
-    due
 }
 
 /// Ends these streams at that time.

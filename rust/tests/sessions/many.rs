@@ -188,7 +188,7 @@ fn memory_of_sessions_and_streams() {
         "a session: {} bytes, and {session} behind it",
         size_of::<Session>()
     );
-    assert!(size_of::<Session>() + session <= 560);
+    assert!(size_of::<Session>() + session <= 580);
     type Datagram = fn(u32, u16) -> Vec<u8>;
     let audio: Datagram = opus;
     let video: Datagram = |ssrc, number| vp8(ssrc, number, number == 0);

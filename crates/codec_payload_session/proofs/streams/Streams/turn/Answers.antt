@@ -1,35 +1,23 @@
-use Rattle.std.proofs.Common.{◌≡◌, ◌∙◌, List, length, refl, subst, sym}
-use Rattle.std.proofs.lemmas.List.{with_items_is}
-use Rattle.std.specs.Vec.{with_items}
+use Rattle.std.proofs.Common.{◌≡◌, ◌<◌, ◌∙◌, Some, ap, length, slice_get, subst, sym}
 use Rattle.codec_payload_session.specs.Arrivals.{Port}
-use Rattle.codec_payload_session.specs.Turns.{AreQuiet, FirstSteps, TakesTurn}
-use Rattle.codec_payload_session.specs.declared.stream.Stream.{Stream}
-use Rattle.codec_payload_session.proofs.QuietLemmas.{first_length, quiet_length, turn_tells}
+use Rattle.codec_payload_session.specs.Turns.{after_step, told_by}
+use Rattle.codec_payload_session.specs.Waking.{StepsPort}
+use Rattle.codec_payload_session.proofs.QuietLemmas.{place_within, turn_tells}
 use Rattle.codec_payload_session.proofs.streams.Streams.turn.Goals as goal
+
+pub tell-requires : goal.tell-requires
+tell-requires c =
+    let it : StepsPort c.args.now c.args.idle_timeout c.args.self.now (Some c.in-Some.turn) c.step.new.self = c.in-Some.ensures in
+    subst (λ (p : Port). c.in-Some.turn.place < length p.streams) (sym it.left) (place_within c.args.now c.args.idle_timeout c.args.self.now.streams it.streams c.in-Some.turn it.first)
 
 pub returns-in-Some : goal.returns-in-Some
 returns-in-Some c =
-    let ss : List Stream = c.self.inside.list.items in
-    let ts : List Stream = c.step_first.new.streams in
-    let p : Port = record { streams = ss; finished = c.self.inside.finished; ended = c.self.inside.ended } in
-    let is : c.deref_mut.result.now ≡ ss = c.deref_mut.ensures.value in
-    let first : FirstSteps c.args.now c.args.idle_timeout ss c.in-Some.turn ts = subst (λ (l : List Stream). FirstSteps c.args.now c.args.idle_timeout l c.in-Some.turn ts) is c.in-Some.ensures in
-    let long : length ts ≡ c.self.inside.list.len = first_length c.args.now c.args.idle_timeout ss ts c.in-Some.turn first ∙ sym c.self.inside.list.ok.0 in
-    let written : List Stream = (with_items c.self.inside.list ts).items in
-    let same : written ≡ ts = with_items_is c.self.inside.list ts long in
-    subst (λ (q : Port). TakesTurn c.args.now c.args.idle_timeout q c.tell.result c.tell.new.self) c.self.view_is
-    (turn_tells c.args.now c.args.idle_timeout p c.tell.new.self c.in-Some.turn written c.tell.result
-    (subst (λ (l : List Stream). FirstSteps c.args.now c.args.idle_timeout ss c.in-Some.turn l) (sym same) first) c.tell.ensures.told c.tell.ensures.after)
+    let it : StepsPort c.args.now c.args.idle_timeout c.args.self.now (Some c.in-Some.turn) c.step.new.self = c.in-Some.ensures in
+    let told : c.tell.result ≡ told_by (slice_get it.streams c.in-Some.turn.place) c.in-Some.turn.step =
+    c.tell.ensures.told ∙ ap (λ (p : Port). told_by (slice_get p.streams c.in-Some.turn.place) c.in-Some.turn.step) it.left in
+    let after : c.tell.new.self ≡ after_step c.in-Some.turn.step c.in-Some.turn.place (record c.args.self.now { streams = it.streams }) =
+    c.tell.ensures.after ∙ ap (λ (p : Port). after_step c.in-Some.turn.step c.in-Some.turn.place p) it.left in
+    turn_tells c.args.now c.args.idle_timeout c.args.self.now c.tell.new.self c.in-Some.turn it.streams c.tell.result it.first told after
 
 pub returns-in-None : goal.returns-in-None
-returns-in-None c =
-    let ss : List Stream = c.self.inside.list.items in
-    let ts : List Stream = c.step_first.new.streams in
-    let is : c.deref_mut.result.now ≡ ss = c.deref_mut.ensures.value in
-    let quiet : AreQuiet c.args.now c.args.idle_timeout ss ts = subst (λ (l : List Stream). AreQuiet c.args.now c.args.idle_timeout l ts) is c.in-None.ensures in
-    let long : length ts ≡ c.self.inside.list.len = quiet_length c.args.now c.args.idle_timeout ss ts quiet ∙ sym c.self.inside.list.ok.0 in
-    let written : List Stream = (with_items c.self.inside.list ts).items in
-    let same : written ≡ ts = with_items_is c.self.inside.list ts long in
-    let t : Port = record { streams = written; finished = c.self.inside.finished; ended = c.self.inside.ended } in
-    subst (λ (q : Port). (x : List Stream) × AreQuiet c.args.now c.args.idle_timeout q.streams x × (t ≡ record q { streams = x })) c.self.view_is
-    (written, subst (λ (l : List Stream). AreQuiet c.args.now c.args.idle_timeout ss l) (sym same) quiet, refl)
+returns-in-None c = (c.in-None.ensures.streams, c.in-None.ensures.first, c.in-None.ensures.left)

@@ -1,0 +1,25 @@
+use Rattle.std.proofs.Common.{◌≡◌, ◌∙◌, arith, false, refl, sym, true}
+use Rattle.codec_payload_session.specs.Turns.{is_nothing}
+use Rattle.codec_payload_session.proofs.WakingLemmas.{bound_set, fed_steps, none_steps, nothing_steps}
+use Rattle.codec_payload_session.proofs.waking.step_excepted.Goals as goal
+
+pub returns-then-place-streams-clause-first : goal.returns-then-place-streams-clause-first
+returns-then-place-streams-clause-first c = none_steps c.args.waking c.args.now c.args.idle_timeout c.args.streams.now (omega (arith, c.if-place-streams.true)) c.requires.bound c.requires.holds
+
+pub returns-then-is_nothing-clause-first : goal.returns-then-is_nothing-clause-first
+returns-then-is_nothing-clause-first c =
+    let tells : is_nothing c.step-step.result ≡ true = sym c.is_nothing.ensures ∙ c.if-is_nothing.true in
+    nothing_steps c.args.waking c.args.now c.args.idle_timeout c.index-streams-place.result c.step-step.new.self c.args.streams.now c.step-step.result (omega (arith, c.if-place-streams.false))
+    c.requires.bound c.requires.holds c.step-step.ensures tells
+
+pub returns-then-is_nothing-clause-bound : goal.returns-then-is_nothing-clause-bound
+returns-then-is_nothing-clause-bound c = bound_set c.args.waking c.args.waking.fed c.args.streams.now c.step-step.new.self refl c.requires.bound
+
+pub returns-else-is_nothing-clause-first : goal.returns-else-is_nothing-clause-first
+returns-else-is_nothing-clause-first c =
+    let tells : is_nothing c.step-step.result ≡ false = sym c.is_nothing.ensures ∙ c.if-is_nothing.false in
+    fed_steps c.args.waking c.args.now c.args.idle_timeout c.index-streams-place.result c.step-step.new.self c.args.streams.now c.step-step.result (omega (arith, c.if-place-streams.false))
+    c.requires.bound c.requires.holds c.step-step.ensures tells
+
+pub returns-else-is_nothing-clause-bound : goal.returns-else-is_nothing-clause-bound
+returns-else-is_nothing-clause-bound c = bound_set c.args.waking c.args.waking.fed c.args.streams.now c.step-step.new.self refl c.requires.bound
