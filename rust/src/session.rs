@@ -31,3 +31,5 @@ pub use sessions::{Arrival, Event, Session, SessionCounts};
 
 #[doc(inline)]
 pub use stream::{Ending, Stage, StreamInfo};
+
+pub mod runs;

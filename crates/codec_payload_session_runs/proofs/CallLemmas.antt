@@ -40,8 +40,8 @@ use Rattle.codec_payload_session.specs.declared.stream.Ending.TheVariants as end
 use Rattle.codec_payload_session.specs.declared.stream.Stream.{Stream}
 use Rattle.codec_payload_session_runs.proofs.AloneLemmas.{made_append, pops_append, runs_append, shown_append}
 use Rattle.codec_payload_session_runs.proofs.FateLemmas.{AreApart, AreFates, AreFresh, AreKnown, BeginsNow, Ends, Evolves, GoAll, IsAbsent, IsFate, IsReplaced, IsSilent, ShowsNothing, absent_at, absent_middle, all_fates, all_stay, evolves_all, evolves_map, evolves_same, fates_append, found_none, mapped_all, of_same, one_goes, others_go, present, present_all, present_append, same_sym, silent_all}
-use Rattle.codec_payload_session_runs.proofs.StreamLemmas.{Goes, HasPart, IsKnown, Keeps, Kind, Stepped, call_of, fed_goes, keeps_left, silent_goes, steps_stepped}
-use Rattle.codec_payload_session_runs.specs.Lives.{AreMadeBy, IsMadeBy, AreOfOne, ReceiverCall, RunsAlone, events_by, events_in, given_by, is_same, many_pops, one_call, one_event, pairs, receives, released_by, reports, shown, shown_in, waits}
+use Rattle.codec_payload_session_runs.proofs.StreamLemmas.{Goes, HasPart, IsKnown, Keeps, Kind, Stepped, call_of, fed_goes, given_is, keeps_left, silent_goes, steps_stepped}
+use Rattle.codec_payload_session_runs.specs.Lives.{AreMadeBy, IsMadeBy, AreOfOne, ReceiverCall, RunsAlone, StartsWithDatagram, events_by, events_in, given_by, is_same, many_pops, one_call, one_event, pairs, receives, released_by, reports, shown, shown_in, waits}
 use Rattle.codec_payload_session_runs.specs.SessionRuns.{Call}
 use Rattle.codec_payload_session_runs.specs.declared.run.SessionStep.{SessionStep}
 use Rattle.codec_payload_session_runs.specs.declared.run.SessionStep.TheVariants as calls
@@ -116,7 +116,7 @@ appended_evolves given c p y silent go begins = record {
   silent = λ ssrc payload_type absent. silent ssrc payload_type;
 }
 
--- the streams with a new one, of which one may have been removed
+-- the streams with a new one; an earlier stream may have been removed
 added_evolves : (given : SessionSettings) (c : Call) (b : Bool) (o : Option ℕ) (p : Port) (y : Stream) → IsSilent c → GoAll c p.streams p.streams → AreKnown p.streams
     → BeginsNow given c p.streams y → position on_probation p.streams ≡ o → Evolves given c p.streams (without (cond b None o) (record p { streams = p.streams ++ y ∷ [] })).streams
 added_evolves given c true o p y silent go known begins place = appended_evolves given c p y silent go begins
@@ -152,6 +152,8 @@ begins_evolve settings ssrc f now datagram p answer q none known got =
       begins = subst₂ (λ (s : ℕ) (g : Format). Begins settings s g x) (sym ssrc_is) (sym format) got.begins;
       goes = goes;
       untold = goes.tells ∙ got.begins.told;
+      starts = subst₂ (λ (s : ℕ) (g : Format). StartsWithDatagram s g.payload_type (c ∷ [])) (sym ssrc_is) (sym format)
+          (now, datagram.items, got.told, sym (given_is false now datagram.items ssrc f.payload_type got.told answer got.answers));
       absent = subst₂ (λ (s : ℕ) (g : Format). IsAbsent s g.payload_type p.streams) (sym ssrc_is) (sym format) absent;
     } in
     let go : GoAll c p.streams p.streams = others_go c ssrc f.payload_type p.streams absent
@@ -337,7 +339,7 @@ rest_absent : (front : List Stream) (x : Stream) (rest : List Stream) → AreApa
 rest_absent [] x rest apart = apart.0
 rest_absent (z ∷ zs) x rest apart = rest_absent zs x rest apart.1
 
--- what becomes of the stream with the event
+-- the fate of the stream with the event
 fate_of : (now : Ticks) (event : Event) (kept : List Stream → List Stream) (x y : Stream) → Stepped now x (Some event) kept y
     → (f : Option Stream) × IsFate (poll_of now (Some event)) x f × ((rest : List Stream) → kept rest ≡ present (f ∷ all_stay rest))
 fate_of now event kept x y s = by_kind s.kind

@@ -12,7 +12,7 @@ use Rattle.codec_payload_session.specs.declared.stream.Ending.{Ending}
 use Rattle.codec_payload_session.specs.declared.stream.Stream.{Stream}
 use Rattle.codec_payload_session_runs.proofs.AloneLemmas.{one_in_order}
 use Rattle.codec_payload_session_runs.proofs.StreamLemmas.{Goes, HasPart, IsKnown, Keeps, keeps_after, silent_goes}
-use Rattle.codec_payload_session_runs.specs.Lives.{AreInOrder, AreOfOne, events_in, is_announced, is_same, shown_in}
+use Rattle.codec_payload_session_runs.specs.Lives.{AreInOrder, AreOfOne, StartsWithDatagram, events_in, is_announced, is_same, shown_in}
 use Rattle.codec_payload_session_runs.specs.SessionRuns.{Call}
 
 -- ---- streams with different SSRCs or payload types
@@ -84,7 +84,7 @@ not_found ssrc payload_type i (s ∷ ss) none = found_test (is_of ssrc payload_t
 pub found_none : (ssrc payload_type : ℕ) (ss : List Stream) → position (is_of ssrc payload_type) ss ≡ None → IsAbsent ssrc payload_type ss
 found_none ssrc payload_type ss none = not_found ssrc payload_type 0 ss (sym (position_from-zero (is_of ssrc payload_type) ss) ∙ none)
 
--- ---- what becomes of each stream: it stays, or it is removed
+-- ---- the fate of each stream: it stays, or it is removed
 
 pub record Ends (c : Call) (x : Stream) : Type 0 where
   pub after : Stream
@@ -119,6 +119,7 @@ pub record BeginsNow (settings : SessionSettings) (c : Call) (ss : List Stream) 
   pub begins : Begins settings y.ssrc y.format fresh
   pub goes : Goes c fresh y
   pub untold : y.told ≡ false
+  pub starts : StartsWithDatagram y.ssrc y.format.payload_type (c ∷ [])
   pub absent : IsAbsent y.ssrc y.format.payload_type ss
 
 abbrev pub AreFresh : SessionSettings → Call → List Stream → List Stream → Type 0
@@ -222,6 +223,7 @@ fresh_map settings c g ss (y ∷ []) keeps are =
       begins = subst₂ (λ (s : ℕ) (f : Format). Begins settings s f are.fresh) (sym k.ssrc_is) (sym k.format) are.begins;
       goes = keeps_after c are.fresh y (g y) are.goes k;
       untold = k.told ∙ are.untold;
+      starts = subst₂ (λ (s : ℕ) (f : Format). StartsWithDatagram s f.payload_type (c ∷ [])) (sym k.ssrc_is) (sym k.format) are.starts;
       absent = subst₂ (λ (s : ℕ) (f : Format). IsAbsent s f.payload_type ss) (sym k.ssrc_is) (sym k.format) are.absent;
     }
 fresh_map settings c g ss (y ∷ z ∷ zs) keeps are = absurd are

@@ -26,7 +26,7 @@ use Rattle.codec_payload_session_runs.proofs.AloneLemmas.{events_more, one_appen
 use Rattle.codec_payload_session_runs.proofs.CallLemmas.{end_evolves, failed_evolves, finish_evolves, pairs_evolve, quiet_evolves, receive_evolves, report_evolves, reported_evolves, tells_evolve, waits_evolve}
 use Rattle.codec_payload_session_runs.proofs.FateLemmas.{AreApart, AreFates, AreFresh, AreKnown, BeginsNow, Ends, Evolves, IsAbsent, IsFate, IsReplaced, apart_fates, apart_more, absent_fates, evolves_same, known_fates, known_more, of_is, order_evolves, present, same_sym}
 use Rattle.codec_payload_session_runs.proofs.StreamLemmas.{Goes, HasPart, same_is}
-use Rattle.codec_payload_session_runs.specs.Lives.{AreInOrder, AreOfOne, EachEndedAlone, EachIsAlone, EndedAlone, IsAlone, IsPart, Projects, ReceiverCall, RunsAlone, TellsInOrder, ending_poll, events_in, events_of, is_announced, is_same, one_event, pairs_after, pairs_by, shown, shown_of}
+use Rattle.codec_payload_session_runs.specs.Lives.{AreInOrder, AreOfOne, EachEndedAlone, EachIsAlone, EndedAlone, IsAlone, IsPart, Projects, ReceiverCall, RunsAlone, StartsWithDatagram, TellsInOrder, ending_poll, events_in, events_of, is_announced, is_same, one_event, pairs_after, pairs_by, shown, shown_of}
 use Rattle.codec_payload_session_runs.specs.SessionRuns.{AddsPair, Call, Does, Runs}
 use Rattle.codec_payload_session_runs.specs.declared.run.SessionStep.{SessionStep}
 use Rattle.codec_payload_session_runs.specs.declared.run.SessionStep.TheVariants as calls
@@ -150,6 +150,10 @@ moves (calls.RemovePair ssrc) answer s t apart known got =
 
 -- ---- streams alone
 
+starts_more : (ssrc payload_type : ℕ) (cs ds : List Call) → StartsWithDatagram ssrc payload_type cs → StartsWithDatagram ssrc payload_type (cs ++ ds)
+starts_more ssrc payload_type [] ds starts = absurd starts
+starts_more ssrc payload_type (c ∷ cs) ds starts = starts
+
 alone_more : (settings : SessionSettings) (cs : List Call) (c : Call) (x y : Stream) → IsAlone settings cs x.ssrc x.format x.told x.receiver → HasPart c x y
     → AreOfOne x.told (events_in x.ssrc x.format.payload_type c.answer) y.told → IsAlone settings (cs ++ c ∷ []) y.ssrc y.format y.told y.receiver
 alone_more settings cs c x y got has tells =
@@ -159,6 +163,7 @@ alone_more settings cs c x y got has tells =
       before = got.before;
       during = got.during ++ c ∷ [];
       whole = ap (λ (zs : List Call). zs ++ c ∷ []) got.whole ∙ append_assoc got.before got.during (c ∷ []);
+      starts = starts_more x.ssrc x.format.payload_type got.during (c ∷ []) got.starts;
       named = got.named;
       named_by = got.named_by;
       fresh = got.fresh;
@@ -185,6 +190,7 @@ alone_fresh settings given cs c ss y named others got =
       before = cs;
       during = c ∷ [];
       whole = refl;
+      starts = got.starts;
       named = given.pairs;
       named_by = named;
       fresh = x;

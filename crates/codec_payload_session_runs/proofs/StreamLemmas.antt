@@ -162,7 +162,7 @@ abbrev pub call_of : Ticks → Vec ℕ → Result Arrival AllocError → Call
 call_of now datagram answer = record { step = calls.Receive now datagram; answer = answers.Received answer }
 
 -- the answer shows the datagram, unless memory ran out for it
-given_is : (b : Bool) (now : Ticks) (bytes : List ℕ) (ssrc payload_type : ℕ) (told : Result Outcome ReceiveError) (answer : Result Arrival AllocError) → Arrives b (arrivals.Stream ssrc payload_type told) answer
+pub given_is : (b : Bool) (now : Ticks) (bytes : List ℕ) (ssrc payload_type : ℕ) (told : Result Outcome ReceiveError) (answer : Result Arrival AllocError) → Arrives b (arrivals.Stream ssrc payload_type told) answer
     → with_shown (not b) (receives now bytes told) [] ≡ given_by ssrc payload_type now bytes answer
 given_is false now bytes ssrc payload_type told answer is =
     ap (λ (b : Bool). one_call b (receives now bytes told)) (sym (same_is ssrc payload_type)) ∙ ap (λ (a : Result Arrival AllocError). given_by ssrc payload_type now bytes a) (sym is)

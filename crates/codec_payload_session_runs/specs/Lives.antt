@@ -116,6 +116,12 @@ abbrev pub shown_of : ℕ → ℕ → List Call → List ReceiverCall
 shown_of ssrc payload_type [] = []
 shown_of ssrc payload_type (c ∷ cs) = shown_in ssrc payload_type c ++ shown_of ssrc payload_type cs
 
+-- the first of the calls gave a datagram to the stream
+abbrev pub StartsWithDatagram : ℕ → ℕ → List Call → Type 0
+StartsWithDatagram ssrc payload_type [] = ⊥
+StartsWithDatagram ssrc payload_type (c ∷ cs) =
+    (now : Ticks) × (bytes : List ℕ) × (answer : Result Outcome ReceiveError) × (shown_in ssrc payload_type c ≡ receives now bytes answer ∷ [])
+
 -- ---- the calls of the receiver that answers show: datagrams for which memory did not run out, and pops with a unit
 
 abbrev pub is_some_unit : Option (Result Release PacketError) → Bool
@@ -246,14 +252,15 @@ abbrev pub pairs_after : List Call → List SsrcPair → List SsrcPair
 pairs_after [] ps = ps
 pairs_after (c ∷ cs) ps = pairs_after cs (pairs_by c.step c.answer ps)
 
--- a stream of a session is a receiver alone. The run is cut at the call with which the stream began: its receiver was then a new
--- one, with the settings of its format and its SSRC. From there on it made exactly its own calls: those that the projection gives
--- it, so the datagrams that answers give to its SSRC and payload type, and the units of its events, in order. Its announcement is
--- the first of its events, and there is no end among them
+-- a stream of a session is a receiver alone. The run is cut in front of the datagram with which the stream began: its receiver was
+-- then a new one, with the settings of its format and its SSRC. From there on it made exactly the calls of the projection. These
+-- show the datagrams that answers give to its SSRC and payload type, and the units of its events, in order. Its announcement is the
+-- first of its events, and none of them is an end
 pub record IsAlone (settings : SessionSettings) (calls : List Call) (ssrc : ℕ) (f : Format) (told : Bool) (r : Receiver) : Type 0 where
   pub before : List Call
   pub during : List Call
   pub whole : calls ≡ before ++ during
+  pub starts : StartsWithDatagram ssrc f.payload_type during
   pub named : Vec SsrcPair
   pub named_by : named.items ≡ pairs_after before settings.pairs.items
   pub fresh : Stream

@@ -2,7 +2,7 @@
 
 ghost use Rattle.std.specs.Prelude.{◌≡◌, length, IfOk, OnErr};
 ghost use Rattle.codec_payload_session.specs.Ports.{new_session, taken_in, told_counts};
-ghost use Rattle.codec_payload_session.specs.declared.formats.SessionSettings.{SessionSettings};
+ghost use Rattle.codec_payload_session.specs.declared.formats.SessionSettings.{SessionSettings as Settings};
 ghost use Rattle.codec_payload_session_runs.specs.Counting.{Counts};
 ghost use Rattle.codec_payload_session_runs.specs.Lives.{EachEndedAlone, EachIsAlone, TellsInOrder};
 ghost use Rattle.codec_payload_session_runs.specs.SessionRuns.{Does, Runs, calls_of};
@@ -10,6 +10,7 @@ ghost use Rattle.codec_payload_session_runs.specs.SessionRuns.{Does, Runs, calls
 use codec_payload_base::wire::Ticks;
 use codec_payload_jitter::waiting::WaitLimits;
 use codec_payload_rtcp::items::ReportBlock;
+use codec_payload_session::formats::SessionSettings;
 use codec_payload_session::session::{Arrival, Event, Session, SessionCounts};
 use std::alloc::{AllocError, Global};
 
@@ -97,13 +98,13 @@ pub fn run_session(
     ensures runs { IfOk result (λ run. Runs (calls_of steps.now run.answers.items) session.old session.new) }
     ensures counts { IfOk result (λ run. run.counts ≡ told_counts session.new.counts session.new.port.ended session.new.telephone.dropped) }
     // From a new session on: every datagram is counted once.
-    ensures counted { IfOk result (λ run. (settings : SessionSettings) → session.old ≡ new_session settings → Counts (calls_of steps.now run.answers.items) run.counts (taken_in session.new.port.streams)) }
+    ensures counted { IfOk result (λ run. (settings : Settings) → session.old ≡ new_session settings → Counts (calls_of steps.now run.answers.items) run.counts (taken_in session.new.port.streams)) }
     // From a new session on: each stream is a receiver alone.
-    ensures alone { IfOk result (λ run. (settings : SessionSettings) → session.old ≡ new_session settings → EachIsAlone settings (calls_of steps.now run.answers.items) session.new.port.streams) }
+    ensures alone { IfOk result (λ run. (settings : Settings) → session.old ≡ new_session settings → EachIsAlone settings (calls_of steps.now run.answers.items) session.new.port.streams) }
     // So is each stream that ended.
-    ensures ended { IfOk result (λ run. (settings : SessionSettings) → session.old ≡ new_session settings → EachEndedAlone settings (calls_of steps.now run.answers.items)) }
+    ensures ended { IfOk result (λ run. (settings : Settings) → session.old ≡ new_session settings → EachEndedAlone settings (calls_of steps.now run.answers.items)) }
     // From a new session on: the events of each SSRC and payload type are in order.
-    ensures order { IfOk result (λ run. (settings : SessionSettings) → session.old ≡ new_session settings → TellsInOrder (calls_of steps.now run.answers.items) session.new.port.streams) }
+    ensures order { IfOk result (λ run. (settings : Settings) → session.old ≡ new_session settings → TellsInOrder (calls_of steps.now run.answers.items) session.new.port.streams) }
     ensures err { OnErr result (session.new ≡ session.old) }
 {
     let mut answers = Vec::with_capacity(alloc, steps.len())?;
@@ -114,6 +115,35 @@ pub fn run_session(
         answers,
         counts: session.counts(),
     })
+}
+
+/// A session and the run that it made.
+#[derive(Debug, Drop)]
+pub struct RecordedSession {
+    pub session: Session,
+    pub run: SessionRun,
+}
+
+/// Makes a new session, and makes the calls in order with it. See [`run_session`].
+///
+/// # Errors
+///
+/// Out of memory for the list of answers.
+pub fn run_new_session(
+    alloc: Global,
+    settings: SessionSettings,
+    steps: &[SessionStep],
+) -> Result<RecordedSession, AllocError>
+    ensures each { IfOk result (λ made. length made.run.answers.items ≡ length steps.now) }
+    ensures runs { IfOk result (λ made. Runs (calls_of steps.now made.run.answers.items) (new_session settings) made.session) }
+    ensures counted { IfOk result (λ made. Counts (calls_of steps.now made.run.answers.items) made.run.counts (taken_in made.session.port.streams)) }
+    ensures alone { IfOk result (λ made. EachIsAlone settings (calls_of steps.now made.run.answers.items) made.session.port.streams) }
+    ensures ended { IfOk result (λ made. EachEndedAlone settings (calls_of steps.now made.run.answers.items)) }
+    ensures order { IfOk result (λ made. TellsInOrder (calls_of steps.now made.run.answers.items) made.session.port.streams) }
+{
+    let mut session = Session::new(alloc, settings);
+    let run = run_session(alloc, &mut session, steps)?;
+    Ok(RecordedSession { session, run })
 }
 
 /// Makes one call, and returns its answer.

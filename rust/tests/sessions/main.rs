@@ -8,6 +8,7 @@ mod pairs;
 mod reporting;
 mod reports;
 mod requests;
+mod runs;
 mod streams;
 mod telephone;
 
