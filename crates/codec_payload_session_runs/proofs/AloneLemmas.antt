@@ -1,10 +1,9 @@
 -- Runs of a receiver alone, and projections of runs to it.
-use Rattle.std.proofs.Common.{◌≡◌, ◌≤◌, ◌∙◌, refl, sym, ap, subst, ℕ, ◌+◌, Bool, true, false, List, [], ◌∷◌, ◌++◌, append_assoc, append-nil, arith}
+use Rattle.std.proofs.Common.{◌≡◌, ◌∙◌, refl, sym, ap, subst, ℕ, ◌+◌, Bool, true, false, List, [], ◌∷◌, ◌++◌, append_assoc, append-nil, arith}
 use Rattle.codec_payload_stream.specs.Sessions.{Session as Receiver}
-use Rattle.codec_payload_session.specs.declared.formats.SsrcPair.{SsrcPair}
 use Rattle.codec_payload_session.specs.declared.session.Event.{Event}
 use Rattle.codec_payload_session.specs.declared.session.Event.TheVariants as events
-use Rattle.codec_payload_session_runs.specs.Lives.{AreInOrder, AreMadeBy, AreOfOne, IsPart, Projects, ReceiverCall, RunsAlone, events_in, events_of, is_pop, is_shown, many_pops, one_more, pairs_after, pairs_by, shown, shown_in, shown_of, with_shown}
+use Rattle.codec_payload_session_runs.specs.Lives.{AreInOrder, AreMadeBy, AreOfOne, IsPart, Projects, ReceiverCall, RunsAlone, events_in, events_of, is_pop, is_shown, many_pops, one_more, shown, shown_in, shown_of, with_shown}
 use Rattle.codec_payload_session_runs.specs.SessionRuns.{Call}
 use Rattle.codec_payload_session_runs.specs.declared.run.SessionStep.{SessionStep}
 
@@ -90,9 +89,3 @@ one_in_order (events.Feedback s p packet ∷ es) a b got = (got.0, one_in_order 
 one_in_order (events.Ended s p why ∷ es) a b got = absurd got
 one_in_order (events.Telephone s p time marker payload ∷ es) a b got = absurd got
 one_in_order (events.Report packet ∷ es) a b got = absurd got
-
--- ---- pairs of SSRCs
-
-pub pairs_more : (cs : List Call) (c : Call) (ps : List SsrcPair) → pairs_after (cs ++ c ∷ []) ps ≡ pairs_by c.step c.answer (pairs_after cs ps)
-pairs_more [] c ps = refl
-pairs_more (d ∷ cs) c ps = pairs_more cs c (pairs_by d.step d.answer ps)

@@ -1,5 +1,5 @@
 -- What each call of a session makes of its streams.
-use Rattle.std.proofs.Common.{◌≡◌, ◌≤◌, ◌<◌, ◌∙◌, inl, inr, ◌⊎◌, refl, sym, ap, ap₂, subst, subst₂, ℕ, zero, suc, ◌+◌, ◌-◌, ◌^◌, ◌==◌, ◌&&◌, ◌||◌, not, min, Bool, true, false, cond, List, [], ◌∷◌, ◌++◌, map, Option, Some, None, Result, Ok, Err, is_ok, append_assoc, append-nil, slice_get, slice_set, length, get_or, nat_lt, arith}
+use Rattle.std.proofs.Common.{◌≡◌, ◌<◌, ◌∙◌, inl, inr, refl, sym, ap, ap₂, subst, subst₂, ℕ, zero, suc, ◌+◌, ◌-◌, ◌^◌, ◌==◌, ◌&&◌, ◌||◌, min, Bool, true, false, cond, List, [], ◌∷◌, ◌++◌, map, Option, Some, None, Result, Ok, Err, is_ok, append-nil, slice_set, length, get_or, nat_lt, arith}
 use Rattle.std.specs.Prelude.{IsErr}
 use Rattle.std.specs.List.{position, remove}
 use Rattle.std.specs.Global.{Vec}
@@ -18,7 +18,7 @@ use Rattle.codec_payload_rtp.specs.declared.rtp.RtpError.{RtpError}
 use Rattle.codec_payload_stream.specs.Kinds.{is_among}
 use Rattle.codec_payload_stream.specs.declared.receiver.ReceiveError.{ReceiveError}
 use Rattle.codec_payload_stream.specs.declared.receiver.Retransmission.{Retransmission}
-use Rattle.codec_payload_session.specs.Arrivals.{Arrives, BeginsIf, BeginsOrFeeds, BeginsWith, Feeds, FeedsIf, Port, StaysEmpty, TakesIn, TakesInAs, TakesMedia, added, goodbye_at, has_place, has_ssrc, leaving, left_if, on_probation, removed, without}
+use Rattle.codec_payload_session.specs.Arrivals.{Arrives, BeginsIf, BeginsOrFeeds, BeginsWith, Feeds, FeedsIf, Port, TakesIn, TakesInAs, TakesMedia, goodbye_at, has_place, has_ssrc, left_if, on_probation, without}
 use Rattle.codec_payload_session.specs.Changes.{continued, continues, is_left_behind, left_behind}
 use Rattle.codec_payload_session.specs.Pairs.{paired_if, paired_when}
 use Rattle.codec_payload_session.specs.Ports.{ReportsIf}
@@ -26,7 +26,7 @@ use Rattle.codec_payload_session.specs.Reporting.{all_reported, is_reported, rep
 use Rattle.codec_payload_session.specs.Reports.{noted, noted_at, noted_in, reported_by}
 use Rattle.codec_payload_session.specs.Formats.{has_type, resends, role_by, stream_of}
 use Rattle.codec_payload_session.specs.Sorting.{sorted_by, sorted_retransmission, sorted_rtcp, sorted_rtp}
-use Rattle.codec_payload_session.specs.Streams.{Begins, Steps, Takes, is_no_memory, is_of, is_probation, waiting_if, waiting_when}
+use Rattle.codec_payload_session.specs.Streams.{Begins, is_no_memory, is_of, is_probation, waiting_if, waiting_when}
 use Rattle.codec_payload_session.specs.Turns.{AreQuiet, TakesTurn, kept_after}
 use Rattle.codec_payload_session.specs.declared.formats.Format.{Format}
 use Rattle.codec_payload_session.specs.declared.formats.SessionSettings.{SessionSettings}
@@ -39,9 +39,9 @@ use Rattle.codec_payload_session.specs.declared.stream.Ending.{Ending}
 use Rattle.codec_payload_session.specs.declared.stream.Ending.TheVariants as endings
 use Rattle.codec_payload_session.specs.declared.stream.Stream.{Stream}
 use Rattle.codec_payload_session_runs.proofs.AloneLemmas.{made_append, pops_append, runs_append, shown_append}
-use Rattle.codec_payload_session_runs.proofs.FateLemmas.{AreApart, AreFates, AreFresh, AreKnown, BeginsNow, Ends, Evolves, GoAll, IsAbsent, IsFate, IsReplaced, IsSilent, ShowsNothing, absent_at, absent_middle, all_fates, all_stay, evolves_all, evolves_map, evolves_same, fates_append, found_none, mapped_all, of_same, one_goes, others_go, present, present_all, present_append, same_sym, silent_all}
+use Rattle.codec_payload_session_runs.proofs.FateLemmas.{AreApart, AreFates, AreKnown, BeginsNow, Evolves, GoAll, IsAbsent, IsFate, IsSilent, ShowsNothing, absent_middle, all_fates, all_stay, evolves_all, evolves_map, evolves_same, fates_append, found_none, mapped_all, one_goes, others_go, present, present_all, present_append}
 use Rattle.codec_payload_session_runs.proofs.StreamLemmas.{Goes, HasPart, IsKnown, Keeps, Kind, Stepped, call_of, fed_goes, given_is, keeps_left, silent_goes, steps_stepped}
-use Rattle.codec_payload_session_runs.specs.Lives.{AreMadeBy, IsMadeBy, AreOfOne, ReceiverCall, RunsAlone, StartsWithDatagram, events_by, events_in, given_by, is_same, many_pops, one_call, one_event, pairs, receives, released_by, reports, shown, shown_in, waits}
+use Rattle.codec_payload_session_runs.specs.Lives.{IsMadeBy, AreOfOne, StartsWithDatagram, events_by, given_by, is_same, one_call, pairs, receives, released_by, reports, shown, waits}
 use Rattle.codec_payload_session_runs.specs.SessionRuns.{Call}
 use Rattle.codec_payload_session_runs.specs.declared.run.SessionStep.{SessionStep}
 use Rattle.codec_payload_session_runs.specs.declared.run.SessionStep.TheVariants as calls

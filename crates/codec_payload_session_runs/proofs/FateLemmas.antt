@@ -1,9 +1,9 @@
 -- One call of a session, and all its streams.
-use Rattle.std.proofs.Common.{◌≡◌, ◌<◌, ◌∙◌, inl, inr, ◌⊎◌, refl, sym, ap, ap₂, subst, subst₂, ℕ, zero, suc, ◌+◌, ◌==◌, ◌&&◌, Bool, true, false, cond, List, [], ◌∷◌, ◌++◌, map, Option, Some, None, option_map, append_assoc, append-nil, slice_get, slice_set, length, get_or, eqb-true, arith}
-use Rattle.std.specs.List.{position, position_from, remove}
+use Rattle.std.proofs.Common.{◌≡◌, ◌∙◌, inl, inr, ◌⊎◌, refl, sym, ap, ap₂, subst, subst₂, ℕ, zero, suc, ◌+◌, ◌==◌, ◌&&◌, Bool, true, false, cond, List, [], ◌∷◌, ◌++◌, map, Option, Some, None, option_map, append-nil, slice_get, slice_set, eqb-true, arith}
+use Rattle.std.specs.List.{position, position_from}
 use Rattle.std.proofs.lemmas.Bool.Decides.{nat_tests}
 use Rattle.std.proofs.lemmas.Iterator.Adapters.{position_from-zero}
-use Rattle.codec_payload_session.specs.Streams.{Begins, is_of, is_probation}
+use Rattle.codec_payload_session.specs.Streams.{Begins, is_of}
 use Rattle.codec_payload_session.specs.declared.formats.Format.{Format}
 use Rattle.codec_payload_session.specs.declared.formats.SessionSettings.{SessionSettings}
 use Rattle.codec_payload_session.specs.declared.session.Event.{Event}
@@ -12,7 +12,7 @@ use Rattle.codec_payload_session.specs.declared.stream.Ending.{Ending}
 use Rattle.codec_payload_session.specs.declared.stream.Stream.{Stream}
 use Rattle.codec_payload_session_runs.proofs.AloneLemmas.{one_in_order}
 use Rattle.codec_payload_session_runs.proofs.StreamLemmas.{Goes, HasPart, IsKnown, Keeps, keeps_after, silent_goes}
-use Rattle.codec_payload_session_runs.specs.Lives.{AreInOrder, AreOfOne, StartsWithDatagram, events_in, is_announced, is_same, shown_in}
+use Rattle.codec_payload_session_runs.specs.Lives.{AreInOrder, StartsWithDatagram, events_in, is_announced, is_same, shown_in}
 use Rattle.codec_payload_session_runs.specs.SessionRuns.{Call}
 
 -- ---- streams with different SSRCs or payload types

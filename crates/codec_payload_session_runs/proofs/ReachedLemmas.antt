@@ -1,17 +1,16 @@
 -- Sessions that runs from a new session reach.
-use Rattle.std.proofs.Common.{◌≡◌, ◌≤◌, ◌∙◌, inl, inr, ◌⊎◌, refl, sym, ap, subst, subst₂, ℕ, ◌==◌, Bool, true, false, List, [], ◌∷◌, ◌++◌, Option, Some, None, Result, Ok, Err, append_assoc, append-nil}
+use Rattle.std.proofs.Common.{◌≡◌, ◌∙◌, inl, inr, ◌⊎◌, refl, sym, ap, subst, subst₂, ℕ, ◌==◌, Bool, true, false, List, [], ◌∷◌, ◌++◌, Option, Some, None, Result, Ok, Err, append_assoc, append-nil}
 use Rattle.std.specs.List.{position}
 use Rattle.std.specs.Global.{Vec}
 use Rattle.std.specs.declared.alloc.AllocError.{AllocError}
 use Rattle.codec_payload_base.specs.declared.wire.Ticks.{Ticks}
-use Rattle.codec_payload_stream.specs.Sessions.{Session as Receiver}
 use Rattle.codec_payload_session.specs.Arrivals.{Port}
 use Rattle.codec_payload_session.specs.Pairs.{Pairs, paired_where}
-use Rattle.codec_payload_session.specs.Polls.{GoesOn, Polls, PollsAfter, SendsReport, TurnsOrReports, report_event}
+use Rattle.codec_payload_session.specs.Polls.{GoesOn, PollsAfter, report_event}
 use Rattle.codec_payload_session.specs.Ports.{Receives, Session, everyone, new_session}
 use Rattle.codec_payload_session.specs.Reporting.{ReportsBy, ReportsEach, Reports, all_reported, is_report_due}
 use Rattle.codec_payload_session.specs.Reporting.{ReportsIf as ReportsWhen}
-use Rattle.codec_payload_session.specs.Streams.{Begins, is_of}
+use Rattle.codec_payload_session.specs.Streams.{is_of}
 use Rattle.codec_payload_session.specs.Turns.{AreQuiet, TakesTurn}
 use Rattle.codec_payload_session.specs.declared.formats.FeedbackSettings.{FeedbackSettings}
 use Rattle.codec_payload_session.specs.declared.formats.Format.{Format}
@@ -22,11 +21,12 @@ use Rattle.codec_payload_session.specs.declared.session.Event.{Event}
 use Rattle.codec_payload_session.specs.declared.session.Event.TheVariants as events
 use Rattle.codec_payload_session.specs.declared.stream.Ending.{Ending}
 use Rattle.codec_payload_session.specs.declared.stream.Stream.{Stream}
-use Rattle.codec_payload_session_runs.proofs.AloneLemmas.{events_more, one_append, order_append, pairs_more, projects_more, projects_shown, runs_append}
+use Rattle.codec_payload_session_runs.proofs.AloneLemmas.{events_more, one_append, order_append, projects_more, projects_shown, runs_append}
 use Rattle.codec_payload_session_runs.proofs.CallLemmas.{end_evolves, failed_evolves, finish_evolves, pairs_evolve, quiet_evolves, receive_evolves, report_evolves, reported_evolves, tells_evolve, waits_evolve}
-use Rattle.codec_payload_session_runs.proofs.FateLemmas.{AreApart, AreFates, AreFresh, AreKnown, BeginsNow, Ends, Evolves, IsAbsent, IsFate, IsReplaced, apart_fates, apart_more, absent_fates, evolves_same, known_fates, known_more, of_is, order_evolves, present, same_sym}
-use Rattle.codec_payload_session_runs.proofs.StreamLemmas.{Goes, HasPart, same_is}
-use Rattle.codec_payload_session_runs.specs.Lives.{AreInOrder, AreOfOne, EachEndedAlone, EachIsAlone, EndedAlone, IsAlone, IsPart, Projects, ReceiverCall, RunsAlone, StartsWithDatagram, TellsInOrder, ending_poll, events_in, events_of, is_announced, is_same, one_event, pairs_after, pairs_by, shown, shown_of}
+use Rattle.codec_payload_session_runs.proofs.FateLemmas.{AreApart, AreFates, AreFresh, AreKnown, BeginsNow, Evolves, IsAbsent, IsFate, apart_fates, apart_more, absent_fates, evolves_same, known_fates, known_more, of_is, order_evolves, present, same_sym}
+use Rattle.codec_payload_session_runs.proofs.RunLemmas.{runs_more}
+use Rattle.codec_payload_session_runs.proofs.StreamLemmas.{HasPart, same_is}
+use Rattle.codec_payload_session_runs.specs.Lives.{AreInOrder, AreOfOne, EachEndedAlone, EachIsAlone, EndedAlone, IsAlone, IsPart, Projects, StartsWithDatagram, TellsInOrder, ending_poll, events_in, events_of, is_announced, is_same, one_event}
 use Rattle.codec_payload_session_runs.specs.SessionRuns.{AddsPair, Call, Does, Runs}
 use Rattle.codec_payload_session_runs.specs.declared.run.SessionStep.{SessionStep}
 use Rattle.codec_payload_session_runs.specs.declared.run.SessionStep.TheVariants as calls
@@ -37,7 +37,6 @@ use Rattle.codec_payload_session_runs.specs.declared.run.StepAnswer.TheVariants 
 
 record Moves (c : Call) (s t : Session) : Type 0 where
   evolves : Evolves s.settings c s.port.streams t.port.streams
-  named : t.settings.pairs.items ≡ pairs_by c.step c.answer s.settings.pairs.items
   others : t.settings ≡ record s.settings { pairs = t.settings.pairs }
 
 abbrev call_of : SessionStep → StepAnswer → Call
@@ -86,43 +85,41 @@ turn_moves None now s port event t apart turn got =
     (record {
       evolves = quiet_or_reported got.packet s.settings now s.settings.idle_timeout s.port.streams port.streams got.port.streams quiet
           (by_streams s.settings.feedback s.settings.tick_rate now.0 s.report_due port got.packet got.due got.port got.reports);
-      named = refl;
       others = refl;
     })
 turn_moves (Some e) now s port event t apart turn got =
     subst₂ (λ (o : Option Event) (z : Session). Moves (call_of (calls.Poll now) (answers.Polled o)) s z) (sym got.0) (sym got.1)
-    (record { evolves = tells_evolve s.settings now s.settings.idle_timeout s.port e port apart turn; named = refl; others = refl })
+    (record { evolves = tells_evolve s.settings now s.settings.idle_timeout s.port e port apart turn; others = refl })
 
 poll_moves : (ws : List _) (now : Ticks) (s : Session) (event : Option Event) (t : Session) → AreApart s.port.streams → PollsAfter ws now s event t
     → Moves (call_of (calls.Poll now) (answers.Polled event)) s t
 poll_moves [] now s event t apart got = turn_moves got.event now s got.port event t apart got.turn got.goes_on
 poll_moves (w ∷ ws) now s event t apart got =
     subst₂ (λ (o : Option Event) (z : Session). Moves (call_of (calls.Poll now) (answers.Polled o)) s z) (sym got.0) (sym got.1)
-    (record { evolves = evolves_same s.settings _ s.port.streams (λ a b. refl) (λ a b. refl); named = refl; others = refl })
+    (record { evolves = evolves_same s.settings _ s.port.streams (λ a b. refl) (λ a b. refl); others = refl })
 
 receive_moves : (now : Ticks) (datagram : Vec ℕ) (s : Session) (arrival : Result Arrival AllocError) (t : Session) → AreApart s.port.streams → AreKnown s.port.streams → Receives now datagram.items s arrival t
     → Moves (call_of (calls.Receive now datagram) (answers.Received arrival)) s t
 receive_moves now datagram s arrival t apart known (inl got) =
     subst (λ (z : Session). Moves (call_of (calls.Receive now datagram) (answers.Received arrival)) s z) (sym got.left)
-    (record { evolves = receive_evolves s.settings now datagram s.port arrival got.port apart known got.takes; named = refl; others = refl })
+    (record { evolves = receive_evolves s.settings now datagram s.port arrival got.port apart known got.takes; others = refl })
 receive_moves now datagram s arrival t apart known (inr got) =
     subst (λ (z : Session). Moves (call_of (calls.Receive now datagram) (answers.Received arrival)) s z) (sym got.left)
-    (record { evolves = failed_evolves s.settings now datagram arrival s.port.streams got.fails; named = refl; others = refl })
+    (record { evolves = failed_evolves s.settings now datagram arrival s.port.streams got.fails; others = refl })
 
 pair_moves : (step : SessionStep) (answer : StepAnswer) (ssrc : ℕ) (named : List SsrcPair) (s t : Session)
-    → named ≡ pairs_by step answer s.settings.pairs.items
     → Evolves s.settings (call_of step answer) s.port.streams (paired_where ssrc named s.port.streams) → Pairs ssrc named s t → Moves (call_of step answer) s t
-pair_moves step answer ssrc named s t is evolves got =
-    subst (λ (z : Session). Moves (call_of step answer) s z) (sym got.left) (record { evolves = evolves; named = got.has ∙ is; others = refl })
+pair_moves step answer ssrc named s t evolves got =
+    subst (λ (z : Session). Moves (call_of step answer) s z) (sym got.left) (record { evolves = evolves; others = refl })
 
 added_moves : (ssrc retransmission : ℕ) (s : Session) (added : Result Unit AllocError) (t : Session) → AddsPair ssrc retransmission s added t
     → Moves (call_of (calls.AddPair ssrc retransmission) (answers.PairAdded added)) s t
 added_moves ssrc retransmission s (Ok u) t got =
-    pair_moves (calls.AddPair ssrc retransmission) (answers.PairAdded (Ok u)) ssrc _ s t refl
+    pair_moves (calls.AddPair ssrc retransmission) (answers.PairAdded (Ok u)) ssrc _ s t
     (pairs_evolve s.settings (call_of (calls.AddPair ssrc retransmission) (answers.PairAdded (Ok u))) ssrc _ s.port.streams (λ own. tt) (λ a b. refl) (λ a b. refl)) got.0
 added_moves ssrc retransmission s (Err e) t got =
     subst (λ (z : Session). Moves (call_of (calls.AddPair ssrc retransmission) (answers.PairAdded (Err e))) s z) (sym got.1)
-    (record { evolves = evolves_same s.settings _ s.port.streams (λ a b. refl) (λ a b. refl); named = refl; others = refl })
+    (record { evolves = evolves_same s.settings _ s.port.streams (λ a b. refl) (λ a b. refl); others = refl })
 
 moves : (step : SessionStep) (answer : StepAnswer) (s t : Session) → AreApart s.port.streams → AreKnown s.port.streams → Does step s answer t → Moves (call_of step answer) s t
 moves (calls.Receive now datagram) answer s t apart known got =
@@ -131,21 +128,21 @@ moves (calls.Poll now) answer s t apart known got =
     subst (λ (a : StepAnswer). Moves (call_of (calls.Poll now) a) s t) (sym got.1) (poll_moves s.telephone.waiting now s got.0 t apart got.2)
 moves (calls.End now ssrc) answer s t apart known got =
     subst₂ (λ (a : StepAnswer) (z : Session). Moves (call_of (calls.End now ssrc) a) s z) (sym got.0) (sym got.1)
-    (record { evolves = end_evolves s.settings now ssrc (λ own. ssrc == own) s.port.streams; named = refl; others = refl })
+    (record { evolves = end_evolves s.settings now ssrc (λ own. ssrc == own) s.port.streams; others = refl })
 moves (calls.Finish now) answer s t apart known got =
     subst₂ (λ (a : StepAnswer) (z : Session). Moves (call_of (calls.Finish now) a) s z) (sym got.0) (sym got.1)
-    (record { evolves = finish_evolves s.settings now everyone s.port.streams; named = refl; others = refl })
+    (record { evolves = finish_evolves s.settings now everyone s.port.streams; others = refl })
 moves (calls.SetWaitLimits ssrc payload_type limits) answer s t apart known got =
     subst₂ (λ (a : StepAnswer) (z : Session). Moves (call_of (calls.SetWaitLimits ssrc payload_type limits) a) s z) (sym got.0) (sym got.1)
-    (record { evolves = waits_evolve s.settings ssrc payload_type limits s.port.streams; named = refl; others = refl })
+    (record { evolves = waits_evolve s.settings ssrc payload_type limits s.port.streams; others = refl })
 moves (calls.Report now ssrc payload_type) answer s t apart known got =
     subst₂ (λ (a : StepAnswer) (z : Session). Moves (call_of (calls.Report now ssrc payload_type) a) s z) (sym got.1) (sym got.2.left)
-    (record { evolves = report_evolves (position (is_of ssrc payload_type) s.port.streams) s.settings now ssrc payload_type s.settings.tick_rate s.port got.0 got.2.port apart got.2.reports; named = refl; others = refl })
+    (record { evolves = report_evolves (position (is_of ssrc payload_type) s.port.streams) s.settings now ssrc payload_type s.settings.tick_rate s.port got.0 got.2.port apart got.2.reports; others = refl })
 moves (calls.AddPair ssrc retransmission) answer s t apart known got =
     subst (λ (a : StepAnswer). Moves (call_of (calls.AddPair ssrc retransmission) a) s t) (sym got.1) (added_moves ssrc retransmission s got.0 t got.2)
 moves (calls.RemovePair ssrc) answer s t apart known got =
     subst (λ (a : StepAnswer). Moves (call_of (calls.RemovePair ssrc) a) s t) (sym got.0)
-    (pair_moves (calls.RemovePair ssrc) answers.Done ssrc _ s t refl
+    (pair_moves (calls.RemovePair ssrc) answers.Done ssrc _ s t
     (pairs_evolve s.settings (call_of (calls.RemovePair ssrc) answers.Done) ssrc _ s.port.streams (λ own. tt) (λ a b. refl) (λ a b. refl)) got.1)
 
 -- ---- streams alone
@@ -164,8 +161,9 @@ alone_more settings cs c x y got has tells =
       during = got.during ++ c ∷ [];
       whole = ap (λ (zs : List Call). zs ++ c ∷ []) got.whole ∙ append_assoc got.before got.during (c ∷ []);
       starts = starts_more x.ssrc x.format.payload_type got.during (c ∷ []) got.starts;
-      named = got.named;
-      named_by = got.named_by;
+      reached = got.reached;
+      reaches = got.reaches;
+      pairs_alone = got.pairs_alone;
       fresh = got.fresh;
       begins = got.begins;
       own = got.own ++ has.part;
@@ -176,9 +174,9 @@ alone_more settings cs c x y got has tells =
           (one_append (events_of x.ssrc x.format.payload_type got.during) (events_in x.ssrc x.format.payload_type c.answer) false x.told y.told got.tells tells);
     })
 
-alone_fresh : (settings given : SessionSettings) (cs : List Call) (c : Call) (ss : List Stream) (y : Stream) → given.pairs.items ≡ pairs_after cs settings.pairs.items
-    → given ≡ record settings { pairs = given.pairs } → BeginsNow given c ss y → IsAlone settings (cs ++ c ∷ []) y.ssrc y.format y.told y.receiver
-alone_fresh settings given cs c ss y named others got =
+alone_fresh : (settings : SessionSettings) (cs : List Call) (c : Call) (reached : Session) (ss : List Stream) (y : Stream) → Runs cs (new_session settings) reached
+    → reached.settings ≡ record settings { pairs = reached.settings.pairs } → BeginsNow reached.settings c ss y → IsAlone settings (cs ++ c ∷ []) y.ssrc y.format y.told y.receiver
+alone_fresh settings cs c reached ss y run others got =
     let x : Stream = got.fresh in
     let has : HasPart c x y = got.goes.has in
     let is_part : IsPart y.ssrc y.format.payload_type c has.part = subst₂ (λ (s : ℕ) (f : Format). IsPart s f.payload_type c has.part) (sym has.ssrc_is) (sym has.format) has.is_part in
@@ -191,10 +189,11 @@ alone_fresh settings given cs c ss y named others got =
       during = c ∷ [];
       whole = refl;
       starts = got.starts;
-      named = given.pairs;
-      named_by = named;
+      reached = reached;
+      reaches = run;
+      pairs_alone = others;
       fresh = x;
-      begins = subst (λ (g : SessionSettings). Begins g y.ssrc y.format x) others got.begins;
+      begins = got.begins;
       own = has.part;
       alone = has.alone;
       projects = projects;
@@ -216,7 +215,7 @@ each_append settings cs (s ∷ ss) ts a b = (a.0, each_append settings cs ss ts 
 -- ---- whole runs
 
 pub record Reached (settings : SessionSettings) (cs : List Call) (s : Session) : Type 0 where
-  pub named : s.settings.pairs.items ≡ pairs_after cs settings.pairs.items
+  pub run : Runs cs (new_session settings) s
   pub others : s.settings ≡ record settings { pairs = s.settings.pairs }
   pub apart : AreApart s.port.streams
   pub known : AreKnown s.port.streams
@@ -224,29 +223,29 @@ pub record Reached (settings : SessionSettings) (cs : List Call) (s : Session) :
   pub order : TellsInOrder cs s.port.streams
 
 -- streams that began are apart from the others, and not announced
-fresh_keeps : (settings given : SessionSettings) (cs : List Call) (c : Call) (ss : List Stream) (fs : List (Option Stream)) (fresh : List Stream) → given.pairs.items ≡ pairs_after cs settings.pairs.items
-    → given ≡ record settings { pairs = given.pairs } → AreFates c ss fs → AreFresh given c ss fresh → AreApart (present fs) → AreKnown (present fs) → EachIsAlone settings (cs ++ c ∷ []) (present fs)
+fresh_keeps : (settings : SessionSettings) (cs : List Call) (c : Call) (reached : Session) (ss : List Stream) (fs : List (Option Stream)) (fresh : List Stream) → Runs cs (new_session settings) reached
+    → reached.settings ≡ record settings { pairs = reached.settings.pairs } → AreFates c ss fs → AreFresh reached.settings c ss fresh → AreApart (present fs) → AreKnown (present fs) → EachIsAlone settings (cs ++ c ∷ []) (present fs)
     → AreApart (present fs ++ fresh) × AreKnown (present fs ++ fresh) × EachIsAlone settings (cs ++ c ∷ []) (present fs ++ fresh)
-fresh_keeps settings given cs c ss fs [] named others are fresh apart known alone = (
+fresh_keeps settings cs c reached ss fs [] run others are fresh apart known alone = (
   subst AreApart (sym (append-nil (present fs))) apart,
   subst AreKnown (sym (append-nil (present fs))) known,
   subst (λ (zs : List Stream). EachIsAlone settings (cs ++ c ∷ []) zs) (sym (append-nil (present fs))) alone,
 )
-fresh_keeps settings given cs c ss fs (y ∷ []) named others are fresh apart known alone = (
+fresh_keeps settings cs c reached ss fs (y ∷ []) run others are fresh apart known alone = (
   apart_more (present fs) y apart (absent_fates c y.ssrc y.format.payload_type ss fs are fresh.absent),
   known_more (present fs) y known (λ (told : y.told ≡ true). let untold : y.told ≡ false = fresh.untold in absurd (cc)),
-  each_append settings (cs ++ c ∷ []) (present fs) (y ∷ []) alone (alone_fresh settings given cs c ss y named others fresh, tt),
+  each_append settings (cs ++ c ∷ []) (present fs) (y ∷ []) alone (alone_fresh settings cs c reached ss y run others fresh, tt),
 )
-fresh_keeps settings given cs c ss fs (y ∷ z ∷ zs) named others are fresh apart known alone = absurd fresh
+fresh_keeps settings cs c reached ss fs (y ∷ z ∷ zs) run others are fresh apart known alone = absurd fresh
 
 reached_more : (settings : SessionSettings) (cs : List Call) (c : Call) (s t : Session) → Reached settings cs s → Does c.step s c.answer t → Reached settings (cs ++ c ∷ []) t
 reached_more settings cs c s t got does =
     let m : Moves c s t = moves c.step c.answer s t got.apart got.known does in
     let e : Evolves s.settings c s.port.streams t.port.streams = m.evolves in
-    let all = fresh_keeps settings s.settings cs c s.port.streams e.fates e.fresh got.named got.others e.are_fates e.are_fresh
+    let all = fresh_keeps settings cs c s s.port.streams e.fates e.fresh got.run got.others e.are_fates e.are_fresh
     (apart_fates c s.port.streams e.fates e.are_fates got.apart) (known_fates c s.port.streams e.fates e.are_fates got.known) (alone_fates settings cs c s.port.streams e.fates e.are_fates got.alone) in
     record {
-      named = m.named ∙ (ap (λ (ps : List SsrcPair). pairs_by c.step c.answer ps) got.named ∙ sym (pairs_more cs c settings.pairs.items));
+      run = runs_more cs (new_session settings) s t c.step c.answer got.run does;
       others = m.others ∙ ap (λ (g : SessionSettings). record g { pairs = t.settings.pairs }) got.others;
       apart = subst AreApart (sym e.left) all.0;
       known = subst AreKnown (sym e.left) all.1;
@@ -264,7 +263,7 @@ reached_later settings (c ∷ later) cs s t got run =
     (reached_later settings later (cs ++ c ∷ []) run.0 t (reached_more settings cs c s run.0 got run.1) run.2)
 
 reached_new : (settings : SessionSettings) → Reached settings [] (new_session settings)
-reached_new settings = record { named = refl; others = refl; apart = tt; known = tt; alone = tt; order = λ ssrc payload_type. refl }
+reached_new settings = record { run = refl; others = refl; apart = tt; known = tt; alone = tt; order = λ ssrc payload_type. refl }
 
 pub reached : (settings : SessionSettings) (cs : List Call) (t : Session) → Runs cs (new_session settings) t → Reached settings cs t
 reached settings cs t run = reached_later settings cs [] (new_session settings) t (reached_new settings) run

@@ -1,5 +1,5 @@
 -- Runs of a session, call by call.
-use Rattle.std.proofs.Common.{◌≡◌, refl, ap, subst, ℕ, suc, List, [], ◌∷◌, ◌++◌, length, arith}
+use Rattle.std.proofs.Common.{◌≡◌, refl, ap, subst, List, [], ◌∷◌, ◌++◌, length, arith}
 use Rattle.codec_payload_session.specs.Ports.{Session}
 use Rattle.codec_payload_session_runs.specs.SessionRuns.{Call, Does, Runs, calls_of}
 use Rattle.codec_payload_session_runs.specs.declared.run.SessionStep.{SessionStep}

@@ -1,6 +1,5 @@
 -- One call of a session, and one stream.
-use Rattle.std.proofs.Common.{◌≡◌, ◌≤◌, ◌∙◌, ◌⊎◌, inl, inr, refl, sym, ap, subst, subst₂, ℕ, ◌+◌, ◌==◌, ◌&&◌, not, Bool, true, false, List, [], ◌∷◌, ◌++◌, Option, Some, None, Result, Ok, Err, append-nil, arith}
-use Rattle.std.specs.Prelude.{IsErr, nat_le}
+use Rattle.std.proofs.Common.{◌≡◌, ◌≤◌, ◌∙◌, ◌⊎◌, inl, inr, refl, sym, ap, subst, subst₂, ℕ, ◌==◌, ◌&&◌, not, Bool, true, false, List, [], ◌∷◌, ◌++◌, Option, Some, None, Result, Ok, Err, arith}
 use Rattle.std.specs.Global.{Vec}
 use Rattle.std.specs.declared.alloc.AllocError.{AllocError}
 use Rattle.std.proofs.lemmas.Bool.Decides.{nat_tests}
@@ -8,7 +7,7 @@ use Rattle.codec_payload_base.specs.declared.error.PacketError.{PacketError}
 use Rattle.codec_payload_base.specs.declared.wire.Ticks.{Ticks}
 use Rattle.codec_payload_buffer.specs.Release.{Release}
 use Rattle.codec_payload_jitter.specs.declared.outcome.Outcome.{Outcome}
-use Rattle.codec_payload_stream.specs.Sessions.{ReceivesBytes, Session as Receiver}
+use Rattle.codec_payload_stream.specs.Sessions.{Session as Receiver}
 use Rattle.codec_payload_stream.specs.declared.receiver.ReceiveError.{ReceiveError}
 use Rattle.codec_payload_session.specs.Arrivals.{Arrives}
 use Rattle.codec_payload_session.specs.Requests.{Asking, heard_by, number_at, wait_by}
@@ -26,9 +25,7 @@ use Rattle.codec_payload_session.specs.declared.stream.Stream.{Stream}
 use Rattle.codec_payload_session_runs.proofs.AloneLemmas.{made_append, pops_append, runs_append, shown_append}
 use Rattle.codec_payload_session_runs.specs.Lives.{AreMadeBy, AreOfOne, IsPart, ReceiverCall, RunsAlone, events_by, events_in, finishes, given_by, is_same, many_pops, one_call, one_event, pops, receives, released_by, shown, shown_in, waits, with_shown}
 use Rattle.codec_payload_session_runs.specs.SessionRuns.{Call}
-use Rattle.codec_payload_session_runs.specs.declared.run.SessionStep.{SessionStep}
 use Rattle.codec_payload_session_runs.specs.declared.run.SessionStep.TheVariants as calls
-use Rattle.codec_payload_session_runs.specs.declared.run.StepAnswer.{StepAnswer}
 use Rattle.codec_payload_session_runs.specs.declared.run.StepAnswer.TheVariants as answers
 
 -- an announced stream is not in probation

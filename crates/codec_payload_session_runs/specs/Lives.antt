@@ -1,7 +1,5 @@
 -- Each stream of a session is a receiver of its own.
-use Rattle.std.specs.Prelude.{◌≡◌, ◌≤◌, ℕ, suc, ◌==◌, ◌&&◌, not, if◌then◌else◌, Bool, true, false, List, [], ◌∷◌, ◌++◌, filter, length, Option, Some, None, Result, Ok, Err}
-use Rattle.std.specs.List.{flat_map}
-use Rattle.std.specs.Global.{Vec}
+use Rattle.std.specs.Prelude.{◌≡◌, ◌≤◌, ℕ, suc, ◌==◌, ◌&&◌, not, if◌then◌else◌, Bool, true, false, List, [], ◌∷◌, ◌++◌, Option, Some, None, Result, Ok, Err}
 use Rattle.std.specs.declared.alloc.AllocError.{AllocError}
 use Rattle.codec_payload_base.specs.declared.error.PacketError.{PacketError}
 use Rattle.codec_payload_base.specs.declared.wire.Ticks.{Ticks}
@@ -13,12 +11,10 @@ use Rattle.codec_payload_stream.specs.Reports.{reported}
 use Rattle.codec_payload_stream.specs.Sessions.{Finishes, ReceivesBytes, Session as Receiver}
 use Rattle.codec_payload_stream.specs.declared.receiver.ReceiveError.{ReceiveError}
 use Rattle.codec_payload_stream.specs.declared.receiver.Retransmission.{Retransmission}
-use Rattle.codec_payload_session.specs.Pairs.{with_pair, without_pair}
-use Rattle.codec_payload_session.specs.Ports.{Session}
+use Rattle.codec_payload_session.specs.Ports.{Session, new_session}
 use Rattle.codec_payload_session.specs.Streams.{Begins, is_no_memory, is_of}
 use Rattle.codec_payload_session.specs.declared.formats.Format.{Format}
 use Rattle.codec_payload_session.specs.declared.formats.SessionSettings.{SessionSettings}
-use Rattle.codec_payload_session.specs.declared.formats.SsrcPair.{SsrcPair}
 use Rattle.codec_payload_session.specs.declared.session.Arrival.{Arrival}
 use Rattle.codec_payload_session.specs.declared.session.Arrival.TheVariants as arrivals
 use Rattle.codec_payload_session.specs.declared.session.Event.{Event}
@@ -242,18 +238,9 @@ AreOfOne told (events.Report packet ∷ es) after = ⊥
 
 -- ---- streams
 
--- the pairs of SSRCs after a call
-abbrev pub pairs_by : SessionStep → StepAnswer → List SsrcPair → List SsrcPair
-pairs_by (steps.AddPair ssrc retransmission) (answers.PairAdded (Ok u)) ps = with_pair (record { ssrc = ssrc; retransmission = retransmission }) ps
-pairs_by (steps.RemovePair ssrc) answer ps = without_pair ssrc ps
-pairs_by _ _ ps = ps
-
-abbrev pub pairs_after : List Call → List SsrcPair → List SsrcPair
-pairs_after [] ps = ps
-pairs_after (c ∷ cs) ps = pairs_after cs (pairs_by c.step c.answer ps)
-
--- a stream of a session is a receiver alone. The run is cut in front of the datagram with which the stream began: its receiver was
--- then a new one, with the settings of its format and its SSRC. From there on it made exactly the calls of the projection. These
+-- a stream of a session is a receiver alone. The run is cut in front of the datagram with which the stream began, where it had
+-- reached a session with the same settings, but for pairs of SSRCs. The receiver was then a new one, with the settings of its format
+-- and its SSRC. From there on it made exactly the calls of the projection. These
 -- show the datagrams that answers give to its SSRC and payload type, and the units of its events, in order. Its announcement is the
 -- first of its events, and none of them is an end
 pub record IsAlone (settings : SessionSettings) (calls : List Call) (ssrc : ℕ) (f : Format) (told : Bool) (r : Receiver) : Type 0 where
@@ -261,10 +248,11 @@ pub record IsAlone (settings : SessionSettings) (calls : List Call) (ssrc : ℕ)
   pub during : List Call
   pub whole : calls ≡ before ++ during
   pub starts : StartsWithDatagram ssrc f.payload_type during
-  pub named : Vec SsrcPair
-  pub named_by : named.items ≡ pairs_after before settings.pairs.items
+  pub reached : Session
+  pub reaches : Runs before (new_session settings) reached
+  pub pairs_alone : reached.settings ≡ record settings { pairs = reached.settings.pairs }
   pub fresh : Stream
-  pub begins : Begins (record settings { pairs = named }) ssrc f fresh
+  pub begins : Begins reached.settings ssrc f fresh
   pub own : List ReceiverCall
   pub alone : RunsAlone own fresh.receiver r
   pub projects : Projects ssrc f.payload_type during own

@@ -1,6 +1,6 @@
-use Rattle.std.proofs.Common.{◌≡◌, ◌≤◌, ◌∙◌, ◌+◌, ◌++◌, ◌∷◌, [], ℕ, List, arith, length-append, length-take, refl, sym, ap, subst, length, take, get_or, rules}
+use Rattle.std.proofs.Common.{◌≡◌, ◌≤◌, ◌∙◌, ◌+◌, ◌++◌, ◌∷◌, [], ℕ, List, arith, length-append, length-take, sym, ap, subst, length, take, rules}
 use Rattle.std.proofs.lemmas.List.{take_all, take_more}
-use Rattle.codec_payload_session.specs.Ports.{Session, new_session, taken_in}
+use Rattle.codec_payload_session.specs.Ports.{Session, taken_in}
 use Rattle.codec_payload_session_runs.proofs.CountLemmas.{counted}
 use Rattle.codec_payload_session_runs.proofs.ReachedLemmas.{each_ended, reached}
 use Rattle.codec_payload_session_runs.proofs.RunLemmas.{calls_more, runs_more}
