@@ -33,3 +33,5 @@ pub use sessions::{Arrival, Event, Session, SessionCounts};
 
 #[doc(inline)]
 pub use stream::{Ending, Stage, StreamInfo};
+
+pub mod runs;

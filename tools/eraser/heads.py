@@ -104,14 +104,24 @@ def of_media(sources, passed_on):
     return "\n#[doc(hidden)]\npub mod vpx;\n" + passing_on("vpx", set(names))
 
 
+def below(module):
+    """The items that name the modules directly below a module of a crate's own."""
+    return "".join(f"pub mod {path.rsplit('::', 1)[1]};\n" for path in PLACES.values() if path.startswith(f"{module}::"))
+
+
+def named_below(module):
+    """The same after other text."""
+    found = below(module)
+    return f"\n{found}" if found else ""
+
+
 def of_facade(sources, crate, module):
     """The file of a module of the facade: its documentation, the modules of the crate that it is of, and what it names."""
     text = joined(sources["core", f"{module}.rt"].ts)
     documentation = "".join(f"{line}\n" for line in text.split("\n") if line.startswith("//!"))
     inside = re.findall(r"(?:pub )?mod (\w+);", joined(sources[crate, "lib.rt"].ts))
     modules = "".join(f"#[doc(hidden)]\npub mod {name};\n" for name in inside)
-    below = "".join(f"pub mod {path.rsplit('::', 1)[1]};\n" for path in PLACES.values() if path.startswith(f"{module}::"))
-    return f"{documentation}\n{below}{modules}\n{text.replace(documentation, '')}"
+    return f"{documentation}\n{below(module)}{modules}\n{text.replace(documentation, '')}"
 
 
 def head_files(sources, passed_on):
@@ -121,7 +131,7 @@ def head_files(sources, passed_on):
             module = PLACES[crate]
             yield f"{module}.rs", f"crates/codec_payload_core/src/{module}.rt", of_facade(sources, crate, module)
         elif crate in PLACES:
-            text = flatten(sources, crate, "lib.rt") + (of_media(sources, passed_on) if crate == "media" else "")
+            text = flatten(sources, crate, "lib.rt") + (of_media(sources, passed_on) if crate == "media" else named_below(PLACES[crate]))
             yield PLACES[crate].replace("::", "/") + ".rs", sources[crate, "lib.rt"].path, text
 
 

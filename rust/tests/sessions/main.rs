@@ -9,6 +9,7 @@ mod pairs;
 mod reporting;
 mod reports;
 mod requests;
+mod runs;
 mod streams;
 mod telephone;
 

@@ -1,0 +1,91 @@
+-- Runs of a receiver alone, and projections of runs to it.
+use Rattle.std.proofs.Common.{◌≡◌, ◌∙◌, refl, sym, ap, subst, ℕ, ◌+◌, Bool, true, false, List, [], ◌∷◌, ◌++◌, append_assoc, append-nil, arith}
+use Rattle.codec_payload_stream.specs.Sessions.{Session as Receiver}
+use Rattle.codec_payload_session.specs.declared.session.Event.{Event}
+use Rattle.codec_payload_session.specs.declared.session.Event.TheVariants as events
+use Rattle.codec_payload_session_runs.specs.Lives.{AreInOrder, AreMadeBy, AreOfOne, IsPart, Projects, ReceiverCall, RunsAlone, events_in, events_of, is_pop, is_shown, many_pops, one_more, shown, shown_in, shown_of, with_shown}
+use Rattle.codec_payload_session_runs.specs.SessionRuns.{Call}
+use Rattle.codec_payload_session_runs.specs.declared.run.SessionStep.{SessionStep}
+
+-- ---- calls of a receiver
+
+pub runs_append : (cs ds : List ReceiverCall) (r q w : Receiver) → RunsAlone cs r q → RunsAlone ds q w → RunsAlone (cs ++ ds) r w
+runs_append [] ds r q w run later = subst (λ (x : Receiver). RunsAlone ds x w) run later
+runs_append (c ∷ cs) ds r q w run later = (run.0, run.1, runs_append cs ds run.0 q w run.2 later)
+
+with_shown_append : (b : Bool) (c : ReceiverCall) (xs ys : List ReceiverCall) → with_shown b c (xs ++ ys) ≡ with_shown b c xs ++ ys
+with_shown_append true c xs ys = refl
+with_shown_append false c xs ys = refl
+
+pub shown_append : (cs ds : List ReceiverCall) → shown (cs ++ ds) ≡ shown cs ++ shown ds
+shown_append [] ds = refl
+shown_append (c ∷ cs) ds = ap (λ (xs : List ReceiverCall). with_shown (is_shown c) c xs) (shown_append cs ds) ∙ with_shown_append (is_shown c) c (shown cs) (shown ds)
+
+one_more_plus : (b : Bool) (m n : ℕ) → one_more b (m + n) ≡ one_more b m + n
+one_more_plus true m n = omega arith
+one_more_plus false m n = refl
+
+pub pops_append : (cs ds : List ReceiverCall) → many_pops (cs ++ ds) ≡ many_pops cs + many_pops ds
+pops_append [] ds = omega arith
+pops_append (c ∷ cs) ds = ap (λ (n : ℕ). one_more (is_pop c) n) (pops_append cs ds) ∙ one_more_plus (is_pop c) (many_pops cs) (many_pops ds)
+
+pub made_append : (step : SessionStep) (cs ds : List ReceiverCall) → AreMadeBy step cs → AreMadeBy step ds → AreMadeBy step (cs ++ ds)
+made_append step [] ds a b = b
+made_append step (c ∷ cs) ds a b = (a.0, made_append step cs ds a.1 b)
+
+-- ---- projections
+
+-- one more call of the session
+pub projects_more : (ssrc payload_type : ℕ) (cs : List Call) (c : Call) (own part : List ReceiverCall) → Projects ssrc payload_type cs own → IsPart ssrc payload_type c part
+    → Projects ssrc payload_type (cs ++ c ∷ []) (own ++ part)
+projects_more ssrc payload_type [] c own part got is = (part, [], ap (λ (xs : List ReceiverCall). xs ++ part) got ∙ sym (append-nil part), is, refl)
+projects_more ssrc payload_type (d ∷ cs) c own part got is = (
+  got.0,
+  got.1 ++ part,
+  ap (λ (xs : List ReceiverCall). xs ++ part) got.2 ∙ append_assoc got.0 got.1 part,
+  got.3,
+  projects_more ssrc payload_type cs c got.1 part got.4 is,
+)
+
+-- what the calls of the receiver show is what the answers show
+pub projects_shown : (ssrc payload_type : ℕ) (cs : List Call) (own : List ReceiverCall) → Projects ssrc payload_type cs own → shown own ≡ shown_of ssrc payload_type cs
+projects_shown ssrc payload_type [] own got = ap shown got
+projects_shown ssrc payload_type (c ∷ cs) own got =
+    ap shown got.2
+    ∙ (shown_append got.0 got.1
+    ∙ (ap (λ (xs : List ReceiverCall). xs ++ shown got.1) got.3.shows ∙ ap (λ (xs : List ReceiverCall). shown_in ssrc payload_type c ++ xs) (projects_shown ssrc payload_type cs got.1 got.4)))
+
+-- ---- events
+
+pub events_more : (ssrc payload_type : ℕ) (cs : List Call) (c : Call) → events_of ssrc payload_type (cs ++ c ∷ []) ≡ events_of ssrc payload_type cs ++ events_in ssrc payload_type c.answer
+events_more ssrc payload_type [] c = append-nil (events_in ssrc payload_type c.answer)
+events_more ssrc payload_type (d ∷ cs) c =
+    ap (λ (es : List Event). events_in ssrc payload_type d.answer ++ es) (events_more ssrc payload_type cs c)
+    ∙ sym (append_assoc (events_in ssrc payload_type d.answer) (events_of ssrc payload_type cs) (events_in ssrc payload_type c.answer))
+
+pub one_append : (es fs : List Event) (a b c : Bool) → AreOfOne a es b → AreOfOne b fs c → AreOfOne a (es ++ fs) c
+one_append [] fs a b c got more = subst (λ (x : Bool). AreOfOne x fs c) got more
+one_append (events.Begun s p ∷ es) fs a b c got more = (got.0, one_append es fs true b c got.1 more)
+one_append (events.Unit s p time decodable keyframe unit ∷ es) fs a b c got more = (got.0, one_append es fs true b c got.1 more)
+one_append (events.Feedback s p packet ∷ es) fs a b c got more = (got.0, one_append es fs true b c got.1 more)
+one_append (events.Ended s p why ∷ es) fs a b c got more = absurd got
+one_append (events.Telephone s p time marker payload ∷ es) fs a b c got more = absurd got
+one_append (events.Report packet ∷ es) fs a b c got more = absurd got
+
+pub order_append : (es fs : List Event) (a b c : Bool) → AreInOrder a es b → AreInOrder b fs c → AreInOrder a (es ++ fs) c
+order_append [] fs a b c got more = subst (λ (x : Bool). AreInOrder x fs c) got more
+order_append (events.Begun s p ∷ es) fs a b c got more = (got.0, order_append es fs true b c got.1 more)
+order_append (events.Unit s p time decodable keyframe unit ∷ es) fs a b c got more = (got.0, order_append es fs true b c got.1 more)
+order_append (events.Feedback s p packet ∷ es) fs a b c got more = (got.0, order_append es fs true b c got.1 more)
+order_append (events.Ended s p why ∷ es) fs a b c got more = (got.0, order_append es fs false b c got.1 more)
+order_append (events.Telephone s p time marker payload ∷ es) fs a b c got more = absurd got
+order_append (events.Report packet ∷ es) fs a b c got more = absurd got
+
+pub one_in_order : (es : List Event) (a b : Bool) → AreOfOne a es b → AreInOrder a es b
+one_in_order [] a b got = got
+one_in_order (events.Begun s p ∷ es) a b got = (got.0, one_in_order es true b got.1)
+one_in_order (events.Unit s p time decodable keyframe unit ∷ es) a b got = (got.0, one_in_order es true b got.1)
+one_in_order (events.Feedback s p packet ∷ es) a b got = (got.0, one_in_order es true b got.1)
+one_in_order (events.Ended s p why ∷ es) a b got = absurd got
+one_in_order (events.Telephone s p time marker payload ∷ es) a b got = absurd got
+one_in_order (events.Report packet ∷ es) a b got = absurd got

@@ -1,0 +1,7 @@
+pub mod AloneLemmas
+pub mod CallLemmas
+pub mod CountLemmas
+pub mod FateLemmas
+pub mod ReachedLemmas
+pub mod RunLemmas
+pub mod StreamLemmas

@@ -1,0 +1,333 @@
+-- Sessions that runs from a new session reach.
+use Rattle.std.proofs.Common.{◌≡◌, ◌∙◌, inl, inr, ◌⊎◌, refl, sym, ap, subst, subst₂, ℕ, ◌==◌, Bool, true, false, List, [], ◌∷◌, ◌++◌, Option, Some, None, Result, Ok, Err, append_assoc, append-nil}
+use Rattle.std.specs.List.{position}
+use Rattle.std.specs.Global.{Vec}
+use Rattle.std.specs.declared.alloc.AllocError.{AllocError}
+use Rattle.codec_payload_base.specs.declared.wire.Ticks.{Ticks}
+use Rattle.codec_payload_session.specs.Arrivals.{Port}
+use Rattle.codec_payload_session.specs.Pairs.{Pairs, paired_where}
+use Rattle.codec_payload_session.specs.Polls.{GoesOn, PollsAfter, report_event}
+use Rattle.codec_payload_session.specs.Ports.{Receives, Session, everyone, new_session}
+use Rattle.codec_payload_session.specs.Reporting.{ReportsBy, ReportsEach, Reports, all_reported, is_report_due}
+use Rattle.codec_payload_session.specs.Reporting.{ReportsIf as ReportsWhen}
+use Rattle.codec_payload_session.specs.Streams.{is_of}
+use Rattle.codec_payload_session.specs.Turns.{AreQuiet, TakesTurn}
+use Rattle.codec_payload_session.specs.declared.formats.FeedbackSettings.{FeedbackSettings}
+use Rattle.codec_payload_session.specs.declared.formats.Format.{Format}
+use Rattle.codec_payload_session.specs.declared.formats.SessionSettings.{SessionSettings}
+use Rattle.codec_payload_session.specs.declared.formats.SsrcPair.{SsrcPair}
+use Rattle.codec_payload_session.specs.declared.session.Arrival.{Arrival}
+use Rattle.codec_payload_session.specs.declared.session.Event.{Event}
+use Rattle.codec_payload_session.specs.declared.session.Event.TheVariants as events
+use Rattle.codec_payload_session.specs.declared.stream.Ending.{Ending}
+use Rattle.codec_payload_session.specs.declared.stream.Stream.{Stream}
+use Rattle.codec_payload_session_runs.proofs.AloneLemmas.{events_more, one_append, order_append, projects_more, projects_shown, runs_append}
+use Rattle.codec_payload_session_runs.proofs.CallLemmas.{end_evolves, failed_evolves, finish_evolves, pairs_evolve, quiet_evolves, receive_evolves, report_evolves, reported_evolves, tells_evolve, waits_evolve}
+use Rattle.codec_payload_session_runs.proofs.FateLemmas.{AreApart, AreFates, AreFresh, AreKnown, BeginsNow, Evolves, IsAbsent, IsFate, apart_fates, apart_more, absent_fates, evolves_same, known_fates, known_more, of_is, order_evolves, present, same_sym}
+use Rattle.codec_payload_session_runs.proofs.RunLemmas.{runs_more}
+use Rattle.codec_payload_session_runs.proofs.StreamLemmas.{HasPart, same_is}
+use Rattle.codec_payload_session_runs.specs.Lives.{AreInOrder, AreOfOne, EachEndedAlone, EachIsAlone, EndedAlone, IsAlone, IsPart, Projects, StartsWithDatagram, TellsInOrder, ending_poll, events_in, events_of, is_announced, is_same, one_event}
+use Rattle.codec_payload_session_runs.specs.SessionRuns.{AddsPair, Call, Does, Runs}
+use Rattle.codec_payload_session_runs.specs.declared.run.SessionStep.{SessionStep}
+use Rattle.codec_payload_session_runs.specs.declared.run.SessionStep.TheVariants as calls
+use Rattle.codec_payload_session_runs.specs.declared.run.StepAnswer.{StepAnswer}
+use Rattle.codec_payload_session_runs.specs.declared.run.StepAnswer.TheVariants as answers
+
+-- ---- one call
+
+record Moves (c : Call) (s t : Session) : Type 0 where
+  evolves : Evolves s.settings c s.port.streams t.port.streams
+  others : t.settings ≡ record s.settings { pairs = t.settings.pairs }
+
+abbrev call_of : SessionStep → StepAnswer → Call
+call_of step answer = record { step = step; answer = answer }
+
+-- the streams of a report
+report_streams : (f : FeedbackSettings) (interval tick_rate now : ℕ) (due : Option ℕ) (p : Port) (packet : Result (Vec ℕ) AllocError) (next : Option ℕ) (q : Port)
+    → Reports f interval tick_rate now due p packet next q → (q.streams ≡ p.streams) ⊎ (q.streams ≡ all_reported p.streams)
+report_streams f interval tick_rate now due p (Ok packet) next q got = inr (ap (λ (o : Port). o.streams) got.2)
+report_streams f interval tick_rate now due p (Err e) next q got = inl (ap (λ (o : Port). o.streams) got.1)
+
+when_streams : (b : Bool) (f : FeedbackSettings) (interval tick_rate now : ℕ) (due : Option ℕ) (p : Port) (answer : Option (Result (Vec ℕ) AllocError)) (next : Option ℕ) (q : Port)
+    → ReportsWhen b f interval tick_rate now due p answer next q → (q.streams ≡ p.streams) ⊎ (q.streams ≡ all_reported p.streams)
+when_streams false f interval tick_rate now due p answer next q got = inl (ap (λ (o : Port). o.streams) got.2)
+when_streams true f interval tick_rate now due p answer next q got = report_streams f interval tick_rate now due p got.0 next q got.2
+
+each_streams : (o : Option ℕ) (f : FeedbackSettings) (tick_rate now : ℕ) (due : Option ℕ) (p : Port) (answer : Option (Result (Vec ℕ) AllocError)) (next : Option ℕ) (q : Port)
+    → ReportsEach o f tick_rate now due p answer next q → (q.streams ≡ p.streams) ⊎ (q.streams ≡ all_reported p.streams)
+each_streams None f tick_rate now due p answer next q got = inl (ap (λ (o : Port). o.streams) got.2)
+each_streams (Some interval) f tick_rate now due p answer next q got = when_streams (is_report_due now due p.streams) f interval tick_rate now due p answer next q got
+
+by_streams : (o : Option FeedbackSettings) (tick_rate now : ℕ) (due : Option ℕ) (p : Port) (answer : Option (Result (Vec ℕ) AllocError)) (next : Option ℕ) (q : Port)
+    → ReportsBy o tick_rate now due p answer next q → (q.streams ≡ p.streams) ⊎ (q.streams ≡ all_reported p.streams)
+by_streams None tick_rate now due p answer next q got = inl (ap (λ (o : Port). o.streams) got.2)
+by_streams (Some f) tick_rate now due p answer next q got = each_streams f.report_interval f tick_rate now due p answer next q got
+
+quiet_or_reported : (packet : Option (Result (Vec ℕ) AllocError)) (given : SessionSettings) (now : Ticks) (idle : ℕ) (ss ts us : List Stream) → AreQuiet now idle ss ts → (us ≡ ts) ⊎ (us ≡ all_reported ts)
+    → Evolves given (call_of (calls.Poll now) (answers.Polled (report_event packet))) ss us
+quiet_or_reported None given now idle ss ts us got (inl same) =
+    subst (λ (zs : List Stream). Evolves given (call_of (calls.Poll now) (answers.Polled None)) ss zs) (sym same) (quiet_evolves given now idle None ss ts (λ x. (refl, refl)) (λ s t. refl) got)
+quiet_or_reported None given now idle ss ts us got (inr same) =
+    subst (λ (zs : List Stream). Evolves given (call_of (calls.Poll now) (answers.Polled None)) ss zs) (sym same) (reported_evolves given now idle None ss ts (λ x. (refl, refl)) (λ s t. refl) got)
+quiet_or_reported (Some packet) given now idle ss ts us got (inl same) =
+    subst (λ (zs : List Stream). Evolves given (call_of (calls.Poll now) (answers.Polled (Some (events.Report packet)))) ss zs) (sym same)
+    (quiet_evolves given now idle (Some (events.Report packet)) ss ts (λ x. (refl, refl)) (λ s t. refl) got)
+quiet_or_reported (Some packet) given now idle ss ts us got (inr same) =
+    subst (λ (zs : List Stream). Evolves given (call_of (calls.Poll now) (answers.Polled (Some (events.Report packet)))) ss zs) (sym same)
+    (reported_evolves given now idle (Some (events.Report packet)) ss ts (λ x. (refl, refl)) (λ s t. refl) got)
+
+turn_moves : (o : Option Event) (now : Ticks) (s : Session) (port : Port) (event : Option Event) (t : Session) → AreApart s.port.streams → TakesTurn now s.settings.idle_timeout s.port o port
+    → GoesOn o now.0 (record s { port = port }) event t → Moves (call_of (calls.Poll now) (answers.Polled event)) s t
+turn_moves None now s port event t apart turn got =
+    let streams : port.streams ≡ turn.0 = ap (λ (p : Port). p.streams) turn.2 in
+    let quiet : AreQuiet now s.settings.idle_timeout s.port.streams port.streams = subst (λ (zs : List Stream). AreQuiet now s.settings.idle_timeout s.port.streams zs) (sym streams) turn.1 in
+    subst₂ (λ (e : Option Event) (z : Session). Moves (call_of (calls.Poll now) (answers.Polled e)) s z) (sym got.answers) (sym got.left)
+    (record {
+      evolves = quiet_or_reported got.packet s.settings now s.settings.idle_timeout s.port.streams port.streams got.port.streams quiet
+          (by_streams s.settings.feedback s.settings.tick_rate now.0 s.report_due port got.packet got.due got.port got.reports);
+      others = refl;
+    })
+turn_moves (Some e) now s port event t apart turn got =
+    subst₂ (λ (o : Option Event) (z : Session). Moves (call_of (calls.Poll now) (answers.Polled o)) s z) (sym got.0) (sym got.1)
+    (record { evolves = tells_evolve s.settings now s.settings.idle_timeout s.port e port apart turn; others = refl })
+
+poll_moves : (ws : List _) (now : Ticks) (s : Session) (event : Option Event) (t : Session) → AreApart s.port.streams → PollsAfter ws now s event t
+    → Moves (call_of (calls.Poll now) (answers.Polled event)) s t
+poll_moves [] now s event t apart got = turn_moves got.event now s got.port event t apart got.turn got.goes_on
+poll_moves (w ∷ ws) now s event t apart got =
+    subst₂ (λ (o : Option Event) (z : Session). Moves (call_of (calls.Poll now) (answers.Polled o)) s z) (sym got.0) (sym got.1)
+    (record { evolves = evolves_same s.settings _ s.port.streams (λ a b. refl) (λ a b. refl); others = refl })
+
+receive_moves : (now : Ticks) (datagram : Vec ℕ) (s : Session) (arrival : Result Arrival AllocError) (t : Session) → AreApart s.port.streams → AreKnown s.port.streams → Receives now datagram.items s arrival t
+    → Moves (call_of (calls.Receive now datagram) (answers.Received arrival)) s t
+receive_moves now datagram s arrival t apart known (inl got) =
+    subst (λ (z : Session). Moves (call_of (calls.Receive now datagram) (answers.Received arrival)) s z) (sym got.left)
+    (record { evolves = receive_evolves s.settings now datagram s.port arrival got.port apart known got.takes; others = refl })
+receive_moves now datagram s arrival t apart known (inr got) =
+    subst (λ (z : Session). Moves (call_of (calls.Receive now datagram) (answers.Received arrival)) s z) (sym got.left)
+    (record { evolves = failed_evolves s.settings now datagram arrival s.port.streams got.fails; others = refl })
+
+pair_moves : (step : SessionStep) (answer : StepAnswer) (ssrc : ℕ) (named : List SsrcPair) (s t : Session)
+    → Evolves s.settings (call_of step answer) s.port.streams (paired_where ssrc named s.port.streams) → Pairs ssrc named s t → Moves (call_of step answer) s t
+pair_moves step answer ssrc named s t evolves got =
+    subst (λ (z : Session). Moves (call_of step answer) s z) (sym got.left) (record { evolves = evolves; others = refl })
+
+added_moves : (ssrc retransmission : ℕ) (s : Session) (added : Result Unit AllocError) (t : Session) → AddsPair ssrc retransmission s added t
+    → Moves (call_of (calls.AddPair ssrc retransmission) (answers.PairAdded added)) s t
+added_moves ssrc retransmission s (Ok u) t got =
+    pair_moves (calls.AddPair ssrc retransmission) (answers.PairAdded (Ok u)) ssrc _ s t
+    (pairs_evolve s.settings (call_of (calls.AddPair ssrc retransmission) (answers.PairAdded (Ok u))) ssrc _ s.port.streams (λ own. tt) (λ a b. refl) (λ a b. refl)) got.0
+added_moves ssrc retransmission s (Err e) t got =
+    subst (λ (z : Session). Moves (call_of (calls.AddPair ssrc retransmission) (answers.PairAdded (Err e))) s z) (sym got.1)
+    (record { evolves = evolves_same s.settings _ s.port.streams (λ a b. refl) (λ a b. refl); others = refl })
+
+moves : (step : SessionStep) (answer : StepAnswer) (s t : Session) → AreApart s.port.streams → AreKnown s.port.streams → Does step s answer t → Moves (call_of step answer) s t
+moves (calls.Receive now datagram) answer s t apart known got =
+    subst (λ (a : StepAnswer). Moves (call_of (calls.Receive now datagram) a) s t) (sym got.1) (receive_moves now datagram s got.0 t apart known got.2)
+moves (calls.Poll now) answer s t apart known got =
+    subst (λ (a : StepAnswer). Moves (call_of (calls.Poll now) a) s t) (sym got.1) (poll_moves s.telephone.waiting now s got.0 t apart got.2)
+moves (calls.End now ssrc) answer s t apart known got =
+    subst₂ (λ (a : StepAnswer) (z : Session). Moves (call_of (calls.End now ssrc) a) s z) (sym got.0) (sym got.1)
+    (record { evolves = end_evolves s.settings now ssrc (λ own. ssrc == own) s.port.streams; others = refl })
+moves (calls.Finish now) answer s t apart known got =
+    subst₂ (λ (a : StepAnswer) (z : Session). Moves (call_of (calls.Finish now) a) s z) (sym got.0) (sym got.1)
+    (record { evolves = finish_evolves s.settings now everyone s.port.streams; others = refl })
+moves (calls.SetWaitLimits ssrc payload_type limits) answer s t apart known got =
+    subst₂ (λ (a : StepAnswer) (z : Session). Moves (call_of (calls.SetWaitLimits ssrc payload_type limits) a) s z) (sym got.0) (sym got.1)
+    (record { evolves = waits_evolve s.settings ssrc payload_type limits s.port.streams; others = refl })
+moves (calls.Report now ssrc payload_type) answer s t apart known got =
+    subst₂ (λ (a : StepAnswer) (z : Session). Moves (call_of (calls.Report now ssrc payload_type) a) s z) (sym got.1) (sym got.2.left)
+    (record { evolves = report_evolves (position (is_of ssrc payload_type) s.port.streams) s.settings now ssrc payload_type s.settings.tick_rate s.port got.0 got.2.port apart got.2.reports; others = refl })
+moves (calls.AddPair ssrc retransmission) answer s t apart known got =
+    subst (λ (a : StepAnswer). Moves (call_of (calls.AddPair ssrc retransmission) a) s t) (sym got.1) (added_moves ssrc retransmission s got.0 t got.2)
+moves (calls.RemovePair ssrc) answer s t apart known got =
+    subst (λ (a : StepAnswer). Moves (call_of (calls.RemovePair ssrc) a) s t) (sym got.0)
+    (pair_moves (calls.RemovePair ssrc) answers.Done ssrc _ s t
+    (pairs_evolve s.settings (call_of (calls.RemovePair ssrc) answers.Done) ssrc _ s.port.streams (λ own. tt) (λ a b. refl) (λ a b. refl)) got.1)
+
+-- ---- streams alone
+
+starts_more : (ssrc payload_type : ℕ) (cs ds : List Call) → StartsWithDatagram ssrc payload_type cs → StartsWithDatagram ssrc payload_type (cs ++ ds)
+starts_more ssrc payload_type [] ds starts = absurd starts
+starts_more ssrc payload_type (c ∷ cs) ds starts = starts
+
+alone_more : (settings : SessionSettings) (cs : List Call) (c : Call) (x y : Stream) → IsAlone settings cs x.ssrc x.format x.told x.receiver → HasPart c x y
+    → AreOfOne x.told (events_in x.ssrc x.format.payload_type c.answer) y.told → IsAlone settings (cs ++ c ∷ []) y.ssrc y.format y.told y.receiver
+alone_more settings cs c x y got has tells =
+    let projects : Projects x.ssrc x.format.payload_type (got.during ++ c ∷ []) (got.own ++ has.part) = projects_more x.ssrc x.format.payload_type got.during c got.own has.part got.projects has.is_part in
+    subst₂ (λ (s : ℕ) (f : Format). IsAlone settings (cs ++ c ∷ []) s f y.told y.receiver) (sym has.ssrc_is) (sym has.format)
+    (record {
+      before = got.before;
+      during = got.during ++ c ∷ [];
+      whole = ap (λ (zs : List Call). zs ++ c ∷ []) got.whole ∙ append_assoc got.before got.during (c ∷ []);
+      starts = starts_more x.ssrc x.format.payload_type got.during (c ∷ []) got.starts;
+      reached = got.reached;
+      reaches = got.reaches;
+      pairs_alone = got.pairs_alone;
+      fresh = got.fresh;
+      begins = got.begins;
+      own = got.own ++ has.part;
+      alone = runs_append got.own has.part got.fresh.receiver x.receiver y.receiver got.alone has.alone;
+      projects = projects;
+      shows = projects_shown x.ssrc x.format.payload_type (got.during ++ c ∷ []) (got.own ++ has.part) projects;
+      tells = subst (λ (es : List Event). AreOfOne false es y.told) (sym (events_more x.ssrc x.format.payload_type got.during c))
+          (one_append (events_of x.ssrc x.format.payload_type got.during) (events_in x.ssrc x.format.payload_type c.answer) false x.told y.told got.tells tells);
+    })
+
+alone_fresh : (settings : SessionSettings) (cs : List Call) (c : Call) (reached : Session) (ss : List Stream) (y : Stream) → Runs cs (new_session settings) reached
+    → reached.settings ≡ record settings { pairs = reached.settings.pairs } → BeginsNow reached.settings c ss y → IsAlone settings (cs ++ c ∷ []) y.ssrc y.format y.told y.receiver
+alone_fresh settings cs c reached ss y run others got =
+    let x : Stream = got.fresh in
+    let has : HasPart c x y = got.goes.has in
+    let is_part : IsPart y.ssrc y.format.payload_type c has.part = subst₂ (λ (s : ℕ) (f : Format). IsPart s f.payload_type c has.part) (sym has.ssrc_is) (sym has.format) has.is_part in
+    let projects : Projects y.ssrc y.format.payload_type (c ∷ []) has.part = (has.part, [], sym (append-nil has.part), is_part, refl) in
+    let untold : x.told ≡ false = got.begins.told in
+    let first : AreOfOne x.told (events_in y.ssrc y.format.payload_type c.answer) y.told =
+    subst₂ (λ (s : ℕ) (f : Format). AreOfOne x.told (events_in s f.payload_type c.answer) y.told) (sym has.ssrc_is) (sym has.format) got.goes.tells in
+    record {
+      before = cs;
+      during = c ∷ [];
+      whole = refl;
+      starts = got.starts;
+      reached = reached;
+      reaches = run;
+      pairs_alone = others;
+      fresh = x;
+      begins = got.begins;
+      own = has.part;
+      alone = has.alone;
+      projects = projects;
+      shows = projects_shown y.ssrc y.format.payload_type (c ∷ []) has.part projects;
+      tells = subst₂ (λ (b : Bool) (es : List Event). AreOfOne b es y.told) untold (sym (append-nil (events_in y.ssrc y.format.payload_type c.answer))) first;
+    }
+
+alone_fates : (settings : SessionSettings) (cs : List Call) (c : Call) (ss : List Stream) (fs : List (Option Stream)) → AreFates c ss fs → EachIsAlone settings cs ss → EachIsAlone settings (cs ++ c ∷ []) (present fs)
+alone_fates settings cs c [] [] are alone = tt
+alone_fates settings cs c [] (f ∷ fs) are alone = absurd are
+alone_fates settings cs c (x ∷ xs) [] are alone = absurd are
+alone_fates settings cs c (x ∷ xs) (Some y ∷ fs) are alone = (alone_more settings cs c x y alone.0 are.0.has are.0.tells, alone_fates settings cs c xs fs are.1 alone.1)
+alone_fates settings cs c (x ∷ xs) (None ∷ fs) are alone = alone_fates settings cs c xs fs are.1 alone.1
+
+each_append : (settings : SessionSettings) (cs : List Call) (ss ts : List Stream) → EachIsAlone settings cs ss → EachIsAlone settings cs ts → EachIsAlone settings cs (ss ++ ts)
+each_append settings cs [] ts a b = b
+each_append settings cs (s ∷ ss) ts a b = (a.0, each_append settings cs ss ts a.1 b)
+
+-- ---- whole runs
+
+pub record Reached (settings : SessionSettings) (cs : List Call) (s : Session) : Type 0 where
+  pub run : Runs cs (new_session settings) s
+  pub others : s.settings ≡ record settings { pairs = s.settings.pairs }
+  pub apart : AreApart s.port.streams
+  pub known : AreKnown s.port.streams
+  pub alone : EachIsAlone settings cs s.port.streams
+  pub order : TellsInOrder cs s.port.streams
+
+-- streams that began are apart from the others, and not announced
+fresh_keeps : (settings : SessionSettings) (cs : List Call) (c : Call) (reached : Session) (ss : List Stream) (fs : List (Option Stream)) (fresh : List Stream) → Runs cs (new_session settings) reached
+    → reached.settings ≡ record settings { pairs = reached.settings.pairs } → AreFates c ss fs → AreFresh reached.settings c ss fresh → AreApart (present fs) → AreKnown (present fs) → EachIsAlone settings (cs ++ c ∷ []) (present fs)
+    → AreApart (present fs ++ fresh) × AreKnown (present fs ++ fresh) × EachIsAlone settings (cs ++ c ∷ []) (present fs ++ fresh)
+fresh_keeps settings cs c reached ss fs [] run others are fresh apart known alone = (
+  subst AreApart (sym (append-nil (present fs))) apart,
+  subst AreKnown (sym (append-nil (present fs))) known,
+  subst (λ (zs : List Stream). EachIsAlone settings (cs ++ c ∷ []) zs) (sym (append-nil (present fs))) alone,
+)
+fresh_keeps settings cs c reached ss fs (y ∷ []) run others are fresh apart known alone = (
+  apart_more (present fs) y apart (absent_fates c y.ssrc y.format.payload_type ss fs are fresh.absent),
+  known_more (present fs) y known (λ (told : y.told ≡ true). let untold : y.told ≡ false = fresh.untold in absurd (cc)),
+  each_append settings (cs ++ c ∷ []) (present fs) (y ∷ []) alone (alone_fresh settings cs c reached ss y run others fresh, tt),
+)
+fresh_keeps settings cs c reached ss fs (y ∷ z ∷ zs) run others are fresh apart known alone = absurd fresh
+
+reached_more : (settings : SessionSettings) (cs : List Call) (c : Call) (s t : Session) → Reached settings cs s → Does c.step s c.answer t → Reached settings (cs ++ c ∷ []) t
+reached_more settings cs c s t got does =
+    let m : Moves c s t = moves c.step c.answer s t got.apart got.known does in
+    let e : Evolves s.settings c s.port.streams t.port.streams = m.evolves in
+    let all = fresh_keeps settings cs c s s.port.streams e.fates e.fresh got.run got.others e.are_fates e.are_fresh
+    (apart_fates c s.port.streams e.fates e.are_fates got.apart) (known_fates c s.port.streams e.fates e.are_fates got.known) (alone_fates settings cs c s.port.streams e.fates e.are_fates got.alone) in
+    record {
+      run = runs_more cs (new_session settings) s t c.step c.answer got.run does;
+      others = m.others ∙ ap (λ (g : SessionSettings). record g { pairs = t.settings.pairs }) got.others;
+      apart = subst AreApart (sym e.left) all.0;
+      known = subst AreKnown (sym e.left) all.1;
+      alone = subst (λ (zs : List Stream). EachIsAlone settings (cs ++ c ∷ []) zs) (sym e.left) all.2;
+      order = λ ssrc payload_type.
+          subst (λ (es : List Event). AreInOrder false es (is_announced ssrc payload_type t.port.streams)) (sym (events_more ssrc payload_type cs c))
+          (order_append (events_of ssrc payload_type cs) (events_in ssrc payload_type c.answer) false (is_announced ssrc payload_type s.port.streams) (is_announced ssrc payload_type t.port.streams)
+          (got.order ssrc payload_type) (order_evolves s.settings c ssrc payload_type s.port.streams t.port.streams got.apart e));
+    }
+
+reached_later : (settings : SessionSettings) (later cs : List Call) (s t : Session) → Reached settings cs s → Runs later s t → Reached settings (cs ++ later) t
+reached_later settings [] cs s t got run = subst₂ (λ (zs : List Call) (z : Session). Reached settings zs z) (sym (append-nil cs)) (sym run) got
+reached_later settings (c ∷ later) cs s t got run =
+    subst (λ (zs : List Call). Reached settings zs t) (append_assoc cs (c ∷ []) later)
+    (reached_later settings later (cs ++ c ∷ []) run.0 t (reached_more settings cs c s run.0 got run.1) run.2)
+
+reached_new : (settings : SessionSettings) → Reached settings [] (new_session settings)
+reached_new settings = record { run = refl; others = refl; apart = tt; known = tt; alone = tt; order = λ ssrc payload_type. refl }
+
+pub reached : (settings : SessionSettings) (cs : List Call) (t : Session) → Runs cs (new_session settings) t → Reached settings cs t
+reached settings cs t run = reached_later settings cs [] (new_session settings) t (reached_new settings) run
+
+-- ---- streams that ended
+
+ended_same : (ssrc payload_type : ℕ) (x : Stream) → is_of ssrc payload_type x ≡ true → is_same x.ssrc x.format.payload_type ssrc payload_type ≡ true
+ended_same ssrc payload_type x is = same_sym x.ssrc x.format.payload_type ssrc payload_type ∙ is
+
+ended_fate : (settings : SessionSettings) (before : List Call) (now : Ticks) (ssrc payload_type : ℕ) (why : Ending) (x : Stream) (f : Option Stream) → IsFate (ending_poll now ssrc payload_type why) x f
+    → is_of ssrc payload_type x ≡ true → IsAlone settings before x.ssrc x.format x.told x.receiver → EndedAlone settings before now ssrc payload_type why
+ended_fate settings before now ssrc payload_type why x (Some y) fate is alone =
+    absurd (subst (λ (b : Bool). AreOfOne x.told (one_event b (events.Ended ssrc payload_type why)) y.told) (ended_same ssrc payload_type x is) fate.tells)
+ended_fate settings before now ssrc payload_type why x None (inl replaced) is alone =
+    let none : events.Ended ssrc payload_type why ∷ [] ≡ [] =
+    subst (λ (b : Bool). one_event b (events.Ended ssrc payload_type why) ≡ []) (ended_same ssrc payload_type x is) replaced.tells in absurd (cc)
+ended_fate settings before now ssrc payload_type why x None (inr ends) is alone =
+    let ids = of_is ssrc payload_type x is in
+    record {
+      format = x.format;
+      has_type = ids.1;
+      receiver = x.receiver;
+      alone = subst₂ (λ (s : ℕ) (b : Bool). IsAlone settings before s x.format b x.receiver) ids.0 ends.told alone;
+      last = ends.after.receiver;
+      part = ends.has.part;
+      run = ends.has.alone;
+      made = ends.has.is_part.made;
+      one_pop = ends.has.is_part.one_pop;
+      no_unit = ends.has.is_part.shows;
+    }
+
+ended_test : (b : Bool) (settings : SessionSettings) (before : List Call) (now : Ticks) (ssrc payload_type : ℕ) (why : Ending) (x : Stream) (f : Option Stream) → is_of ssrc payload_type x ≡ b
+    → IsFate (ending_poll now ssrc payload_type why) x f → IsAlone settings before x.ssrc x.format x.told x.receiver
+    → (is_of ssrc payload_type x ≡ false → EndedAlone settings before now ssrc payload_type why) → EndedAlone settings before now ssrc payload_type why
+ended_test true settings before now ssrc payload_type why x f is fate alone later = ended_fate settings before now ssrc payload_type why x f fate is alone
+ended_test false settings before now ssrc payload_type why x f is fate alone later = later is
+
+ended_among : (settings : SessionSettings) (before : List Call) (now : Ticks) (ssrc payload_type : ℕ) (why : Ending) (ss : List Stream) (fs : List (Option Stream))
+    → AreFates (ending_poll now ssrc payload_type why) ss fs → EachIsAlone settings before ss
+    → (IsAbsent ssrc payload_type ss → events_in ssrc payload_type (ending_poll now ssrc payload_type why).answer ≡ []) → EndedAlone settings before now ssrc payload_type why
+ended_among settings before now ssrc payload_type why [] [] are alone silent =
+    let none : events.Ended ssrc payload_type why ∷ [] ≡ [] =
+    subst (λ (b : Bool). one_event b (events.Ended ssrc payload_type why) ≡ []) (same_is ssrc payload_type) (silent tt) in absurd (cc)
+ended_among settings before now ssrc payload_type why [] (f ∷ fs) are alone silent = absurd are
+ended_among settings before now ssrc payload_type why (x ∷ xs) [] are alone silent = absurd are
+ended_among settings before now ssrc payload_type why (x ∷ xs) (f ∷ fs) are alone silent =
+    ended_test (is_of ssrc payload_type x) settings before now ssrc payload_type why x f refl are.0 alone.0
+    (λ (is : is_of ssrc payload_type x ≡ false). ended_among settings before now ssrc payload_type why xs fs are.1 alone.1 (λ absent. silent (is, absent)))
+
+runs_split : (cs ds : List Call) (s t : Session) → Runs (cs ++ ds) s t → (mid : Session) × Runs cs s mid × Runs ds mid t
+runs_split [] ds s t run = (s, refl, run)
+runs_split (c ∷ cs) ds s t run =
+    let later = runs_split cs ds run.0 t run.2 in
+    (later.0, (run.0, run.1, later.1), later.2)
+
+ended_in : (settings : SessionSettings) (before after : List Call) (now : Ticks) (ssrc payload_type : ℕ) (why : Ending) (t : Session)
+    → Runs (before ++ ending_poll now ssrc payload_type why ∷ after) (new_session settings) t → EndedAlone settings before now ssrc payload_type why
+ended_in settings before after now ssrc payload_type why t run =
+    let c : Call = ending_poll now ssrc payload_type why in
+    let parts = runs_split before (c ∷ after) (new_session settings) t run in
+    let got : Reached settings before parts.0 = reached settings before parts.0 parts.1 in
+    let m : Moves c parts.0 parts.2.0 = moves c.step c.answer parts.0 parts.2.0 got.apart got.known parts.2.1 in
+    ended_among settings before now ssrc payload_type why parts.0.port.streams m.evolves.fates m.evolves.are_fates got.alone (m.evolves.silent ssrc payload_type)
+
+pub each_ended : (settings : SessionSettings) (cs : List Call) (t : Session) → Runs cs (new_session settings) t → EachEndedAlone settings cs
+each_ended settings cs t run = λ before after now ssrc payload_type why whole.
+    ended_in settings before after now ssrc payload_type why t (subst (λ (zs : List Call). Runs zs (new_session settings) t) whole run)

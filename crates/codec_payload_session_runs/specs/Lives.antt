@@ -1,0 +1,296 @@
+-- Each stream of a session is a receiver of its own.
+use Rattle.std.specs.Prelude.{◌≡◌, ◌≤◌, ℕ, suc, ◌==◌, ◌&&◌, not, if◌then◌else◌, Bool, true, false, List, [], ◌∷◌, ◌++◌, Option, Some, None, Result, Ok, Err}
+use Rattle.std.specs.declared.alloc.AllocError.{AllocError}
+use Rattle.codec_payload_base.specs.declared.error.PacketError.{PacketError}
+use Rattle.codec_payload_base.specs.declared.wire.Ticks.{Ticks}
+use Rattle.codec_payload_buffer.specs.Release.{Release}
+use Rattle.codec_payload_jitter.specs.declared.outcome.Outcome.{Outcome}
+use Rattle.codec_payload_jitter.specs.declared.waiting.WaitLimits.{WaitLimits}
+use Rattle.codec_payload_stream.specs.Pops.{PopsGated}
+use Rattle.codec_payload_stream.specs.Reports.{reported}
+use Rattle.codec_payload_stream.specs.Sessions.{Finishes, ReceivesBytes, Session as Receiver}
+use Rattle.codec_payload_stream.specs.declared.receiver.ReceiveError.{ReceiveError}
+use Rattle.codec_payload_stream.specs.declared.receiver.Retransmission.{Retransmission}
+use Rattle.codec_payload_session.specs.Ports.{Session, new_session}
+use Rattle.codec_payload_session.specs.Streams.{Begins, is_no_memory, is_of}
+use Rattle.codec_payload_session.specs.declared.formats.Format.{Format}
+use Rattle.codec_payload_session.specs.declared.formats.SessionSettings.{SessionSettings}
+use Rattle.codec_payload_session.specs.declared.session.Arrival.{Arrival}
+use Rattle.codec_payload_session.specs.declared.session.Arrival.TheVariants as arrivals
+use Rattle.codec_payload_session.specs.declared.session.Event.{Event}
+use Rattle.codec_payload_session.specs.declared.session.Event.TheVariants as events
+use Rattle.codec_payload_session.specs.declared.stream.Ending.{Ending}
+use Rattle.codec_payload_session.specs.declared.stream.Stream.{Stream}
+use Rattle.codec_payload_session_runs.specs.SessionRuns.{Call, Runs}
+use Rattle.codec_payload_session_runs.specs.declared.run.SessionStep.{SessionStep}
+use Rattle.codec_payload_session_runs.specs.declared.run.SessionStep.TheVariants as steps
+use Rattle.codec_payload_session_runs.specs.declared.run.StepAnswer.{StepAnswer}
+use Rattle.codec_payload_session_runs.specs.declared.run.StepAnswer.TheVariants as answers
+
+-- ---- a receiver alone
+
+-- a call of a receiver, with its answer: a datagram, a pop, the end of the stream, other wait limits, another SSRC of
+-- retransmissions, a report
+pub data ReceiverCall : Type 0 where
+  receives : Ticks → List ℕ → Result Outcome ReceiveError → ReceiverCall
+  pops : Ticks → Option (Result Release PacketError) → ReceiverCall
+  finishes : ReceiverCall
+  waits : WaitLimits → ReceiverCall
+  pairs : Option Retransmission → ReceiverCall
+  reports : ReceiverCall
+
+abbrev pub DoesAlone : ReceiverCall → Receiver → Receiver → Type 0
+DoesAlone (receives now bytes answer) r q = ReceivesBytes now bytes r answer q
+DoesAlone (pops now answer) r q = PopsGated now.0 r answer q
+DoesAlone finishes r q = Finishes r q
+DoesAlone (waits limits) r q = q ≡ record r { packets = record r.packets { wait_limits = limits } }
+DoesAlone (pairs retransmission) r q = q ≡ record r { stream = record r.stream { retransmission = retransmission } }
+DoesAlone reports r q = q ≡ record r { reception = reported r.reception }
+
+-- the calls of a receiver in order, and nothing else
+abbrev pub RunsAlone : List ReceiverCall → Receiver → Receiver → Type 0
+RunsAlone [] r q = q ≡ r
+RunsAlone (c ∷ cs) r q = (mid : Receiver) × DoesAlone c r mid × RunsAlone cs mid q
+
+-- ---- what a call of the session is for the stream of an SSRC and payload type
+
+abbrev pub is_same : ℕ → ℕ → ℕ → ℕ → Bool
+is_same ssrc payload_type other_ssrc other_type = (other_ssrc == ssrc) && (other_type == payload_type)
+
+abbrev pub one_call : Bool → ReceiverCall → List ReceiverCall
+one_call true call = call ∷ []
+one_call false call = []
+
+abbrev pub given_by : (ssrc payload_type : ℕ) → Ticks → List ℕ → Result Arrival AllocError → List ReceiverCall
+given_by ssrc payload_type now bytes (Ok (arrivals.Stream s p answer)) = one_call (is_same ssrc payload_type s p) (receives now bytes answer)
+given_by ssrc payload_type now bytes (Ok arrivals.Rtcp) = []
+given_by ssrc payload_type now bytes (Ok arrivals.Malformed) = []
+given_by ssrc payload_type now bytes (Ok arrivals.Unknown) = []
+given_by ssrc payload_type now bytes (Ok arrivals.Refused) = []
+given_by ssrc payload_type now bytes (Ok arrivals.Unassociated) = []
+given_by ssrc payload_type now bytes (Err e) = []
+
+abbrev pub given_as : (ssrc payload_type : ℕ) → Ticks → List ℕ → StepAnswer → List ReceiverCall
+given_as ssrc payload_type now bytes (answers.Received arrival) = given_by ssrc payload_type now bytes arrival
+given_as ssrc payload_type now bytes (answers.Polled event) = []
+given_as ssrc payload_type now bytes (answers.Reported block) = []
+given_as ssrc payload_type now bytes (answers.PairAdded added) = []
+given_as ssrc payload_type now bytes answers.Done = []
+
+abbrev pub released_by : (ssrc payload_type : ℕ) → Ticks → Option Event → List ReceiverCall
+released_by ssrc payload_type now None = []
+released_by ssrc payload_type now (Some (events.Begun s p)) = []
+released_by ssrc payload_type now (Some (events.Unit s p time decodable keyframe unit)) = one_call (is_same ssrc payload_type s p) (pops now (Some unit))
+released_by ssrc payload_type now (Some (events.Feedback s p packet)) = []
+released_by ssrc payload_type now (Some (events.Telephone s p time marker payload)) = []
+released_by ssrc payload_type now (Some (events.Report packet)) = []
+released_by ssrc payload_type now (Some (events.Ended s p why)) = []
+
+abbrev pub released_as : (ssrc payload_type : ℕ) → Ticks → StepAnswer → List ReceiverCall
+released_as ssrc payload_type now (answers.Polled event) = released_by ssrc payload_type now event
+released_as ssrc payload_type now (answers.Received arrival) = []
+released_as ssrc payload_type now (answers.Reported block) = []
+released_as ssrc payload_type now (answers.PairAdded added) = []
+released_as ssrc payload_type now answers.Done = []
+
+abbrev pub shown_by : (ssrc payload_type : ℕ) → SessionStep → StepAnswer → List ReceiverCall
+shown_by ssrc payload_type (steps.Receive now datagram) answer = given_as ssrc payload_type now datagram.items answer
+shown_by ssrc payload_type (steps.Poll now) answer = released_as ssrc payload_type now answer
+shown_by ssrc payload_type (steps.End now s) answer = []
+shown_by ssrc payload_type (steps.Finish now) answer = []
+shown_by ssrc payload_type (steps.SetWaitLimits s p limits) answer = []
+shown_by ssrc payload_type (steps.Report now s p) answer = []
+shown_by ssrc payload_type (steps.AddPair s retransmission) answer = []
+shown_by ssrc payload_type (steps.RemovePair s) answer = []
+
+-- what the answer of a call shows of the stream: the datagram that it took, or the unit that it released
+abbrev pub shown_in : ℕ → ℕ → Call → List ReceiverCall
+shown_in ssrc payload_type c = shown_by ssrc payload_type c.step c.answer
+
+-- the datagrams that a run gave to the stream and the units of its events, in order
+abbrev pub shown_of : ℕ → ℕ → List Call → List ReceiverCall
+shown_of ssrc payload_type [] = []
+shown_of ssrc payload_type (c ∷ cs) = shown_in ssrc payload_type c ++ shown_of ssrc payload_type cs
+
+-- the first of the calls gave a datagram to the stream
+abbrev pub StartsWithDatagram : ℕ → ℕ → List Call → Type 0
+StartsWithDatagram ssrc payload_type [] = ⊥
+StartsWithDatagram ssrc payload_type (c ∷ cs) =
+    (now : Ticks) × (bytes : List ℕ) × (answer : Result Outcome ReceiveError) × (shown_in ssrc payload_type c ≡ receives now bytes answer ∷ [])
+
+-- ---- the calls of the receiver that answers show: datagrams for which memory did not run out, and pops with a unit
+
+abbrev pub is_some_unit : Option (Result Release PacketError) → Bool
+is_some_unit None = false
+is_some_unit (Some unit) = true
+
+abbrev pub is_shown : ReceiverCall → Bool
+is_shown (receives now bytes answer) = not (is_no_memory answer)
+is_shown (pops now answer) = is_some_unit answer
+is_shown finishes = false
+is_shown (waits limits) = false
+is_shown (pairs retransmission) = false
+is_shown reports = false
+
+abbrev pub with_shown : Bool → ReceiverCall → List ReceiverCall → List ReceiverCall
+with_shown true c cs = c ∷ cs
+with_shown false c cs = cs
+
+abbrev pub shown : List ReceiverCall → List ReceiverCall
+shown [] = []
+shown (c ∷ cs) = with_shown (is_shown c) c (shown cs)
+
+-- ---- what a call of the session makes of a receiver
+
+-- a datagram is received at its time, and may change the wait limits by the round trip; a poll pops at its time, and may end the
+-- stream first and report it afterwards; a call for the wait limits, a report or a pair is passed on
+abbrev pub IsMadeBy : SessionStep → ReceiverCall → Type 0
+IsMadeBy (steps.Receive now datagram) (receives at bytes answer) = (at ≡ now) × (bytes ≡ datagram.items)
+IsMadeBy (steps.Receive now datagram) (waits limits) = Unit {0}
+IsMadeBy (steps.Poll now) (pops at answer) = at ≡ now
+IsMadeBy (steps.Poll now) finishes = Unit {0}
+IsMadeBy (steps.Poll now) reports = Unit {0}
+IsMadeBy (steps.SetWaitLimits s p limits) (waits own) = own ≡ limits
+IsMadeBy (steps.Report now s p) reports = Unit {0}
+IsMadeBy (steps.AddPair s retransmission) (pairs own) = Unit {0}
+IsMadeBy (steps.RemovePair s) (pairs own) = Unit {0}
+IsMadeBy _ _ = ⊥
+
+abbrev pub AreMadeBy : SessionStep → List ReceiverCall → Type 0
+AreMadeBy step [] = Unit {0}
+AreMadeBy step (c ∷ cs) = IsMadeBy step c × AreMadeBy step cs
+
+abbrev pub is_pop : ReceiverCall → Bool
+is_pop (receives now bytes answer) = false
+is_pop (pops now answer) = true
+is_pop finishes = false
+is_pop (waits limits) = false
+is_pop (pairs retransmission) = false
+is_pop reports = false
+
+abbrev pub one_more : Bool → ℕ → ℕ
+one_more true n = suc n
+one_more false n = n
+
+abbrev pub many_pops : List ReceiverCall → ℕ
+many_pops [] = 0
+many_pops (c ∷ cs) = one_more (is_pop c) (many_pops cs)
+
+-- what one call makes of the receiver of a stream: what its answer shows, at most one pop, and nothing that this call cannot make
+pub record IsPart (ssrc payload_type : ℕ) (c : Call) (part : List ReceiverCall) : Type 0 where
+  pub made : AreMadeBy c.step part
+  pub one_pop : many_pops part ≤ 1
+  pub shows : shown part ≡ shown_in ssrc payload_type c
+
+-- the projection of a run to the receiver of a stream: for each call its part, in order
+abbrev pub Projects : ℕ → ℕ → List Call → List ReceiverCall → Type 0
+Projects ssrc payload_type [] own = own ≡ []
+Projects ssrc payload_type (c ∷ cs) own =
+    (part : List ReceiverCall) × (rest : List ReceiverCall) × (own ≡ part ++ rest) × IsPart ssrc payload_type c part × Projects ssrc payload_type cs rest
+
+-- ---- events
+
+abbrev pub one_event : Bool → Event → List Event
+one_event true event = event ∷ []
+one_event false event = []
+
+abbrev pub events_by : (ssrc payload_type : ℕ) → Option Event → List Event
+events_by ssrc payload_type None = []
+events_by ssrc payload_type (Some (events.Begun s p)) = one_event (is_same ssrc payload_type s p) (events.Begun s p)
+events_by ssrc payload_type (Some (events.Unit s p time decodable keyframe unit)) = one_event (is_same ssrc payload_type s p) (events.Unit s p time decodable keyframe unit)
+events_by ssrc payload_type (Some (events.Feedback s p packet)) = one_event (is_same ssrc payload_type s p) (events.Feedback s p packet)
+events_by ssrc payload_type (Some (events.Telephone s p time marker payload)) = []
+events_by ssrc payload_type (Some (events.Report packet)) = []
+events_by ssrc payload_type (Some (events.Ended s p why)) = one_event (is_same ssrc payload_type s p) (events.Ended s p why)
+
+abbrev pub events_in : (ssrc payload_type : ℕ) → StepAnswer → List Event
+events_in ssrc payload_type (answers.Polled event) = events_by ssrc payload_type event
+events_in ssrc payload_type (answers.Received arrival) = []
+events_in ssrc payload_type (answers.Reported block) = []
+events_in ssrc payload_type (answers.PairAdded added) = []
+events_in ssrc payload_type answers.Done = []
+
+-- the events of the streams with this SSRC and payload type
+abbrev pub events_of : ℕ → ℕ → List Call → List Event
+events_of ssrc payload_type [] = []
+events_of ssrc payload_type (c ∷ cs) = events_in ssrc payload_type c.answer ++ events_of ssrc payload_type cs
+
+-- the events in order: a stream is announced before its other events, and not twice; after its end a later stream may be. Says
+-- whether a stream is announced before the events, and after them
+abbrev pub AreInOrder : Bool → List Event → Bool → Type 0
+AreInOrder told [] after = after ≡ told
+AreInOrder told (events.Begun s p ∷ es) after = (told ≡ false) × AreInOrder true es after
+AreInOrder told (events.Unit s p time decodable keyframe unit ∷ es) after = (told ≡ true) × AreInOrder true es after
+AreInOrder told (events.Feedback s p packet ∷ es) after = (told ≡ true) × AreInOrder true es after
+AreInOrder told (events.Ended s p why ∷ es) after = (told ≡ true) × AreInOrder false es after
+AreInOrder told (events.Telephone s p time marker payload ∷ es) after = ⊥
+AreInOrder told (events.Report packet ∷ es) after = ⊥
+
+-- the same, without an end
+abbrev pub AreOfOne : Bool → List Event → Bool → Type 0
+AreOfOne told [] after = after ≡ told
+AreOfOne told (events.Begun s p ∷ es) after = (told ≡ false) × AreOfOne true es after
+AreOfOne told (events.Unit s p time decodable keyframe unit ∷ es) after = (told ≡ true) × AreOfOne true es after
+AreOfOne told (events.Feedback s p packet ∷ es) after = (told ≡ true) × AreOfOne true es after
+AreOfOne told (events.Ended s p why ∷ es) after = ⊥
+AreOfOne told (events.Telephone s p time marker payload ∷ es) after = ⊥
+AreOfOne told (events.Report packet ∷ es) after = ⊥
+
+-- ---- streams
+
+-- a stream of a session is a receiver alone. The run is cut in front of the datagram with which the stream began, where it had
+-- reached a session with the same settings, but for pairs of SSRCs. The receiver was then a new one, with the settings of its format
+-- and its SSRC. From there on it made exactly the calls of the projection. These
+-- show the datagrams that answers give to its SSRC and payload type, and the units of its events, in order. Its announcement is the
+-- first of its events, and none of them is an end
+pub record IsAlone (settings : SessionSettings) (calls : List Call) (ssrc : ℕ) (f : Format) (told : Bool) (r : Receiver) : Type 0 where
+  pub before : List Call
+  pub during : List Call
+  pub whole : calls ≡ before ++ during
+  pub starts : StartsWithDatagram ssrc f.payload_type during
+  pub reached : Session
+  pub reaches : Runs before (new_session settings) reached
+  pub pairs_alone : reached.settings ≡ record settings { pairs = reached.settings.pairs }
+  pub fresh : Stream
+  pub begins : Begins reached.settings ssrc f fresh
+  pub own : List ReceiverCall
+  pub alone : RunsAlone own fresh.receiver r
+  pub projects : Projects ssrc f.payload_type during own
+  pub shows : shown own ≡ shown_of ssrc f.payload_type during
+  pub tells : AreOfOne false (events_of ssrc f.payload_type during) told
+
+abbrev pub EachIsAlone : SessionSettings → List Call → List Stream → Type 0
+EachIsAlone settings calls [] = Unit {0}
+EachIsAlone settings calls (s ∷ ss) = IsAlone settings calls s.ssrc s.format s.told s.receiver × EachIsAlone settings calls ss
+
+-- whether a stream with this SSRC and payload type is announced
+abbrev pub is_announced : ℕ → ℕ → List Stream → Bool
+is_announced ssrc payload_type [] = false
+is_announced ssrc payload_type (s ∷ ss) = if is_of ssrc payload_type s then s.told else is_announced ssrc payload_type ss
+
+-- the events of each SSRC and payload type are in order
+abbrev pub TellsInOrder : List Call → List Stream → Type 0
+TellsInOrder calls ss = (ssrc payload_type : ℕ) → AreInOrder false (events_of ssrc payload_type calls) (is_announced ssrc payload_type ss)
+
+-- the stream that ended with the poll after these calls: until then it was alone, and the poll made no unit of it
+pub record EndedAlone (settings : SessionSettings) (before : List Call) (now : Ticks) (ssrc payload_type : ℕ) (why : Ending) : Type 0 where
+  pub format : Format
+  pub has_type : format.payload_type ≡ payload_type
+  pub receiver : Receiver
+  pub alone : IsAlone settings before ssrc format true receiver
+  pub last : Receiver
+  pub part : List ReceiverCall
+  pub run : RunsAlone part receiver last
+  pub made : AreMadeBy (steps.Poll now) part
+  pub one_pop : many_pops part ≤ 1
+  pub no_unit : shown part ≡ []
+
+-- the poll whose event is the end of a stream
+abbrev pub ending_poll : Ticks → ℕ → ℕ → Ending → Call
+ending_poll now ssrc payload_type why = record { step = steps.Poll now; answer = answers.Polled (Some (events.Ended ssrc payload_type why)) }
+
+-- each stream whose end is an event of the run
+abbrev pub EachEndedAlone : SessionSettings → List Call → Type 0
+EachEndedAlone settings calls =
+    (before after : List Call) (now : Ticks) (ssrc payload_type : ℕ) (why : Ending) → calls ≡ before ++ ending_poll now ssrc payload_type why ∷ after
+    → EndedAlone settings before now ssrc payload_type why

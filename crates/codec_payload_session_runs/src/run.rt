@@ -1,0 +1,188 @@
+//! Runs of a session: calls in order, with the answer of each.
+
+ghost use Rattle.std.specs.Prelude.{◌≡◌, length, IfOk, OnErr};
+ghost use Rattle.codec_payload_session.specs.Ports.{new_session, taken_in, told_counts};
+ghost use Rattle.codec_payload_session.specs.declared.formats.SessionSettings.{SessionSettings as Settings};
+ghost use Rattle.codec_payload_session_runs.specs.Counting.{Counts};
+ghost use Rattle.codec_payload_session_runs.specs.Lives.{EachEndedAlone, EachIsAlone, TellsInOrder};
+ghost use Rattle.codec_payload_session_runs.specs.SessionRuns.{Does, Runs, calls_of};
+
+use codec_payload_base::wire::Ticks;
+use codec_payload_jitter::waiting::WaitLimits;
+use codec_payload_rtcp::items::ReportBlock;
+use codec_payload_session::formats::SessionSettings;
+use codec_payload_session::session::{Arrival, Event, Session, SessionCounts};
+use std::alloc::{AllocError, Global};
+
+/// A call of a session that can change it.
+#[derive(Debug, Drop)]
+pub enum SessionStep {
+    /// [`Session::receive`].
+    Receive {
+        now: Ticks,
+        datagram: Vec<u8>,
+    },
+    /// [`Session::poll`].
+    Poll {
+        now: Ticks,
+    },
+    /// [`Session::end`].
+    End {
+        now: Ticks,
+        ssrc: u32,
+    },
+    /// [`Session::finish`].
+    Finish {
+        now: Ticks,
+    },
+    /// [`Session::set_wait_limits`].
+    SetWaitLimits {
+        ssrc: u32,
+        payload_type: u8,
+        wait_limits: WaitLimits,
+    },
+    /// [`Session::report`].
+    Report {
+        now: Ticks,
+        ssrc: u32,
+        payload_type: u8,
+    },
+    /// [`Session::add_pair`].
+    AddPair {
+        ssrc: u32,
+        retransmission: u32,
+    },
+    /// [`Session::remove_pair`].
+    RemovePair {
+        ssrc: u32,
+    },
+}
+
+/// The answer of a call of a session.
+#[derive(Debug, Drop)]
+pub enum StepAnswer {
+    /// The answer of [`Session::receive`].
+    Received(Result<Arrival, AllocError>),
+    /// The answer of [`Session::poll`].
+    Polled(Option<Event>),
+    /// The answer of [`Session::report`].
+    Reported(Option<ReportBlock>),
+    /// The answer of [`Session::add_pair`].
+    PairAdded(Result<(), AllocError>),
+    /// A call without an answer: [`Session::end`], [`Session::finish`], [`Session::set_wait_limits`] or
+    /// [`Session::remove_pair`].
+    Done,
+}
+
+/// The answers of a run.
+#[derive(Debug, Drop)]
+pub struct SessionRun {
+    /// The answer of each call, in order.
+    pub answers: Vec<StepAnswer>,
+    /// The counters of the session after the run.
+    pub counts: SessionCounts,
+}
+
+/// Makes the calls in order, and returns the answer of each. If a call runs out of memory, its answer says so, and the run goes
+/// on.
+///
+/// # Errors
+///
+/// Out of memory for the list of answers: no call is made.
+pub fn run_session(
+    alloc: Global,
+    session: &mut Session,
+    steps: &[SessionStep],
+) -> Result<SessionRun, AllocError>
+    ensures each { IfOk result (λ run. length run.answers.items ≡ length steps.now) }
+    ensures runs { IfOk result (λ run. Runs (calls_of steps.now run.answers.items) session.old session.new) }
+    ensures counts { IfOk result (λ run. run.counts ≡ told_counts session.new.counts session.new.port.ended session.new.telephone.dropped) }
+    // From a new session on: every datagram is counted once.
+    ensures counted { IfOk result (λ run. (settings : Settings) → session.old ≡ new_session settings → Counts (calls_of steps.now run.answers.items) run.counts (taken_in session.new.port.streams)) }
+    // From a new session on: each stream is a receiver alone.
+    ensures alone { IfOk result (λ run. (settings : Settings) → session.old ≡ new_session settings → EachIsAlone settings (calls_of steps.now run.answers.items) session.new.port.streams) }
+    // So is each stream that ended.
+    ensures ended { IfOk result (λ run. (settings : Settings) → session.old ≡ new_session settings → EachEndedAlone settings (calls_of steps.now run.answers.items)) }
+    // From a new session on: the events of each SSRC and payload type are in order.
+    ensures order { IfOk result (λ run. (settings : Settings) → session.old ≡ new_session settings → TellsInOrder (calls_of steps.now run.answers.items) session.new.port.streams) }
+    ensures err { OnErr result (session.new ≡ session.old) }
+{
+    let mut answers = Vec::with_capacity(alloc, steps.len())?;
+    for step in steps {
+        answers.push(do_step(session, step)).unwrap();
+    }
+    Ok(SessionRun {
+        answers,
+        counts: session.counts(),
+    })
+}
+
+/// A session and the run that it made.
+#[derive(Debug, Drop)]
+pub struct RecordedSession {
+    pub session: Session,
+    pub run: SessionRun,
+}
+
+/// Makes a new session, and makes the calls in order with it. See [`run_session`].
+///
+/// # Errors
+///
+/// Out of memory for the list of answers.
+pub fn run_new_session(
+    alloc: Global,
+    settings: SessionSettings,
+    steps: &[SessionStep],
+) -> Result<RecordedSession, AllocError>
+    ensures each { IfOk result (λ made. length made.run.answers.items ≡ length steps.now) }
+    ensures runs { IfOk result (λ made. Runs (calls_of steps.now made.run.answers.items) (new_session settings) made.session) }
+    ensures counted { IfOk result (λ made. Counts (calls_of steps.now made.run.answers.items) made.run.counts (taken_in made.session.port.streams)) }
+    ensures alone { IfOk result (λ made. EachIsAlone settings (calls_of steps.now made.run.answers.items) made.session.port.streams) }
+    ensures ended { IfOk result (λ made. EachEndedAlone settings (calls_of steps.now made.run.answers.items)) }
+    ensures order { IfOk result (λ made. TellsInOrder (calls_of steps.now made.run.answers.items) made.session.port.streams) }
+{
+    let mut session = Session::new(alloc, settings);
+    let run = run_session(alloc, &mut session, steps)?;
+    Ok(RecordedSession { session, run })
+}
+
+/// Makes one call, and returns its answer.
+fn do_step(session: &mut Session, step: &SessionStep) -> StepAnswer
+    ensures { Does step.now session.old result session.new }
+{
+    match step {
+        SessionStep::Receive { now, datagram } => {
+            StepAnswer::Received(session.receive(*now, datagram))
+        }
+        SessionStep::Poll { now } => StepAnswer::Polled(session.poll(*now)),
+        SessionStep::End { now, ssrc } => {
+            session.end(*now, *ssrc);
+            StepAnswer::Done
+        }
+        SessionStep::Finish { now } => {
+            session.finish(*now);
+            StepAnswer::Done
+        }
+        SessionStep::SetWaitLimits {
+            ssrc,
+            payload_type,
+            wait_limits,
+        } => {
+            session.set_wait_limits(*ssrc, *payload_type, *wait_limits);
+            StepAnswer::Done
+        }
+        SessionStep::Report {
+            now,
+            ssrc,
+            payload_type,
+        } => StepAnswer::Reported(session.report(*now, *ssrc, *payload_type)),
+        SessionStep::AddPair {
+            ssrc,
+            retransmission,
+        } => StepAnswer::PairAdded(session.add_pair(*ssrc, *retransmission)),
+        SessionStep::RemovePair { ssrc } => {
+            session.remove_pair(*ssrc);
+            StepAnswer::Done
+        }
+    }
+}
