@@ -23,10 +23,10 @@ use Rattle.codec_payload_session.specs.declared.stream.Ending.{Ending}
 use Rattle.codec_payload_session.specs.declared.stream.Stream.{Stream}
 use Rattle.codec_payload_session_runs.proofs.AloneLemmas.{events_more, one_append, order_append, projects_more, projects_shown, runs_append}
 use Rattle.codec_payload_session_runs.proofs.CallLemmas.{end_evolves, failed_evolves, finish_evolves, pairs_evolve, quiet_evolves, receive_evolves, report_evolves, reported_evolves, tells_evolve, waits_evolve}
-use Rattle.codec_payload_session_runs.proofs.FateLemmas.{AreApart, AreFates, AreFresh, AreKnown, BeginsNow, Evolves, IsAbsent, IsFate, apart_fates, apart_more, absent_fates, evolves_same, known_fates, known_more, of_is, order_evolves, present, same_sym}
+use Rattle.codec_payload_session_runs.proofs.FateLemmas.{AreApart, AreFates, AreFresh, AreKnown, BeginsNow, Evolves, IsFate, apart_fates, apart_more, absent_fates, evolves_same, known_fates, known_more, of_is, order_evolves, present, same_sym}
 use Rattle.codec_payload_session_runs.proofs.RunLemmas.{runs_more}
 use Rattle.codec_payload_session_runs.proofs.StreamLemmas.{HasPart, same_is}
-use Rattle.codec_payload_session_runs.specs.Lives.{AreInOrder, AreOfOne, EachEndedAlone, EachIsAlone, EndedAlone, IsAlone, IsPart, Projects, StartsWithDatagram, TellsInOrder, ending_poll, events_in, events_of, is_announced, is_same, one_event}
+use Rattle.codec_payload_session_runs.specs.Lives.{AreInOrder, AreOfOne, EachEndedAlone, EachIsAlone, EndedAlone, IsAbsent, IsAlone, IsPart, Projects, StartsWithDatagram, TellsInOrder, ending_poll, events_in, events_of, is_announced, is_same, one_event}
 use Rattle.codec_payload_session_runs.specs.SessionRuns.{AddsPair, Call, Does, Runs}
 use Rattle.codec_payload_session_runs.specs.declared.run.SessionStep.{SessionStep}
 use Rattle.codec_payload_session_runs.specs.declared.run.SessionStep.TheVariants as calls
@@ -163,6 +163,7 @@ alone_more settings cs c x y got has tells =
       starts = starts_more x.ssrc x.format.payload_type got.during (c ∷ []) got.starts;
       reached = got.reached;
       reaches = got.reaches;
+      absent = got.absent;
       pairs_alone = got.pairs_alone;
       fresh = got.fresh;
       begins = got.begins;
@@ -174,9 +175,9 @@ alone_more settings cs c x y got has tells =
           (one_append (events_of x.ssrc x.format.payload_type got.during) (events_in x.ssrc x.format.payload_type c.answer) false x.told y.told got.tells tells);
     })
 
-alone_fresh : (settings : SessionSettings) (cs : List Call) (c : Call) (reached : Session) (ss : List Stream) (y : Stream) → Runs cs (new_session settings) reached
-    → reached.settings ≡ record settings { pairs = reached.settings.pairs } → BeginsNow reached.settings c ss y → IsAlone settings (cs ++ c ∷ []) y.ssrc y.format y.told y.receiver
-alone_fresh settings cs c reached ss y run others got =
+alone_fresh : (settings : SessionSettings) (cs : List Call) (c : Call) (reached : Session) (y : Stream) → Runs cs (new_session settings) reached
+    → reached.settings ≡ record settings { pairs = reached.settings.pairs } → BeginsNow reached.settings c reached.port.streams y → IsAlone settings (cs ++ c ∷ []) y.ssrc y.format y.told y.receiver
+alone_fresh settings cs c reached y run others got =
     let x : Stream = got.fresh in
     let has : HasPart c x y = got.goes.has in
     let is_part : IsPart y.ssrc y.format.payload_type c has.part = subst₂ (λ (s : ℕ) (f : Format). IsPart s f.payload_type c has.part) (sym has.ssrc_is) (sym has.format) has.is_part in
@@ -191,6 +192,7 @@ alone_fresh settings cs c reached ss y run others got =
       starts = got.starts;
       reached = reached;
       reaches = run;
+      absent = got.absent;
       pairs_alone = others;
       fresh = x;
       begins = got.begins;
@@ -223,26 +225,26 @@ pub record Reached (settings : SessionSettings) (cs : List Call) (s : Session) :
   pub order : TellsInOrder cs s.port.streams
 
 -- streams that began are apart from the others, and not announced
-fresh_keeps : (settings : SessionSettings) (cs : List Call) (c : Call) (reached : Session) (ss : List Stream) (fs : List (Option Stream)) (fresh : List Stream) → Runs cs (new_session settings) reached
-    → reached.settings ≡ record settings { pairs = reached.settings.pairs } → AreFates c ss fs → AreFresh reached.settings c ss fresh → AreApart (present fs) → AreKnown (present fs) → EachIsAlone settings (cs ++ c ∷ []) (present fs)
+fresh_keeps : (settings : SessionSettings) (cs : List Call) (c : Call) (reached : Session) (fs : List (Option Stream)) (fresh : List Stream) → Runs cs (new_session settings) reached
+    → reached.settings ≡ record settings { pairs = reached.settings.pairs } → AreFates c reached.port.streams fs → AreFresh reached.settings c reached.port.streams fresh → AreApart (present fs) → AreKnown (present fs) → EachIsAlone settings (cs ++ c ∷ []) (present fs)
     → AreApart (present fs ++ fresh) × AreKnown (present fs ++ fresh) × EachIsAlone settings (cs ++ c ∷ []) (present fs ++ fresh)
-fresh_keeps settings cs c reached ss fs [] run others are fresh apart known alone = (
+fresh_keeps settings cs c reached fs [] run others are fresh apart known alone = (
   subst AreApart (sym (append-nil (present fs))) apart,
   subst AreKnown (sym (append-nil (present fs))) known,
   subst (λ (zs : List Stream). EachIsAlone settings (cs ++ c ∷ []) zs) (sym (append-nil (present fs))) alone,
 )
-fresh_keeps settings cs c reached ss fs (y ∷ []) run others are fresh apart known alone = (
-  apart_more (present fs) y apart (absent_fates c y.ssrc y.format.payload_type ss fs are fresh.absent),
+fresh_keeps settings cs c reached fs (y ∷ []) run others are fresh apart known alone = (
+  apart_more (present fs) y apart (absent_fates c y.ssrc y.format.payload_type reached.port.streams fs are fresh.absent),
   known_more (present fs) y known (λ (told : y.told ≡ true). let untold : y.told ≡ false = fresh.untold in absurd (cc)),
-  each_append settings (cs ++ c ∷ []) (present fs) (y ∷ []) alone (alone_fresh settings cs c reached ss y run others fresh, tt),
+  each_append settings (cs ++ c ∷ []) (present fs) (y ∷ []) alone (alone_fresh settings cs c reached y run others fresh, tt),
 )
-fresh_keeps settings cs c reached ss fs (y ∷ z ∷ zs) run others are fresh apart known alone = absurd fresh
+fresh_keeps settings cs c reached fs (y ∷ z ∷ zs) run others are fresh apart known alone = absurd fresh
 
 reached_more : (settings : SessionSettings) (cs : List Call) (c : Call) (s t : Session) → Reached settings cs s → Does c.step s c.answer t → Reached settings (cs ++ c ∷ []) t
 reached_more settings cs c s t got does =
     let m : Moves c s t = moves c.step c.answer s t got.apart got.known does in
     let e : Evolves s.settings c s.port.streams t.port.streams = m.evolves in
-    let all = fresh_keeps settings cs c s s.port.streams e.fates e.fresh got.run got.others e.are_fates e.are_fresh
+    let all = fresh_keeps settings cs c s e.fates e.fresh got.run got.others e.are_fates e.are_fresh
     (apart_fates c s.port.streams e.fates e.are_fates got.apart) (known_fates c s.port.streams e.fates e.are_fates got.known) (alone_fates settings cs c s.port.streams e.fates e.are_fates got.alone) in
     record {
       run = runs_more cs (new_session settings) s t c.step c.answer got.run does;

@@ -238,11 +238,16 @@ AreOfOne told (events.Report packet ∷ es) after = ⊥
 
 -- ---- streams
 
--- a stream of a session is a receiver alone. The run is cut in front of the datagram with which the stream began, where it had
--- reached a session with the same settings, but for pairs of SSRCs. The receiver was then a new one, with the settings of its format
--- and its SSRC. From there on it made exactly the calls of the projection. These
--- show the datagrams that answers give to its SSRC and payload type, and the units of its events, in order. Its announcement is the
--- first of its events, and none of them is an end
+-- no stream has this SSRC and payload type
+abbrev pub IsAbsent : ℕ → ℕ → List Stream → Type 0
+IsAbsent ssrc payload_type [] = Unit {0}
+IsAbsent ssrc payload_type (s ∷ ss) = (is_of ssrc payload_type s ≡ false) × IsAbsent ssrc payload_type ss
+
+-- a stream of a session is a receiver alone. The run is cut in front of the datagram with which the stream began. The session had no
+-- such stream there, and the settings of the run, except for pairs of SSRCs. The receiver was then a new one, with the settings of
+-- its format and its SSRC. From there on it made exactly the calls of the projection. They show the datagrams that answers give to
+-- its SSRC and payload type, and the units of its events, in order. Its announcement is the first of its events, and none of them is
+-- an end
 pub record IsAlone (settings : SessionSettings) (calls : List Call) (ssrc : ℕ) (f : Format) (told : Bool) (r : Receiver) : Type 0 where
   pub before : List Call
   pub during : List Call
@@ -250,6 +255,7 @@ pub record IsAlone (settings : SessionSettings) (calls : List Call) (ssrc : ℕ)
   pub starts : StartsWithDatagram ssrc f.payload_type during
   pub reached : Session
   pub reaches : Runs before (new_session settings) reached
+  pub absent : IsAbsent ssrc f.payload_type reached.port.streams
   pub pairs_alone : reached.settings ≡ record settings { pairs = reached.settings.pairs }
   pub fresh : Stream
   pub begins : Begins reached.settings ssrc f fresh
