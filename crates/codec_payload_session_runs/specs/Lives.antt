@@ -6,6 +6,8 @@ use Rattle.codec_payload_base.specs.declared.wire.Ticks.{Ticks}
 use Rattle.codec_payload_buffer.specs.Release.{Release}
 use Rattle.codec_payload_jitter.specs.declared.outcome.Outcome.{Outcome}
 use Rattle.codec_payload_jitter.specs.declared.waiting.WaitLimits.{WaitLimits}
+use Rattle.codec_payload_rtp.specs.RtpPackets.{Packet}
+use Rattle.codec_payload_rtp.specs.RtpReading.{rtp_at}
 use Rattle.codec_payload_stream.specs.Pops.{PopsGated}
 use Rattle.codec_payload_stream.specs.Reports.{reported}
 use Rattle.codec_payload_stream.specs.Sessions.{Finishes, ReceivesBytes, Session as Receiver}
@@ -142,11 +144,18 @@ shown (c ∷ cs) = with_shown (is_shown c) c (shown cs)
 
 -- ---- what a call of the session makes of a receiver
 
--- a datagram is received at its time, and may change the wait limits by the round trip; a poll pops at its time, and may end the
--- stream first and report it afterwards; a call for the wait limits, a report or a pair is passed on
+-- retransmissions with the SSRC of the datagram, or none
+abbrev pub HasSsrcOf : List ℕ → Option Retransmission → Type 0
+HasSsrcOf bytes None = Unit {0}
+HasSsrcOf bytes (Some retransmission) = (packet : Packet) × (rtp_at bytes ≡ Ok packet) × (retransmission.ssrc ≡ packet.header.ssrc)
+
+-- a datagram is received at its time, and may change the wait limits by the round trip. If it is a retransmission whose stream is
+-- found, the stream gets its SSRC. A poll pops at its time, and may end the stream first and report it afterwards. A call for the
+-- wait limits, a report or a pair is passed on
 abbrev pub IsMadeBy : SessionStep → ReceiverCall → Type 0
 IsMadeBy (steps.Receive now datagram) (receives at bytes answer) = (at ≡ now) × (bytes ≡ datagram.items)
 IsMadeBy (steps.Receive now datagram) (waits limits) = Unit {0}
+IsMadeBy (steps.Receive now datagram) (pairs own) = HasSsrcOf datagram.items own
 IsMadeBy (steps.Poll now) (pops at answer) = at ≡ now
 IsMadeBy (steps.Poll now) finishes = Unit {0}
 IsMadeBy (steps.Poll now) reports = Unit {0}
@@ -176,10 +185,29 @@ abbrev pub many_pops : List ReceiverCall → ℕ
 many_pops [] = 0
 many_pops (c ∷ cs) = one_more (is_pop c) (many_pops cs)
 
--- what one call makes of the receiver of a stream: what its answer shows, at most one pop, and nothing that this call cannot make
+abbrev pub is_pair : ReceiverCall → Bool
+is_pair (receives now bytes answer) = false
+is_pair (pops now answer) = false
+is_pair finishes = false
+is_pair (waits limits) = false
+is_pair (pairs retransmission) = true
+is_pair reports = false
+
+abbrev pub HasNoPair : List ReceiverCall → Type 0
+HasNoPair [] = Unit {0}
+HasNoPair (c ∷ cs) = (is_pair c ≡ false) × HasNoPair cs
+
+-- at most one pair, in front of the other calls
+abbrev pub IsPairFirst : List ReceiverCall → Type 0
+IsPairFirst [] = Unit {0}
+IsPairFirst (c ∷ cs) = HasNoPair cs
+
+-- what one call makes of the receiver of a stream: what its answer shows, at most one pop, at most one pair, in front of the rest,
+-- and nothing that this call cannot make
 pub record IsPart (ssrc payload_type : ℕ) (c : Call) (part : List ReceiverCall) : Type 0 where
   pub made : AreMadeBy c.step part
   pub one_pop : many_pops part ≤ 1
+  pub pair_first : IsPairFirst part
   pub shows : shown part ≡ shown_in ssrc payload_type c
 
 -- the projection of a run to the receiver of a stream: for each call its part, in order
