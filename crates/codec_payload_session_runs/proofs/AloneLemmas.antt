@@ -1,11 +1,13 @@
 -- Runs of a receiver alone, and projections of runs to it.
 use Rattle.std.proofs.Common.{◌≡◌, ◌∙◌, refl, sym, ap, subst, ℕ, ◌+◌, Bool, true, false, List, [], ◌∷◌, ◌++◌, append_assoc, append-nil, arith}
+use Rattle.codec_payload_base.specs.declared.wire.Ticks.{Ticks}
 use Rattle.codec_payload_stream.specs.Sessions.{Session as Receiver}
 use Rattle.codec_payload_session.specs.declared.session.Event.{Event}
 use Rattle.codec_payload_session.specs.declared.session.Event.TheVariants as events
-use Rattle.codec_payload_session_runs.specs.Lives.{AreInOrder, AreMadeBy, AreOfOne, IsPart, Projects, ReceiverCall, RunsAlone, events_in, events_of, is_pop, is_shown, many_pops, one_more, shown, shown_in, shown_of, with_shown}
+use Rattle.codec_payload_session_runs.specs.Lives.{AreInOrder, AreMadeBy, AreOfOne, HasNoPair, IsMadeBy, IsPairFirst, IsPart, Projects, ReceiverCall, RunsAlone, events_in, events_of, finishes, is_pair, is_pop, is_shown, many_pops, one_more, pairs, pops, receives, reports, shown, shown_in, shown_of, waits, with_shown}
 use Rattle.codec_payload_session_runs.specs.SessionRuns.{Call}
 use Rattle.codec_payload_session_runs.specs.declared.run.SessionStep.{SessionStep}
+use Rattle.codec_payload_session_runs.specs.declared.run.SessionStep.TheVariants as steps
 
 -- ---- calls of a receiver
 
@@ -32,6 +34,23 @@ pops_append (c ∷ cs) ds = ap (λ (n : ℕ). one_more (is_pop c) n) (pops_appen
 pub made_append : (step : SessionStep) (cs ds : List ReceiverCall) → AreMadeBy step cs → AreMadeBy step ds → AreMadeBy step (cs ++ ds)
 made_append step [] ds a b = b
 made_append step (c ∷ cs) ds a b = (a.0, made_append step cs ds a.1 b)
+
+-- a poll makes no pair known
+polled_is : (now : Ticks) (c : ReceiverCall) → IsMadeBy (steps.Poll now) c → is_pair c ≡ false
+polled_is now (receives at bytes answer) made = refl
+polled_is now (pops at answer) made = refl
+polled_is now finishes made = refl
+polled_is now (waits limits) made = refl
+polled_is now (pairs retransmission) made = absurd made
+polled_is now reports made = refl
+
+polled_none : (now : Ticks) (cs : List ReceiverCall) → AreMadeBy (steps.Poll now) cs → HasNoPair cs
+polled_none now [] made = tt
+polled_none now (c ∷ cs) made = (polled_is now c made.0, polled_none now cs made.1)
+
+pub polled_first : (now : Ticks) (cs : List ReceiverCall) → AreMadeBy (steps.Poll now) cs → IsPairFirst cs
+polled_first now [] made = tt
+polled_first now (c ∷ cs) made = polled_none now cs made.1
 
 -- ---- projections
 

@@ -17,14 +17,13 @@ use Rattle.codec_payload_rtp.specs.RtpReading.{rtp_at}
 use Rattle.codec_payload_rtp.specs.declared.rtp.RtpError.{RtpError}
 use Rattle.codec_payload_stream.specs.Kinds.{is_among}
 use Rattle.codec_payload_stream.specs.declared.receiver.ReceiveError.{ReceiveError}
-use Rattle.codec_payload_stream.specs.declared.receiver.Retransmission.{Retransmission}
 use Rattle.codec_payload_session.specs.Arrivals.{Arrives, BeginsIf, BeginsOrFeeds, BeginsWith, Feeds, FeedsIf, Port, TakesIn, TakesInAs, TakesMedia, goodbye_at, has_place, has_ssrc, left_if, on_probation, without}
 use Rattle.codec_payload_session.specs.Changes.{continued, continues, is_left_behind, left_behind}
 use Rattle.codec_payload_session.specs.Pairs.{paired_if, paired_when}
 use Rattle.codec_payload_session.specs.Ports.{ReportsIf}
 use Rattle.codec_payload_session.specs.Reporting.{all_reported, is_reported, reported_if}
 use Rattle.codec_payload_session.specs.Reports.{noted, noted_at, noted_in, reported_by}
-use Rattle.codec_payload_session.specs.Formats.{has_type, resends, role_by, stream_of}
+use Rattle.codec_payload_session.specs.Formats.{has_type, resends, retransmission_for, role_by, stream_of}
 use Rattle.codec_payload_session.specs.Sorting.{sorted_by, sorted_retransmission, sorted_rtcp, sorted_rtp}
 use Rattle.codec_payload_session.specs.Streams.{Begins, is_no_memory, is_of, is_probation, waiting_if, waiting_when}
 use Rattle.codec_payload_session.specs.Turns.{AreQuiet, TakesTurn, kept_after}
@@ -38,10 +37,10 @@ use Rattle.codec_payload_session.specs.declared.session.Event.TheVariants as eve
 use Rattle.codec_payload_session.specs.declared.stream.Ending.{Ending}
 use Rattle.codec_payload_session.specs.declared.stream.Ending.TheVariants as endings
 use Rattle.codec_payload_session.specs.declared.stream.Stream.{Stream}
-use Rattle.codec_payload_session_runs.proofs.AloneLemmas.{made_append, pops_append, runs_append, shown_append}
-use Rattle.codec_payload_session_runs.proofs.FateLemmas.{AreApart, AreFates, AreKnown, BeginsNow, Evolves, GoAll, IsAbsent, IsFate, IsSilent, ShowsNothing, absent_middle, all_fates, all_stay, evolves_all, evolves_map, evolves_same, fates_append, found_none, mapped_all, one_goes, others_go, present, present_all, present_append}
+use Rattle.codec_payload_session_runs.proofs.AloneLemmas.{made_append, polled_first, pops_append, runs_append, shown_append}
+use Rattle.codec_payload_session_runs.proofs.FateLemmas.{AreApart, AreFates, AreKnown, BeginsNow, Evolves, GoAll, IsFate, IsSilent, ShowsNothing, absent_middle, all_fates, all_stay, evolves_all, evolves_map, evolves_same, fates_append, found_none, mapped_all, one_goes, others_go, present, present_all, present_append}
 use Rattle.codec_payload_session_runs.proofs.StreamLemmas.{Goes, HasPart, IsKnown, Keeps, Kind, Stepped, call_of, fed_goes, given_is, keeps_left, silent_goes, steps_stepped}
-use Rattle.codec_payload_session_runs.specs.Lives.{IsMadeBy, AreOfOne, StartsWithDatagram, events_by, given_by, is_same, one_call, pairs, receives, released_by, reports, shown, waits}
+use Rattle.codec_payload_session_runs.specs.Lives.{AreMadeBy, AreOfOne, IsAbsent, IsMadeBy, StartsWithDatagram, events_by, events_in, given_by, is_same, one_call, pairs, receives, released_by, reports, shown, shown_in, waits}
 use Rattle.codec_payload_session_runs.specs.SessionRuns.{Call}
 use Rattle.codec_payload_session_runs.specs.declared.run.SessionStep.{SessionStep}
 use Rattle.codec_payload_session_runs.specs.declared.run.SessionStep.TheVariants as calls
@@ -50,7 +49,7 @@ use Rattle.codec_payload_session_runs.specs.declared.run.StepAnswer.TheVariants 
 
 -- ---- receive: a stream that exists
 
-given_other : (b : Bool) (now : Ticks) (bytes : List ℕ) (ssrc payload_type s p : ℕ) (told : Result Outcome ReceiveError) (answer : Result Arrival AllocError) → is_same ssrc payload_type s p ≡ false
+pub given_other : (b : Bool) (now : Ticks) (bytes : List ℕ) (ssrc payload_type s p : ℕ) (told : Result Outcome ReceiveError) (answer : Result Arrival AllocError) → is_same ssrc payload_type s p ≡ false
     → Arrives b (arrivals.Stream s p told) answer → given_by ssrc payload_type now bytes answer ≡ []
 given_other false now bytes ssrc payload_type s p told answer other is =
     ap (λ (a : Result Arrival AllocError). given_by ssrc payload_type now bytes a) is ∙ ap (λ (b : Bool). one_call b (receives now bytes told)) other
@@ -69,7 +68,7 @@ feeds_evolve given settings place now datagram p answer q apart got =
     silent_goes c z (given_other (is_no_memory got.told) now datagram.items z.ssrc z.format.payload_type x.ssrc x.format.payload_type got.told answer other got.arrives) refl)))
 
 -- an arrival that names no stream
-abbrev NamesNone : Result Arrival AllocError → Type 0
+abbrev pub NamesNone : Result Arrival AllocError → Type 0
 NamesNone answer = (now : Ticks) (bytes : List ℕ) (ssrc payload_type : ℕ) → given_by ssrc payload_type now bytes answer ≡ []
 
 stays_evolve : (given : SessionSettings) (now : Ticks) (datagram : Vec ℕ) (p : Port) (answer told : Result Arrival AllocError) (q : Port) → NamesNone told → answer ≡ told → q ≡ p
@@ -283,7 +282,7 @@ IsOther now event x = (events_by x.ssrc x.format.payload_type event ≡ []) × (
 -- a stream that was asked and has no event
 quiet_goes : (now : Ticks) (event : Option Event) (kept : List Stream → List Stream) (x y : Stream) → IsOther now event x → Stepped now x None kept y → Goes (poll_of now event) x y
 quiet_goes now event kept x y other s = record {
-  has = record { ssrc_is = s.ssrc_is; format = s.format; part = s.part; alone = s.alone; is_part = record { made = s.made; one_pop = s.one_pop; shows = s.shows ∙ sym other.1 } };
+  has = record { ssrc_is = s.ssrc_is; format = s.format; part = s.part; alone = s.alone; is_part = record { made = s.made; one_pop = s.one_pop; pair_first = polled_first now s.part s.made; shows = s.shows ∙ sym other.1 } };
   tells = by_kind s.kind;
   known = s.known;
 }
@@ -308,14 +307,18 @@ reported_goes now event x y true goes = record {
     part = goes.has.part ++ reports ∷ [];
     alone = runs_append goes.has.part (reports ∷ []) x.receiver y.receiver (reported_by y).receiver goes.has.alone ((reported_by y).receiver, refl, refl);
     is_part = record {
-      made = made_append (calls.Poll now) goes.has.part (reports ∷ []) goes.has.is_part.made (tt, tt);
+      made = made;
       one_pop = omega (arith, pops_append goes.has.part (reports ∷ []), goes.has.is_part.one_pop);
+      pair_first = polled_first now (goes.has.part ++ reports ∷ []) made;
       shows = shown_append goes.has.part (reports ∷ []) ∙ (append-nil (shown goes.has.part) ∙ goes.has.is_part.shows);
     };
   };
   tells = goes.tells;
   known = goes.known;
 }
+  where
+    made : AreMadeBy (calls.Poll now) (goes.has.part ++ reports ∷ [])
+    made = made_append (calls.Poll now) goes.has.part (reports ∷ []) goes.has.is_part.made (tt, tt)
 
 pub reported_go : (now : Ticks) (event : Option Event) (xs ys : List Stream) → GoAll (poll_of now event) xs ys → GoAll (poll_of now event) xs (all_reported ys)
 reported_go now event [] [] go = tt
@@ -345,7 +348,7 @@ fate_of : (now : Ticks) (event : Event) (kept : List Stream → List Stream) (x 
 fate_of now event kept x y s = by_kind s.kind
   where
     has : HasPart (poll_of now (Some event)) x y
-    has = record { ssrc_is = s.ssrc_is; format = s.format; part = s.part; alone = s.alone; is_part = record { made = s.made; one_pop = s.one_pop; shows = s.shows } }
+    has = record { ssrc_is = s.ssrc_is; format = s.format; part = s.part; alone = s.alone; is_part = record { made = s.made; one_pop = s.one_pop; pair_first = polled_first now s.part s.made; shows = s.shows } }
 
     by_kind : Kind x.told y.told x.ssrc x.format.payload_type (Some event) kept y
         → (f : Option Stream) × IsFate (poll_of now (Some event)) x f × ((rest : List Stream) → kept rest ≡ present (f ∷ all_stay rest))
@@ -410,7 +413,7 @@ waiting_goes ssrc payload_type limits true s = record {
     format = refl;
     part = waits limits ∷ [];
     alone = ((waiting_when true limits s).receiver, refl, refl);
-    is_part = record { made = (refl, tt); one_pop = omega arith; shows = refl };
+    is_part = record { made = (refl, tt); one_pop = omega arith; pair_first = tt; shows = refl };
   };
   tells = refl;
   known = λ known. known;
@@ -423,27 +426,28 @@ waits_evolve given ssrc payload_type limits ss =
     evolves_all given c ss (map (waiting_if ssrc payload_type limits) ss) (λ s t. refl)
     (mapped_all c (waiting_if ssrc payload_type limits) ss (λ (s : Stream). waiting_goes ssrc payload_type limits (is_of ssrc payload_type s) s))
 
--- a call that is about a pair
-abbrev IsAboutPair : SessionStep → Type 0
-IsAboutPair step = (own : Option Retransmission) → IsMadeBy step (pairs own)
+-- a call that gives the streams of an SSRC their retransmissions by these pairs
+abbrev pub IsAboutPair : SessionStep → ℕ → List SsrcPair → Type 0
+IsAboutPair step ssrc named = (s : Stream) → (s.ssrc == ssrc) ≡ true → IsMadeBy step (pairs (retransmission_for s.ssrc s.format.retransmission named))
 
-paired_goes : (c : Call) (named : List SsrcPair) (b : Bool) (s : Stream) → IsAboutPair c.step → IsSilent c → ShowsNothing c → Goes c s (paired_when b named s)
-paired_goes c named false s about silent nothing = silent_goes c s (nothing s.ssrc s.format.payload_type) (silent s.ssrc s.format.payload_type)
-paired_goes c named true s about silent nothing = record {
+pub paired_goes : (c : Call) (ssrc : ℕ) (named : List SsrcPair) (b : Bool) (s : Stream) → (s.ssrc == ssrc) ≡ b → IsAboutPair c.step ssrc named → events_in s.ssrc s.format.payload_type c.answer ≡ []
+    → shown_in s.ssrc s.format.payload_type c ≡ [] → Goes c s (paired_when b named s)
+paired_goes c ssrc named false s is about silent nothing = silent_goes c s nothing silent
+paired_goes c ssrc named true s is about silent nothing = record {
   has = record {
     ssrc_is = refl;
     format = refl;
     part = pairs (paired_when true named s).receiver.stream.retransmission ∷ [];
     alone = ((paired_when true named s).receiver, refl, refl);
-    is_part = record { made = (about _, tt); one_pop = omega arith; shows = sym (nothing s.ssrc s.format.payload_type) };
+    is_part = record { made = (about s is, tt); one_pop = omega arith; pair_first = tt; shows = sym nothing };
   };
-  tells = subst (λ (es : List Event). AreOfOne s.told es s.told) (sym (silent s.ssrc s.format.payload_type)) refl;
+  tells = subst (λ (es : List Event). AreOfOne s.told es s.told) (sym silent) refl;
   known = λ known. known;
 }
 
-pub pairs_evolve : (given : SessionSettings) (c : Call) (ssrc : ℕ) (named : List SsrcPair) (ss : List Stream) → IsAboutPair c.step → IsSilent c → ShowsNothing c → Evolves given c ss (map (paired_if ssrc named) ss)
+pub pairs_evolve : (given : SessionSettings) (c : Call) (ssrc : ℕ) (named : List SsrcPair) (ss : List Stream) → IsAboutPair c.step ssrc named → IsSilent c → ShowsNothing c → Evolves given c ss (map (paired_if ssrc named) ss)
 pairs_evolve given c ssrc named ss about silent nothing =
-    evolves_all given c ss (map (paired_if ssrc named) ss) silent (mapped_all c (paired_if ssrc named) ss (λ (s : Stream). paired_goes c named (s.ssrc == ssrc) s about silent nothing))
+    evolves_all given c ss (map (paired_if ssrc named) ss) silent (mapped_all c (paired_if ssrc named) ss (λ (s : Stream). paired_goes c ssrc named (s.ssrc == ssrc) s refl about (silent s.ssrc s.format.payload_type) (nothing s.ssrc s.format.payload_type)))
 
 abbrev report_call : Ticks → ℕ → ℕ → Option ReportBlock → Call
 report_call now ssrc payload_type block = plain_call (calls.Report now ssrc payload_type) (answers.Reported block)
@@ -455,7 +459,7 @@ one_reported now ssrc payload_type block s = record {
     format = refl;
     part = reports ∷ [];
     alone = ((reported_by s).receiver, refl, refl);
-    is_part = record { made = (tt, tt); one_pop = omega arith; shows = refl };
+    is_part = record { made = (tt, tt); one_pop = omega arith; pair_first = tt; shows = refl };
   };
   tells = refl;
   known = λ known. known;

@@ -6,9 +6,11 @@ use Rattle.std.specs.declared.alloc.AllocError.{AllocError}
 use Rattle.codec_payload_base.specs.declared.wire.Ticks.{Ticks}
 use Rattle.codec_payload_jitter.specs.Receiving.{next}
 use Rattle.codec_payload_session.specs.Arrivals.{Port}
+use Rattle.codec_payload_session.specs.Associations.{AssociatesBy, pair_at}
 use Rattle.codec_payload_session.specs.Polls.{GoesOn, PollsAfter}
 use Rattle.codec_payload_session.specs.Ports.{IsSum, Receives, Session, counted as counted_as, new_session, told_counts}
 use Rattle.codec_payload_session.specs.declared.formats.SessionSettings.{SessionSettings}
+use Rattle.codec_payload_session.specs.declared.formats.SsrcPair.{SsrcPair}
 use Rattle.codec_payload_session.specs.declared.session.Arrival.{Arrival}
 use Rattle.codec_payload_session.specs.declared.session.Arrival.TheVariants as arrivals
 use Rattle.codec_payload_session.specs.declared.session.Event.{Event}
@@ -152,6 +154,30 @@ receive_tally cs now datagram (Err e) s t got (inl it) = still_tally cs (receive
 receive_tally cs now datagram (Ok a) s t got (inr it) = absurd (never_failed (Ok a) a refl it.fails)
 receive_tally cs now datagram (Err e) s t got (inr it) = still_tally cs (receive_call now datagram (Err e)) s t got (ap (λ (z : Session). z.counts) it.left) (λ kind. refl)
 
+-- a pair counts nothing
+paired_tally : (cs : List Call) (s t : Session) → Tally cs s → t.counts ≡ s.counts → Tally cs t
+paired_tally cs s t got is = record {
+  received = ap (λ (x : _). x.received) is ∙ got.received;
+  rtcp = ap (λ (x : _). x.rtcp) is ∙ got.rtcp;
+  malformed = ap (λ (x : _). x.malformed) is ∙ got.malformed;
+  unknown = ap (λ (x : _). x.unknown) is ∙ got.unknown;
+  refused = ap (λ (x : _). x.refused) is ∙ got.refused;
+  unassociated = ap (λ (x : _). x.unassociated) is ∙ got.unassociated;
+  whole = got.whole;
+}
+
+failed_tally : (cs : List Call) (now : Ticks) (datagram : Vec ℕ) (arrival : Result Arrival AllocError) (s t : Session) → Tally cs s → IsErr arrival → t ≡ s
+    → Tally (cs ++ receive_call now datagram arrival ∷ []) t
+failed_tally cs now datagram (Ok a) s t got fails same = absurd (never_failed (Ok a) a refl fails)
+failed_tally cs now datagram (Err e) s t got fails same = still_tally cs (receive_call now datagram (Err e)) s t got (ap (λ (z : Session). z.counts) same) (λ kind. refl)
+
+associates_tally : (o : Option SsrcPair) (cs : List Call) (now : Ticks) (datagram : Vec ℕ) (arrival : Result Arrival AllocError) (s t : Session) → Tally cs s
+    → AssociatesBy o now datagram.items s arrival t → Tally (cs ++ receive_call now datagram arrival ∷ []) t
+associates_tally None cs now datagram arrival s t got it = receive_tally cs now datagram arrival s t got it
+associates_tally (Some pair) cs now datagram arrival s t got (inl it) =
+    receive_tally cs now datagram arrival it.0 t (paired_tally cs s it.0 got (ap (λ (z : Session). z.counts) it.1.left)) it.2
+associates_tally (Some pair) cs now datagram arrival s t got (inr it) = failed_tally cs now datagram arrival s t got it.0 it.1
+
 turn_same : (o : Option Event) (now : Ticks) (s : Session) (port : Port) (event : Option Event) (t : Session) → GoesOn o now.0 (record s { port = port }) event t → t.counts ≡ s.counts
 turn_same None now s port event t it = ap (λ (z : Session). z.counts) it.left
 turn_same (Some e) now s port event t it = ap (λ (z : Session). z.counts) it.1
@@ -169,7 +195,7 @@ added_tally cs ssrc retransmission (Err e) s t got it =
 
 tally_more : (cs : List Call) (step : SessionStep) (answer : StepAnswer) (s t : Session) → Tally cs s → Does step s answer t → Tally (cs ++ record { step = step; answer = answer } ∷ []) t
 tally_more cs (calls.Receive now datagram) answer s t got does =
-    subst (λ (a : StepAnswer). Tally (cs ++ record { step = calls.Receive now datagram; answer = a } ∷ []) t) (sym does.1) (receive_tally cs now datagram does.0 s t got does.2)
+    subst (λ (a : StepAnswer). Tally (cs ++ record { step = calls.Receive now datagram; answer = a } ∷ []) t) (sym does.1) (associates_tally (pair_at s.settings now.0 datagram.items s.port.streams) cs now datagram does.0 s t got does.2)
 tally_more cs (calls.Poll now) answer s t got does =
     subst (λ (a : StepAnswer). Tally (cs ++ record { step = calls.Poll now; answer = a } ∷ []) t) (sym does.1)
     (still_tally cs (record { step = calls.Poll now; answer = answers.Polled does.0 }) s t got (poll_same s.telephone.waiting now s does.0 t does.2) (λ kind. refl))

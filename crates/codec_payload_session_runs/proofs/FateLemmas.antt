@@ -12,14 +12,10 @@ use Rattle.codec_payload_session.specs.declared.stream.Ending.{Ending}
 use Rattle.codec_payload_session.specs.declared.stream.Stream.{Stream}
 use Rattle.codec_payload_session_runs.proofs.AloneLemmas.{one_in_order}
 use Rattle.codec_payload_session_runs.proofs.StreamLemmas.{Goes, HasPart, IsKnown, Keeps, keeps_after, silent_goes}
-use Rattle.codec_payload_session_runs.specs.Lives.{AreInOrder, StartsWithDatagram, events_in, is_announced, is_same, shown_in}
+use Rattle.codec_payload_session_runs.specs.Lives.{AreInOrder, IsAbsent, StartsWithDatagram, events_in, is_announced, is_same, shown_in}
 use Rattle.codec_payload_session_runs.specs.SessionRuns.{Call}
 
 -- ---- streams with different SSRCs or payload types
-
-abbrev pub IsAbsent : ℕ → ℕ → List Stream → Type 0
-IsAbsent ssrc payload_type [] = Unit {0}
-IsAbsent ssrc payload_type (s ∷ ss) = (is_of ssrc payload_type s ≡ false) × IsAbsent ssrc payload_type ss
 
 abbrev pub AreApart : List Stream → Type 0
 AreApart [] = Unit {0}

@@ -1,4 +1,5 @@
 pub mod AloneLemmas
+pub mod AssociationLemmas
 pub mod CallLemmas
 pub mod CountLemmas
 pub mod FateLemmas

@@ -5,7 +5,8 @@ use Rattle.std.specs.Global.{Vec}
 use Rattle.std.specs.declared.alloc.AllocError.{AllocError}
 use Rattle.codec_payload_base.specs.declared.wire.Ticks.{Ticks}
 use Rattle.codec_payload_session.specs.Arrivals.{Port}
-use Rattle.codec_payload_session.specs.Pairs.{Pairs, paired_where}
+use Rattle.codec_payload_session.specs.Associations.{AssociatesBy, pair_at}
+use Rattle.codec_payload_session.specs.Pairs.{Pairs, paired_where, with_pair}
 use Rattle.codec_payload_session.specs.Polls.{GoesOn, PollsAfter, report_event}
 use Rattle.codec_payload_session.specs.Ports.{Receives, Session, everyone, new_session}
 use Rattle.codec_payload_session.specs.Reporting.{ReportsBy, ReportsEach, Reports, all_reported, is_report_due}
@@ -22,11 +23,12 @@ use Rattle.codec_payload_session.specs.declared.session.Event.TheVariants as eve
 use Rattle.codec_payload_session.specs.declared.stream.Ending.{Ending}
 use Rattle.codec_payload_session.specs.declared.stream.Stream.{Stream}
 use Rattle.codec_payload_session_runs.proofs.AloneLemmas.{events_more, one_append, order_append, projects_more, projects_shown, runs_append}
+use Rattle.codec_payload_session_runs.proofs.AssociationLemmas.{IsFound, failed_paired, found_pair, paired_evolves}
 use Rattle.codec_payload_session_runs.proofs.CallLemmas.{end_evolves, failed_evolves, finish_evolves, pairs_evolve, quiet_evolves, receive_evolves, report_evolves, reported_evolves, tells_evolve, waits_evolve}
-use Rattle.codec_payload_session_runs.proofs.FateLemmas.{AreApart, AreFates, AreFresh, AreKnown, BeginsNow, Evolves, IsAbsent, IsFate, apart_fates, apart_more, absent_fates, evolves_same, known_fates, known_more, of_is, order_evolves, present, same_sym}
+use Rattle.codec_payload_session_runs.proofs.FateLemmas.{AreApart, AreFates, AreFresh, AreKnown, BeginsNow, Evolves, IsFate, apart_fates, apart_more, absent_fates, evolves_same, known_fates, known_more, of_is, order_evolves, present, same_sym}
 use Rattle.codec_payload_session_runs.proofs.RunLemmas.{runs_more}
 use Rattle.codec_payload_session_runs.proofs.StreamLemmas.{HasPart, same_is}
-use Rattle.codec_payload_session_runs.specs.Lives.{AreInOrder, AreOfOne, EachEndedAlone, EachIsAlone, EndedAlone, IsAlone, IsPart, Projects, StartsWithDatagram, TellsInOrder, ending_poll, events_in, events_of, is_announced, is_same, one_event}
+use Rattle.codec_payload_session_runs.specs.Lives.{AreInOrder, AreOfOne, EachEndedAlone, EachIsAlone, EndedAlone, IsAbsent, IsAlone, IsPart, Projects, StartsWithDatagram, TellsInOrder, ending_poll, events_in, events_of, is_announced, is_same, one_event}
 use Rattle.codec_payload_session_runs.specs.SessionRuns.{AddsPair, Call, Does, Runs}
 use Rattle.codec_payload_session_runs.specs.declared.run.SessionStep.{SessionStep}
 use Rattle.codec_payload_session_runs.specs.declared.run.SessionStep.TheVariants as calls
@@ -38,6 +40,9 @@ use Rattle.codec_payload_session_runs.specs.declared.run.StepAnswer.TheVariants 
 record Moves (c : Call) (s t : Session) : Type 0 where
   evolves : Evolves s.settings c s.port.streams t.port.streams
   others : t.settings ≡ record s.settings { pairs = t.settings.pairs }
+
+abbrev with_pairs : Session → Vec SsrcPair → List Stream → Session
+with_pairs s named streams = record s { settings = record s.settings { pairs = named }; port = record s.port { streams = streams } }
 
 abbrev call_of : SessionStep → StepAnswer → Call
 call_of step answer = record { step = step; answer = answer }
@@ -107,6 +112,32 @@ receive_moves now datagram s arrival t apart known (inr got) =
     subst (λ (z : Session). Moves (call_of (calls.Receive now datagram) (answers.Received arrival)) s z) (sym got.left)
     (record { evolves = failed_evolves s.settings now datagram arrival s.port.streams got.fails; others = refl })
 
+-- the session first gets a pair
+paired_moves : (now : Ticks) (datagram : Vec ℕ) (s : Session) (pair : SsrcPair) (named : Vec SsrcPair) (arrival : Result Arrival AllocError) (t : Session) → AreApart s.port.streams
+    → IsFound s.settings datagram.items pair.retransmission
+    → Receives now datagram.items (with_pairs s named (paired_where pair.ssrc (with_pair pair s.settings.pairs.items) s.port.streams)) arrival t
+    → Moves (call_of (calls.Receive now datagram) (answers.Received arrival)) s t
+paired_moves now datagram s pair named arrival t apart found (inl got) =
+    subst (λ (z : Session). Moves (call_of (calls.Receive now datagram) (answers.Received arrival)) s z) (sym got.left)
+    (record {
+      evolves = paired_evolves s.settings now datagram pair named s.port.streams (record s.port { streams = paired_where pair.ssrc (with_pair pair s.settings.pairs.items) s.port.streams }) arrival got.port
+          found refl apart got.takes;
+      others = refl;
+    })
+paired_moves now datagram s pair named arrival t apart found (inr got) =
+    subst (λ (z : Session). Moves (call_of (calls.Receive now datagram) (answers.Received arrival)) s z) (sym got.left)
+    (record { evolves = failed_paired s.settings now datagram pair arrival s.port.streams found got.fails; others = refl })
+
+associates_moves : (o : Option SsrcPair) (now : Ticks) (datagram : Vec ℕ) (s : Session) (arrival : Result Arrival AllocError) (t : Session) → pair_at s.settings now.0 datagram.items s.port.streams ≡ o
+    → AreApart s.port.streams → AreKnown s.port.streams → AssociatesBy o now datagram.items s arrival t → Moves (call_of (calls.Receive now datagram) (answers.Received arrival)) s t
+associates_moves None now datagram s arrival t is apart known got = receive_moves now datagram s arrival t apart known got
+associates_moves (Some pair) now datagram s arrival t is apart known (inl got) =
+    paired_moves now datagram s pair got.1.named arrival t apart (found_pair s.settings now.0 datagram.items s.port.streams pair is)
+    (subst (λ (z : Session). Receives now datagram.items z arrival t) got.1.left got.2)
+associates_moves (Some pair) now datagram s arrival t is apart known (inr got) =
+    subst (λ (z : Session). Moves (call_of (calls.Receive now datagram) (answers.Received arrival)) s z) (sym got.1)
+    (record { evolves = failed_evolves s.settings now datagram arrival s.port.streams got.0; others = refl })
+
 pair_moves : (step : SessionStep) (answer : StepAnswer) (ssrc : ℕ) (named : List SsrcPair) (s t : Session)
     → Evolves s.settings (call_of step answer) s.port.streams (paired_where ssrc named s.port.streams) → Pairs ssrc named s t → Moves (call_of step answer) s t
 pair_moves step answer ssrc named s t evolves got =
@@ -116,14 +147,14 @@ added_moves : (ssrc retransmission : ℕ) (s : Session) (added : Result Unit All
     → Moves (call_of (calls.AddPair ssrc retransmission) (answers.PairAdded added)) s t
 added_moves ssrc retransmission s (Ok u) t got =
     pair_moves (calls.AddPair ssrc retransmission) (answers.PairAdded (Ok u)) ssrc _ s t
-    (pairs_evolve s.settings (call_of (calls.AddPair ssrc retransmission) (answers.PairAdded (Ok u))) ssrc _ s.port.streams (λ own. tt) (λ a b. refl) (λ a b. refl)) got.0
+    (pairs_evolve s.settings (call_of (calls.AddPair ssrc retransmission) (answers.PairAdded (Ok u))) ssrc _ s.port.streams (λ x is. tt) (λ a b. refl) (λ a b. refl)) got.0
 added_moves ssrc retransmission s (Err e) t got =
     subst (λ (z : Session). Moves (call_of (calls.AddPair ssrc retransmission) (answers.PairAdded (Err e))) s z) (sym got.1)
     (record { evolves = evolves_same s.settings _ s.port.streams (λ a b. refl) (λ a b. refl); others = refl })
 
 moves : (step : SessionStep) (answer : StepAnswer) (s t : Session) → AreApart s.port.streams → AreKnown s.port.streams → Does step s answer t → Moves (call_of step answer) s t
 moves (calls.Receive now datagram) answer s t apart known got =
-    subst (λ (a : StepAnswer). Moves (call_of (calls.Receive now datagram) a) s t) (sym got.1) (receive_moves now datagram s got.0 t apart known got.2)
+    subst (λ (a : StepAnswer). Moves (call_of (calls.Receive now datagram) a) s t) (sym got.1) (associates_moves (pair_at s.settings now.0 datagram.items s.port.streams) now datagram s got.0 t refl apart known got.2)
 moves (calls.Poll now) answer s t apart known got =
     subst (λ (a : StepAnswer). Moves (call_of (calls.Poll now) a) s t) (sym got.1) (poll_moves s.telephone.waiting now s got.0 t apart got.2)
 moves (calls.End now ssrc) answer s t apart known got =
@@ -143,7 +174,7 @@ moves (calls.AddPair ssrc retransmission) answer s t apart known got =
 moves (calls.RemovePair ssrc) answer s t apart known got =
     subst (λ (a : StepAnswer). Moves (call_of (calls.RemovePair ssrc) a) s t) (sym got.0)
     (pair_moves (calls.RemovePair ssrc) answers.Done ssrc _ s t
-    (pairs_evolve s.settings (call_of (calls.RemovePair ssrc) answers.Done) ssrc _ s.port.streams (λ own. tt) (λ a b. refl) (λ a b. refl)) got.1)
+    (pairs_evolve s.settings (call_of (calls.RemovePair ssrc) answers.Done) ssrc _ s.port.streams (λ x is. tt) (λ a b. refl) (λ a b. refl)) got.1)
 
 -- ---- streams alone
 
@@ -163,6 +194,7 @@ alone_more settings cs c x y got has tells =
       starts = starts_more x.ssrc x.format.payload_type got.during (c ∷ []) got.starts;
       reached = got.reached;
       reaches = got.reaches;
+      absent = got.absent;
       pairs_alone = got.pairs_alone;
       fresh = got.fresh;
       begins = got.begins;
@@ -174,9 +206,9 @@ alone_more settings cs c x y got has tells =
           (one_append (events_of x.ssrc x.format.payload_type got.during) (events_in x.ssrc x.format.payload_type c.answer) false x.told y.told got.tells tells);
     })
 
-alone_fresh : (settings : SessionSettings) (cs : List Call) (c : Call) (reached : Session) (ss : List Stream) (y : Stream) → Runs cs (new_session settings) reached
-    → reached.settings ≡ record settings { pairs = reached.settings.pairs } → BeginsNow reached.settings c ss y → IsAlone settings (cs ++ c ∷ []) y.ssrc y.format y.told y.receiver
-alone_fresh settings cs c reached ss y run others got =
+alone_fresh : (settings : SessionSettings) (cs : List Call) (c : Call) (reached : Session) (y : Stream) → Runs cs (new_session settings) reached
+    → reached.settings ≡ record settings { pairs = reached.settings.pairs } → BeginsNow reached.settings c reached.port.streams y → IsAlone settings (cs ++ c ∷ []) y.ssrc y.format y.told y.receiver
+alone_fresh settings cs c reached y run others got =
     let x : Stream = got.fresh in
     let has : HasPart c x y = got.goes.has in
     let is_part : IsPart y.ssrc y.format.payload_type c has.part = subst₂ (λ (s : ℕ) (f : Format). IsPart s f.payload_type c has.part) (sym has.ssrc_is) (sym has.format) has.is_part in
@@ -191,6 +223,7 @@ alone_fresh settings cs c reached ss y run others got =
       starts = got.starts;
       reached = reached;
       reaches = run;
+      absent = got.absent;
       pairs_alone = others;
       fresh = x;
       begins = got.begins;
@@ -223,26 +256,26 @@ pub record Reached (settings : SessionSettings) (cs : List Call) (s : Session) :
   pub order : TellsInOrder cs s.port.streams
 
 -- streams that began are apart from the others, and not announced
-fresh_keeps : (settings : SessionSettings) (cs : List Call) (c : Call) (reached : Session) (ss : List Stream) (fs : List (Option Stream)) (fresh : List Stream) → Runs cs (new_session settings) reached
-    → reached.settings ≡ record settings { pairs = reached.settings.pairs } → AreFates c ss fs → AreFresh reached.settings c ss fresh → AreApart (present fs) → AreKnown (present fs) → EachIsAlone settings (cs ++ c ∷ []) (present fs)
+fresh_keeps : (settings : SessionSettings) (cs : List Call) (c : Call) (reached : Session) (fs : List (Option Stream)) (fresh : List Stream) → Runs cs (new_session settings) reached
+    → reached.settings ≡ record settings { pairs = reached.settings.pairs } → AreFates c reached.port.streams fs → AreFresh reached.settings c reached.port.streams fresh → AreApart (present fs) → AreKnown (present fs) → EachIsAlone settings (cs ++ c ∷ []) (present fs)
     → AreApart (present fs ++ fresh) × AreKnown (present fs ++ fresh) × EachIsAlone settings (cs ++ c ∷ []) (present fs ++ fresh)
-fresh_keeps settings cs c reached ss fs [] run others are fresh apart known alone = (
+fresh_keeps settings cs c reached fs [] run others are fresh apart known alone = (
   subst AreApart (sym (append-nil (present fs))) apart,
   subst AreKnown (sym (append-nil (present fs))) known,
   subst (λ (zs : List Stream). EachIsAlone settings (cs ++ c ∷ []) zs) (sym (append-nil (present fs))) alone,
 )
-fresh_keeps settings cs c reached ss fs (y ∷ []) run others are fresh apart known alone = (
-  apart_more (present fs) y apart (absent_fates c y.ssrc y.format.payload_type ss fs are fresh.absent),
+fresh_keeps settings cs c reached fs (y ∷ []) run others are fresh apart known alone = (
+  apart_more (present fs) y apart (absent_fates c y.ssrc y.format.payload_type reached.port.streams fs are fresh.absent),
   known_more (present fs) y known (λ (told : y.told ≡ true). let untold : y.told ≡ false = fresh.untold in absurd (cc)),
-  each_append settings (cs ++ c ∷ []) (present fs) (y ∷ []) alone (alone_fresh settings cs c reached ss y run others fresh, tt),
+  each_append settings (cs ++ c ∷ []) (present fs) (y ∷ []) alone (alone_fresh settings cs c reached y run others fresh, tt),
 )
-fresh_keeps settings cs c reached ss fs (y ∷ z ∷ zs) run others are fresh apart known alone = absurd fresh
+fresh_keeps settings cs c reached fs (y ∷ z ∷ zs) run others are fresh apart known alone = absurd fresh
 
 reached_more : (settings : SessionSettings) (cs : List Call) (c : Call) (s t : Session) → Reached settings cs s → Does c.step s c.answer t → Reached settings (cs ++ c ∷ []) t
 reached_more settings cs c s t got does =
     let m : Moves c s t = moves c.step c.answer s t got.apart got.known does in
     let e : Evolves s.settings c s.port.streams t.port.streams = m.evolves in
-    let all = fresh_keeps settings cs c s s.port.streams e.fates e.fresh got.run got.others e.are_fates e.are_fresh
+    let all = fresh_keeps settings cs c s e.fates e.fresh got.run got.others e.are_fates e.are_fresh
     (apart_fates c s.port.streams e.fates e.are_fates got.apart) (known_fates c s.port.streams e.fates e.are_fates got.known) (alone_fates settings cs c s.port.streams e.fates e.are_fates got.alone) in
     record {
       run = runs_more cs (new_session settings) s t c.step c.answer got.run does;

@@ -10,10 +10,13 @@ use Rattle.codec_payload_jitter.specs.declared.outcome.Outcome.{Outcome}
 use Rattle.codec_payload_stream.specs.Sessions.{Session as Receiver}
 use Rattle.codec_payload_stream.specs.declared.receiver.ReceiveError.{ReceiveError}
 use Rattle.codec_payload_session.specs.Arrivals.{Arrives}
+use Rattle.codec_payload_session.specs.Formats.{retransmission_for}
+use Rattle.codec_payload_session.specs.Pairs.{paired, paired_when}
 use Rattle.codec_payload_session.specs.Requests.{Asking, heard_by, number_at, wait_by}
 use Rattle.codec_payload_session.specs.Streams.{Drains, Follows, Plays, RequestsBy, RestsBy, Steps, StepsBy, Takes, accepted_after, end_of, heard_unless, is_accepted, is_no_memory, is_probation, left_when, received, stage_after, stage_left, step_of, waiting_for}
 use Rattle.codec_payload_session.specs.Turns.{event_of, kept_after}
 use Rattle.codec_payload_session.specs.declared.formats.Format.{Format}
+use Rattle.codec_payload_session.specs.declared.formats.SsrcPair.{SsrcPair}
 use Rattle.codec_payload_session.specs.declared.session.Arrival.{Arrival}
 use Rattle.codec_payload_session.specs.declared.session.Arrival.TheVariants as arrivals
 use Rattle.codec_payload_session.specs.declared.session.Event.{Event}
@@ -23,7 +26,7 @@ use Rattle.codec_payload_session.specs.declared.stream.Stage.{Stage}
 use Rattle.codec_payload_session.specs.declared.stream.Stage.TheVariants as stages
 use Rattle.codec_payload_session.specs.declared.stream.Stream.{Stream}
 use Rattle.codec_payload_session_runs.proofs.AloneLemmas.{made_append, pops_append, runs_append, shown_append}
-use Rattle.codec_payload_session_runs.specs.Lives.{AreMadeBy, AreOfOne, IsPart, ReceiverCall, RunsAlone, events_by, events_in, finishes, given_by, is_same, many_pops, one_call, one_event, pops, receives, released_by, shown, shown_in, waits, with_shown}
+use Rattle.codec_payload_session_runs.specs.Lives.{AreMadeBy, AreOfOne, HasNoPair, HasSsrcOf, IsPart, ReceiverCall, RunsAlone, events_by, events_in, finishes, given_by, is_same, many_pops, one_call, one_event, pairs, pops, receives, released_by, shown, shown_in, waits, with_shown}
 use Rattle.codec_payload_session_runs.specs.SessionRuns.{Call}
 use Rattle.codec_payload_session_runs.specs.declared.run.SessionStep.TheVariants as calls
 use Rattle.codec_payload_session_runs.specs.declared.run.StepAnswer.TheVariants as answers
@@ -50,7 +53,7 @@ pub record Goes (c : Call) (x y : Stream) : Type 0 where
 
 pub silent_goes : (c : Call) (x : Stream) → shown_in x.ssrc x.format.payload_type c ≡ [] → events_in x.ssrc x.format.payload_type c.answer ≡ [] → Goes c x x
 silent_goes c x shows tells = record {
-  has = record { ssrc_is = refl; format = refl; part = []; alone = refl; is_part = record { made = tt; one_pop = omega arith; shows = sym shows } };
+  has = record { ssrc_is = refl; format = refl; part = []; alone = refl; is_part = record { made = tt; one_pop = omega arith; pair_first = tt; shows = sym shows } };
   tells = subst (λ (es : List Event). AreOfOne x.told es x.told) (sym tells) refl;
   known = λ known. known;
 }
@@ -104,10 +107,11 @@ record Heard (now : Ticks) (datagram : Vec ℕ) (ssrc : ℕ) (f : Format) (told 
   run : RunsAlone more r y.receiver
   made : AreMadeBy (calls.Receive now datagram) more
   no_pop : many_pops more ≡ 0
+  no_pair : HasNoPair more
   hidden : shown more ≡ []
 
 waiting_heard : (now : Ticks) (datagram : Vec ℕ) (o : Option ℕ) (s : Stream) → Heard now datagram s.ssrc s.format s.told s.stage s.receiver (waiting_for o s)
-waiting_heard now datagram None s = record { ssrc_is = refl; format = refl; told_is = refl; stage_is = λ is. is; more = []; run = refl; made = tt; no_pop = refl; hidden = refl }
+waiting_heard now datagram None s = record { ssrc_is = refl; format = refl; told_is = refl; stage_is = λ is. is; more = []; run = refl; made = tt; no_pop = refl; no_pair = tt; hidden = refl }
 waiting_heard now datagram (Some wait) s = record {
   ssrc_is = refl;
   format = refl;
@@ -117,6 +121,7 @@ waiting_heard now datagram (Some wait) s = record {
   run = ((waiting_for (Some wait) s).receiver, refl, refl);
   made = (tt, tt);
   no_pop = refl;
+  no_pair = (refl, tt);
   hidden = refl;
 }
 
@@ -125,7 +130,7 @@ received_heard : (accepted : Bool) (now : Ticks) (datagram : Vec ℕ) (r : Recei
 received_heard true now datagram r s =
     waiting_heard now datagram (wait_by (heard_by now.0 (number_at s.format datagram.items) s.feedback))
     (record s { receiver = r; feedback = heard_by now.0 (number_at s.format datagram.items) s.feedback })
-received_heard false now datagram r s = record { ssrc_is = refl; format = refl; told_is = refl; stage_is = λ is. is; more = []; run = refl; made = tt; no_pop = refl; hidden = refl }
+received_heard false now datagram r s = record { ssrc_is = refl; format = refl; told_is = refl; stage_is = λ is. is; more = []; run = refl; made = tt; no_pop = refl; no_pair = tt; hidden = refl }
 
 stage_after_is : (probation accepted : ℕ) (stage : Stage) → is_probation stage ≡ false → is_probation (stage_after probation accepted stage) ≡ false
 stage_after_is probation accepted stages.Probation is = absurd (cc)
@@ -145,6 +150,7 @@ unless_heard false now datagram probation accepted ssrc f told stage r s got = r
   run = got.run;
   made = got.made;
   no_pop = got.no_pop;
+  no_pair = got.no_pair;
   hidden = got.hidden;
 }
 
@@ -179,6 +185,33 @@ fed_goes now datagram probation x told y answer got arrives =
         is_part = record {
           made = ((refl, refl), h.made);
           one_pop = omega (arith, h.no_pop);
+          pair_first = h.no_pair;
+          shows = ap (λ (cs : List ReceiverCall). with_shown (not (is_no_memory told)) (receives now datagram.items told) cs) h.hidden
+              ∙ given_is (is_no_memory told) now datagram.items x.ssrc x.format.payload_type told answer arrives;
+        };
+      };
+      tells = h.told_is;
+      known = λ known is. h.stage_is (known (sym h.told_is ∙ is));
+    }
+
+-- the same for a stream that first gets the SSRC of its retransmissions
+pub paired_fed_goes : (now : Ticks) (datagram : Vec ℕ) (probation : ℕ) (named : List SsrcPair) (b : Bool) (x : Stream) (told : Result Outcome ReceiveError) (y : Stream) (answer : Result Arrival AllocError)
+    → (b ≡ true → HasSsrcOf datagram.items (retransmission_for x.ssrc x.format.retransmission named)) → Takes now probation datagram.items (paired_when b named x) told y
+    → Arrives (is_no_memory told) (arrivals.Stream (paired_when b named x).ssrc (paired_when b named x).format.payload_type told) answer → Goes (call_of now datagram answer) x y
+paired_fed_goes now datagram probation named false x told y answer names got arrives = fed_goes now datagram probation x told y answer got arrives
+paired_fed_goes now datagram probation named true x told y answer names got arrives =
+    let z : Stream = paired named x in
+    let h : Heard now datagram x.ssrc x.format x.told x.stage got.0 y = takes_heard now datagram probation z told y got in
+    record {
+      has = record {
+        ssrc_is = h.ssrc_is;
+        format = h.format;
+        part = pairs z.receiver.stream.retransmission ∷ receives now datagram.items told ∷ h.more;
+        alone = (z.receiver, refl, (got.0, got.1, h.run));
+        is_part = record {
+          made = (names refl, ((refl, refl), h.made));
+          one_pop = omega (arith, h.no_pop);
+          pair_first = (refl, h.no_pair);
           shows = ap (λ (cs : List ReceiverCall). with_shown (not (is_no_memory told)) (receives now datagram.items told) cs) h.hidden
               ∙ given_is (is_no_memory told) now datagram.items x.ssrc x.format.payload_type told answer arrives;
         };

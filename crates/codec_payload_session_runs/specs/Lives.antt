@@ -6,6 +6,8 @@ use Rattle.codec_payload_base.specs.declared.wire.Ticks.{Ticks}
 use Rattle.codec_payload_buffer.specs.Release.{Release}
 use Rattle.codec_payload_jitter.specs.declared.outcome.Outcome.{Outcome}
 use Rattle.codec_payload_jitter.specs.declared.waiting.WaitLimits.{WaitLimits}
+use Rattle.codec_payload_rtp.specs.RtpPackets.{Packet}
+use Rattle.codec_payload_rtp.specs.RtpReading.{rtp_at}
 use Rattle.codec_payload_stream.specs.Pops.{PopsGated}
 use Rattle.codec_payload_stream.specs.Reports.{reported}
 use Rattle.codec_payload_stream.specs.Sessions.{Finishes, ReceivesBytes, Session as Receiver}
@@ -142,11 +144,18 @@ shown (c ∷ cs) = with_shown (is_shown c) c (shown cs)
 
 -- ---- what a call of the session makes of a receiver
 
--- a datagram is received at its time, and may change the wait limits by the round trip; a poll pops at its time, and may end the
--- stream first and report it afterwards; a call for the wait limits, a report or a pair is passed on
+-- retransmissions with the SSRC of the datagram, or none
+abbrev pub HasSsrcOf : List ℕ → Option Retransmission → Type 0
+HasSsrcOf bytes None = Unit {0}
+HasSsrcOf bytes (Some retransmission) = (packet : Packet) × (rtp_at bytes ≡ Ok packet) × (retransmission.ssrc ≡ packet.header.ssrc)
+
+-- a datagram is received at its time, and may change the wait limits by the round trip. If it is a retransmission whose stream is
+-- found, the stream gets its SSRC. A poll pops at its time, and may end the stream first and report it afterwards. A call for the
+-- wait limits, a report or a pair is passed on
 abbrev pub IsMadeBy : SessionStep → ReceiverCall → Type 0
 IsMadeBy (steps.Receive now datagram) (receives at bytes answer) = (at ≡ now) × (bytes ≡ datagram.items)
 IsMadeBy (steps.Receive now datagram) (waits limits) = Unit {0}
+IsMadeBy (steps.Receive now datagram) (pairs own) = HasSsrcOf datagram.items own
 IsMadeBy (steps.Poll now) (pops at answer) = at ≡ now
 IsMadeBy (steps.Poll now) finishes = Unit {0}
 IsMadeBy (steps.Poll now) reports = Unit {0}
@@ -176,10 +185,29 @@ abbrev pub many_pops : List ReceiverCall → ℕ
 many_pops [] = 0
 many_pops (c ∷ cs) = one_more (is_pop c) (many_pops cs)
 
--- what one call makes of the receiver of a stream: what its answer shows, at most one pop, and nothing that this call cannot make
+abbrev pub is_pair : ReceiverCall → Bool
+is_pair (receives now bytes answer) = false
+is_pair (pops now answer) = false
+is_pair finishes = false
+is_pair (waits limits) = false
+is_pair (pairs retransmission) = true
+is_pair reports = false
+
+abbrev pub HasNoPair : List ReceiverCall → Type 0
+HasNoPair [] = Unit {0}
+HasNoPair (c ∷ cs) = (is_pair c ≡ false) × HasNoPair cs
+
+-- at most one pair, in front of the other calls
+abbrev pub IsPairFirst : List ReceiverCall → Type 0
+IsPairFirst [] = Unit {0}
+IsPairFirst (c ∷ cs) = HasNoPair cs
+
+-- what one call makes of the receiver of a stream: what its answer shows, at most one pop, at most one pair, in front of the rest,
+-- and nothing that this call cannot make
 pub record IsPart (ssrc payload_type : ℕ) (c : Call) (part : List ReceiverCall) : Type 0 where
   pub made : AreMadeBy c.step part
   pub one_pop : many_pops part ≤ 1
+  pub pair_first : IsPairFirst part
   pub shows : shown part ≡ shown_in ssrc payload_type c
 
 -- the projection of a run to the receiver of a stream: for each call its part, in order
@@ -238,11 +266,16 @@ AreOfOne told (events.Report packet ∷ es) after = ⊥
 
 -- ---- streams
 
--- a stream of a session is a receiver alone. The run is cut in front of the datagram with which the stream began, where it had
--- reached a session with the same settings, but for pairs of SSRCs. The receiver was then a new one, with the settings of its format
--- and its SSRC. From there on it made exactly the calls of the projection. These
--- show the datagrams that answers give to its SSRC and payload type, and the units of its events, in order. Its announcement is the
--- first of its events, and none of them is an end
+-- no stream has this SSRC and payload type
+abbrev pub IsAbsent : ℕ → ℕ → List Stream → Type 0
+IsAbsent ssrc payload_type [] = Unit {0}
+IsAbsent ssrc payload_type (s ∷ ss) = (is_of ssrc payload_type s ≡ false) × IsAbsent ssrc payload_type ss
+
+-- a stream of a session is a receiver alone. The run is cut in front of the datagram with which the stream began. The session had no
+-- such stream there, and the settings of the run, except for pairs of SSRCs. The receiver was then a new one, with the settings of
+-- its format and its SSRC. From there on it made exactly the calls of the projection. They show the datagrams that answers give to
+-- its SSRC and payload type, and the units of its events, in order. Its announcement is the first of its events, and none of them is
+-- an end
 pub record IsAlone (settings : SessionSettings) (calls : List Call) (ssrc : ℕ) (f : Format) (told : Bool) (r : Receiver) : Type 0 where
   pub before : List Call
   pub during : List Call
@@ -250,6 +283,7 @@ pub record IsAlone (settings : SessionSettings) (calls : List Call) (ssrc : ℕ)
   pub starts : StartsWithDatagram ssrc f.payload_type during
   pub reached : Session
   pub reaches : Runs before (new_session settings) reached
+  pub absent : IsAbsent ssrc f.payload_type reached.port.streams
   pub pairs_alone : reached.settings ≡ record settings { pairs = reached.settings.pairs }
   pub fresh : Stream
   pub begins : Begins reached.settings ssrc f fresh

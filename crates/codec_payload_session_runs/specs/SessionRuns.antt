@@ -4,9 +4,10 @@ use Rattle.std.specs.List.{position}
 use Rattle.std.specs.declared.alloc.AllocError.{AllocError}
 use Rattle.codec_payload_rtcp.specs.declared.items.ReportBlock.{ReportBlock}
 use Rattle.codec_payload_session.specs.Arrivals.{Port}
+use Rattle.codec_payload_session.specs.Associations.{Associates}
 use Rattle.codec_payload_session.specs.Pairs.{Pairs, with_pair, without_pair}
 use Rattle.codec_payload_session.specs.Polls.{Polls}
-use Rattle.codec_payload_session.specs.Ports.{Receives, ReportsIf, Session, ends_all, ends_of, waits_of}
+use Rattle.codec_payload_session.specs.Ports.{ReportsIf, Session, ends_all, ends_of, waits_of}
 use Rattle.codec_payload_session.specs.Streams.{is_of}
 use Rattle.codec_payload_session.specs.declared.session.Arrival.{Arrival}
 use Rattle.codec_payload_session.specs.declared.session.Event.{Event}
@@ -40,7 +41,7 @@ AddsPair ssrc retransmission s added t =
 
 -- the session makes one call, with this answer
 abbrev pub Does : SessionStep → Session → StepAnswer → Session → Type 0
-Does (steps.Receive now datagram) s answer t = (arrival : Result Arrival AllocError) × (answer ≡ answers.Received arrival) × Receives now datagram.items s arrival t
+Does (steps.Receive now datagram) s answer t = (arrival : Result Arrival AllocError) × (answer ≡ answers.Received arrival) × Associates now datagram.items s arrival t
 Does (steps.Poll now) s answer t = (event : Option Event) × (answer ≡ answers.Polled event) × Polls now s event t
 Does (steps.End now ssrc) s answer t = (answer ≡ answers.Done) × (t ≡ ends_of ssrc now.0 s)
 Does (steps.Finish now) s answer t = (answer ≡ answers.Done) × (t ≡ ends_all now.0 s)

@@ -1,0 +1,243 @@
+-- A retransmission whose stream is found: the session gets its pair, and then receives it.
+use Rattle.std.proofs.Common.{◌≡◌, ◌∙◌, refl, sym, ap, subst, subst₂, ℕ, zero, suc, ◌==◌, ◌||◌, if◌then◌else◌, Bool, true, false, List, [], ◌∷◌, ◌++◌, map, filter, Option, Some, None, Result, Ok, Err, slice_get, slice_set, eqb-true, arith}
+use Rattle.std.specs.Prelude.{IsErr}
+use Rattle.std.specs.Global.{Vec}
+use Rattle.std.specs.List.{position}
+use Rattle.std.specs.declared.alloc.AllocError.{AllocError}
+use Rattle.std.proofs.lemmas.Bool.Decides.{nat_tests}
+use Rattle.codec_payload_base.specs.declared.wire.Ticks.{Ticks}
+use Rattle.codec_payload_rtcp.specs.RtcpReading.{compound_at}
+use Rattle.codec_payload_rtp.specs.RtpPackets.{Packet, is_rtcp}
+use Rattle.codec_payload_rtp.specs.RtpReading.{rtp_at}
+use Rattle.codec_payload_rtp.specs.declared.rtp.RtpError.{RtpError}
+use Rattle.codec_payload_stream.specs.Kinds.{is_among}
+use Rattle.codec_payload_stream.specs.declared.receiver.Retransmission.{Retransmission}
+use Rattle.codec_payload_session.specs.Arrivals.{Arrives, Feeds, FeedsIf, Port, TakesIn, TakesInAs}
+use Rattle.codec_payload_session.specs.Associations.{owner_of, pair_at, pair_of, pair_with, unpaired_at, unpaired_by, unpaired_rtp}
+use Rattle.codec_payload_session.specs.Formats.{has_type, resends, retransmission_for, retransmission_of, role_by, stream_of}
+use Rattle.codec_payload_session.specs.Pairs.{is_apart, paired_if, paired_when, paired_where, with_pair}
+use Rattle.codec_payload_session.specs.Requests.{original_number}
+use Rattle.codec_payload_session.specs.Sorting.{sorted_at, sorted_by, sorted_retransmission, sorted_rtcp, sorted_rtp}
+use Rattle.codec_payload_session.specs.Streams.{Takes, is_no_memory, is_of}
+use Rattle.codec_payload_session.specs.declared.formats.Format.{Format}
+use Rattle.codec_payload_session.specs.declared.formats.SessionSettings.{SessionSettings}
+use Rattle.codec_payload_session.specs.declared.formats.SsrcPair.{SsrcPair}
+use Rattle.codec_payload_session.specs.declared.session.Arrival.{Arrival}
+use Rattle.codec_payload_session.specs.declared.session.Arrival.TheVariants as arrivals
+use Rattle.codec_payload_session.specs.declared.stream.Stream.{Stream}
+use Rattle.codec_payload_session_runs.proofs.CallLemmas.{IsAboutPair, NamesNone, given_other, paired_goes, pairs_evolve}
+use Rattle.codec_payload_session_runs.proofs.FateLemmas.{AreApart, Evolves, GoAll, absent_at, evolves_all, of_same, same_sym}
+use Rattle.codec_payload_session_runs.proofs.StreamLemmas.{Goes, call_of, paired_fed_goes}
+use Rattle.codec_payload_session_runs.specs.Lives.{HasSsrcOf, IsAbsent, is_same}
+use Rattle.codec_payload_session_runs.specs.SessionRuns.{Call}
+use Rattle.codec_payload_session_runs.specs.declared.run.SessionStep.TheVariants as calls
+
+-- ---- the retransmission
+
+-- packets with this role are for the streams that pairs name
+abbrev AreSorted : List Format → List ℕ → List ℕ → ℕ → ℕ → Type 0
+AreSorted fs dropped telephone payload_type own =
+    (s : SessionSettings) (ssrc : ℕ) → sorted_by (role_by fs dropped telephone payload_type) s ssrc ≡ sorted_retransmission (stream_of ssrc s.pairs.items) own
+
+-- the datagram is an RTP packet with this SSRC and with a payload type of retransmissions
+pub record IsFound (s : SessionSettings) (bytes : List ℕ) (again : ℕ) : Type 0 where
+  pub packet : Packet
+  pub own_type : ℕ
+  pub is_media : is_rtcp bytes ≡ false
+  pub reads : rtp_at bytes ≡ Ok packet
+  pub sorts : AreSorted s.formats.items s.no_media.items s.telephone_events.items packet.header.payload_type own_type
+  pub own : again ≡ packet.header.ssrc
+
+-- a role without an unpaired retransmission
+none_found : (b : Bool) (dropped telephone : List ℕ) (payload_type : ℕ) (stream number : Option ℕ) (p : Packet) (u : _) → (is_among payload_type dropped || is_among payload_type telephone) ≡ b
+    → unpaired_by (role_by [] dropped telephone payload_type) stream number p ≡ Some u → ⊥
+none_found true dropped telephone payload_type stream number p u is got = let no = rw is at got in absurd (cc)
+none_found false dropped telephone payload_type stream number p u is got = let no = rw is at got in absurd (cc)
+
+sorted_here : (f : Format) (fs : List Format) (dropped telephone : List ℕ) (payload_type : ℕ) → has_type f payload_type ≡ false → resends f payload_type ≡ true
+    → AreSorted (f ∷ fs) dropped telephone payload_type f.payload_type
+sorted_here f fs dropped telephone payload_type has again = λ s ssrc. rw (has, again) refl
+
+sorted_later : (f : Format) (fs : List Format) (dropped telephone : List ℕ) (payload_type own : ℕ) → has_type f payload_type ≡ false → resends f payload_type ≡ false
+    → AreSorted fs dropped telephone payload_type own → AreSorted (f ∷ fs) dropped telephone payload_type own
+sorted_later f fs dropped telephone payload_type own has again more = λ s ssrc. rw (has, again) (more s ssrc)
+
+found_format : (b c : Bool) (f : Format) (fs : List Format) (dropped telephone : List ℕ) (payload_type : ℕ) (stream number : Option ℕ) (p : Packet) (u : _) → has_type f payload_type ≡ b → resends f payload_type ≡ c
+    → unpaired_by (role_by (f ∷ fs) dropped telephone payload_type) stream number p ≡ Some u
+    → (unpaired_by (role_by fs dropped telephone payload_type) stream number p ≡ Some u → (own : ℕ) × AreSorted fs dropped telephone payload_type own × (u.ssrc ≡ p.header.ssrc))
+    → (own : ℕ) × AreSorted (f ∷ fs) dropped telephone payload_type own × (u.ssrc ≡ p.header.ssrc)
+found_format true c f fs dropped telephone payload_type stream number p u has again got later = let no = rw has at got in absurd (cc)
+found_format false true f fs dropped telephone payload_type None (Some number) p u has again got later =
+    let is = rw (has, again) at got in
+    let e : u ≡ record { ssrc = p.header.ssrc; payload_type = f.payload_type; number = number; rtp_time = p.header.timestamp } = cc in
+    (f.payload_type, sorted_here f fs dropped telephone payload_type has again, ap (λ (x : _). x.ssrc) e)
+found_format false true f fs dropped telephone payload_type None None p u has again got later = let no = rw (has, again) at got in absurd (cc)
+found_format false true f fs dropped telephone payload_type (Some ssrc) number p u has again got later = let no = rw (has, again) at got in absurd (cc)
+found_format false false f fs dropped telephone payload_type stream number p u has again got later =
+    let more = later (rw (has, again) at got) in
+    (more.0, sorted_later f fs dropped telephone payload_type more.0 has again more.1, more.2)
+
+found_role : (fs : List Format) (dropped telephone : List ℕ) (payload_type : ℕ) (stream number : Option ℕ) (p : Packet) (u : _) → unpaired_by (role_by fs dropped telephone payload_type) stream number p ≡ Some u
+    → (own : ℕ) × AreSorted fs dropped telephone payload_type own × (u.ssrc ≡ p.header.ssrc)
+found_role [] dropped telephone payload_type stream number p u got =
+    absurd (none_found (is_among payload_type dropped || is_among payload_type telephone) dropped telephone payload_type stream number p u refl got)
+found_role (f ∷ fs) dropped telephone payload_type stream number p u got =
+    found_format (has_type f payload_type) (resends f payload_type) f fs dropped telephone payload_type stream number p u refl refl got
+    (found_role fs dropped telephone payload_type stream number p u)
+
+found_unpaired : (s : SessionSettings) (bytes : List ℕ) (u : _) → unpaired_at s bytes ≡ Some u → IsFound s bytes u.ssrc
+found_unpaired s bytes u got = by_kind (is_rtcp bytes) (rtp_at bytes) refl refl got
+  where
+    by_kind : (b : Bool) (r : Result Packet RtpError) → is_rtcp bytes ≡ b → rtp_at bytes ≡ r → (if b then None else unpaired_rtp s r) ≡ Some u → IsFound s bytes u.ssrc
+    by_kind true r media reads is = absurd (cc)
+    by_kind false (Ok p) media reads is =
+        let found = found_role s.formats.items s.no_media.items s.telephone_events.items p.header.payload_type (stream_of p.header.ssrc s.pairs.items) (original_number p.payload) p u is in
+        record { packet = p; own_type = found.0; is_media = media; reads = reads; sorts = found.1; own = found.2 }
+    by_kind false (Err e) media reads is = absurd (cc)
+
+found_with : (own : Option ℕ) (again : ℕ) (pair : SsrcPair) → pair_with own again ≡ Some pair → pair.retransmission ≡ again
+found_with None again pair is = absurd (cc)
+found_with (Some own) again pair is =
+    let e : record { ssrc = own; retransmission = again } ≡ pair = cc in
+    ap (λ (x : SsrcPair). x.retransmission) (sym e)
+
+pub found_pair : (s : SessionSettings) (now : ℕ) (bytes : List ℕ) (ss : List Stream) (pair : SsrcPair) → pair_at s now bytes ss ≡ Some pair → IsFound s bytes pair.retransmission
+found_pair s now bytes ss pair got = by_kind (unpaired_at s bytes) refl got
+  where
+    by_kind : (o : Option _) → unpaired_at s bytes ≡ o → pair_of o s.pairs.items now ss ≡ Some pair → IsFound s bytes pair.retransmission
+    by_kind None at is = absurd (cc)
+    by_kind (Some u) at is =
+        subst (λ (n : ℕ). IsFound s bytes n) (sym (found_with (owner_of s.pairs.items now u ss) u.ssrc pair is)) (found_unpaired s bytes u at)
+
+-- so it begins no stream, whatever the pairs
+sorted_found : (s : SessionSettings) (named : Vec SsrcPair) (bytes : List ℕ) (again : ℕ) → (found : IsFound s bytes again)
+    → sorted_at (record s { pairs = named }) bytes ≡ sorted_retransmission (stream_of found.packet.header.ssrc named.items) found.own_type
+sorted_found s named bytes again found =
+    let t : SessionSettings = record s { pairs = named } in
+    ap (λ (b : Bool). if b then sorted_rtcp (compound_at false bytes) else sorted_rtp t (rtp_at bytes)) found.is_media
+    ∙ (ap (λ (r : Result Packet RtpError). sorted_rtp t r) found.reads ∙ found.sorts t found.packet.header.ssrc)
+
+-- ---- the SSRC that its streams get
+
+same_number : (n : ℕ) → (n == n) ≡ true
+same_number n = grind (arith, nat_tests)
+
+named_last : (pair : SsrcPair) (payload_type : ℕ) (ps : List SsrcPair)
+    → retransmission_of pair.ssrc payload_type (filter (is_apart pair) ps ++ pair ∷ []) ≡ Some (record { ssrc = pair.retransmission; payload_type = payload_type })
+named_last pair payload_type [] = let e : (pair.ssrc == pair.ssrc) ≡ true = same_number pair.ssrc in rw e refl
+named_last pair payload_type (p ∷ ps) = by_test (p.ssrc == pair.ssrc) (p.retransmission == pair.retransmission) refl refl (named_last pair payload_type ps)
+  where
+    by_test : (a b : Bool) → (p.ssrc == pair.ssrc) ≡ a → (p.retransmission == pair.retransmission) ≡ b
+        → retransmission_of pair.ssrc payload_type (filter (is_apart pair) ps ++ pair ∷ []) ≡ Some (record { ssrc = pair.retransmission; payload_type = payload_type })
+        → retransmission_of pair.ssrc payload_type (filter (is_apart pair) (p ∷ ps) ++ pair ∷ []) ≡ Some (record { ssrc = pair.retransmission; payload_type = payload_type })
+    by_test true b own again later = rw own later
+    by_test false true own again later = rw (own, again) later
+    by_test false false own again later = rw (own, again) (rw own later)
+
+pub gets_ssrc : (s : SessionSettings) (now : Ticks) (datagram : Vec ℕ) (pair : SsrcPair) (ps : List SsrcPair) → IsFound s datagram.items pair.retransmission
+    → IsAboutPair (calls.Receive now datagram) pair.ssrc (with_pair pair ps)
+gets_ssrc s now datagram pair ps found = λ x is.
+    subst (λ (n : ℕ). HasSsrcOf datagram.items (retransmission_for n x.format.retransmission (with_pair pair ps))) (sym (eqb-true x.ssrc pair.ssrc is)) (by_type x.format.retransmission)
+  where
+    by_type : (o : Option ℕ) → HasSsrcOf datagram.items (retransmission_for pair.ssrc o (with_pair pair ps))
+    by_type None = tt
+    by_type (Some payload_type) = subst (λ (o : Option Retransmission). HasSsrcOf datagram.items o) (sym (named_last pair payload_type ps)) (found.packet, found.reads, found.own)
+
+-- ---- the streams: they get the pair, and at most one of them receives the datagram
+
+paired_ssrc : (b : Bool) (named : List SsrcPair) (s : Stream) → (paired_when b named s).ssrc ≡ s.ssrc
+paired_ssrc true named s = refl
+paired_ssrc false named s = refl
+
+paired_format : (b : Bool) (named : List SsrcPair) (s : Stream) → (paired_when b named s).format ≡ s.format
+paired_format true named s = refl
+paired_format false named s = refl
+
+absent_paired : (a b ssrc : ℕ) (named : List SsrcPair) (ss : List Stream) → IsAbsent a b ss → IsAbsent a b (map (paired_if ssrc named) ss)
+absent_paired a b ssrc named [] absent = tt
+absent_paired a b ssrc named (s ∷ ss) absent = (
+  of_same a b s (paired_if ssrc named s) (paired_ssrc (s.ssrc == ssrc) named s) (paired_format (s.ssrc == ssrc) named s) ∙ absent.0,
+  absent_paired a b ssrc named ss absent.1,
+)
+
+others_paired : (c : Call) (ssrc : ℕ) (named : List SsrcPair) (a b : ℕ) (xs : List Stream) → IsAbsent a b xs
+    → ((z : Stream) → is_same z.ssrc z.format.payload_type a b ≡ false → Goes c z (paired_if ssrc named z)) → GoAll c xs (map (paired_if ssrc named) xs)
+others_paired c ssrc named a b [] absent others = tt
+others_paired c ssrc named a b (x ∷ xs) absent others =
+    (others x (same_sym x.ssrc x.format.payload_type a b ∙ absent.0), others_paired c ssrc named a b xs absent.1 others)
+
+one_paired : (c : Call) (ssrc : ℕ) (named : List SsrcPair) (ss : List Stream) (place : ℕ) (x y : Stream) → slice_get (map (paired_if ssrc named) ss) place ≡ Some x → AreApart ss
+    → ((z : Stream) → paired_if ssrc named z ≡ x → Goes c z y)
+    → ((z : Stream) → is_same z.ssrc z.format.payload_type x.ssrc x.format.payload_type ≡ false → Goes c z (paired_if ssrc named z))
+    → GoAll c ss (slice_set (map (paired_if ssrc named) ss) place y)
+one_paired c ssrc named [] place x y there apart goes others = absurd (cc)
+one_paired c ssrc named (z ∷ zs) zero x y there apart goes others =
+    let e : paired_if ssrc named z ≡ x = cc in
+    let ssrc_is : z.ssrc ≡ x.ssrc = sym (paired_ssrc (z.ssrc == ssrc) named z) ∙ ap (λ (w : Stream). w.ssrc) e in
+    let format : z.format ≡ x.format = sym (paired_format (z.ssrc == ssrc) named z) ∙ ap (λ (w : Stream). w.format) e in (
+      goes z e,
+      others_paired c ssrc named x.ssrc x.format.payload_type zs (subst₂ (λ (n : ℕ) (f : Format). IsAbsent n f.payload_type zs) ssrc_is format apart.0) others,
+    )
+one_paired c ssrc named (z ∷ zs) (suc i) x y there apart goes others = (
+  others z (absent_at z.ssrc z.format.payload_type (map (paired_if ssrc named) zs) i x (absent_paired z.ssrc z.format.payload_type ssrc named zs apart.0) there),
+  one_paired c ssrc named zs i x y there apart.1 goes others,
+)
+
+feeds_paired : (given : SessionSettings) (probation place : ℕ) (now : Ticks) (datagram : Vec ℕ) (ssrc : ℕ) (named : List SsrcPair) (ss : List Stream) (p : Port) (answer : Result Arrival AllocError) (q : Port)
+    → p.streams ≡ paired_where ssrc named ss → IsAboutPair (calls.Receive now datagram) ssrc named → AreApart ss → Feeds probation place now datagram.items p answer q
+    → Evolves given (call_of now datagram answer) ss q.streams
+feeds_paired given probation place now datagram ssrc named ss p answer q is about apart got =
+    let c : Call = call_of now datagram answer in
+    let x : Stream = got.stream in
+    let there : slice_get (paired_where ssrc named ss) place ≡ Some x = subst (λ (zs : List Stream). slice_get zs place ≡ Some x) is got.there in
+    subst (λ (o : Port). Evolves given c ss o.streams) (sym got.left)
+    (subst (λ (zs : List Stream). Evolves given c ss (slice_set zs place got.after)) (sym is)
+    (evolves_all given c ss (slice_set (paired_where ssrc named ss) place got.after) (λ s t. refl)
+    (one_paired c ssrc named ss place x got.after there apart
+    (λ (z : Stream) (e : paired_if ssrc named z ≡ x).
+    paired_fed_goes now datagram probation named (z.ssrc == ssrc) z got.told got.after answer (about z)
+    (subst (λ (w : Stream). Takes now probation datagram.items w got.told got.after) (sym e) got.takes)
+    (subst (λ (w : Stream). Arrives (is_no_memory got.told) (arrivals.Stream w.ssrc w.format.payload_type got.told) answer) (sym e) got.arrives))
+    (λ (z : Stream) (other : is_same z.ssrc z.format.payload_type x.ssrc x.format.payload_type ≡ false).
+    paired_goes c ssrc named (z.ssrc == ssrc) z refl about refl
+    (given_other (is_no_memory got.told) now datagram.items z.ssrc z.format.payload_type x.ssrc x.format.payload_type got.told answer other got.arrives)))))
+
+stays_paired : (given : SessionSettings) (now : Ticks) (datagram : Vec ℕ) (ssrc : ℕ) (named : List SsrcPair) (ss : List Stream) (p : Port) (answer told : Result Arrival AllocError) (q : Port)
+    → p.streams ≡ paired_where ssrc named ss → IsAboutPair (calls.Receive now datagram) ssrc named → NamesNone told → answer ≡ told → q ≡ p
+    → Evolves given (call_of now datagram answer) ss q.streams
+stays_paired given now datagram ssrc named ss p answer told q is about none same stays =
+    subst₂ (λ (a : Result Arrival AllocError) (zs : List Stream). Evolves given (call_of now datagram a) ss zs) (sym same) (sym (ap (λ (o : Port). o.streams) stays ∙ is))
+    (pairs_evolve given (call_of now datagram told) ssrc named ss about (λ s t. refl) (λ s t. none now datagram.items s t))
+
+feeds_if_paired : (o : Option ℕ) (given : SessionSettings) (probation : ℕ) (now : Ticks) (datagram : Vec ℕ) (ssrc : ℕ) (named : List SsrcPair) (ss : List Stream) (p : Port) (answer : Result Arrival AllocError) (q : Port)
+    → p.streams ≡ paired_where ssrc named ss → IsAboutPair (calls.Receive now datagram) ssrc named → AreApart ss
+    → FeedsIf o arrivals.Unassociated probation now datagram.items p answer q → Evolves given (call_of now datagram answer) ss q.streams
+feeds_if_paired None given probation now datagram ssrc named ss p answer q is about apart got =
+    stays_paired given now datagram ssrc named ss p answer (Ok arrivals.Unassociated) q is about (λ now bytes s t. refl) got.0 got.1
+feeds_if_paired (Some place) given probation now datagram ssrc named ss p answer q is about apart got =
+    feeds_paired given probation place now datagram ssrc named ss p answer q is about apart got
+
+again_paired : (o : Option ℕ) (payload_type : ℕ) (given settings : SessionSettings) (now : Ticks) (datagram : Vec ℕ) (ssrc : ℕ) (named : List SsrcPair) (ss : List Stream) (p : Port) (answer : Result Arrival AllocError) (q : Port)
+    → p.streams ≡ paired_where ssrc named ss → IsAboutPair (calls.Receive now datagram) ssrc named → AreApart ss
+    → TakesInAs (sorted_retransmission o payload_type) settings now datagram.items p answer q → Evolves given (call_of now datagram answer) ss q.streams
+again_paired None payload_type given settings now datagram ssrc named ss p answer q is about apart got =
+    stays_paired given now datagram ssrc named ss p answer (Ok arrivals.Unassociated) q is about (λ now bytes s t. refl) got.0 got.1
+again_paired (Some own) payload_type given settings now datagram ssrc named ss p answer q is about apart got =
+    feeds_if_paired (position (is_of own payload_type) p.streams) given settings.probation now datagram ssrc named ss p answer q is about apart got
+
+-- ---- the datagram after the pair
+
+pub paired_evolves : (s : SessionSettings) (now : Ticks) (datagram : Vec ℕ) (pair : SsrcPair) (named : Vec SsrcPair) (ss : List Stream) (p : Port) (answer : Result Arrival AllocError) (q : Port)
+    → IsFound s datagram.items pair.retransmission → p.streams ≡ paired_where pair.ssrc (with_pair pair s.pairs.items) ss → AreApart ss
+    → TakesIn (record s { pairs = named }) now datagram.items p answer q → Evolves s (call_of now datagram answer) ss q.streams
+paired_evolves s now datagram pair named ss p answer q found is apart got =
+    again_paired (stream_of found.packet.header.ssrc named.items) found.own_type s (record s { pairs = named }) now datagram pair.ssrc (with_pair pair s.pairs.items) ss p answer q is
+    (gets_ssrc s now datagram pair s.pairs.items found) apart
+    (subst (λ (d : _). TakesInAs d (record s { pairs = named }) now datagram.items p answer q) (sorted_found s named datagram.items pair.retransmission found) got)
+
+-- memory ran out for the datagram: the pair stays
+pub failed_paired : (s : SessionSettings) (now : Ticks) (datagram : Vec ℕ) (pair : SsrcPair) (answer : Result Arrival AllocError) (ss : List Stream) → IsFound s datagram.items pair.retransmission → IsErr answer
+    → Evolves s (call_of now datagram answer) ss (paired_where pair.ssrc (with_pair pair s.pairs.items) ss)
+failed_paired s now datagram pair (Ok arrival) ss found fails = absurd (cc)
+failed_paired s now datagram pair (Err e) ss found fails =
+    pairs_evolve s (call_of now datagram (Err e)) pair.ssrc (with_pair pair s.pairs.items) ss (gets_ssrc s now datagram pair s.pairs.items found) (λ s t. refl) (λ s t. refl)
