@@ -110,7 +110,13 @@ impl<B: Depacketizer> DepacketizingBuffer<B> {
     /// Removes the frame that is due and all packets below it. The metadata of its packets, from `from` to `to`, move to `metas`,
     /// which is empty and has room for them.
     #[inline(always)]
-    fn leave_to(&mut self, frame: CompleteFrame, from: usize, to: usize, metas: &mut Vec<PackedMeta>)
+    fn leave_to(
+        &mut self,
+        frame: CompleteFrame,
+        from: usize,
+        to: usize,
+        metas: &mut Vec<PackedMeta>,
+    )
         requires due { due_of self.old ≡ Option.Some frame }
         requires order { from ≤ to }
         requires end { to ≡ end_of frame.last self.old.held }
