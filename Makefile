@@ -47,7 +47,7 @@ pages = $(wildcard docs/*.md)
 pictures = $(wildcard docs/pictures/*.svg)
 manual = $(out)/man/man3
 recorder = tools/rtp_record
-vectors = crates/payload_vectors
+vectors = tools/lines/payload_vectors
 shipped = Makefile include packaging $(documents) $(pages) $(pictures) $(wildcard c/*.c c/*.cpp c/*.h c/*.sh c/*.txt c/sdp/* c/generated/*.S) \
     $(vectors)/stdin $(vectors)/stdout \
     $(addprefix $(recorder)/,Makefile README.md rtp_record.1 completion.bash) $(wildcard $(recorder)/*.c $(recorder)/*.h)

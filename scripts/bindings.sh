@@ -9,13 +9,14 @@
 # header agrees with the library; it compiles as C99 and C11 and, if there is a C++ compiler, as C++11 and C++20; the compiler
 # detects a struct of the wrong type, and an ignored status. `make check` (c/check.sh says what runs) over both archives; over
 # the assembly also with the address and undefined-behaviour sanitizers, over jemalloc and mimalloc, and for AArch64 by qemu.
-# Scripts of payload_vectors through each, compared byte for byte with the program (c/vectors.c, c/inputs.py). The header for
-# C++ (c/plus.cpp). The ABI (scripts/abi.sh). If there is cargo, the calls beside those of the generated Rust crate
-# (tools/twin), and changed session descriptions read by c/sdp.c and by the crate. The installed files (install_test.sh).
+# The header for C++ (c/plus.cpp). The ABI (scripts/abi.sh). If there is cargo: scripts of payload_vectors through each library,
+# compared byte for byte with the program over the generated Rust crate (c/vectors.c, c/inputs.py, tools/lines); the calls beside
+# those of the crate (tools/twin); and changed session descriptions read by c/sdp.c and by the crate. The installed files
+# (install_test.sh).
 #
-# Needs a C compiler ($CC or cc) with its sanitizers, make, binutils and Python 3; for tools/twin cargo; for the installed files
-# pkg-config and a C++ compiler; for AArch64 gcc-aarch64-linux-gnu and qemu-user. No network. Without rt the archive from rt,
-# and the program, are left out, and the last line says so. That line says what passed; the status is 0 if all did.
+# Needs a C compiler ($CC or cc) with its sanitizers, make, binutils and Python 3; for tools/lines and tools/twin cargo; for the
+# installed files pkg-config and a C++ compiler; for AArch64 gcc-aarch64-linux-gnu and qemu-user. No network. Without rt the
+# archive from rt is left out, and the last line says so. That line says what passed; the status is 0 if all did.
 set -eu
 
 root=$(cd "$(dirname "$0")/.." && pwd)
@@ -59,13 +60,13 @@ build_proved() {
             ar rcs "$out/proved/libcodec_payload.a" codec_payload.o) || fail "the archive is not made"
 }
 
-# Runs every script through the library, by the program $1 of c/vectors.c, and through the proved program; both answer the same
-# bytes and the same status.
+# Runs every script through the library, by the program $1 of c/vectors.c, and through payload_vectors of tools/lines; both answer
+# the same bytes and the same status.
 compare_scripts() {
     count=0
     for script in "$work/scripts"/*; do
         status=0
-        "$root/crates/payload_vectors/out/payload_vectors" <"$script" >"$work/wanted" 2>"$work/wanted-messages" || status=$?
+        "$root/tools/lines/target/release/payload_vectors" <"$script" >"$work/wanted" 2>"$work/wanted-messages" || status=$?
         found=0
         "$1" <"$script" >"$work/found" 2>"$work/found-messages" || found=$?
         [ "$status" -eq "$found" ] && cmp -s "$work/wanted" "$work/found" &&
@@ -136,32 +137,32 @@ step make check check-sanitized strict=-Werror
 ! command -v "$plus" >/dev/null || step make check-plus strict=-Werror
 allocators="the C library's allocator"
 run_other_allocators
-proved="without rt, so neither the archive that rt builds nor scripts of the program"
+proved="without rt, so without the archive that rt builds"
 if command -v rt >/dev/null; then
     build_proved
     step make check LIBRARY=c/out/proved/libcodec_payload.a tests=c/out/proved/tests
-    (cd crates/payload_vectors && rt run <stdin) >"$work/run.log" 2>&1 || {
-        cat "$work/run.log" >&2
-        fail "payload_vectors is not proved"
-    }
-    c/inputs.py "$work/scripts" >/dev/null
-    for tests in tests tests-sanitized proved/tests; do
-        compare_scripts "$out/$tests/vectors"
-    done
-    proved="the archive that rt builds, and $count scripts"
+    proved="the archive that rt builds"
 fi
 arm="without gcc-aarch64-linux-gnu and qemu-user, so not for AArch64"
 if command -v aarch64-linux-gnu-gcc >/dev/null && command -v qemu-aarch64 >/dev/null; then
     step make check-aarch64 strict=-Werror
     arm="AArch64 by qemu"
 fi
-twin="without cargo, so without tools/twin"
+twin="without cargo, so without tools/lines and tools/twin"
 if command -v cargo >/dev/null; then
+    step cargo build --offline --quiet --release --manifest-path tools/lines/Cargo.toml
+    c/inputs.py "$work/scripts" >/dev/null
+    for tests in tests tests-sanitized proved/tests; do
+        case $tests in
+        proved/*) command -v rt >/dev/null || continue ;;
+        esac
+        compare_scripts "$out/$tests/vectors"
+    done
     (cd tools/twin && cargo run --offline --quiet --release -- 20000) >"$work/twin" 2>&1 || {
         cat "$work/twin" >&2
         fail "the library and the generated Rust crate differ"
     }
-    twin=$(tail -n 1 "$work/twin")
+    twin="$count scripts; $(tail -n 1 "$work/twin")"
     for given in c/sdp/*.sdp; do
         "$out/tests/descriptions" changed 3000 <"$given" >"$work/wanted"
         (cd tools/twin && cargo run --offline --quiet --release -- changed 3000) <"$given" >"$work/found"

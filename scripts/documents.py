@@ -50,8 +50,7 @@ RUN_HERE = ["scripts/mutants.py --stale", "scripts/check_header.py", "scripts/co
 RUN_ELSEWHERE = {
     "scripts/test.sh": ("scripts/test.sh", "scripts/test.sh --no-proofs"),
     "rt ci": ("scripts/test.sh", "rt ci"),
-    "rt try": ("scripts/process.py", '["rt", "run"]'),
-    "rt run": ("scripts/process.py", '["rt", "run"]'),
+    "rt try": ("scripts/documents.py", "begun_crate"),
     "rt check": ("scripts/mutants.py", '"rt", "check"'),
     "rt new": ("scripts/documents.py", "begun_crate"),
     "rm -rf crates/mine/": ("scripts/documents.py", "begun_crate"),
@@ -61,7 +60,7 @@ RUN_ELSEWHERE = {
     "rt test": ("scripts/documents.py", "rt test"),
     "rt version": ("scripts/documents.py", "rt version"),
     "scripts/bindings.sh": ("scripts/test.sh", "runs scripts/bindings.sh"),
-    "scripts/process.py": ("scripts/test.sh", "runs scripts/process.py"),
+    "scripts/process.py": ("scripts/rust.sh", "scripts/process.py"),
     "scripts/refuse.sh": ("scripts/test.sh", "runs scripts/refuse.sh"),
     "scripts/allocations.sh": ("scripts/test.sh", "runs scripts/allocations.sh"),
     "scripts/instructions.sh": ("scripts/test.sh", "runs scripts/instructions.sh"),
@@ -93,7 +92,6 @@ RUN_ELSEWHERE = {
     "cargo run": ("scripts/documents.py", '"cargo", "run"'),
     "cargo add --path": ("scripts/documents.py", '"cargo", "add"'),
     "scripts/rust.sh": ("scripts/test.sh", "runs scripts/rust.sh"),
-    "scripts/rust_programs.py": ("scripts/rust.sh", "scripts/rust_programs.py"),
     "tools/eraser/erase.py": ("scripts/rust.sh", "tools/eraser/erase.py"),
     "tools/eraser/plants.py": ("scripts/rust.sh", "tools/eraser/plants.py"),
     "tools/rtp_record/install.sh": ("scripts/test.sh", "tools/rtp_record/install.sh"),
@@ -101,7 +99,9 @@ RUN_ELSEWHERE = {
     "./install.sh": ("scripts/test.sh", "tools/rtp_record/install.sh"),
     "./rtp_record": ("scripts/test.sh", "runs tools/rtp_record/test.sh"),
     "make -C ../..": ("scripts/install_test.sh", "make"),
-    "cd crates/": ("scripts/process.py", '["rt", "run"]'),
+    "cd crates/": ("scripts/documents.py", "begun_crate"),
+    "cd tools/lines": ("scripts/process.py", "cwd=LINES"),
+    "cargo run --quiet --bin payload_": ("scripts/process.py", "stored(name)"),
 }
 
 
@@ -379,7 +379,7 @@ def whole_bytes(block):
 def tested_text(block):
     rows = [*program_vectors.ROWS, *datagram_vectors.ROWS]
     known = [it for row in rows for it in (row.given, row.output)]
-    known += [read(it) for it in glob.glob(f"{ROOT}/crates/*/std*")]
+    known += [read(it) for it in glob.glob(f"{ROOT}/tools/lines/*/std*")]
     if block.text in known:
         return ""
     if block.page == "docs/RECIPES.md":

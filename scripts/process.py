@@ -1,9 +1,9 @@
 #!/usr/bin/env python3
-"""Runs payload_vectors and payload_datagrams as processes: every test vector of program_vectors.py and datagram_vectors.py on a stack of
-64 kilobytes, and for payload_vectors streams that fail.
+"""Runs payload_vectors and payload_datagrams of tools/lines as processes: the stored input of each, every test vector of
+program_vectors.py and datagram_vectors.py on a stack of 64 kilobytes, and for payload_vectors streams that fail and a limit of
+memory.
 
-Needs rt, which proves and builds the programs first. The last line says how many runs were right; the status is 0 if all
-were.
+Needs cargo. The last line says how many runs were right; the status is 0 if all were.
 """
 import os
 import resource
@@ -17,12 +17,12 @@ import datagram_vectors
 import program_vectors
 from program_vectors import FIRST_OUTPUT, FIRST_RUN, OPUS
 
-CRATES = os.path.join(os.path.dirname(os.path.dirname(os.path.realpath(__file__))), "crates")
+LINES = os.path.join(os.path.dirname(os.path.dirname(os.path.realpath(__file__))), "tools", "lines")
 ROWS = {"payload_vectors": program_vectors.ROWS, "payload_datagrams": datagram_vectors.ROWS}
 
 
 def built(name):
-    return os.path.join(CRATES, name, "out", name)
+    return os.path.join(LINES, "target", "release", name)
 
 
 PROGRAM = built("payload_vectors")
@@ -30,14 +30,16 @@ STACK = 64 * 1024
 FAILED = b"input or output failed\n"
 
 
-def build(name):
-    crate = os.path.join(CRATES, name)
-    if subprocess.run([os.path.join(os.path.dirname(CRATES), "scripts", "rt_free.py")], check=False).returncode != 0:
-        sys.exit("another rt works in this copy")
-    with open(f"{crate}/stdin", "rb") as given:
-        ran = subprocess.run(["rt", "run"], cwd=crate, stdin=given, stdout=subprocess.PIPE, stderr=subprocess.STDOUT, check=False)
-    if ran.returncode != 0:
-        sys.exit(ran.stdout.decode(errors="replace"))
+def build():
+    subprocess.run(["cargo", "build", "--offline", "--quiet", "--release"], cwd=LINES, check=True)
+
+
+def stored(name):
+    """The stored input of a program, with its output."""
+    folder = os.path.join(LINES, name)
+    with open(f"{folder}/stdin", "rb") as given, open(f"{folder}/stdout", "rb") as output:
+        ran = subprocess.run([built(name)], stdin=given, capture_output=True, check=False)
+        yield f"{name}: the stored input", (output.read(), 0, b""), (ran.stdout, ran.returncode, ran.stderr)
 
 
 def small_stack():
@@ -92,6 +94,17 @@ def without_messages(given):
         return ran.stdout, ran.returncode, b""
 
 
+def little_memory():
+    resource.setrlimit(resource.RLIMIT_AS, (16 << 20, 16 << 20))
+
+
+def short_of_memory():
+    """A script that asks for more memory than the process may have."""
+    many = f"{OPUS}sample 0 0 {'00' * 100_000}\n" + "send 0 100000\n" * 1_000
+    ran = subprocess.run([PROGRAM], input=many.encode(), capture_output=True, preexec_fn=little_memory, check=False)
+    yield "memory runs out", (b"", 1, b"out of memory\n"), (ran.stdout, ran.returncode, ran.stderr)
+
+
 def streams():
     first = FIRST_RUN.encode()
     with open("/proc/self/mem", "rb") as nothing:
@@ -104,10 +117,10 @@ def streams():
 
 
 def main():
-    for program in ROWS:
-        build(program)
+    build()
+    programs = [run for name in ROWS for run in (*stored(name), *rows(name))]
     runs = promised = 0
-    for name, wanted, found in [*rows("payload_vectors"), *rows("payload_datagrams"), *streams()]:
+    for name, wanted, found in [*programs, *streams(), *short_of_memory()]:
         runs += 1
         if wanted == found:
             promised += 1

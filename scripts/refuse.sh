@@ -1,34 +1,29 @@
 #!/bin/sh
-# Refuses each allocation of the library's calls in turn, and checks what then comes. Three programs are run:
+# Refuses each allocation of the library's calls in turn, and checks what then comes. Two programs over the proved library for C
+# are run:
 #
-# - `payload_vectors`, on its stored input, on one input of each other codec, and on one with RED: it prints the whole output
-#   with status 0, or only the line `out of memory` on standard error, with status 1.
-# - `tools/refused` over the proved library for C, and `payload_hostile` for sinks, payloaders and runs, which C does not have,
-#   once for each call that allocates: it prints the full right answer, or fault 17, and how things are after it; the tables
-#   below have both. If memory is refused to it before or after the call, it prints nothing, with status 3.
+# - `c/vectors.c`, on the stored input of payload_vectors, on one input of each other codec, and on one with RED: it prints the
+#   whole output with status 0, or only the line `out of memory` on standard error, with status 1.
+# - `tools/refused`, once for each call that allocates: it prints the full right answer, or fault 17, and how things are after it;
+#   the table below has both. If memory is refused to it before or after the call, it prints nothing, with status 3.
+#
+# C does not have sinks, payloaders and runs: rust/tests/refused/runs.rs has their tables.
 #
 # The allocations of each call are also counted: they may be no more than the table says, so a body that allocates without
 # need is found. The full answer also comes if std asks for more room than it needs and, refused, asks again when it stores.
 # Calls that may not allocate are counted in rust/tests/steady_state.rs. The last line says how many refusals were tried and how
-# many went as promised; the status is 0 if all did. Needs rt and a C compiler, $CC or cc, for a C library that takes LD_PRELOAD.
+# many went as promised; the status is 0 if all did. Needs make and a C compiler, $CC or cc, for a C library that takes LD_PRELOAD.
 set -eu
 
 root=$(cd "$(dirname "$0")/.." && pwd)
-vectors=$root/crates/payload_vectors
-hostile=$root/crates/payload_hostile
+stored=$root/tools/lines/payload_vectors
 work=$(mktemp -d)
 trap 'rm -rf "$work"' EXIT
 
-"$root/scripts/rt_free.py" || exit 1
-for crate in "$vectors" "$hostile"; do
-    (cd "$crate" && rt run <stdin >"$work/built" 2>"$work/messages") || {
-        cat "$work/messages" >&2
-        exit 1
-    }
-done
 make -s -C "$root" >/dev/null
 library=$root/c/out/libcodec_payload.a
 "${CC:-cc}" -std=c99 -O1 -I"$root/include" "$root/tools/refused/refused.c" "$library" -o "$work/calls"
+"${CC:-cc}" -std=c99 -O1 -I"$root/include" "$root/c/vectors.c" "$library" -o "$work/vectors"
 tried=0
 promised=0
 words=
@@ -118,9 +113,9 @@ none_told() {
     }
 }
 
-# Refuses each allocation of a run of payload_vectors on the input $1, whose whole output is $2. $3 is what the run is called.
+# Refuses each allocation of a run of c/vectors.c on the input $1, whose whole output is $2. $3 is what the run is called.
 refuse_each() {
-    program=$vectors/out/payload_vectors
+    program=$work/vectors
     input=$1
     number=1
     told=0
@@ -195,7 +190,7 @@ refuse_codec() {
         done
         echo pop
     } >"$work/input"
-    "$vectors/out/payload_vectors" <"$work/input" >"$work/whole"
+    "$work/vectors" <"$work/input" >"$work/whole"
     if ! tail -n 1 "$work/whole" | grep -q '^unit '; then
         echo "$1: no unit"
         exit 1
@@ -203,7 +198,7 @@ refuse_codec() {
     refuse_each "$work/input" "$work/whole" "$1"
 }
 
-refuse_each "$vectors/stdin" "$vectors/stdout" "stored run"
+refuse_each "$stored/stdin" "$stored/stdout" "stored run"
 refuse_codec cn 2a8040 1200 0
 refuse_codec amrwb 4c5a5a5a5a5a 1200 0
 refuse_codec amrwb-octet 4c5a5a5a5a5a 1200 0
@@ -227,7 +222,7 @@ push 1
 pop
 pop
 END
-"$vectors/out/payload_vectors" <"$work/input" >"$work/whole"
+"$work/vectors" <"$work/input" >"$work/whole"
 grep -q '^unit 1 1 1 9090$' "$work/whole" || {
     echo "opus in RED: the first unit is not recovered"
     exit 1
@@ -291,21 +286,6 @@ decode|1|decode 96 960 0909 96 0 010203|decode fault 17
 recover|2|recover 11 1920 0909|recover fault 17
 wrap|15|wrap ef2d0001ef0f00016f01032a, then ef2d0001ef0f00016f022a2b|wrap fault 17, then ef3c0001ef1e00016f01032b
 wrap-again|47|wrap ef2d0001ef0f00016f11132a, then ef2d0001ef0f00016f122a2b|wrap fault 17, then ef3c0001ef1e00016f11132b
-END
-
-# The same of payload_hostile, which reads the name of the call.
-program=$hostile/out/payload_hostile
-input=$work/input
-words=
-while IFS='|' read -r name most whole after; do
-    echo "$name" >"$input"
-    refuse_call "$name" "$whole" "$after" "$most"
-done <<'END'
-memory-sink-send|5|send ok 1: 0102, next 2|send fault 17, next 1
-red-sink-send|10|send ok, then 1: 6f0102 2: ef0f00026f010203|send fault 17, then 1: 6f03|send fault 17, then 1: ef0f00026f010203
-push-sample|17|push_sample ok 1: 90802090 2: 80802091 3: 80802092 4: 80802093 5: 80802094, then 1: 90802090 2: 80802091 3: 80802092 4: 80802093 5: 80802094 6: 90802195|push_sample fault 17, then 1: 90802095|push_sample fault 17, then 1: 90802195|push_sample fault 17 1: 90802090, then 1: 90802090 2: 90802195|push_sample fault 17 1: 90802090 2: 80802091, then 1: 90802090 2: 80802091 3: 90802195|push_sample fault 17 1: 90802090 2: 80802091 3: 80802092, then 1: 90802090 2: 80802091 3: 80802092 4: 90802195|push_sample fault 17 1: 90802090 2: 80802091 3: 80802092 4: 80802093, then 1: 90802090 2: 80802091 3: 80802092 4: 80802093 5: 90802195
-run-schedule|24|run unit 10 10 1 9090 unit 11 11 1 91 none 10: 9090 11: 91 held 0 ready 0, then|run fault 17 held 0 ready 0, then|run fault 17 10: 9090 held 0 ready 0, then|run fault 17 10: 9090 11: 91 held 0 ready 0, then|run fault 17 10: 9090 11: 91 held 1 ready 1, then unit 10 10 1 9090|run fault 17 10: 9090 11: 91 held 2 ready 2, then unit 10 10 1 9090 unit 11 11 1 91|run fault 17 10: 9090 11: 91 held 1 ready 1, then unit 11 11 1 91
-run-schedule-red|33|run unit 10 10 1 9090 10: 609090 11: e002800260909091 held 1 ready 1, wraps e0028001609192, then unit 11 11 1 91|run fault 17 held 0 ready 0, wraps 6092, then|run fault 17 held 0 ready 0, wraps e005000260909092, then|run fault 17 10: 609090 held 0 ready 0, wraps e005000260909092, then|run fault 17 10: 609090 held 0 ready 0, wraps e0028001609192, then|run fault 17 10: 609090 11: e002800260909091 held 0 ready 0, wraps e0028001609192, then|run fault 17 10: 609090 11: e002800260909091 held 1 ready 1, wraps e0028001609192, then unit 10 10 1 9090|run fault 17 10: 609090 11: e002800260909091 held 2 ready 2, wraps e0028001609192, then unit 10 10 1 9090 unit 11 11 1 91
 END
 
 echo "$tried refusals tried, $promised as promised"

@@ -9,9 +9,8 @@
 #   without `std`.
 # - The eraser refuses each plant of tools/eraser/plants.py.
 # - The package builds by itself, and each example ends well; docs/LIMITS.md and docs/SESSION.md have the tables that examples print.
-# - The erased programs answer each test vector of the proved programs (scripts/rust_programs.py 0; scripts/test.sh compares random
-#   scripts once the programs are proved).
-#
+# - The programs over lines, tools/lines: rustfmt and clippy have nothing to say, and each test vector gets its answer
+#   (scripts/process.py).
 # - With clang's libFuzzer: two seconds of each fuzz target (scripts/fuzz.sh). With Debian's packages of crates: rust-extras/test.sh.
 #
 # The last line says what passed; the status is 0 if all did.
@@ -61,8 +60,10 @@ for table in $tables; do
         }
     done <"$work/log"
 done
-step "$root/scripts/rust_programs.py" 0
-programs=$(tail -n 1 "$work/log")
+step cargo fmt --check --manifest-path "$root/tools/lines/Cargo.toml"
+step cargo clippy --quiet --all-targets --manifest-path "$root/tools/lines/Cargo.toml" -- -D warnings
+step "$root/scripts/process.py"
+programs="programs over lines: $(tail -n 1 "$work/log")"
 if [ "${1:-}" != quick ]; then
     step cargo package --quiet --allow-dirty
     step "$root/tools/eraser/plants.py"

@@ -105,8 +105,6 @@ if [ "${1:-}" != --no-proofs ]; then
     passed=$((early_passed + $1))
     failed=$((early_failed + $2))
 fi
-runs scripts/process.py
-runs scripts/rust_programs.py
 runs scripts/refuse.sh
 runs scripts/allocations.sh
 runs scripts/bindings.sh

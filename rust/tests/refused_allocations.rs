@@ -5,6 +5,8 @@
 #[allow(dead_code, reason = "the tests of sessions use the rest")]
 #[path = "sessions/datagrams.rs"]
 mod datagrams;
+#[path = "refused/runs.rs"]
+mod runs;
 
 use codec_payload::jitter::{JitterBuffer, Outcome, WaitLimits};
 use codec_payload::media::av1::{Av1SequenceHeader, front_obu, write_av1c};

@@ -128,8 +128,6 @@ def rename_calls(f):
                 i += rename_fallible(f, i)
             elif t.text == "slice_mut":
                 index_by_range(f, i)
-            elif t.text == "extend" and f.ts[close(f.ts, i + 1) + 1].text == "?" and types_of(f, i)[1] & STD and not f.shows:
-                del f.ts[close(f.ts, i + 1) + 1]
             elif t.text in ("clone", "to_vec", "collect", "to_string", "to_owned") and plain(f.ts[i + 1:i + 4]) == "( ) ?":
                 del f.ts[i + 3]
             elif t.text == "allocator":
@@ -199,15 +197,10 @@ def rename_makers(f):
         elif p == "Vec :: from_slice (":
             f.ts[i + 2].text = "try_from_slice"
             f.needs.add("TryVec")
-        elif p == "Box :: new (" and not f.shows:
-            end = close(f.ts, i + 3)
-            if f.ts[end + 1].text != "?":
-                f.refuse(t, "Box::new whose answer is not asked with ?")
-            del f.ts[end + 1]
         elif p == "Box :: new (":
             f.ts[i].text, f.ts[i + 2].text = "One", "try_new"
             f.needs.add("One")
-        elif f.shows and p.startswith("Box < ") and f.ts[i + 2].text != "dyn":
+        elif p.startswith("Box < ") and f.ts[i + 2].text != "dyn":
             f.ts[i].text = "One"
             f.needs.add("One")
         elif p == "String :: from_str (":

@@ -39,7 +39,7 @@ def drop_clauses(f):
     for fn, texts in premises.values():
         k = next(n for n, t in enumerate(f.ts) if t is fn)
         start = item_start(f, k)
-        if not f.shows or not any(t.text == "pub" for t in f.ts[start:k]) or f.ts[k - 1].text == ")":
+        if not any(t.text == "pub" for t in f.ts[start:k]) or f.ts[k - 1].text == ")":
             continue
         name = f.ts[k + 1].text
         said = "; ".join(re.sub(r"\s+", " ", re.match(r"requires(?:\s+\w+)?\s*\{(.*)\}$", t, re.S).group(1)).strip() for t in texts)
@@ -116,8 +116,8 @@ def trim_derive(f, i, k):
     if bad:
         f.refuse(t, f"derives {bad}")
     # Types that Rattle leaves without `Debug`, since no proof needs it, have it in Rust.
-    names = [n for n in names if n != "Drop"] + ["Debug"] * ("Debug" not in names and f.shows and not has_own_debug(f, end))
-    names += [n for n in MORE.get(type_behind(f, end), []) if n not in names and f.shows]
+    names = [n for n in names if n != "Drop"] + ["Debug"] * ("Debug" not in names and not has_own_debug(f, end))
+    names += [n for n in MORE.get(type_behind(f, end), []) if n not in names]
     if names:
         f.ts[k + 2:end + 1] = tokens("(%s)]" % ", ".join(names))[:-1]
         return close(f.ts, k)

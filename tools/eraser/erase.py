@@ -3,7 +3,6 @@
 
   tools/eraser/erase.py                     writes the generated files of rust/
   tools/eraser/erase.py --check             compares them with a fresh run: status 1 and the differences if any
-  tools/eraser/erase.py --programs FOLDER   writes the programs over lines, as crates over rust/, to be compared with the proved
   option --repository FOLDER                reads crates/ of another clone, and writes rust/ there
 
 Needs Python 3.11 and rustfmt. docs/PLAIN_RUST.md says what it does. It refuses, with file and line, what it does not know.
@@ -13,11 +12,10 @@ import os
 import sys
 
 import output
-import programs
 from erasing import drop_theorems, erase
 from heads import drop_passed_on, flatten, head_files, passed_on_modules, root_modules
 from known import Known
-from layout import FACADE, FLAT, LIBRARY, NOT_HERE, PLACES, PROGRAMS, PROGRAMS_LIBRARY, RENAMED_MODULES
+from layout import FACADE, FLAT, LIBRARY, NOT_HERE, PLACES, RENAMED_MODULES
 from source import File
 from tokens import Refused, joined
 
@@ -39,15 +37,12 @@ def read_crate(repository, crate, known):
 
 
 def read_all(repository, known):
-    """The sources of the library, and those of programs, by crate and path."""
+    """The sources of the library, by crate and path."""
     there = {it[len(PREFIX):] for it in os.listdir(os.path.join(repository, "crates")) if it.startswith(PREFIX)}
     wanted = {*LIBRARY, FACADE, *NOT_HERE}
     if there != wanted:
         raise Refused(f"layout.py and crates/ differ: {', '.join(sorted(there ^ wanted))}")
-    library = {(crate, rel): f for crate in [*LIBRARY, FACADE] for rel, f in read_crate(repository, PREFIX + crate, known).items()}
-    others = {(crate, rel): f for crate in [*PROGRAMS, PROGRAMS_LIBRARY]
-              for rel, f in read_crate(repository, crate, known).items()}
-    return library, others
+    return {(crate, rel): f for crate in [*LIBRARY, FACADE] for rel, f in read_crate(repository, PREFIX + crate, known).items()}
 
 
 def library_files(library, passed_on):
@@ -68,23 +63,20 @@ def library_files(library, passed_on):
 def run(repository, words):
     """Does what the command line asks for; returns the status."""
     known = Known()
-    library, others = read_all(repository, known)
+    library = read_all(repository, known)
     passed_on = passed_on_modules(library)
     del library[FACADE, "lib.rt"]
     drop_theorems(library)
     for (_, rel), f in library.items():
         if rel == "lib.rt":
             drop_passed_on(f)
-    for f in [*library.values(), *others.values()]:
+    for f in library.values():
         known.read(f)
     crate = os.path.join(repository, "rust")
     generated = output.Output(crate)
     for path, source, text in library_files(library, passed_on):
         generated.add(f"src/{path}", source, text)
     output.check_root(os.path.join(crate, "src/lib.rs"), root_modules(library))
-    if words.programs:
-        programs.write(words.programs, crate, others, passed_on)
-        return 0
     generated.format()
     asked = sum(len(f.asks) for f in library.values())
     summary = f"{len(generated.files)} files, {asked} public functions whose premises are asserted"
@@ -100,7 +92,6 @@ def run(repository, words):
 def main():
     parser = argparse.ArgumentParser(description=__doc__, formatter_class=argparse.RawDescriptionHelpFormatter)
     parser.add_argument("--check", action="store_true")
-    parser.add_argument("--programs", metavar="FOLDER")
     parser.add_argument("--repository", default=os.path.dirname(os.path.dirname(HERE)))
     words = parser.parse_args()
     try:

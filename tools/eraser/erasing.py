@@ -10,9 +10,7 @@ from tokens import joined, plain, tokens
 
 
 def erase(f, crate, module, passed_on):
-    """Makes a file of the library (or, if `crate` is None, of a program) a file of Rust."""
-    in_library = crate is not None
-    f.shows = in_library
+    """Makes a file of the library a file of Rust."""
     contracts.drop_clauses(f)
     contracts.drop_ghosts(f)
     contracts.drop_models(f)
@@ -26,11 +24,10 @@ def erase(f, crate, module, passed_on):
     forms.unit_literals(f)
     forms.mark_unused(f)
     paths.rename_types(f, crate, module)
-    paths.move_paths(f, crate, "crate" if in_library else "codec_payload", passed_on)
-    paths.std_paths(f, in_library)
-    if in_library:
-        paths.bare_imports(f)
-    import_needs(f, "crate" if in_library else "codec_payload")
+    paths.move_paths(f, crate, passed_on)
+    paths.std_paths(f)
+    paths.bare_imports(f)
+    import_needs(f)
     contracts.refuse_leftovers(f)
 
 
@@ -46,12 +43,12 @@ def write_errors(f):
         del f.ts[at:at + 5]
 
 
-def import_needs(f, root):
+def import_needs(f):
     """Imports the traits by which calls may fail to allocate."""
     needs = sorted(f.needs)
     if needs:
         names = "{" + ", ".join(needs) + "}" if len(needs) > 1 else needs[0]
-        paths.import_line(f, f"use {root}::memory::{names};\n")
+        paths.import_line(f, f"use crate::memory::{names};\n")
 
 
 def drop_theorems(sources):

@@ -17,7 +17,7 @@ def derive_errors(f):
             names = [plain(f.ts[a:b]) for a, b in elements(f.ts, i + 3)[0]]
             if "Error" in names:
                 names.remove("Error")
-                more = "" if not f.shows or type_behind(f, end) in CLOSED else "\n#[non_exhaustive]"
+                more = "" if type_behind(f, end) in CLOSED else "\n#[non_exhaustive]"
                 f.ts[i + 3:end + 1] = tokens(f"({', '.join(names)})]{more}")[:-1]
                 made.append(write_error(f, i))
         i += 1

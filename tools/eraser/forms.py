@@ -27,14 +27,14 @@ def put_forms(f):
             if not m:
                 f.refuse(t, "fmt with " + text)
             f.ts[i + 2:end + 1] = tokens(f"(&self, {m.group(1)}: &mut {m.group(2).replace(' ', '')}Formatter<'_>)")[:-1]
-        elif f.shows and p.startswith("Box < dyn ") and f.ts[i + 4].text == ">":
+        elif p.startswith("Box < dyn ") and f.ts[i + 4].text == ">":
             f.ts[i + 4:i + 4] = tokens(" + Send + Sync")[:-1]
         elif t.kind == "word" and t.text == "struct" and (plain(f.ts[i + 2:i + 4]) == "{ }" or f.ts[i + 2].text == ";"):
             if f.ts[i + 2].text == "{":
                 f.ts[i + 2:i + 4] = [Token("", ";", "p", t.line)]
             f.known.units.add(f.ts[i + 1].text)
             start = item_start(f, i)
-            if f.shows and f.ts[start].text == "pub":
+            if f.ts[start].text == "pub":
                 more = tokens("#[derive(Clone, Copy, Debug)]\n")
                 more[0].pre, f.ts[start].pre = f.ts[start].pre, "\n"
                 f.ts[start:start] = more[:-1]

@@ -21,10 +21,6 @@ KEPT_MODULES = {("media", "amr_wb"), ("media", "av1"), ("media", "opus"), ("vpx"
 # Modules of such crates whose names are for the crate alone.
 UNNAMED_MODULES = {("vpx", "fields"), ("vpx", "reader"), ("rtp", "writing")}
 
-# Programs, which are compared with the proved ones, and the library of both.
-PROGRAMS = ["payload_vectors", "payload_datagrams"]
-PROGRAMS_LIBRARY = "payload_lines"
-
 # Functions whose contracts state constants: Rust states those itself.
 CONSTANT_FUNCTIONS = {"constants_of_wire", "constants_of_red", "default_of_extension_values", "defaults_of_interface",
                       "defaults_of_amr_wb", "defaults_of_tele"}

@@ -15,7 +15,6 @@ class File:
         self.path, self.known = path, known
         self.asks = []  # (name of a public function, its premises)
         self.needs = set()  # of crate::memory
-        self.shows = False  # whether types get `Debug`
 
     def refuse(self, t, why):
         raise Refused(f"{self.path}:{t.line}: {why}")

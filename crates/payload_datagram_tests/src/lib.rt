@@ -1,15 +1,13 @@
-//! RTP packets, senders and receivers: each public call, by bytes of the standards' figures and some of the rows of
-//! `rust/tests/datagrams`, where all rows are.
+//! RTP and RTCP packets, a sender and a receiver: the public calls that a program makes for each datagram. Tests of behaviour are in
+//! `rust/tests/datagrams` and `rust/tests/rtcp`.
 #![tactic(auto)]
 
-#[cfg(test)]
-mod elements;
-#[cfg(test)]
-mod events;
 #[cfg(test)]
 mod packets;
 #[cfg(test)]
 mod receiver;
+#[cfg(test)]
+mod rtcp;
 #[cfg(test)]
 mod sender;
 #[cfg(test)]

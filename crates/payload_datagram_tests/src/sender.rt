@@ -1,10 +1,9 @@
-//! A sender: its datagrams byte for byte, and the settings that it refuses.
+//! A sender: its datagrams byte for byte.
 
 use codec_payload_base::wire::{Codec, ExtensionValues, Frequency, MediaTime};
 use codec_payload_codec::codec::{CodecPacketizer, NoBox};
 use codec_payload_rtp::values::ExtensionIds;
-use codec_payload_sender::sender::{Counts, Sample, Sender, SenderError, SenderSettings};
-use std::alloc::Global;
+use codec_payload_sender::sender::{Counts, Sample, Sender, SenderSettings};
 use std::process::Abort;
 use std::test::Fail;
 
@@ -21,17 +20,6 @@ fn settings() -> SenderSettings {
             audio_level: Some(6),
             ..ExtensionIds::default()
         },
-    }
-}
-
-/// Why these settings give no sender.
-fn refusal(alloc: Global, settings: SenderSettings) -> Result<Option<SenderError>, Fail> {
-    let pack: CodecPacketizer<NoBox> = CodecPacketizer::from_codec(Codec::Opus).ok_or(
-        "no packetizer",
-    )?;
-    match Sender::new(alloc, pack, settings) {
-        Ok(_) => Ok(None),
-        Err(fault) => Ok(Some(fault)),
     }
 }
 
@@ -76,19 +64,5 @@ fn a_sample_in_two_datagrams(rt: HostRuntime) -> Result<(), Fail> {
     };
     assert_eq!(rt; sender.counts(), counts);
     assert_eq!(rt; sender.next_number(), 1);
-    Ok(())
-}
-
-#[test]
-fn settings_out_of_range(rt: HostRuntime) -> Result<(), Fail> {
-    let alloc = rt.alloc();
-    let mut changed = settings();
-    changed.extension_ids.video_timing = Some(6);
-    assert_eq!(rt; refusal(alloc, changed)?, Some(SenderError::ExtensionIds));
-    changed.tailroom = 65_536;
-    assert_eq!(rt; refusal(alloc, changed)?, Some(SenderError::Tailroom));
-    changed.payload_type = 128;
-    assert_eq!(rt; refusal(alloc, changed)?, Some(SenderError::PayloadType));
-    assert_eq!(rt; refusal(alloc, settings())?, None);
     Ok(())
 }

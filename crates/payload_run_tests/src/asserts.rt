@@ -1,6 +1,5 @@
 //! Assertions, each proved once for all tests. Each names the example that it fails in.
 
-use std::alloc::{AllocError, Global};
 use std::fmt::Debug;
 use std::process::Abort;
 
@@ -22,16 +21,4 @@ pub fn assert_count(rt: &impl Abort, name: &str, found: usize, wanted: usize) {
 /// Asserts that it holds, in the example with that name.
 pub fn assert_holds(rt: &impl Abort, name: &str, holds: bool) {
     assert!(rt; holds, "assertion failed: in {name}");
-}
-
-/// A value is shown as this text, which names its fields.
-pub fn assert_shown<T: Debug>(
-    rt: &impl Abort,
-    alloc: Global,
-    value: &T,
-    text: &str,
-) -> Result<(), AllocError> {
-    let shown = format!(in alloc; "{value:?}")?;
-    assert_eq!(rt; shown.as_str(), text);
-    Ok(())
 }

@@ -1,17 +1,9 @@
-//! The worked examples of the buffer, of payloaders and of whole runs by their names, the programs of docs/RATTLE.md, and custom
-//! codecs, over `codec_payload_core` only. Other tests of behaviour are in `rust/tests/runs`.
+//! What only Rattle shows, over `codec_payload_core` alone: the programs of docs/RATTLE.md, a run with RED, and a caller whose contract
+//! follows from the library's. Tests of behaviour are in `rust/tests/runs`.
 #![tactic(auto)]
 
 #[cfg(test)]
 mod asserts;
-#[cfg(test)]
-mod boxes;
-#[cfg(test)]
-mod buffer;
-#[cfg(test)]
-mod codec;
-#[cfg(test)]
-mod contiguity;
 #[cfg(test)]
 mod gateway;
 #[cfg(test)]
@@ -19,12 +11,8 @@ mod library;
 #[cfg(test)]
 mod own_codec;
 #[cfg(test)]
-mod own_counts;
+mod red_run;
 #[cfg(test)]
-mod payloads;
-#[cfg(test)]
-mod runs;
-#[cfg(test)]
-mod send;
+mod red_sink;
 #[cfg(test)]
 mod use_it;

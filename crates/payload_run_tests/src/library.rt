@@ -1,7 +1,7 @@
 //! Calls of the library that several tests make. None has a contract, so the guarantees of the library are not part of the proof of
 //! a test.
 
-use codec_payload_core::buffer::{Depacketized, DepacketizingBuffer, RtpMeta};
+use codec_payload_core::buffer::DepacketizingBuffer;
 use codec_payload_core::codec::{CodecDepacketizer, Depacketizer, Packetizer, Vp9PacketizerMode};
 use codec_payload_core::error::PacketError;
 use codec_payload_core::payload::{MemorySink, Payloader};
@@ -23,24 +23,6 @@ pub(super) fn buffer_of(alloc: Global, codec: Codec) -> Result<DepacketizingBuff
     Ok(DepacketizingBuffer::new(alloc, depacketizer, 0))
 }
 
-/// Pushes a packet with a copy of a payload.
-pub(super) fn push<D: Depacketizer>(
-    alloc: Global,
-    buffer: &mut DepacketizingBuffer<D>,
-    meta: RtpMeta,
-    payload: &[u8],
-) -> Result<(), PacketError> {
-    buffer.push(meta, Vec::from_slice(alloc, payload)?)
-}
-
-/// The released unit. If there is none, the test fails with the last argument as its message.
-pub(super) fn pop_unit(
-    buffer: &mut DepacketizingBuffer,
-    missing: &str,
-) -> Result<Depacketized, Fail> {
-    Ok(buffer.pop().ok_or(missing)??)
-}
-
 /// A payloader of a codec in its default mode.
 pub(super) fn payloader_of(codec: Codec, clock_rate: Frequency) -> Result<Payloader, Fail> {
     let spec = CodecSpec {
@@ -49,17 +31,6 @@ pub(super) fn payloader_of(codec: Codec, clock_rate: Frequency) -> Result<Payloa
         octet_align: false,
     };
     Ok(Payloader::new(spec, Vp9PacketizerMode::NonFlexible, 0).ok_or("no packetizer")?)
-}
-
-/// Sends a sample into a sink.
-pub(super) fn send<P: Packetizer>(
-    alloc: Global,
-    payloader: &mut Payloader<P>,
-    sample: &ToPayload,
-    mtu: usize,
-    sink: &mut MemorySink,
-) -> Result<(), PacketError> {
-    payloader.push_sample(alloc, sample, mtu, sink)
 }
 
 /// The state after a run.
@@ -120,18 +91,6 @@ pub(super) fn bytes_and_markers(alloc: Global, sink: &MemorySink) -> Result<Vec<
         sent.push(u8::from(packet.marker))?;
     }
     Ok(sent)
-}
-
-/// The number of packets of each sample. If one was refused, the test fails with the last argument as its message.
-pub(super) fn counts_of(alloc: Global, run: &Run, refused: &str) -> Result<Vec<usize>, Fail> {
-    let mut counts = Vec::new(alloc);
-    for sent in &run.sends {
-        if sent.fault.is_some() {
-            return Err(refused.into());
-        }
-        counts.push(sent.count)?;
-    }
-    Ok(counts)
 }
 
 /// The bytes of the released units, and 255 for each other result of a pop.

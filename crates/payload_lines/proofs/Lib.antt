@@ -1,2 +1,0 @@
-pub mod HexFieldLemmas
-pub mod Limits

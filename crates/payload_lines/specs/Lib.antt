@@ -1,3 +1,0 @@
-pub mod HexField
-pub mod Numbers
-pub mod Ends

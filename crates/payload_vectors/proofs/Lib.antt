@@ -1,2 +1,0 @@
-pub mod DistanceLemmas
-pub mod LineLemmas

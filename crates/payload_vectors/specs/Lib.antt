@@ -1,4 +1,0 @@
-pub mod Fields
-pub mod Line
-pub mod Program
-pub mod RedFields
