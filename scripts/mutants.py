@@ -319,6 +319,9 @@ def print_stale():
 
 
 def main(words):
+    if {"-h", "--help"} & {*words}:
+        print(__doc__.strip())
+        return 0
     if words == ["--stale"]:
         return print_stale()
     if words == ["--missing"]:
@@ -327,6 +330,8 @@ def main(words):
         return record(words[1:])
     is_telling = words[:1] == ["--high-impact"]
     words = words[is_telling:]
+    if words and words[0].startswith("-"):
+        sys.exit(f"no option {words[0]}: scripts/mutants.py --help lists all")
     if words and words[0] not in crates():
         sys.exit(f"crates.txt has no crate {words[0]}")
     chosen = [words[0]] if words else list(crates())

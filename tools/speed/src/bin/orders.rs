@@ -92,50 +92,42 @@ fn vp8() -> CodecDepacketizer {
     CodecDepacketizer::from_codec(Codec::Vp8).unwrap()
 }
 
-/// A buffer, and the memory into which it pops.
-struct Now(DepacketizingBuffer, Vec<u8>, Vec<RtpMeta>);
+/// Makes a form of a buffer and the memory into which it pops.
+macro_rules! form_of {
+    ($(#[$doc:meta])* $name:ident, $buffer:ty) => {
+        $(#[$doc])*
+        struct $name($buffer, Vec<u8>, Vec<RtpMeta>);
 
-impl Form for Now {
-    fn with_hold_back(hold_back: usize) -> Self {
-        Now(
-            DepacketizingBuffer::with_limit(vp8(), hold_back, LIMIT),
-            vec![],
-            vec![],
-        )
-    }
+        impl Form for $name {
+            fn with_hold_back(hold_back: usize) -> Self {
+                $name(
+                    <$buffer>::with_limit(vp8(), hold_back, LIMIT),
+                    vec![],
+                    vec![],
+                )
+            }
 
-    fn push(&mut self, number: u64, payload: &[u8]) {
-        let mut meta = meta(number);
-        meta.header.marker = payload[0] != 0;
-        self.0.push(meta, payload.to_vec()).unwrap();
-    }
+            fn push(&mut self, number: u64, payload: &[u8]) {
+                let mut meta = meta(number);
+                meta.header.marker = payload[0] != 0;
+                self.0.push(meta, payload.to_vec()).unwrap();
+            }
 
-    fn pop(&mut self) -> bool {
-        self.0.pop_into(&mut self.1, &mut self.2).is_some()
-    }
+            fn pop(&mut self) -> bool {
+                self.0.pop_into(&mut self.1, &mut self.2).is_some()
+            }
+        }
+    };
 }
 
-/// The same of the earlier form.
-struct Before(before::DepacketizingBuffer, Vec<u8>, Vec<RtpMeta>);
+form_of! {
+    /// The buffer.
+    Now, DepacketizingBuffer
+}
 
-impl Form for Before {
-    fn with_hold_back(hold_back: usize) -> Self {
-        Before(
-            before::DepacketizingBuffer::with_limit(vp8(), hold_back, LIMIT),
-            vec![],
-            vec![],
-        )
-    }
-
-    fn push(&mut self, number: u64, payload: &[u8]) {
-        let mut meta = meta(number);
-        meta.header.marker = payload[0] != 0;
-        self.0.push(meta, payload.to_vec()).unwrap();
-    }
-
-    fn pop(&mut self) -> bool {
-        self.0.pop_into(&mut self.1, &mut self.2).is_some()
-    }
+form_of! {
+    /// Its earlier form.
+    Before, before::DepacketizingBuffer
 }
 
 /// The packets by number. Payloads that begin with 0 are no frame.
