@@ -3,24 +3,12 @@
 use codec_payload_base::error::PacketError;
 use codec_payload_base::interface::{CodecExtra, Depacketizer, Packetizer};
 use std::alloc::{AllocError, Global};
-use std::fmt::{Debug, Display};
+use std::fmt::Debug;
 use std::process::Abort;
 
 /// Asserts that the found value equals the expected one, in the example with that name.
 pub fn assert_same<T: Debug + PartialEq>(rt: &impl Abort, name: &str, found: &T, wanted: &T) {
     assert_eq!(rt; *found, *wanted, "in {name}");
-}
-
-/// A value is printed as this text.
-pub fn assert_printed<T: Display>(
-    rt: &impl Abort,
-    alloc: Global,
-    value: &T,
-    text: &str,
-) -> Result<(), AllocError> {
-    let printed = format!(in alloc; "{value}")?;
-    assert_eq!(rt; printed.as_str(), text);
-    Ok(())
 }
 
 /// A frame that a packetizer is given.
@@ -103,20 +91,4 @@ pub fn put_together<D: Depacketizer>(
         depacketizer.depacketize(payload, &mut out, &mut extra)?;
     }
     Ok((out, extra))
-}
-
-/// Bytes with one byte repeated in the middle.
-pub fn filled(
-    alloc: Global,
-    front: &[u8],
-    filling: u8,
-    count: usize,
-    back: &[u8],
-) -> Result<Vec<u8>, AllocError> {
-    let mut bytes = Vec::from_slice(alloc, front)?;
-    for _ in 0..count {
-        bytes.push(filling)?;
-    }
-    bytes.extend_from_slice(back)?;
-    Ok(bytes)
 }

@@ -1,19 +1,14 @@
 //! The worked examples of the audio formats.
 
-use crate::asserts::{
-    Frame, assert_frames, assert_printed, assert_received, assert_same, assert_sent,
-};
+use crate::asserts::{Frame, assert_frames, assert_received, assert_sent};
 use codec_payload_audio::amr_wb::{AmrWbDepacketizer, AmrWbPacketizer};
 use codec_payload_audio::plain::{
     ComfortNoiseDepacketizer, ComfortNoisePacketizer, G7xxPacketizer, G711Depacketizer,
     NullDepacketizer, NullPacketizer, OpusDepacketizer, OpusPacketizer,
 };
-use codec_payload_audio::tele::{
-    TelephoneEventDepacketizer, TelephoneEventPacketizer, duration_from_units,
-};
+use codec_payload_audio::tele::TelephoneEventPacketizer;
 use codec_payload_base::error::PacketError;
-use codec_payload_base::interface::{CodecExtra, Packetizer, TelephoneEvent};
-use codec_payload_base::wire::Frequency;
+use codec_payload_base::interface::Packetizer;
 use std::test::Fail;
 
 /// The frame of type 8 of 477 speech bits: 59 bytes `a5` and the bits 10100.
@@ -194,61 +189,6 @@ fn frames_are_sent(rt: HostRuntime) {
     );
 }
 
-/// A payload, and the bytes that it appends to the one byte 7.
-type Received = (
-    &'static str,
-    &'static [u8],
-    Result<&'static [u8], PacketError>,
-);
-
-/// AMR-WB appends the header of each frame and its speech bits; each test vector says whether the layout is octet-aligned.
-static SPEECH_RECEIVED: [(bool, Received); 5] = [
-    (
-        false,
-        (
-            "amr-wb-two-frames-received",
-            &[0xff, 0x53, 0x5a, 0x5a, 0x5a, 0x5a, 0x5a],
-            Ok(&[7, 0x74, 0x4c, 0x5a, 0x5a, 0x5a, 0x5a, 0x5a]),
-        ),
-    ),
-    (
-        true,
-        (
-            "amr-wb-reserved-entry-fault",
-            &[0xf0, 0x50],
-            Err(PacketError::ErrAmrWbCorruptedPacket),
-        ),
-    ),
-    (
-        false,
-        (
-            "amr-wb-no-entry-fault",
-            &[0xf0],
-            Err(PacketError::ErrShortPacket),
-        ),
-    ),
-    (false, ("amr-wb-empty-payload", &[], Ok(&[7]))),
-    (
-        false,
-        (
-            "amr-wb-eight-ff-fault",
-            &[0xff; 8],
-            Err(PacketError::ErrShortPacket),
-        ),
-    ),
-];
-
-#[test]
-fn speech_is_received(rt: HostRuntime) -> Result<(), Fail> {
-    for (octet_align, (name, payload, wanted)) in &SPEECH_RECEIVED {
-        let mut speech = AmrWbDepacketizer {
-            octet_align: *octet_align,
-        };
-        assert_received(&rt, rt.alloc(), name, &mut speech, payload, wanted)?;
-    }
-    Ok(())
-}
-
 #[test]
 fn payloads_are_received(rt: HostRuntime) -> Result<(), Fail> {
     let alloc = rt.alloc();
@@ -256,6 +196,9 @@ fn payloads_are_received(rt: HostRuntime) -> Result<(), Fail> {
     let mut noise = ComfortNoiseDepacketizer {};
     assert_received(&rt, alloc, "cn-empty-fault", &mut noise, &[], &short)?;
     let bytes = Ok([7, 1, 2].as_slice());
+    let mut speech = AmrWbDepacketizer { octet_align: true };
+    let type_14 = Ok([7, 0x74].as_slice());
+    assert_received(&rt, alloc, "amr-wb", &mut speech, &[0xf0, 0x74], &type_14)?;
     let mut opus = OpusDepacketizer::default();
     assert_received(&rt, alloc, "opus", &mut opus, &[1, 2], &bytes)?;
     let mut g711 = G711Depacketizer::default();
@@ -268,65 +211,5 @@ fn payloads_are_received(rt: HostRuntime) -> Result<(), Fail> {
         &[1, 2],
         &bytes,
     )?;
-    Ok(())
-}
-
-/// The two reports.
-const EVENTS: [TelephoneEvent; 2] = [
-    TelephoneEvent {
-        event: 5,
-        end: true,
-        volume: 10,
-        duration: 100_000_000,
-    },
-    TelephoneEvent {
-        event: 6,
-        end: false,
-        volume: 10,
-        duration: 40_000_000,
-    },
-];
-
-/// The first report is appended; all are read.
-#[test]
-fn tele_two_reports(rt: HostRuntime) -> Result<(), Fail> {
-    let alloc = rt.alloc();
-    let name = "tele-two-reports";
-    let mut depacketizer = TelephoneEventDepacketizer::default();
-    let first = Ok([7, 0x05, 0x8a, 0x03, 0x20].as_slice());
-    let extra = assert_received(&rt, alloc, name, &mut depacketizer, &TWO_REPORTS, &first)?;
-    assert_same(&rt, name, &extra, &CodecExtra::Tele(EVENTS[0]));
-    let events = TelephoneEvent::parse_all(&TWO_REPORTS, Frequency::EIGHT_KHZ).ok_or(name)?;
-    let events: Vec<TelephoneEvent> = events.collect(alloc)?;
-    assert_same(&rt, name, &events.as_slice(), &EVENTS.as_slice());
-    Ok(())
-}
-
-/// The test vectors `tele-five-bytes-fault`, `tele-all-ones-written` and `tele-three-seconds-none`.
-#[test]
-fn tele_reports(rt: HostRuntime) -> Result<(), Fail> {
-    let alloc = rt.alloc();
-    let name = "tele-five-bytes-fault";
-    let fault = PacketError::InvalidTelephoneEvent(
-        "payload must contain one or more complete 4-byte reports",
-    );
-    let text = "Invalid telephone event: payload must contain one or more complete 4-byte reports";
-    assert_printed(&rt, alloc, &fault, text)?;
-    let mut depacketizer = TelephoneEventDepacketizer::default();
-    let five = [0x05, 0x8a, 0x03, 0x20, 0x06];
-    assert_received(&rt, alloc, name, &mut depacketizer, &five, &Err(fault))?;
-    let ones = TelephoneEvent::parse(&[0xff; 4], Frequency::EIGHT_KHZ).ok_or("a report")?;
-    assert_eq!(rt; ones.volume, 63);
-    assert_eq!(rt;
-        ones.to_bytes(Frequency::EIGHT_KHZ),
-        Some([0xff, 0xbf, 0xff, 0xff])
-    );
-    let long = TelephoneEvent {
-        duration: 3_000_000_000,
-        ..EVENTS[1]
-    };
-    assert_eq!(rt; long.to_bytes(Frequency::FORTY_EIGHT_KHZ), None);
-    let second = duration_from_units(48_000, Frequency::FORTY_EIGHT_KHZ);
-    assert_eq!(rt; second, 1_000_000_000);
     Ok(())
 }

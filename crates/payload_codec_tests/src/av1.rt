@@ -1,11 +1,9 @@
 //! The worked examples of AV1.
 
-use crate::asserts::{Frame, assert_received, assert_same, assert_sent, filled, put_together};
+use crate::asserts::{Frame, assert_same, assert_sent, put_together};
 use codec_payload_av1::av1::{Av1CodecExtra, Av1Depacketizer, Av1Packetizer, detect_av1_keyframe};
 use codec_payload_base::error::PacketError;
 use codec_payload_base::interface::{CodecExtra, Packetizer};
-use std::alloc::{AllocError, Global};
-use std::process::Abort;
 use std::test::Fail;
 
 /// A temporal delimiter, a sequence header and a frame.
@@ -133,94 +131,6 @@ fn frames_are_sent(rt: HostRuntime) {
     }
 }
 
-/// Bytes with the filling byte `bb` repeated in the middle.
-type Filled = (&'static [u8], usize, &'static [u8]);
-
-fn bytes_of(alloc: Global, (front, count, back): Filled) -> Result<Vec<u8>, AllocError> {
-    filled(alloc, front, 0xbb, count, back)
-}
-
-/// A frame of many bytes and its two packets, with their lengths.
-struct FilledRow {
-    name: &'static str,
-    mtu: usize,
-    frame: Filled,
-    first: Filled,
-    second: Filled,
-    lengths: [usize; 2],
-}
-
-/// Frames are OBUs of metadata without bytes and an OBU of a frame, which is long; packets cut that OBU when the MTU is reached.
-const FILLED: [FilledRow; 4] = [
-    FilledRow {
-        name: "av1-largest-fragment-mtu-136",
-        mtu: 136,
-        frame: (
-            &[0x2a, 0x00, 0x2a, 0x00, 0x2a, 0x00, 0x32, 0xc7, 0x01],
-            199,
-            &[],
-        ),
-        first: (
-            &[0x40, 0x01, 0x28, 0x01, 0x28, 0x01, 0x28, 0x7f, 0x30],
-            126,
-            &[],
-        ),
-        second: (&[0x90], 73, &[]),
-        lengths: [135, 74],
-    },
-    FilledRow {
-        name: "av1-three-bytes-unused-mtu-136",
-        mtu: 136,
-        frame: (&[0x2a, 0x00, 0x2a, 0x00, 0x32, 0x7f], 127, &[0x2a, 0x00]),
-        first: (&[0x30, 0x01, 0x28, 0x01, 0x28, 0x30], 127, &[]),
-        second: (&[0x10, 0x28], 0, &[]),
-        lengths: [133, 2],
-    },
-    FilledRow {
-        name: "av1-two-full-packets-mtu-10",
-        mtu: 10,
-        frame: (&[0x32, 0x11], 17, &[]),
-        first: (&[0x50, 0x30], 8, &[]),
-        second: (&[0x90], 9, &[]),
-        lengths: [10, 10],
-    },
-    FilledRow {
-        name: "av1-largest-fragment-mtu-16392",
-        mtu: 16_392,
-        frame: (
-            &[0x2a, 0x00, 0x2a, 0x00, 0x2a, 0x00, 0x32, 0x9f, 0x9c, 0x01],
-            19_999,
-            &[],
-        ),
-        first: (
-            &[0x40, 0x01, 0x28, 0x01, 0x28, 0x01, 0x28, 0xff, 0x7f, 0x30],
-            16_382,
-            &[],
-        ),
-        second: (&[0x90], 3_617, &[]),
-        lengths: [16_392, 3_618],
-    },
-];
-
-/// Asserts the two packets of a test vector's frame.
-fn assert_filled(rt: &impl Abort, alloc: Global, row: &FilledRow) -> Result<(), AllocError> {
-    let first = bytes_of(alloc, row.first)?;
-    let second = bytes_of(alloc, row.second)?;
-    assert_same(rt, row.name, &[first.len(), second.len()], &row.lengths);
-    let frame = bytes_of(alloc, row.frame)?;
-    let answer = Av1Packetizer::default().packetize(alloc, row.mtu, &frame);
-    assert_sent(rt, row.name, &answer, &Ok(&[&first, &second]));
-    Ok(())
-}
-
-#[test]
-fn filled_frames_are_sent(rt: HostRuntime) -> Result<(), Fail> {
-    for row in &FILLED {
-        assert_filled(&rt, rt.alloc(), row)?;
-    }
-    Ok(())
-}
-
 /// Packets that a new depacketizer is given, the unit that it puts together, and whether the N bit was set.
 struct UnitRow {
     name: &'static str,
@@ -274,36 +184,5 @@ fn units_are_put_together(rt: HostRuntime) -> Result<(), Fail> {
         assert_same(&rt, row.name, &extra, &told);
     }
     assert!(rt; detect_av1_keyframe(&[0x18, 0x08, 0xaa]));
-    Ok(())
-}
-
-/// Payloads that are corrupted, each by its name.
-const CORRUPTED: [(&str, &[u8]); 4] = [
-    // An element of no bytes.
-    ("av1-zero-length-fault", &[0x00, 0x00]),
-    // An element of 5 bytes, of which one is present.
-    ("av1-length-past-end-fault", &[0x00, 0x05, 0x30]),
-    (
-        // One element, with two OBUs that have sizes.
-        "av1-two-obus-in-element-fault",
-        &[0x10, 0x0a, 0x00, 0x0a, 0x00],
-    ),
-    (
-        // An element with the greatest length that ten bytes of LEB128 can have.
-        "av1-huge-length-fault",
-        &[
-            0x00, 0xff, 0xff, 0xff, 0xff, 0xff, 0xff, 0xff, 0xff, 0xff, 0x7f,
-        ],
-    ),
-];
-
-#[test]
-fn corrupted_payloads_are_refused(rt: HostRuntime) -> Result<(), Fail> {
-    let alloc = rt.alloc();
-    for (name, payload) in CORRUPTED {
-        let mut depacketizer = Av1Depacketizer::new(alloc);
-        let wanted = Err(PacketError::ErrAv1CorruptedPacket);
-        assert_received(&rt, alloc, name, &mut depacketizer, payload, &wanted)?;
-    }
     Ok(())
 }

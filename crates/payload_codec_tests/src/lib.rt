@@ -1,5 +1,5 @@
-//! The worked examples of the codecs and of RED by their names, each public call once, and what only Rattle shows: generic code
-//! with the types of the library. Other tests of behaviour are in `rust/tests/codecs`.
+//! A worked example of each codec and of RED by its name, both ways, and what only Rattle shows: generic code with the types of the
+//! library. Tests of behaviour are in `rust/tests/codecs`.
 #![tactic(auto)]
 
 #[cfg(test)]
@@ -9,8 +9,6 @@ mod audio;
 #[cfg(test)]
 mod av1;
 #[cfg(test)]
-mod base;
-#[cfg(test)]
 mod media;
 #[cfg(test)]
 mod recovery;
@@ -18,7 +16,5 @@ mod recovery;
 mod red;
 #[cfg(test)]
 mod vp8;
-#[cfg(test)]
-mod vp8_patch;
 #[cfg(test)]
 mod vp9;

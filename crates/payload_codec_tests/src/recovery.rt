@@ -123,17 +123,3 @@ fn packets_are_recovered(rt: HostRuntime) -> Result<(), Fail> {
     }
     Ok(())
 }
-
-/// Steps, and whether a receiver may have them.
-const STEPS: [(u32, bool); 4] = [(0, false), (1, true), (16_383, true), (16_384, false)];
-
-#[test]
-fn steps_of_receivers(rt: HostRuntime) -> Result<(), Fail> {
-    for (step, accepted) in &STEPS {
-        let receiver = RedReceiver::new(96, *step);
-        assert_eq!(rt; receiver.is_some(), *accepted, "of {step}");
-    }
-    let masked = RedReceiver::new(0xe0, 960).ok_or("no receiver")?;
-    assert_eq!(rt; masked.primary_pt(), 96);
-    Ok(())
-}

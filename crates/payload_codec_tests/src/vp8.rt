@@ -1,13 +1,8 @@
 //! The worked examples of VP8.
 
 use crate::asserts::{Frame, assert_frames, assert_received, assert_same};
-use codec_payload_base::error::PacketError;
-use codec_payload_base::interface::{CodecExtra, Depacketizer, Packetizer};
-use codec_payload_vp8::vp8::{
-    Vp8Depacketizer, Vp8Descriptor, Vp8DescriptorError, Vp8Packetizer, detect_vp8_keyframe,
-};
-use std::alloc::Global;
-use std::process::Abort;
+use codec_payload_base::interface::Packetizer;
+use codec_payload_vp8::vp8::{Vp8Depacketizer, Vp8Descriptor, Vp8Packetizer};
 use std::test::Fail;
 
 /// Frames that one packetizer is given one after another.
@@ -150,134 +145,8 @@ fn frames_are_sent(rt: HostRuntime) -> Result<(), Fail> {
     Ok(())
 }
 
-/// Payloads for one depacketizer, one after another, each with the extended picture id that it reports.
-struct ToldRow {
-    name: &'static str,
-    /// The picture id before, and the extended one.
-    picture_id: u16,
-    extended_pid: Option<u64>,
-    payloads: &'static [(&'static [u8], u64)],
-}
-
-/// Each payload is a descriptor with X and I, the id in one byte or in two, and a byte of the frame.
-const TOLD: [ToldRow; 3] = [
-    ToldRow {
-        name: "vp8-id-wrap-15",
-        picture_id: 0,
-        extended_pid: None,
-        payloads: &[
-            (&[0x90, 0x80, 0xff, 0xff, 0x90], 32_767),
-            (&[0x90, 0x80, 0x00, 0x90], 32_768),
-        ],
-    },
-    ToldRow {
-        name: "vp8-id-7-then-15-bits",
-        picture_id: 0,
-        extended_pid: None,
-        payloads: &[
-            (&[0x90, 0x80, 0x7e, 0x00], 126),
-            (&[0x90, 0x80, 0x7f, 0x00], 127),
-            (&[0x90, 0x80, 0x00, 0x00], 128),
-            (&[0x90, 0x80, 0x01, 0x00], 129),
-            (&[0x90, 0x80, 0x80, 0x02, 0x00], 130),
-        ],
-    },
-    ToldRow {
-        name: "vp8-extended-id-wraps-64",
-        picture_id: 0x7fff,
-        extended_pid: Some(u64::MAX),
-        payloads: &[(&[0x90, 0x80, 0x80, 0x00, 0x01], 0)],
-    },
-];
-
-/// Asserts the extended picture ids that the payloads of a test vector report.
-fn assert_ids(rt: &impl Abort, alloc: Global, row: &ToldRow) -> Result<(), PacketError> {
-    let mut depacketizer = Vp8Depacketizer::default();
-    depacketizer.picture_id = row.picture_id;
-    depacketizer.extended_pid = row.extended_pid;
-    for (payload, id) in row.payloads {
-        let mut out = Vec::new(alloc);
-        let mut extra = CodecExtra::None;
-        depacketizer.depacketize(payload, &mut out, &mut extra)?;
-        match extra {
-            CodecExtra::Vp8(told) => assert_same(rt, row.name, &told.picture_id, &Some(*id)),
-            _ => panic!(rt; "no extra of VP8 in {}", row.name),
-        }
-    }
-    Ok(())
-}
-
-#[test]
-fn picture_ids_are_told(rt: HostRuntime) -> Result<(), Fail> {
-    for row in &TOLD {
-        assert_ids(&rt, rt.alloc(), row)?;
-    }
-    Ok(())
-}
-
 /// A payload of a descriptor with the ids 0x1234 and 0x55 and the key index 7, and the first byte of a keyframe.
-pub const READ: [u8; 7] = [0x90, 0xf0, 0x92, 0x34, 0x55, 0xa7, 0x00];
-
-/// The test vectors `vp8-nothing-follows-fault`, `vp8-l-without-t-fault`, `vp8-malformed-yet-keyframe` and
-/// `vp8-fields-read-so-far`: payloads, each with the fault of the depacketizer and with the fault of `parse`.
-const REFUSED: [(&str, &[u8], PacketError, Vp8DescriptorError); 4] = [
-    (
-        "vp8-nothing-follows-fault",
-        &[0x00],
-        PacketError::ErrShortPacket,
-        Vp8DescriptorError::ShortPayload,
-    ),
-    (
-        "vp8-l-without-t-fault",
-        &[0x80, 0x40, 0x00, 0x00],
-        PacketError::ErrVP8CorruptedPacket,
-        Vp8DescriptorError::MalformedDescriptor,
-    ),
-    (
-        "vp8-malformed-yet-keyframe",
-        &[0x90, 0x40, 0x01, 0x00],
-        PacketError::ErrVP8CorruptedPacket,
-        Vp8DescriptorError::MalformedDescriptor,
-    ),
-    (
-        "vp8-fields-read-so-far",
-        &[0x90, 0xff, 0xff, 0xff],
-        PacketError::ErrShortPacket,
-        Vp8DescriptorError::ShortPayload,
-    ),
-];
-
-/// The last test vector leaves the fields that it has read.
-#[test]
-fn payloads_are_refused(rt: HostRuntime) -> Result<(), Fail> {
-    let mut depacketizer = Vp8Depacketizer::default();
-    for (name, payload, fault, error) in REFUSED {
-        depacketizer = Vp8Depacketizer::default();
-        assert_received(
-            &rt,
-            rt.alloc(),
-            name,
-            &mut depacketizer,
-            payload,
-            &Err(fault),
-        )?;
-        let parsed = Vp8Descriptor::parse(payload).err();
-        assert_same(&rt, name, &parsed, &Some(error));
-    }
-    let fields = (
-        depacketizer.picture_id,
-        depacketizer.extended_pid,
-        depacketizer.tl0_pic_idx,
-    );
-    assert_same(
-        &rt,
-        "vp8-fields-read-so-far",
-        &fields,
-        &(0x7fff, Some(32_767), 0),
-    );
-    assert!(rt; detect_vp8_keyframe(&[0x90, 0x40, 0x01, 0x00]));
-    Ok(())
-}
+const READ: [u8; 7] = [0x90, 0xf0, 0x92, 0x34, 0x55, 0xa7, 0x00];
 
 #[test]
 fn vp8_descriptor_read(rt: HostRuntime) -> Result<(), Fail> {

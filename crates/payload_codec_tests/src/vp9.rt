@@ -3,10 +3,7 @@
 use crate::asserts::{Frame, assert_frames, assert_received, assert_same};
 use codec_payload_base::error::PacketError;
 use codec_payload_base::interface::{CodecExtra, Packetizer};
-use codec_payload_vp9::vp9::{
-    Vp9Depacketizer, Vp9Packetizer, Vp9PacketizerMode, detect_vp9_keyframe,
-    detect_vp9_keyframe_bitstream,
-};
+use codec_payload_vp9::vp9::{Vp9Depacketizer, Vp9Packetizer, Vp9PacketizerMode};
 use std::test::Fail;
 
 /// Frames that one packetizer is given one after another.
@@ -81,40 +78,6 @@ fn frames_are_sent(rt: HostRuntime) -> Result<(), Fail> {
     Ok(())
 }
 
-/// Payloads that are refused, each by its name and with its fault.
-const REFUSED: [(&str, &[u8], PacketError); 4] = [
-    // No byte.
-    ("vp9-empty-fault", &[], PacketError::ErrShortPacket),
-    (
-        // P and F, and three differences; each says that another follows.
-        "vp9-fourth-p-diff-fault",
-        &[0x50, 0x03, 0x03, 0x03],
-        PacketError::ErrTooManyPDiff,
-    ),
-    (
-        // L, and the spatial layer 3.
-        "vp9-spatial-layer-3-fault",
-        &[0x20, 0x06],
-        PacketError::ErrTooManySpatialLayers,
-    ),
-    (
-        // V, and a structure of four layers.
-        "vp9-four-layers-fault",
-        &[0x02, 0x60],
-        PacketError::ErrVP9CorruptedPacket,
-    ),
-];
-
-#[test]
-fn payloads_are_refused(rt: HostRuntime) -> Result<(), Fail> {
-    let alloc = rt.alloc();
-    for (name, payload, fault) in REFUSED {
-        let mut depacketizer = Vp9Depacketizer::new(alloc);
-        assert_received(&rt, alloc, name, &mut depacketizer, payload, &Err(fault))?;
-    }
-    Ok(())
-}
-
 #[test]
 fn vp9_structure_read_anew(rt: HostRuntime) -> Result<(), Fail> {
     let alloc = rt.alloc();
@@ -144,13 +107,4 @@ fn vp9_structure_read_anew(rt: HostRuntime) -> Result<(), Fail> {
     assert!(rt; matches!(extra, CodecExtra::Vp9(told) if !told.is_keyframe));
     assert!(rt; depacketizer != Vp9Depacketizer::new(alloc));
     Ok(())
-}
-
-/// The first byte of frames of profile 0, and of payloads.
-#[test]
-fn keyframes_are_told(rt: HostRuntime) {
-    assert!(rt; detect_vp9_keyframe_bitstream(&[0x82]));
-    assert!(rt; !detect_vp9_keyframe_bitstream(&[0x86]));
-    assert!(rt; detect_vp9_keyframe(&[0x8c, 0x00]));
-    assert!(rt; !detect_vp9_keyframe(&[0xcc, 0x00]));
 }

@@ -1,9 +1,10 @@
 //! The lines of the input.
 
-use crate::setup::{SenderSetup, Setting, Stream, codec_named};
+use crate::setup::{SenderSetup, Setting, Stream};
 use codec_payload::jitter::WaitLimits;
 use codec_payload::stream::{RedSettings, Retransmission};
 use codec_payload::{CodecSpec, Frequency};
+use lines::codecs::{codec_named, is_octet_aligned};
 use lines::digits::hex_field;
 use lines::numbers::{number, truth};
 
@@ -121,7 +122,7 @@ fn stream_of(codec: &str, rate: &str, payload_type: &str) -> Option<Stream> {
     let spec = CodecSpec {
         codec: codec_named(codec)?,
         clock_rate: Frequency::make(number(rate)?)?,
-        octet_align: codec == "amrwb-octet",
+        octet_align: is_octet_aligned(codec),
     };
     Some(Stream {
         spec,

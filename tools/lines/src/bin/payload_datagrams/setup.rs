@@ -7,7 +7,7 @@ use codec_payload::sender::{Sender, SenderError, SenderSettings};
 use codec_payload::stream::{
     Receiver, ReceiverSettings, RedSettings, Retransmission, SettingsError,
 };
-use codec_payload::{Codec, CodecDepacketizer, CodecPacketizer, CodecSpec, Frequency};
+use codec_payload::{CodecDepacketizer, CodecPacketizer, CodecSpec, Frequency};
 
 /// A codec, and the payload type of its packets.
 #[derive(Clone, Copy, Debug)]
@@ -108,22 +108,4 @@ pub fn sender_of(setup: SenderSetup) -> Option<Result<Sender, SenderError>> {
         extension_ids: ExtensionIds::default(),
     };
     Some(Sender::new(pack, settings))
-}
-
-/// The codec with that name.
-pub fn codec_named(name: &str) -> Option<Codec> {
-    match name {
-        "opus" => Some(Codec::Opus),
-        "pcmu" => Some(Codec::PCMU),
-        "pcma" => Some(Codec::PCMA),
-        "g722" => Some(Codec::G722),
-        "cn" => Some(Codec::CN),
-        "amrwb" | "amrwb-octet" => Some(Codec::AmrWb),
-        "vp8" => Some(Codec::Vp8),
-        "vp9" => Some(Codec::Vp9),
-        "av1" => Some(Codec::Av1),
-        "tele" => Some(Codec::Tele),
-        "null" => Some(Codec::Null),
-        _ => None,
-    }
 }

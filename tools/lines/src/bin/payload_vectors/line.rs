@@ -1,9 +1,9 @@
 //! The lines of the input.
 
-use crate::fields::{codec_named, has_vp8_ids, is_octet_aligned, vp9_mode};
 use crate::red_line::RedSetup;
 use codec_payload::schedule::Step;
 use codec_payload::{Codec, Frequency, Vp9PacketizerMode};
+use lines::codecs::{codec_named, is_octet_aligned};
 use lines::digits::hex_field;
 use lines::numbers::{number, truth};
 
@@ -44,11 +44,16 @@ impl Setup {
         first: &str,
         id: &str,
     ) -> Option<Setup> {
+        let (codec, vp9_mode) = match name {
+            "vp8-id" => (Codec::Vp8, Vp9PacketizerMode::NonFlexible),
+            "vp9-flex" => (Codec::Vp9, Vp9PacketizerMode::Flexible),
+            _ => (codec_named(name)?, Vp9PacketizerMode::NonFlexible),
+        };
         Some(Setup {
-            codec: codec_named(name)?,
+            codec,
             octet_align: is_octet_aligned(name),
-            vp8_ids: has_vp8_ids(name),
-            vp9_mode: vp9_mode(name),
+            vp8_ids: name == "vp8-id",
+            vp9_mode,
             rate: Frequency::make(number(rate)?)?,
             hold_back: number(hold_back)?,
             first_number: number(first).filter(|it| *it <= GREATEST_FIRST_NUMBER)?,

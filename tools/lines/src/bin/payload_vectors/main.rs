@@ -1,7 +1,6 @@
 //! Reads a codec, samples and steps from the standard input, runs the steps, and prints the sent packets and the released units
 //! (docs/PROGRAM.md).
 
-mod fields;
 mod line;
 mod print;
 mod red_line;

@@ -1,6 +1,6 @@
-//! The names of codecs.
+//! The names of codecs in lines.
 
-use codec_payload::{Codec, Vp9PacketizerMode};
+use codec_payload::Codec;
 
 /// The codec with that name.
 pub fn codec_named(name: &str) -> Option<Codec> {
@@ -11,8 +11,8 @@ pub fn codec_named(name: &str) -> Option<Codec> {
         "g722" => Some(Codec::G722),
         "cn" => Some(Codec::CN),
         "amrwb" | "amrwb-octet" => Some(Codec::AmrWb),
-        "vp8" | "vp8-id" => Some(Codec::Vp8),
-        "vp9" | "vp9-flex" => Some(Codec::Vp9),
+        "vp8" => Some(Codec::Vp8),
+        "vp9" => Some(Codec::Vp9),
         "av1" => Some(Codec::Av1),
         "tele" => Some(Codec::Tele),
         "null" => Some(Codec::Null),
@@ -23,17 +23,4 @@ pub fn codec_named(name: &str) -> Option<Codec> {
 /// Whether payloads of the codec with that name have the octet-aligned layout of AMR-WB.
 pub fn is_octet_aligned(name: &str) -> bool {
     name == "amrwb-octet"
-}
-
-/// Whether the frames of VP8 with that name have picture ids.
-pub fn has_vp8_ids(name: &str) -> bool {
-    name == "vp8-id"
-}
-
-/// The mode of VP9 with that name.
-pub fn vp9_mode(name: &str) -> Vp9PacketizerMode {
-    match name {
-        "vp9-flex" => Vp9PacketizerMode::Flexible,
-        _ => Vp9PacketizerMode::NonFlexible,
-    }
 }
