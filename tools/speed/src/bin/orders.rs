@@ -2,7 +2,7 @@
 //! held packets take:
 //!
 //!   orders HELD ROUNDS     nanoseconds of a packet, for each order: a copy of its bytes, the buffer, the earlier form of it, a map
-//!   orders memory          bytes and allocations, for buffers that hold so many packets of Opus
+//!   orders memory          bytes and allocations, for buffers that hold 0 to 65,536 packets of Opus
 //!
 //! All forms take turns in one run, and the least time of each counts. The earlier form keeps its packets in two plain queues
 //! (rust/tests/buffer_beside). The map is a `BTreeMap` of the same packets, which looks for no frames and releases in order.
@@ -49,17 +49,17 @@ const LIMIT: usize = 65_536;
 /// In which order packets come, and what is held before.
 #[derive(Clone, Copy, PartialEq)]
 enum Order {
-    /// One by one; each push is followed by a pop, while so many are held.
+    /// One by one, each push followed by a pop, while HELD packets are held.
     Ascending,
     /// 32 at a time in reverse, in the same way.
     Rows,
-    /// So many pushes in random order, into an empty buffer.
+    /// HELD pushes in random order, into an empty buffer.
     Random,
     /// The same, with numbers 2,999 apart.
     Far,
-    /// Ascending, before so many packets that are no frame.
+    /// Ascending, before HELD packets that are not a frame.
     Junk,
-    /// 33 frames at once, and then 33 pops, before so many packets that are no frame.
+    /// 33 frames at once, and then 33 pops, before HELD packets that are not a frame.
     Bursts,
 }
 

@@ -1,4 +1,4 @@
-//! Passes the datagrams of several streams in turn to a session, or each to a receiver of its own:
+//! Passes the datagrams of several streams in turn to a session, or each to a separate receiver:
 //!
 //!   session WAY KIND STREAMS COUNT
 //!
