@@ -4,8 +4,10 @@ mod CalmLemmas
 mod ChangeLemmas
 mod DueLemmas
 mod GoodbyeLemmas
+mod IdleLemmas
 mod PacketLemmas
 mod PairLemmas
+mod PopAgainLemmas
 mod QuietLemmas
 mod ReportLemmas
 mod ReporterLemmas
