@@ -163,7 +163,10 @@ fn a_poll_that_skips_a_frame() -> Result<(), Fail> {
     assert!(drain(&mut session, 10));
     session.receive(Ticks(20), &video(7, 105, &layered(108, true, true)))?;
     assert!(session.poll(Ticks(20)).is_none());
-    assert_eq!((held(&session), session.next_deadline()), (1, Some(Ticks(120))));
+    assert_eq!(
+        (held(&session), session.next_deadline()),
+        (1, Some(Ticks(120)))
+    );
     let event = session.poll(Ticks(21));
     assert!(matches!(event, Some(Event::Unit { .. })), "{event:?}");
     Ok(())
