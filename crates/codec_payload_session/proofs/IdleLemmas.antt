@@ -7,8 +7,8 @@ use Rattle.std.proofs.lemmas.Bool.Decides.{nat_tests}
 use Rattle.codec_payload_base.specs.declared.error.PacketError.{PacketError}
 use Rattle.codec_payload_base.specs.declared.wire.Ticks.{Ticks}
 use Rattle.codec_payload_buffer.specs.Release.{Release}
-use Rattle.codec_payload_feedback.specs.Feedback.{Requests, after_feedback, deadline_of as deadline_of_requests, has_any, keyframe_is_due, numbers_due}
-use Rattle.codec_payload_jitter.specs.Receiving.{Receiving, deadline_of, settled, waiting_at}
+use Rattle.codec_payload_feedback.specs.Feedback.{Requests, deadline_of as deadline_of_requests, has_any, keyframe_is_due, numbers_due}
+use Rattle.codec_payload_jitter.specs.Receiving.{Receiving, deadline_of}
 use Rattle.codec_payload_stream.specs.Pops.{DropsUnits, PopsGated, PopsOnce, gates_after, has_left, none_dropped, one_more, without_unit}
 use Rattle.codec_payload_stream.specs.Sessions.{Session as Receiver, time_with}
 use Rattle.codec_payload_session.specs.Arrivals.{Port}
@@ -19,8 +19,8 @@ use Rattle.codec_payload_session.specs.Quiet.{IsBefore, PopsNothing}
 use Rattle.codec_payload_session.specs.Reporting.{ReportsBy, ReportsEach, ReportsIf, any_announced, deadline_if, is_report_due, is_time, report_deadline}
 use Rattle.codec_payload_session.specs.Requests.{Asking, Asks, is_heard, refreshed, requests_due}
 use Rattle.codec_payload_session.specs.Streams.{Drains, Follows, Plays, Pops, RequestsBy, RestsBy, Steps, StepsBy, Stream, due_by, due_in, due_of, earlier, end_by, end_of, is_probation, later as time_after, request_deadline, step_of, work_deadline}
-use Rattle.codec_payload_session.specs.Telephone.{Queue, due_before, is_quiet}
-use Rattle.codec_payload_session.specs.Turns.{AreQuiet, TakesTurn, Tells, event_of}
+use Rattle.codec_payload_session.specs.Telephone.{Queue, due_before}
+use Rattle.codec_payload_session.specs.Turns.{AreQuiet, TakesTurn, event_of}
 use Rattle.codec_payload_session.specs.declared.formats.FeedbackSettings.{FeedbackSettings}
 use Rattle.codec_payload_session.specs.declared.formats.SessionSettings.{SessionSettings}
 use Rattle.codec_payload_session.specs.declared.session.Event.{Event}
@@ -31,7 +31,7 @@ use Rattle.codec_payload_session.specs.declared.stream.Stage.TheVariants as stag
 use Rattle.codec_payload_session.specs.declared.stream.Step.{Step}
 use Rattle.codec_payload_session.specs.declared.stream.Step.TheVariants as steps
 use Rattle.codec_payload_session.specs.declared.telephone.TelephonePacket.{TelephonePacket}
-use Rattle.codec_payload_session.proofs.CalmLemmas.{due_later, emptied, updated_none}
+use Rattle.codec_payload_session.proofs.CalmLemmas.{due_later, updated_none}
 use Rattle.codec_payload_session.proofs.PopAgainLemmas.{pops_same}
 use Rattle.codec_payload_session.proofs.SkipLemmas.{drops_few, earlier_both, once_few, receiver_rests, same_number, told_none}
 

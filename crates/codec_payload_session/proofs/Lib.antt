@@ -1,4 +1,5 @@
 mod AccountLemmas
+mod AnswerLemmas
 mod AssociationLemmas
 mod CalmLemmas
 mod ChangeLemmas

@@ -1,5 +1,5 @@
 -- A pop that finds no frame to take has no unit, and changes nothing, whatever it may answer.
-use Rattle.std.proofs.Common.{◌≡◌, ◌∙◌, refl, ap, sym, subst, ℕ, List, [], ◌∷◌, Option, Some, None, Result, Ok, Err, inl, inr, length, arith}
+use Rattle.std.proofs.Common.{◌≡◌, ◌∙◌, refl, ap, sym, subst, ℕ, List, [], Option, Some, None, Result, Ok, Err, inl, inr, length, arith}
 use Rattle.codec_payload_base.specs.declared.error.PacketError.{PacketError}
 use Rattle.codec_payload_buffer.specs.Leaving.{left_of, packets_in}
 use Rattle.codec_payload_buffer.specs.Release.{Release}
@@ -34,7 +34,7 @@ pops_none s t pops waits =
     let same = passes_none s t pops.0 waits pops.1.0 in
     let held : length t.held ≡ length s.held = ap (λ (x : State). length x.held) same.1 in
     let skipped : packets_in pops.0 s.held ≡ 0 = ap (λ (fs : List CompleteFrame). packets_in fs s.held) same.0 in
-    (same.1, none_left (left_of s None t pops) (omega (arith, held)) skipped refl)
+    (same.1, none_left (left_of s None t pops) (omega (arith)) skipped refl)
 
 -- nothing is taken
 takes_none : (s mid t : State) (over : List CompleteFrame) (answer : Result Release PacketError) → due_of s ≡ None → Passes s over mid → TakesFrame mid answer t → ⊥
