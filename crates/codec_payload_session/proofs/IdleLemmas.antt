@@ -39,13 +39,12 @@ use Rattle.codec_payload_session.proofs.SkipLemmas.{drops_few, earlier_both, onc
 
 once_same : (now : ℕ) (r t : Receiver) (answer : Option (Result Release PacketError)) → PopsNothing now r.packets → PopsOnce now r answer t → (answer ≡ None) × (t ≡ r)
 once_same now r t answer nothing pops =
-    let same = pops_same now r.packets pops.0 answer nothing pops.1 in
-    (
+    let same = pops_same now r.packets pops.0 answer nothing pops.1 in (
       same.0,
       pops.2
-      ∙ (ap (λ (a : Option (Result Release PacketError)). record r { packets = pops.0; time = time_with r.time a; gates = gates_after r.gates (has_left r.packets pops.0) a }) same.0
-      ∙ (ap (λ (x : Receiving). record r { packets = x; gates = without_unit r.gates (has_left r.packets x) }) same.1
-      ∙ ap (λ (b : Bool). record r { gates = without_unit r.gates (not b) }) (same_number r.packets.counters.left))),
+          ∙ (ap (λ (a : Option (Result Release PacketError)). record r { packets = pops.0; time = time_with r.time a; gates = gates_after r.gates (has_left r.packets pops.0) a }) same.0
+          ∙ (ap (λ (x : Receiving). record r { packets = x; gates = without_unit r.gates (has_left r.packets x) }) same.1
+          ∙ ap (λ (b : Bool). record r { gates = without_unit r.gates (not b) }) (same_number r.packets.counters.left))),
     )
 
 some_none : (answer : Result Release PacketError) → Some answer ≡ None → ⊥
