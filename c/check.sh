@@ -7,8 +7,8 @@
 # loopback, and a port with two senders, port. The stored script of the program payload_vectors: vectors. Headers of frames,
 # compared with other readers, and hostile frames: frames, frames.txt.
 # Allocations less frees after each type of use, and each allocation of a session refused in turn: oom. Session descriptions in
-# c/sdp: descriptions. Each is read as NAME.txt says, which was written by hand after the RFCs; the faults are in faults.txt;
-# and changed copies are read within bounds. The status is 0 if all passed.
+# c/sdp: descriptions. Each is read as NAME.txt says, which was written by hand after the RFCs; the faults are in faults.txt, and
+# what gives no settings of a session is in clashes.txt; and changed copies are read within bounds. The status is 0 if all passed.
 set -eu
 folder=$1
 shift
@@ -49,5 +49,7 @@ for given in "$root"/c/sdp/*.sdp; do
     "$@" "$folder/descriptions" fuzz <"$given" >"$work/fuzzed" || fail "c/descriptions.c failed for a changed $given"
 done
 "$@" "$folder/descriptions" faults <"$root/c/sdp/faults.txt" >"$work/faults" || fail "c/descriptions.c failed for c/sdp/faults.txt"
-echo "descriptions: $(cat "$work/faults")"
+"$@" "$folder/descriptions" clashes <"$root/c/sdp/clashes.txt" >"$work/clashes" ||
+    fail "c/descriptions.c failed for c/sdp/clashes.txt"
+echo "descriptions: $(cat "$work/faults"); of sessions $(cat "$work/clashes")"
 echo "check: $(ls "$folder" | wc -l) programs, all passed"

@@ -1,8 +1,10 @@
 /* Reads session descriptions by codec_payload_sdp.h. c/check.sh compares the output with c/sdp.
  *
- *   descriptions <NAME.sdp             prints the sections as NAME.txt has them, or the fault
+ *   descriptions <NAME.sdp             prints the sections and the settings of a session as NAME.txt has them, or the fault
  *   descriptions faults <TABLE         reads lines LINE|ERROR|DESCRIPTION, with \n for the ends of lines; fails if one differs
- *   descriptions fuzz <NAME.sdp        reads 3000 changed copies; fails if a section is out of bounds or makes no receiver
+ *   descriptions clashes <TABLE        reads lines VALUE|ERROR|DESCRIPTION: what a description says that gives no settings of a session
+ *   descriptions fuzz <NAME.sdp        reads 3000 changed copies; fails if a section is out of bounds or makes no receiver, or if
+ *                                      all sections make no session and no error is reported
  *   descriptions changed N <NAME.sdp   prints the first N changed copies, each as read */
 #include "codec_payload_sdp.h"
 
@@ -85,6 +87,62 @@ static void print_media(const cpay_sdp_media *it) {
         if (it->formats[i].role == CPAY_SDP_MEDIA) print_receiver(it, it->formats[i].payload_type);
 }
 
+/* ---- Settings of a session ---- */
+
+static cpay_sdp_session_settings session;
+
+static void print_session_format(const cpay_session_format *it) {
+    printf("format %u: codec %u/%u%s", it->payload_type, it->spec.codec, it->spec.rate, it->spec.octet_align ? " octet-align" : "");
+    if (it->has_red) printf(", RED %u step %u", it->red_payload_type, it->red_step);
+    if (it->has_red_rtx) printf(" RTX %u", it->red_rtx_payload_type);
+    if (it->has_rtx) printf(", RTX %u", it->rtx_payload_type);
+    printf("%s%s\n", it->nack ? ", nack" : "", it->pli ? ", pli" : "");
+}
+
+static void print_session_ids(const cpay_extension_ids *it) {
+    const struct {
+        const char *name;
+        uint8_t id;
+    } ids[] = {{"capture-time", it->abs_capture_time}, {"orientation", it->video_orientation},
+               {"content-type", it->video_content_type}, {"timing", it->video_timing},
+               {"layers", it->layers_allocation}, {"level", it->audio_level}};
+    printf("session ids:");
+    for (size_t i = 0; i < sizeof ids / sizeof *ids; i++)
+        if (ids[i].id) printf(" %s %u", ids[i].name, ids[i].id);
+    printf("\n");
+}
+
+/* A session must accept these settings. */
+static void check_session(void) {
+    cpay_session made = CPAY_INIT;
+    if (cpay_session_new(&made, &session.settings, session.formats, session.formats_len, session.no_media, session.no_media_len,
+                         session.pairs, session.pairs_len))
+        fail("settings of no session");
+    cpay_session_free(&made);
+}
+
+/* The settings of a session for all sections, which a session must accept, or why there are none. */
+static void print_session(size_t count) {
+    cpay_sdp_session_fault fault = {0, CPAY_SDP_NO_CLASH};
+    cpay_status status = cpay_sdp_session(media, count, &session, &fault);
+    if (status) {
+        if (status != CPAY_INVALID || fault.error == CPAY_SDP_NO_CLASH) fail("no settings, and no reason");
+        printf("no session: %s (%u)\n", cpay_sdp_session_error_text(fault.error), fault.value);
+        return;
+    }
+    check_session();
+    printf("session: wait %u %u\n", (unsigned)session.settings.audio.max_wait, (unsigned)session.settings.video.max_wait);
+    for (size_t i = 0; i < session.formats_len; i++) print_session_format(&session.formats[i]);
+    printf("session without media:");
+    for (size_t i = 0; i < session.no_media_len; i++) {
+        bool is_telephone = session.no_media[i] >= CPAY_TELEPHONE;
+        printf(" %u%s", session.no_media[i] % CPAY_TELEPHONE, is_telephone ? " (events)" : "");
+    }
+    printf("\n");
+    print_session_ids(&session.settings.extension_ids);
+    for (size_t i = 0; i < session.pairs_len; i++) printf("pair %u %u\n", session.pairs[i].ssrc, session.pairs[i].rtx_ssrc);
+}
+
 static void print_description(const char *text, size_t size) {
     cpay_sdp_fault fault = {0, CPAY_SDP_NO_ERROR};
     size_t count = 0;
@@ -92,6 +150,7 @@ static void print_description(const char *text, size_t size) {
     if (status == CPAY_INVALID) printf("line %zu: %s\n", fault.line, cpay_sdp_error_text(fault.error));
     else if (status) fail(cpay_status_text(status));
     for (size_t i = 0; !status && i < count; i++) print_media(&media[i]);
+    if (!status) print_session(count);
 }
 
 /* ---- Faults ---- */
@@ -107,18 +166,67 @@ static size_t unescape(char *text) {
     return to;
 }
 
+/* The parts NUMBER|ERROR|DESCRIPTION of a row. */
+static void split(char *row, char **error, char **text) {
+    *error = strchr(row, '|');
+    *text = *error ? strchr(*error + 1, '|') : NULL;
+    if (!*text) fail("a row is not NUMBER|ERROR|DESCRIPTION");
+    *(*error)++ = '\0';
+    *(*text)++ = '\0';
+}
+
+static void compare_clash(char *row, unsigned number) {
+    char *error, *text;
+    cpay_sdp_fault line = {0, CPAY_SDP_NO_ERROR};
+    cpay_sdp_session_fault fault = {0, CPAY_SDP_NO_CLASH};
+    size_t count = 0;
+    split(row, &error, &text);
+    if (cpay_sdp_read(text, unescape(text), media, MOST_MEDIA, &count, &line)) fail("a line is malformed");
+    session.pairs_len = 77;
+    cpay_status status = cpay_sdp_session(media, count, &session, &fault);
+    bool as_wanted = strcmp(cpay_sdp_session_error_text(fault.error), error) == 0 && fault.value == strtoul(row, NULL, 10);
+    if (as_wanted && status == (fault.error ? CPAY_INVALID : CPAY_OK) && (session.pairs_len == 77) == (status != CPAY_OK)) return;
+    fprintf(stderr, "row %u: %s (%u)\n", number, cpay_sdp_session_error_text(fault.error), fault.value);
+    fail("another error than the table's");
+}
+
 static void compare_fault(char *row, unsigned number) {
-    char *error = strchr(row, '|'), *text = error ? strchr(error + 1, '|') : NULL;
+    char *error, *text;
     cpay_sdp_fault fault = {0, CPAY_SDP_NO_ERROR};
     size_t count = 77;
-    if (!text) fail("a row is not LINE|ERROR|DESCRIPTION");
-    *error++ = '\0';
-    *text++ = '\0';
+    split(row, &error, &text);
     cpay_status status = cpay_sdp_read(text, unescape(text), media, MOST_MEDIA, &count, &fault);
     bool as_wanted = strcmp(cpay_sdp_error_text(fault.error), error) == 0 && fault.line == strtoul(row, NULL, 10);
     if (as_wanted && status == (fault.error ? CPAY_INVALID : CPAY_OK) && (count == 77) == (status != CPAY_OK)) return;
     fprintf(stderr, "row %u: line %zu: %s\n", number, fault.line, cpay_sdp_error_text(fault.error));
     fail("another fault than the table's");
+}
+
+/* Pairs of SSRCs in 16 sections: there is room for all, and for no more. */
+static void check_pairs(void) {
+    cpay_sdp_session_fault fault = {99, CPAY_SDP_NO_CLASH};
+    memset(media, 0, sizeof media);
+    for (size_t i = 0; i < 17; i++) {
+        media[i].is_rtp = true;
+        media[i].format_count = 1;
+        media[i].formats[0] = (cpay_sdp_format){.role = CPAY_SDP_MEDIA, .codec = CPAY_PCMU, .clock_rate = 8000};
+        media[i].source_count = i < 16 ? 64 : 1;
+        for (uint32_t k = 0; k < 64; k++) media[i].sources[k] = (cpay_sdp_source){100 * (uint32_t)i + k, 5000 + k, true};
+    }
+    if (cpay_sdp_session(media, 16, &session, &fault) || session.pairs_len != CPAY_SDP_MAX_PAIRS || fault.value != 99) fail("1024 pairs");
+    if (session.pairs[1023].ssrc != 1563 || session.pairs[1023].rtx_ssrc != 5063) fail("the last pair");
+    session.pairs_len = 7;
+    if (cpay_sdp_session(media, 17, &session, &fault) != CPAY_INVALID || fault.error != CPAY_SDP_TOO_MANY_PAIRS || fault.value != 0)
+        fail("1025 pairs");
+    media[0].formats[0].payload_type = 128;
+    if (cpay_sdp_session(media, 1, &session, &fault) != CPAY_INVALID || fault.error != CPAY_SDP_PAYLOAD_TYPE_CLASHES ||
+        fault.value != 128)
+        fail("payload type 128");
+    fault.value = 55;
+    if (cpay_sdp_session(NULL, 1, &session, &fault) != CPAY_INVALID || fault.value != 55) fail("a length without sections");
+    if (cpay_sdp_session(NULL, 0, &session, &fault) != CPAY_INVALID || fault.error != CPAY_SDP_NO_MEDIA || fault.value != 0)
+        fail("no sections");
+    if (session.pairs_len != 7) fail("a failing call changed the settings");
 }
 
 /* Many sections, and little room: what no table shows. */
@@ -144,13 +252,12 @@ static void check_bounds(void) {
         fail("129 SSRCs");
 }
 
-static void compare_faults(void) {
+static void compare(void (*row)(char *, unsigned)) {
     unsigned rows = 0;
     while (fgets(given, sizeof given, stdin)) {
         given[strcspn(given, "\n")] = '\0';
-        if (given[0] && given[0] != '#') compare_fault(given, ++rows);
+        if (given[0] && given[0] != '#') row(given, ++rows);
     }
-    check_bounds();
     printf("%u rows, all as the table has them\n", rows);
 }
 
@@ -200,8 +307,17 @@ static void check_media(const cpay_sdp_media *it) {
     }
 }
 
+/* Whether the sections give settings of a session, which a session accepts. */
+static bool makes_session(size_t count) {
+    cpay_sdp_session_fault fault = {0, CPAY_SDP_NO_CLASH};
+    bool is_made = cpay_sdp_session(media, count, &session, &fault) == CPAY_OK;
+    if (is_made == (fault.error != CPAY_SDP_NO_CLASH)) fail("settings and a reason, or neither");
+    if (is_made) check_session();
+    return is_made;
+}
+
 static void fuzz(size_t size) {
-    unsigned read = 0;
+    unsigned read = 0, made = 0;
     for (uint32_t i = 0; i < CHANGES; i++) {
         /* a block of exactly the text's size, so that a sanitizer sees each byte that is read past it */
         size_t left = change(i, size), count = 0;
@@ -212,15 +328,22 @@ static void fuzz(size_t size) {
         cpay_status status = cpay_sdp_read(copy, left, media, MOST_MEDIA, &count, &fault);
         if (status == CPAY_INVALID && (fault.line == 0 || fault.error == CPAY_SDP_NO_ERROR)) fail("a fault without line or error");
         for (size_t k = 0; status == CPAY_OK && k < count; k++) check_media(&media[k]);
+        if (status == CPAY_OK) made += makes_session(count);
         read += status == CPAY_OK;
         free(copy);
     }
-    printf("%u of %d changed descriptions were read\n", read, CHANGES);
+    printf("%u of %d changed descriptions were read, and %u gave sessions\n", read, CHANGES, made);
 }
 
 int main(int count, char **words) {
     if (count > 1 && strcmp(words[1], "faults") == 0) {
-        compare_faults();
+        check_bounds();
+        compare(compare_fault);
+        return EXIT_SUCCESS;
+    }
+    if (count > 1 && strcmp(words[1], "clashes") == 0) {
+        check_pairs();
+        compare(compare_clash);
         return EXIT_SUCCESS;
     }
     size_t size = fread(given, 1, sizeof given, stdin);

@@ -543,14 +543,14 @@ static uint32_t red_step(const cpay_sdp_media *media, uint32_t clock_rate) {
     return step < 1 ? 1 : step > MOST_RED_STEP ? MOST_RED_STEP : (uint32_t)step;
 }
 
-/* RED over the payload type, or RED that names no payload type. */
-static const cpay_sdp_format *red_over(const cpay_sdp_media *media, uint8_t payload_type) {
+/* RED over the payload type, or, with `any`, RED that names no payload type. */
+static const cpay_sdp_format *red_over(const cpay_sdp_media *media, uint8_t payload_type, bool any) {
     const cpay_sdp_format *other = NULL;
     for (size_t i = 0; i < media->format_count; i++) {
         const cpay_sdp_format *format = &media->formats[i];
         if (format->role != CPAY_SDP_RED) continue;
         if (format->has_of && format->of == payload_type) return format;
-        if (!format->has_of && !other) other = format;
+        if (any && !format->has_of && !other) other = format;
     }
     return other;
 }
@@ -587,7 +587,7 @@ cpay_status cpay_sdp_receiver(const cpay_sdp_media *media, uint8_t payload_type,
                               uint8_t no_media[CPAY_SDP_MAX_FORMATS], size_t *no_media_len) {
     const cpay_sdp_format *format = cpay_sdp_format_of(media, payload_type);
     if (!format || format->role != CPAY_SDP_MEDIA) return CPAY_INVALID;
-    const cpay_sdp_format *red = red_over(media, payload_type);
+    const cpay_sdp_format *red = red_over(media, payload_type, true);
     size_t count = 0;
     *settings = settings_for(media, format);
     settings->spec.codec = format->codec;
@@ -600,5 +600,167 @@ cpay_status cpay_sdp_receiver(const cpay_sdp_media *media, uint8_t payload_type,
     for (size_t i = 0; i < media->format_count; i++)
         if (media->formats[i].role >= CPAY_SDP_EVENTS) no_media[count++] = media->formats[i].payload_type;
     *no_media_len = count;
+    return CPAY_OK;
+}
+
+/* ---- Settings of a session ---- */
+
+/* The sections so far. */
+typedef struct {
+    cpay_sdp_session_settings *session;
+    const cpay_sdp_format *known[PAYLOAD_TYPES]; /* the first format of each payload type */
+    uint8_t ids[EXTENSIONS];                     /* of header extensions, in the order of `uris` */
+} port;
+
+static cpay_sdp_session_fault clash(cpay_sdp_session_error error, uint8_t value) { return (cpay_sdp_session_fault){value, error}; }
+
+static bool same_target(const cpay_sdp_format *one, const cpay_sdp_format *other) {
+    return one->has_of == other->has_of && (!one->has_of || one->of == other->of);
+}
+
+/* Whether two sections use a payload type for the same. */
+static bool same_use(const cpay_sdp_format *one, const cpay_sdp_format *other) {
+    if (one->role != other->role) return false;
+    if (one->role == CPAY_SDP_RED || one->role == CPAY_SDP_RETRANSMISSION) return same_target(one, other);
+    if (one->role != CPAY_SDP_MEDIA) return true;
+    return one->codec == other->codec && one->clock_rate == other->clock_rate && one->octet_align == other->octet_align;
+}
+
+/* Adds the ids of a section to those of all sections. */
+static cpay_sdp_session_fault join_ids(uint8_t known[EXTENSIONS], const cpay_sdp_media *media) {
+    uint8_t *ids[EXTENSIONS];
+    ids_of((cpay_sdp_media *)media, ids); /* they are only read */
+    for (size_t i = 0; i < EXTENSIONS; i++) {
+        uint8_t id = *ids[i];
+        if (id == 0 || id == known[i]) continue;
+        if (known[i] != 0 || memchr(known, id, EXTENSIONS)) return clash(CPAY_SDP_EXTENSION_ID_CLASHES, id);
+        known[i] = id;
+    }
+    return clash(CPAY_SDP_NO_CLASH, 0);
+}
+
+/* The ids of the extensions whose values the library reads. */
+static cpay_extension_ids extension_ids_of(const uint8_t ids[EXTENSIONS]) {
+    return (cpay_extension_ids){.abs_capture_time = ids[0], .video_orientation = ids[1], .video_content_type = ids[2],
+                                .video_timing = ids[3], .layers_allocation = ids[4], .audio_level = ids[5]};
+}
+
+/* Whether no format of media precedes this one in its section. */
+static bool is_first_media(const cpay_sdp_media *media, const cpay_sdp_format *format) {
+    for (const cpay_sdp_format *it = media->formats; it != format; it++)
+        if (it->role == CPAY_SDP_MEDIA) return false;
+    return true;
+}
+
+/* The format of a session for a format of media. */
+static cpay_session_format session_format(const cpay_sdp_media *media, const cpay_sdp_format *format) {
+    const cpay_sdp_format *red = red_over(media, format->payload_type, is_first_media(media, format));
+    cpay_session_format it = {.payload_type = format->payload_type, .nack = format->nack, .pli = format->pli};
+    it.spec.codec = format->codec;
+    it.spec.rate = format->clock_rate;
+    it.spec.octet_align = format->octet_align;
+    it.has_rtx = retransmission_of(media, format->payload_type, &it.rtx_payload_type);
+    if (!red) return it;
+    it.has_red = true;
+    it.red_payload_type = red->payload_type;
+    it.red_step = red_step(media, format->clock_rate);
+    it.has_red_rtx = retransmission_of(media, red->payload_type, &it.red_rtx_payload_type);
+    return it;
+}
+
+static cpay_wait_limits limits_of(const cpay_receiver_settings *it) {
+    return (cpay_wait_limits){it->max_wait, it->hold_back, it->start, it->has_max_wait};
+}
+
+/* Adds a format of media that no earlier section has. */
+static void add_session_format(cpay_sdp_session_settings *session, const cpay_sdp_media *media, const cpay_sdp_format *format) {
+    cpay_receiver_settings live = settings_for(media, format);
+    session->formats[session->formats_len++] = session_format(media, format);
+    if (format->nack && media->kind == CPAY_SDP_VIDEO) session->settings.video = limits_of(&live);
+    if (format->nack && media->kind == CPAY_SDP_AUDIO) session->settings.audio = limits_of(&live);
+}
+
+/* Joins a format of media with the one of an earlier section. */
+static void join_session_format(cpay_sdp_session_settings *session, const cpay_session_format *other) {
+    cpay_session_format *it = session->formats;
+    while (it->payload_type != other->payload_type) it++;
+    if (!it->has_red) {
+        it->has_red = other->has_red;
+        it->red_payload_type = other->red_payload_type;
+        it->red_step = other->red_step;
+        it->has_red_rtx = other->has_red_rtx;
+        it->red_rtx_payload_type = other->red_rtx_payload_type;
+    }
+    if (!it->has_rtx) {
+        it->has_rtx = other->has_rtx;
+        it->rtx_payload_type = other->rtx_payload_type;
+    }
+    it->nack = it->nack && other->nack;
+    it->pli = it->pli && other->pli;
+}
+
+static cpay_sdp_session_fault add_format(port *it, const cpay_sdp_media *media, const cpay_sdp_format *format) {
+    cpay_sdp_session_settings *session = it->session;
+    uint8_t type = format->payload_type;
+    bool is_known = type < PAYLOAD_TYPES && it->known[type], is_media = format->role == CPAY_SDP_MEDIA;
+    if (type >= PAYLOAD_TYPES || (is_known && !same_use(it->known[type], format))) return clash(CPAY_SDP_PAYLOAD_TYPE_CLASHES, type);
+    if (is_known && is_media) {
+        cpay_session_format other = session_format(media, format);
+        join_session_format(session, &other);
+    } else if (is_media) {
+        add_session_format(session, media, format);
+    } else if (!is_known && format->role == CPAY_SDP_EVENTS) {
+        session->no_media[session->no_media_len++] = (uint8_t)(type + CPAY_TELEPHONE);
+    } else if (!is_known && format->role > CPAY_SDP_EVENTS) {
+        session->no_media[session->no_media_len++] = type;
+    }
+    if (!is_known) it->known[type] = format;
+    return clash(CPAY_SDP_NO_CLASH, 0);
+}
+
+static cpay_sdp_session_fault add_section(port *it, const cpay_sdp_media *media) {
+    cpay_sdp_session_fault fault = join_ids(it->ids, media);
+    for (size_t i = 0; !fault.error && i < media->format_count; i++) fault = add_format(it, media, &media->formats[i]);
+    return fault;
+}
+
+/* Adds the pairs of SSRCs. Returns whether there is room for all. */
+static bool add_pairs(cpay_sdp_session_settings *session, const cpay_sdp_media *media) {
+    for (size_t i = 0; i < media->source_count; i++) {
+        const cpay_sdp_source *source = &media->sources[i];
+        if (!source->has_rtx) continue;
+        if (session->pairs_len == CPAY_SDP_MAX_PAIRS) return false;
+        session->pairs[session->pairs_len++] = (cpay_ssrc_pair){source->ssrc, source->rtx_ssrc};
+    }
+    return true;
+}
+
+static cpay_sdp_session_fault add_sections(port *it, const cpay_sdp_media *media, size_t media_len) {
+    cpay_sdp_session_fault fault = clash(CPAY_SDP_NO_CLASH, 0);
+    for (size_t i = 0; !fault.error && i < media_len; i++)
+        if (media[i].is_rtp) fault = add_section(it, &media[i]);
+    if (!fault.error && it->session->formats_len == 0) return clash(CPAY_SDP_NO_MEDIA, 0);
+    for (size_t i = 0; !fault.error && i < media_len; i++)
+        if (!add_pairs(it->session, &media[i])) return clash(CPAY_SDP_TOO_MANY_PAIRS, 0);
+    return fault;
+}
+
+cpay_status cpay_sdp_session(const cpay_sdp_media *media, size_t media_len, cpay_sdp_session_settings *session,
+                             cpay_sdp_session_fault *fault) {
+    static const cpay_session_settings live = CPAY_LIVE_SESSION;
+    static const cpay_receiver_settings audio = CPAY_LIVE_AUDIO;
+    static const cpay_sdp_session_settings none;
+    cpay_sdp_session_settings found = none;
+    port it = {.session = &found};
+    if (!media && media_len) return CPAY_INVALID;
+    found.settings = live;
+    found.settings.audio = found.settings.video = limits_of(&audio);
+    cpay_sdp_session_fault what = add_sections(&it, media, media_len);
+    if (what.error) {
+        *fault = what;
+        return CPAY_INVALID;
+    }
+    found.settings.extension_ids = extension_ids_of(it.ids);
+    *session = found;
     return CPAY_OK;
 }

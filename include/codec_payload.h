@@ -1038,7 +1038,7 @@ CPAY_CHECKED cpay_status cpay_session_poll(cpay_session *session, uint64_t now, 
 CPAY_CHECKED cpay_status cpay_session_values(cpay_session *session, cpay_extension_values *values);
 
 /** Reports the time at which a poll may have an event although no datagram arrives: 0 while telephone events wait. CPAY_NONE: only a
- * datagram can help. */
+ * datagram can help. If a poll had no event and no packet left a stream in it, no earlier poll has one: docs/SESSION.md. */
 CPAY_CHECKED cpay_status cpay_session_next_deadline(cpay_session *session, uint64_t *at);
 
 /** Ends the streams of this SSRC at time `now`: polls report their complete units, and then CPAY_EVENT_ENDED. Without such a stream

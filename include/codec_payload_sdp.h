@@ -1,8 +1,9 @@
 /** @file
- * codec_payload_sdp: from a session description (SDP, RFC 8866) to the settings of receivers, for C and C++.
+ * codec_payload_sdp: from a session description (SDP, RFC 8866) to the settings of receivers and of sessions, for C and C++.
  *
  * cpay_sdp_read reads the `m=` sections of a description: payload types and what each is for, ids of header extensions, SSRCs,
- * feedback. cpay_sdp_receiver turns a section into settings of a receiver. Neither allocates. Any bytes may be given. This part is
+ * feedback. cpay_sdp_receiver turns a section into settings of a receiver, and cpay_sdp_session turns all sections of a port into
+ * settings of a session. None of them allocates. Any bytes may be given. This part is
  * ordinary C, tested with sanitizers and by fuzzing; unlike the rest of the library it is not proved. codec_payload.h does not
  * include this file. The rules of codec_payload.h for pointers and for failing calls apply. */
 #ifndef CODEC_PAYLOAD_SDP_H
@@ -19,6 +20,7 @@ enum {
     CPAY_SDP_MAX_MEDIA = 1024,  /**< `m=` sections of a description */
     CPAY_SDP_MAX_FORMATS = 128, /**< payload types of a section: all that exist */
     CPAY_SDP_MAX_SOURCES = 128, /**< SSRCs of a section, and apart from them SSRCs of repair */
+    CPAY_SDP_MAX_PAIRS = 1024,  /**< pairs of SSRCs in the settings of a session */
     CPAY_SDP_NAME = 32          /**< bytes of an encoding name with the 0 at its end; a longer name is cut */
 };
 
@@ -130,6 +132,62 @@ const cpay_sdp_format *cpay_sdp_format_of(const cpay_sdp_media *media, uint8_t p
  * CPAY_INVALID: the section has no media of this payload type. */
 CPAY_CHECKED cpay_status cpay_sdp_receiver(const cpay_sdp_media *media, uint8_t payload_type, cpay_receiver_settings *settings,
                                            uint8_t no_media[CPAY_SDP_MAX_FORMATS], size_t *no_media_len);
+
+/** Settings of a session: what cpay_session_new takes. About 13 kB. */
+typedef struct {
+    cpay_session_settings settings;
+    size_t formats_len;
+    size_t no_media_len;
+    size_t pairs_len;
+    cpay_session_format formats[CPAY_SDP_MAX_FORMATS];
+    uint8_t no_media[CPAY_SDP_MAX_FORMATS]; /**< CPAY_TELEPHONE is added to payload types of telephone events */
+    cpay_ssrc_pair pairs[CPAY_SDP_MAX_PAIRS];
+} cpay_sdp_session_settings;
+
+/** Why the sections of a port give no settings of a session. */
+typedef enum {
+    CPAY_SDP_NO_CLASH = 0,
+    CPAY_SDP_NO_MEDIA = 1,              /**< no section has media of a codec of the library */
+    CPAY_SDP_PAYLOAD_TYPE_CLASHES = 2,  /**< a payload type is above 127, or two sections use it differently */
+    CPAY_SDP_EXTENSION_ID_CLASHES = 3,  /**< two sections use an id for different header extensions, or another id for the same */
+    CPAY_SDP_TOO_MANY_PAIRS = 4         /**< more than CPAY_SDP_MAX_PAIRS pairs of SSRCs */
+} cpay_sdp_session_error;
+
+typedef struct {
+    uint8_t value; /**< the payload type or the id that clashes; of other errors 0 */
+    cpay_sdp_session_error error;
+} cpay_sdp_session_fault;
+
+/** Writes settings of a session that receives these sections on one port: all sections of a bundle (RFC 9143), or the one section
+ * of a port of its own. Leave out sections that were refused. Sections that are not RTP are ignored.
+ *
+ * - Formats: all media, in the order of the sections. RED is over the payload type that it names first; RED that names none is over
+ *   the first format of media of its section. Retransmissions have the first format of RTX whose `apt` is the payload type, and
+ *   those of RED the first one whose `apt` is RED's. `nack` and `pli` are as in `a=rtcp-fb`. If two sections have a payload type,
+ *   packets or keyframes of it are requested only if both agree on that.
+ * - `no_media`: comfort noise, error correction, and telephone events, whose packets polls report.
+ * - Pairs of SSRCs (`a=ssrc-group:FID`), and ids of header extensions, of all sections.
+ * - Wait limits: for live audio and video, with retransmission if a format of the kind has `nack`.
+ * - All else is as in CPAY_LIVE_SESSION. Nothing is requested until you set `has_feedback` and `feedback.ssrc`.
+ *
+ * A later description may have further pairs: pass each source with `has_rtx` to cpay_session_add_pair. The cost is a step for each
+ * format and each SSRC.
+ *
+ * CPAY_INVALID: *fault has the reason. If the call fails, all else is unchanged. */
+CPAY_CHECKED cpay_status cpay_sdp_session(const cpay_sdp_media *media, size_t media_len, cpay_sdp_session_settings *session,
+                                          cpay_sdp_session_fault *fault);
+
+/** A text for each error, in English. */
+static inline const char *cpay_sdp_session_error_text(cpay_sdp_session_error error) {
+    switch (error) {
+    case CPAY_SDP_NO_CLASH: return "no error";
+    case CPAY_SDP_NO_MEDIA: return "no media of a supported codec";
+    case CPAY_SDP_PAYLOAD_TYPE_CLASHES: return "payload type exceeds 127 or has two uses";
+    case CPAY_SDP_EXTENSION_ID_CLASHES: return "header extension id differs between sections";
+    case CPAY_SDP_TOO_MANY_PAIRS: return "more than 1024 pairs of SSRCs";
+    default: return "unknown error";
+    }
+}
 
 /** A text for each error, in English. */
 static inline const char *cpay_sdp_error_text(cpay_sdp_error error) {

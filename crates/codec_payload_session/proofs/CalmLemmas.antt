@@ -48,10 +48,10 @@ misses_none false r a calm = refl
 
 -- ---- nothing is requested
 
-abbrev emptied : Requests → Requests
+abbrev pub emptied : Requests → Requests
 emptied q = record q { nack = record q.nack { pending = [] }; keyframes = record q.keyframes { wanted = false } }
 
-updated_none : (now : ℕ) (q : Requests) → updated now [] false q ≡ emptied q
+pub updated_none : (now : ℕ) (q : Requests) → updated now [] false q ≡ emptied q
 updated_none now q =
     ap (λ (ns : List ℕ). record q { nack = record q.nack { pending = refreshed_with q.nack.settings now ns q.nack.pending }; keyframes = record q.keyframes { wanted = false } })
     (take_none q.nack.settings.capacity)
@@ -89,7 +89,7 @@ calm_again now later heard heard_later r a b asks calm = asks_none later heard_l
 
 -- ---- no request is due yet
 
-due_later : (now later : ℕ) (r : Receiver) (a b : Asking) → Asks now true r a (Ok None) b → IsBefore (deadline_of b.requests) later → Asks later true r b (Ok None) b
+pub due_later : (now later : ℕ) (r : Receiver) (a b : Asking) → Asks now true r a (Ok None) b → IsBefore (deadline_of b.requests) later → Asks later true r b (Ok None) b
 due_later now later r a b asks before =
     let missing : List ℕ = missing_numbers r.packets a.most in
     let wanted : Bool = true && a.pli && r.gates.gate.wants in

@@ -1,11 +1,14 @@
 mod AccountLemmas
+mod AnswerLemmas
 mod AssociationLemmas
 mod CalmLemmas
 mod ChangeLemmas
 mod DueLemmas
 mod GoodbyeLemmas
+mod IdleLemmas
 mod PacketLemmas
 mod PairLemmas
+mod PopAgainLemmas
 mod QuietLemmas
 mod ReportLemmas
 mod ReporterLemmas

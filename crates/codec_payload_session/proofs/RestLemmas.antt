@@ -56,10 +56,10 @@ passes_few s u over (one_more {t = t} before p) =
     omega (arith, fewer, few)
 
 -- a pop that skips no frame changes nothing; another one leaves fewer packets
-abbrev IsSameOrFewer : State → State → Type 0
+abbrev pub IsSameOrFewer : State → State → Type 0
 IsSameOrFewer s t = (t ≡ s) ⊎ (length t.held < length s.held)
 
-passes_same : (s t : State) (over : List CompleteFrame) → Passes s over t → IsSameOrFewer s t
+pub passes_same : (s t : State) (over : List CompleteFrame) → Passes s over t → IsSameOrFewer s t
 passes_same s t over none = inl refl
 passes_same s u over (one_more {t = t} before p) =
     let fewer : length u.held < length t.held = fewer_after t u p in

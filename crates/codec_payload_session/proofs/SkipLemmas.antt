@@ -24,13 +24,13 @@ use Rattle.codec_payload_session.proofs.RestLemmas.{pops_again, pops_few}
 
 -- ---- the receiver
 
-once_few : (now : ℕ) (s t : Receiver) (answer : Option (Result Release PacketError)) → PopsOnce now s answer t → length t.packets.buffer.held ≤ length s.packets.buffer.held
+pub once_few : (now : ℕ) (s t : Receiver) (answer : Option (Result Release PacketError)) → PopsOnce now s answer t → length t.packets.buffer.held ≤ length s.packets.buffer.held
 once_few now s t answer pops =
     let held : length t.packets.buffer.held ≡ length pops.0.buffer.held = ap (λ (x : Receiver). length x.packets.buffer.held) pops.2 in
     let few = pops_few (waiting_at (settled s.packets) now) s.packets pops.0 answer pops.1 in
     omega (arith, held, few)
 
-drops_few : (now : ℕ) (s t : Receiver) → DropsUnits now s t → length t.packets.buffer.held ≤ length s.packets.buffer.held
+pub drops_few : (now : ℕ) (s t : Receiver) → DropsUnits now s t → length t.packets.buffer.held ≤ length s.packets.buffer.held
 drops_few now s t none_dropped = omega arith
 drops_few now s t (one_more {mid = mid} unit before pops kept) =
     let first : length mid.packets.buffer.held ≤ length s.packets.buffer.held = drops_few now s mid before in
@@ -38,7 +38,7 @@ drops_few now s t (one_more {mid = mid} unit before pops kept) =
     omega (arith, first, second)
 
 -- a pop without a unit that leaves all packets: until the deadline each pop is one
-receiver_rests : (now later : ℕ) (s t : Receiver) → PopsGated now s None t → length t.packets.buffer.held ≡ length s.packets.buffer.held → later < 2 ^ 64
+pub receiver_rests : (now later : ℕ) (s t : Receiver) → PopsGated now s None t → length t.packets.buffer.held ≡ length s.packets.buffer.held → later < 2 ^ 64
     → IsBefore (deadline_of t.packets) later → PopsNothing later t.packets
 receiver_rests now later s t gated same few before =
     let is : t.packets ≡ gated.pops.0 = ap (λ (x : Receiver). x.packets) gated.pops.2 in
@@ -49,7 +49,7 @@ receiver_rests now later s t gated same few before =
     let early : IsBefore (deadline_of gated.pops.0) later = subst (λ (x : Receiving). IsBefore (deadline_of x) later) is before in
     subst (λ (x : Receiving). PopsNothing later x) (sym is) (pops_again now later gated.mid.packets gated.pops.0 gated.pops.1 all few early)
 
-same_number : (n : ℕ) → (n == n) ≡ true
+pub same_number : (n : ℕ) → (n == n) ≡ true
 same_number n = grind (arith, nat_tests)
 
 -- such a pop changes nothing in the receiver either
@@ -107,7 +107,7 @@ Asked now s t =
     (t.receiver ≡ s.receiver)
     × ((later : ℕ) → MayRest t.feedback now later t.last t.receiver → IsBefore (requests_due t.feedback) later → AsksNothing t.feedback later t.last t.receiver)
 
-told_none : (told : Result (Option (Vec ℕ)) AllocError) → steps.Nothing ≡ step_of told → told ≡ Ok None
+pub told_none : (told : Result (Option (Vec ℕ)) AllocError) → steps.Nothing ≡ step_of told → told ≡ Ok None
 told_none (Ok None) is = refl
 told_none (Ok (Some packet)) is = absurd (cc)
 told_none (Err e) is = absurd (cc)
@@ -134,7 +134,7 @@ rested_by (stages.Leaving why at) now s t is rests plays =
     let other : stages.Leaving why at ≡ stages.Playing = sym (stays s t (stages.Leaving why at) rests.1 is) ∙ plays in absurd (cc)
 rested_by (stages.Draining why) now s t is rests plays = let other : steps.Nothing ≡ steps.Ended why = rests.0 in absurd (cc)
 
-earlier_both : (a b : Option ℕ) (now : ℕ) → IsBefore (earlier a b) now → IsBefore a now × IsBefore b now
+pub earlier_both : (a b : Option ℕ) (now : ℕ) → IsBefore (earlier a b) now → IsBefore a now × IsBefore b now
 earlier_both None b now before = (tt, before)
 earlier_both (Some a) None now before = (before, tt)
 earlier_both (Some a) (Some b) now before = (omega (arith, before), omega (arith, before))

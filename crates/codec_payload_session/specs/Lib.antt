@@ -2,6 +2,7 @@ pub mod Arrivals
 pub mod Associations
 pub mod Changes
 pub mod Formats
+pub mod Idle
 pub mod Pairs
 pub mod Polls
 pub mod Ports

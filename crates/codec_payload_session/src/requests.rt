@@ -1,6 +1,6 @@
 //! What a stream of a session requests: missing packets and keyframes.
 
-ghost use Rattle.std.specs.Prelude.{◌≡◌, ◌<◌, ℕ, IfOk, OnOk, Option, true};
+ghost use Rattle.std.specs.Prelude.{◌≡◌, ◌<◌, ℕ, IfOk, OnOk, Option, false, true};
 ghost use Rattle.codec_payload_jitter.specs.Missing.{missing_numbers};
 ghost use Rattle.codec_payload_session.specs.Quiet.{MayRest, is_calm};
 ghost use Rattle.codec_payload_session.specs.Requests.{Asks, Refreshes, after_number, feedback_by, has_requested, heard_by, is_heard, number_at, original_number, requests_due, range_for, round_trip_of, source_for, spaced, wait_by, wait_of, wait_within};
@@ -98,6 +98,22 @@ impl Feedback {
         }
     }
 
+    /// Returns whether a packet of the format may answer a request. If it may not, its number changes nothing. Reads only two
+    /// bytes of a packet whose number was not requested, if the format has no payload type of retransmissions.
+    fn may_answer(&self, format: &Format, datagram: &[u8]) -> bool
+        ensures { result ≡ false → (now : ℕ) → after_number now (number_at format.now datagram.now) self.now ≡ self.now }
+    {
+        if format.retransmission.is_some() {
+            return true;
+        }
+        match datagram {
+            [_, _, high, low, ..] => self
+                .requests
+                .has_requested(u16::from(*high) * 256 + u16::from(*low)),
+            _ => true,
+        }
+    }
+
     /// Returns how long a frame may wait, by the round trip. `None`: the wait limits stay.
     fn wait(&self) -> Option<u64>
         ensures { result ≡ wait_of self.now }
@@ -160,7 +176,9 @@ pub(crate) fn hear(feedback: &mut Option<Feedback>, format: &Format, now: Ticks,
     ensures { feedback.new ≡ heard_by now.0 (number_at format.now datagram.now) feedback.old }
 {
     if let Some(feedback) = feedback {
-        feedback.hear(now, number_of(format, datagram));
+        if feedback.may_answer(format, datagram) {
+            feedback.hear(now, number_of(format, datagram));
+        }
     }
 }
 

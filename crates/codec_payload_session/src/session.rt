@@ -1,16 +1,15 @@
 //! A session: the datagrams of one port.
 
-ghost use Rattle.std.specs.Prelude.{◌≡◌, ◌<◌, ◌≤◌, IfSome, length, slice_get, OnErr, OnOk};
+ghost use Rattle.std.specs.Prelude.{◌≡◌, ◌<◌, ◌≤◌, IfSome, Option, length, slice_get, OnErr, OnOk};
 ghost use Rattle.std.specs.List.{position};
 ghost use Rattle.std.specs.Option.{option_map};
 ghost use Rattle.codec_payload_session.specs.Arrivals.{Port};
 ghost use Rattle.codec_payload_session.specs.Associations.{Associates};
+ghost use Rattle.codec_payload_session.specs.Idle.{IsIdle, held_in, next_of};
 ghost use Rattle.codec_payload_session.specs.Ports.{IsSum, MatchInfo, ReportsIf, counted, counted_if, ends_all, ends_of, new_session, no_counts, receiver_among, taken_in, told_counts, waits_of};
 ghost use Rattle.codec_payload_session.specs.Reports.{clock_among};
 ghost use Rattle.codec_payload_session.specs.Polls.{Polls, SendsReport, TurnsOrReports, report_event};
-ghost use Rattle.codec_payload_session.specs.Reporting.{report_deadline};
-ghost use Rattle.codec_payload_session.specs.Streams.{due_in, earlier, is_of};
-ghost use Rattle.codec_payload_session.specs.Telephone.{due_before};
+ghost use Rattle.codec_payload_session.specs.Streams.{is_of};
 ghost use Rattle.codec_payload_session.specs.Pairs.{Pairs, with_pair, without_pair};
 
 use crate::association::{add_pair, take_in};
@@ -241,8 +240,14 @@ impl Session {
     /// stream returns the report, if one is due and a stream is announced. The first one is due one interval after the poll
     /// that has no more events of the first streams, and each later one an interval after the previous one was sent. Once all
     /// announced streams have ended, it begins so again. A report costs one step for each pair of streams.
+    ///
+    /// If a poll returns `None` and no packet left a stream in it, no poll before [`Session::next_deadline`] has an event, until
+    /// the next call of another kind. The one exception is a request for which memory runs out. A poll without an event in which
+    /// packets left has skipped frames or dropped units: the next poll can have an event at any time.
     pub fn poll(&mut self, now: Ticks) -> Option<Event>
-        ensures { Polls now self.old result self.new }
+        ensures polls { Polls now self.old result self.new }
+        // If no packet left, no poll before the next deadline has an event.
+        ensures idle { result ≡ Option.None → held_in self.new.port.streams ≡ held_in self.old.port.streams → IsIdle now.0 self.new }
     {
         match self.telephone.take() {
             Some(event) => Some(event),
@@ -274,7 +279,7 @@ impl Session {
     /// stream, or of the next report if a stream is announced. `None`: there is no such time. The cost is one step for each
     /// stream.
     pub fn next_deadline(&self) -> Option<Ticks>
-        ensures { option_map (λ at. at.0) result ≡ due_before self.now.telephone (earlier (due_in self.now.settings.idle_timeout self.now.port.streams) (report_deadline self.now.report_due self.now.port.streams)) }
+        ensures { option_map (λ at. at.0) result ≡ next_of self.now }
     {
         if !self.telephone.is_empty() {
             return Some(Ticks(0));

@@ -1,7 +1,8 @@
 //! A description as text: what `c/descriptions.c` prints of it.
 
 use codec_payload::Codec;
-use codec_payload::sdp::{self, Format, Kind, Media, Role};
+use codec_payload::sdp::{self, Format, Kind, Media, Role, SessionError};
+use codec_payload::session::{Format as SessionFormat, SessionSettings};
 use codec_payload::stream::Receiver;
 use codec_payload::{CodecDepacketizer, CodecSpec};
 use std::fmt::Write;
@@ -174,7 +175,101 @@ fn add_media(out: &mut String, media: &Media<'_>) -> std::fmt::Result {
     Ok(())
 }
 
-/// What was read of a description, or the fault.
+fn add_session_format(out: &mut String, format: &SessionFormat) -> std::fmt::Result {
+    let spec = &format.spec;
+    write!(
+        out,
+        "format {}: codec {}/{}",
+        format.payload_type,
+        number(spec.codec),
+        spec.clock_rate.get()
+    )?;
+    if spec.octet_align {
+        write!(out, " octet-align")?;
+    }
+    if let Some(red) = &format.red {
+        write!(out, ", RED {} step {}", red.payload_type, red.step)?;
+        if let Some(rtx) = red.retransmission {
+            write!(out, " RTX {rtx}")?;
+        }
+    }
+    if let Some(rtx) = format.retransmission {
+        write!(out, ", RTX {rtx}")?;
+    }
+    for (is_set, name) in [(format.nack, "nack"), (format.pli, "pli")] {
+        if is_set {
+            write!(out, ", {name}")?;
+        }
+    }
+    writeln!(out)
+}
+
+/// Payload types without media in the order of the sections, as C has them in one list.
+fn without_media(media: &[Media<'_>], settings: &SessionSettings) -> Vec<(u8, bool)> {
+    let mut found = Vec::new();
+    for format in media.iter().flat_map(|section| &section.formats) {
+        let payload_type = format.payload_type;
+        let is_event = settings.telephone_events.contains(&payload_type);
+        let is_there = is_event || settings.no_media.contains(&payload_type);
+        if is_there && !found.contains(&(payload_type, is_event)) {
+            found.push((payload_type, is_event));
+        }
+    }
+    found
+}
+
+/// The settings of a session for all sections, or why there are none.
+fn add_session(out: &mut String, media: &[Media<'_>]) -> std::fmt::Result {
+    let settings = match sdp::session_settings(media) {
+        Ok(settings) => settings,
+        Err(fault) => return writeln!(out, "no session: {}", reason(fault)),
+    };
+    let (audio, video) = (settings.audio.max_wait, settings.video.max_wait);
+    writeln!(out, "session: wait {} {}", audio.unwrap(), video.unwrap())?;
+    for format in &settings.formats {
+        add_session_format(out, format)?;
+    }
+    write!(out, "session without media:")?;
+    for (payload_type, is_event) in without_media(media, &settings) {
+        let event = if is_event { " (events)" } else { "" };
+        write!(out, " {payload_type}{event}")?;
+    }
+    writeln!(out)?;
+    let ids = &settings.extension_ids;
+    write!(out, "session ids:")?;
+    for (name, id) in [
+        ("capture-time", ids.abs_capture_time),
+        ("orientation", ids.video_orientation),
+        ("content-type", ids.video_content_type),
+        ("timing", ids.video_timing),
+        ("layers", ids.layers_allocation),
+        ("level", ids.audio_level),
+    ] {
+        if let Some(id) = id {
+            write!(out, " {name} {id}")?;
+        }
+    }
+    writeln!(out)?;
+    for pair in &settings.pairs {
+        writeln!(out, "pair {} {}", pair.ssrc, pair.retransmission)?;
+    }
+    Ok(())
+}
+
+/// The text and the number that the library for C gives for an error.
+pub fn reason(fault: SessionError) -> String {
+    match fault {
+        SessionError::PayloadType(it) => {
+            format!("payload type exceeds 127 or has two uses ({it})")
+        }
+        SessionError::ExtensionId(it) => {
+            format!("header extension id differs between sections ({it})")
+        }
+        other => format!("{other} (0)"),
+    }
+}
+
+/// What was read of a description, and the settings of a session, or the fault.
 pub fn dump(text: &str) -> String {
     let mut out = String::new();
     match sdp::read(text) {
@@ -182,6 +277,7 @@ pub fn dump(text: &str) -> String {
             for media in &found {
                 add_media(&mut out, media).unwrap();
             }
+            add_session(&mut out, &found).unwrap();
         }
         Err(fault) => writeln!(out, "{fault}").unwrap(),
     }

@@ -1,6 +1,6 @@
 //! The settings of sessions. What each description gives was written by hand.
 
-use crate::dump::changed;
+use crate::dump::{changed, reason};
 use codec_payload::rtp::ExtensionIds;
 use codec_payload::sdp::{self, MAX_PAIRS, SessionError};
 use codec_payload::session::{Arrival, Event, Format, Session, SessionSettings, SsrcPair};
@@ -223,6 +223,26 @@ fn faults_by_name() {
         fault.to_string(),
         "payload type 128 exceeds 127 or has two uses"
     );
+}
+
+/// The table that the reader in C is compared with too.
+#[test]
+fn clashes() {
+    let mut rows = 0;
+    for row in include_str!("../../../c/sdp/clashes.txt").lines() {
+        if row.is_empty() || row.starts_with('#') {
+            continue;
+        }
+        let mut parts = row.splitn(3, '|');
+        let mut part = || parts.next().expect("VALUE|ERROR|DESCRIPTION");
+        let (value, error, text) = (part(), part(), part().replace("\\n", "\n"));
+        match settings(&text) {
+            Ok(_) => assert_eq!(("0", "no error"), (value, error), "{row}"),
+            Err(fault) => assert_eq!(format!("{error} ({value})"), reason(fault), "{row}"),
+        }
+        rows += 1;
+    }
+    assert!(rows > 15);
 }
 
 /// Two sections with one payload type: a sender is asked only for what both sections agree on. The first RTX counts.

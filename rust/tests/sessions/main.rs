@@ -3,6 +3,7 @@
 mod associations;
 mod changes;
 mod datagrams;
+mod deadlines;
 mod many;
 mod model;
 mod pairs;

@@ -23,7 +23,7 @@ pub struct Watch {
     counts: SessionCounts,
     /// How many packets of telephone events wait.
     telephone: usize,
-    /// Whether the latest call was a poll that returned `None`.
+    /// Whether the latest call was a poll that returned `None`, in which no packet left.
     is_drained: bool,
 }
 
@@ -82,15 +82,16 @@ impl Watch {
 
     /// Polls until there is no event: at most one for each held packet, and a few for each stream.
     pub fn drain(&mut self) {
-        let held = self.streams().map(|it| it.held).sum::<usize>();
-        let most = 16 * self.streams().count() + held + self.telephone;
+        let most = 16 * self.streams().count() + self.held() + self.telephone;
         let mut count = 0;
+        let mut held = self.held();
         while let Some(event) = self.session.poll(Ticks(self.now)) {
             self.check(event);
             count += 1;
             assert!(count <= most, "{count} events of {most}");
+            held = self.held();
         }
-        self.is_drained = true;
+        self.is_drained = self.held() == held;
         assert_eq!(self.telephone, 0);
         let deadline = self.session.next_deadline();
         assert!(
@@ -112,8 +113,8 @@ impl Watch {
         }
     }
 
-    /// Waits until this time. If all events were taken, a poll has no event just before the deadline, or at this time if that is
-    /// earlier.
+    /// Waits until this time. If all events were taken, and no packet left in the last poll, a poll has no event just before the
+    /// deadline, or at this time if that is earlier.
     fn wait_until(&mut self, time: u64) {
         if self.is_drained {
             let deadline = self.session.next_deadline();
@@ -151,6 +152,11 @@ impl Watch {
             (self.session.counts(), self.session.next_deadline()),
             (self.counts, None)
         );
+    }
+
+    /// How many packets the streams hold.
+    fn held(&self) -> usize {
+        self.streams().map(|it| it.held).sum()
     }
 
     fn streams(&self) -> impl Iterator<Item = StreamInfo> {
