@@ -5,7 +5,7 @@ use Rattle.codec_payload_buffer.proofs.BlankLemmas.{takes_away_from}
 use Rattle.codec_payload_buffer.proofs.LeavingLemmas.{left_is, more_in, passed_fits, refused_counts}
 use Rattle.codec_payload_buffer.proofs.OwnLemmas.{passes_stays}
 use Rattle.codec_payload_buffer.proofs.PopLemmas.{passes_shorter, release_shorter, refusal_shorter, nothing_passed}
-use Rattle.codec_payload_buffer.proofs.buffer.DepacketizingBuffer.pop_unit_counted.Goals as goal
+use Rattle.codec_payload_buffer.proofs.buffer.DepacketizingBuffer.pop_due_unit.Goals as goal
 
 pub loop-frame-init : goal.loop-frame-init
 loop-frame-init g c = record { over = []; passes = none; counted = refl; fewer = omega arith; limit = refl }
