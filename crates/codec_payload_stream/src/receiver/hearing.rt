@@ -42,9 +42,9 @@ impl<B: Depacketizer> Receiver<B> {
         ensures heard { Heard now (WithMedia (packet_of packet.now)) self.old result self.new }
         ensures own { is_built_in_depacketizer self.old.packets.buffer.depacketizer ≡ false → OwnStores B.is_head B.is_tail self.old.packets.buffer self.new.packets.buffer }
     {
-        let Ok(outcome) =
-            self.stream
-                .take_media(&mut self.packets, &mut self.seen, now, packet)
+        let Ok(outcome) = self
+            .stream
+            .take_media(&mut self.packets, &mut self.seen, now, packet)
         else {
             return Err(ReceiveError::OutOfMemory);
         };
