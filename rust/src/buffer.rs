@@ -10,6 +10,7 @@ pub mod frames;
 mod held_packet;
 mod known;
 mod leaving;
+mod one_packet;
 mod packed_header;
 mod packets;
 mod pair;

@@ -130,6 +130,7 @@ impl SequenceNumbers {
     }
 
     /// Extends the sequence number `low` of the next packet.
+    #[inline(always)]
     pub fn number(&mut self, low: u16) -> Extended
         ensures value { result ≡ answer_for self.old low }
         ensures after { self.new ≡ numbering_after self.old low }

@@ -117,6 +117,14 @@ impl Choice {
         }
     }
 
+    /// Notes the time of a packet of the stream.
+    #[inline(always)]
+    pub(crate) fn note_at(&mut self, now: Ticks)
+        ensures { self.new ≡ record self.old { latest = Option.Some now.0 } }
+    {
+        self.latest = Some(now.0);
+    }
+
     /// Resets the state: no packet waits, and no packet arrived.
     pub(crate) fn forget(&mut self)
         ensures { self.new ≡ record self.old { candidates = []; latest = Option.None } }

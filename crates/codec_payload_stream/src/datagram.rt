@@ -9,7 +9,7 @@ ghost use Rattle.codec_payload_rtp.specs.RtpValues.{header_of, packet_of};
 ghost use Rattle.codec_payload_codec.specs.Depacketizers.{is_built_in_depacketizer};
 ghost use Rattle.codec_payload_jitter.specs.OwnReceiving.{OwnStores};
 ghost use Rattle.codec_payload_jitter.specs.Receiving.{Receives, ReceivesAgain, would_store};
-ghost use Rattle.codec_payload_stream.specs.Kinds.{again_kind, block_header, carrier_of, carrier_with, datagram_at, datagram_of, first_kind, header_for, is_among, is_other, is_padding_only, is_sent_again, is_the_type, kind_for, media_kind, original_header, original_of, red_again_kind, red_again_of, red_kind, red_of, repeated_header, retransmitted_under, ssrc_or, under};
+ghost use Rattle.codec_payload_stream.specs.Kinds.{WithMedia, again_kind, block_header, carrier_of, carrier_with, datagram_at, datagram_of, first_kind, header_for, is_among, is_other, is_padding_only, is_sent_again, is_the_type, kind_for, media_kind, original_header, original_of, red_again_kind, red_again_of, red_kind, red_of, repeated_header, retransmitted_under, ssrc_or, under};
 ghost use Rattle.codec_payload_stream.specs.Sessions.{NotesAgain, TakesAgain, TakesDatagram, TakesMedia, TakesPrimary, TakesPrimaryAgain, TakesRed, TakesRedAgain, is_own_media, is_repeat, is_restart, is_suspect, observed_in, packet_seen, ssrc_after};
 
 use crate::blocks::{copy_blocks, recover_all};
@@ -343,9 +343,21 @@ impl Stream {
         }
     }
 
+    /// Returns whether an RTP packet has media of the stream in the plainest form: with its payload type, and no retransmission.
+    #[inline(always)]
+    pub(crate) fn is_media(&self, ssrc: Option<u32>, packet: &RtpPacket<'_>) -> bool
+        ensures { result ≡ true → kind_for self.now ssrc (packet_of packet.now) ≡ WithMedia (packet_of packet.now) }
+    {
+        let header = &packet.header;
+        header.payload_type == self.payload_type
+            && !is_sent_again(self.retransmission, header)
+            && !is_other(ssrc, header.ssrc)
+            && !is_padding_only(packet)
+    }
+
     /// Sorts an RTP packet.
     #[inline(always)]
-    fn kind_of<'a>(
+    pub(crate) fn kind_of<'a>(
         &self,
         ssrc: Option<u32>,
         packet: RtpPacket<'a>,
@@ -592,6 +604,25 @@ impl Stream {
         self.push_packet(packets, now, header, packet.payload)
     }
 
+    /// Stores a packet with media, and notes its time.
+    #[inline(always)]
+    pub(crate) fn take_media<B: Depacketizer>(
+        &self,
+        packets: &mut JitterBuffer<B>,
+        seen: &mut SeenTimes,
+        now: Ticks,
+        packet: &RtpPacket<'_>,
+    ) -> Result<Outcome, PacketError>
+        ensures ok { IfOk result (λ outcome. TakesDatagram self.now now (WithMedia (packet_of packet.now)) (record { packets = packets.old; seen = seen.old }) outcome true (record { packets = packets.new; seen = seen.new })) }
+        ensures err { OnErr result ((packets.new ≡ packets.old) × (seen.new ≡ seen.old)) }
+        ensures fault { IfErr result (λ f. f ≡ OutOfMemory) }
+        ensures own { is_built_in_depacketizer packets.old.buffer.depacketizer ≡ false → OwnStores B.is_head B.is_tail packets.old.buffer packets.new.buffer }
+    {
+        let outcome = self.push_media(packets, seen, now, packet)?;
+        note_packet(seen, self.red.is_some(), outcome, packet.header.timestamp);
+        Ok(outcome)
+    }
+
     /// Stores a retransmitted packet, by the same rule.
     fn push_again<B: Depacketizer>(
         &self,
@@ -686,11 +717,7 @@ impl Stream {
                 packets.push_no_media(packet.header.sequence_number)?;
                 Outcome::NoMedia
             }
-            Datagram::Media(packet) => {
-                let outcome = self.push_media(packets, seen, now, packet)?;
-                note_packet(seen, self.red.is_some(), outcome, packet.header.timestamp);
-                outcome
-            }
+            Datagram::Media(packet) => self.take_media(packets, seen, now, packet)?,
             Datagram::SentAgain(sent) => {
                 let outcome = self.push_again(packets, seen, now, sent)?;
                 note_packet(seen, self.red.is_some(), outcome, sent.header.timestamp);

@@ -164,6 +164,7 @@ impl PackedMeta {
     }
 
     /// Frees the memory of the rare values.
+    #[inline(always)]
     pub(super) fn drop_rare(&mut self) {
         self.rare = None;
     }

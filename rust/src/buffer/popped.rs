@@ -7,6 +7,7 @@ use super::unit::RtpMeta;
 use crate::interface::CodecExtra;
 use crate::wire::{ExtensionValues, MediaTime, SenderInfo, SeqNo, Ticks};
 use alloc::vec::Vec;
+use core::mem;
 use core::ops::RangeInclusive;
 
 /// A unit that a pop wrote, in memory that the next pop uses again.
@@ -110,6 +111,16 @@ impl PoppedUnit {
             layers_allocation: first.layers_allocation.or(last.layers_allocation),
             ..last
         }
+    }
+
+    /// Moves the unit to `to`, and keeps the memory that `to` had. What this unit has afterwards is unspecified.
+    #[inline(always)]
+    pub fn move_to(&mut self, to: &mut PoppedUnit) {
+        to.time = self.time;
+        to.contiguous = self.contiguous;
+        to.codec_extra = self.codec_extra;
+        mem::swap(&mut self.bytes, &mut to.bytes);
+        mem::swap(&mut self.metas, &mut to.metas);
     }
 
     /// Frees memory with room for more than this number of bytes, and memory with room for more than this number of packets. A

@@ -5,7 +5,8 @@
 use super::frames::CompleteFrame;
 use super::known::PackedMeta;
 use super::leaving::{Left, left_by, refused_by};
-use super::packets::{frame_range, give_back, make_room, move_frame, starts_next, unpack};
+use super::one_packet::{make_room_for, unpack_frame};
+use super::packets::{frame_range, give_back, move_frame, starts_next};
 use super::popped::PoppedUnit;
 use super::{DepacketizingBuffer, is_out_of_memory};
 use crate::codec::Depacketizer;
@@ -26,10 +27,20 @@ pub(super) enum Taken {
 impl<B: Depacketizer> DepacketizingBuffer<B> {
     /// Does the same as [`DepacketizingBuffer::pop_unit`], and returns how many packets left the buffer without being
     /// released. Packets that were evicted by a push are not among them.
+    #[inline(always)]
     pub fn pop_unit_counted(
         &mut self,
         unit: &mut PoppedUnit,
     ) -> (Option<Result<(), PacketError>>, Left) {
+        match self.due() {
+            Some(_) => self.pop_due_unit(unit),
+            None => (None, left_by(0, 0, 0, 0)),
+        }
+    }
+
+    /// Pops a unit, as [`DepacketizingBuffer::pop_unit_counted`] does.
+    #[inline(never)]
+    fn pop_due_unit(&mut self, unit: &mut PoppedUnit) -> (Option<Result<(), PacketError>>, Left) {
         let before = self.held();
         let mut skipped = 0usize;
         while let Some(frame) = self.due() {
@@ -60,9 +71,9 @@ impl<B: Depacketizer> DepacketizingBuffer<B> {
         let (from, to) = frame_range(&self.packets, frame);
         unit.metas.clear();
         unit.metas.try_exact(to - from)?;
-        make_room(&mut unit.bytes, &self.depacketizer, &self.packets, from, to)?;
+        make_room_for(&mut unit.bytes, &self.depacketizer, &self.packets, from, to)?;
         unit.codec_extra = CodecExtra::None;
-        let unpacked = unpack(
+        let unpacked = unpack_frame(
             &mut self.depacketizer,
             &self.packets,
             from,

@@ -21,7 +21,7 @@ use crate::jitter::numbers::{
 };
 pub use crate::jitter::outcome::{Outcome, PacketCounters};
 use crate::jitter::outcome::{
-    is_stored, outcome_of, packets_in, packets_into, units_in, units_into, with_again,
+    count, is_stored, outcome_of, packets_in, packets_into, units_in, units_into, with_again,
     with_outcome, with_pop, with_recovered,
 };
 pub use crate::jitter::waiting::WaitLimits;
@@ -528,7 +528,7 @@ impl<B: Depacketizer> JitterBuffer<B> {
     #[inline(always)]
     fn accept(&mut self, number: u64, packet: KeptPacket) -> Result<Outcome, PacketError> {
         let outcome = store(&mut self.buffer, self.clock_rate, packet, number)?;
-        self.counters = with_outcome(self.counters, outcome);
+        count(&mut self.counters, outcome);
         Ok(outcome)
     }
 

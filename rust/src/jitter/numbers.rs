@@ -114,6 +114,7 @@ impl SequenceNumbers {
     }
 
     /// Extends the sequence number `low` of the next packet.
+    #[inline(always)]
     pub fn number(&mut self, low: u16) -> Extended {
         let answer = self.answer_for(low);
         self.take(answer, low);

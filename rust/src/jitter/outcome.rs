@@ -105,7 +105,7 @@ pub(crate) fn outcome_of(placed: Placed) -> Outcome {
 
 /// Counts one more packet with this outcome, without `pushed`.
 #[inline(always)]
-fn count_outcome(mut counters: PacketCounters, outcome: Outcome) -> PacketCounters {
+fn count_outcome(counters: &mut PacketCounters, outcome: Outcome) {
     match outcome {
         Outcome::Held
         | Outcome::Restarted(_)
@@ -118,14 +118,19 @@ fn count_outcome(mut counters: PacketCounters, outcome: Outcome) -> PacketCounte
         Outcome::HeldAndEvicted => counters.evicted = counters.evicted.wrapping_add(1),
         Outcome::NoMedia => counters.no_media = counters.no_media.wrapping_add(1),
     }
-    counters
 }
 
 /// Counts one more pushed packet with this outcome.
 #[inline(always)]
-pub(crate) fn with_outcome(counters: PacketCounters, outcome: Outcome) -> PacketCounters {
-    let mut counters = count_outcome(counters, outcome);
+pub(crate) fn count(counters: &mut PacketCounters, outcome: Outcome) {
+    count_outcome(counters, outcome);
     counters.pushed = counters.pushed.wrapping_add(1);
+}
+
+/// Returns the counters with one more pushed packet with this outcome.
+#[inline(always)]
+pub(crate) fn with_outcome(mut counters: PacketCounters, outcome: Outcome) -> PacketCounters {
+    count(&mut counters, outcome);
     counters
 }
 
@@ -136,9 +141,9 @@ pub(crate) fn with_restart(mut counters: PacketCounters) -> PacketCounters {
 }
 
 /// Counts the final outcome of the suspect packet that was kept.
-pub(crate) fn with_kept(counters: PacketCounters, outcome: Outcome) -> PacketCounters {
+pub(crate) fn with_kept(mut counters: PacketCounters, outcome: Outcome) -> PacketCounters {
     let suspect = counters.suspect.wrapping_sub(1);
-    let mut counters = count_outcome(counters, outcome);
+    count_outcome(&mut counters, outcome);
     counters.suspect = suspect;
     counters
 }

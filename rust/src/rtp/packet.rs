@@ -277,6 +277,20 @@ fn remove_padding(there: bool, bytes: &[u8]) -> Result<(&[u8], u8), RtpError> {
     Ok((payload, padding))
 }
 
+/// The header with the fields of its second byte, its number, its time and its SSRC, without CSRCs and extension.
+#[inline(always)]
+fn fixed_header<'a>(second: u8, number: [u8; 2], time: [u8; 4], ssrc: [u8; 4]) -> PacketHeader<'a> {
+    PacketHeader {
+        marker: second / 128 == 1,
+        payload_type: second % 128,
+        sequence_number: u16::from_be_bytes(number),
+        timestamp: u32::from_be_bytes(time),
+        ssrc: u32::from_be_bytes(ssrc),
+        csrcs: &[],
+        extension: None,
+    }
+}
+
 /// The header at the front, whether P is set, and the bytes after it.
 #[inline(always)]
 fn read_header(packet: &[u8]) -> Result<(PacketHeader<'_>, bool, &[u8]), RtpError> {
@@ -303,14 +317,16 @@ fn read_header(packet: &[u8]) -> Result<(PacketHeader<'_>, bool, &[u8]), RtpErro
     }
     let (csrcs, rest) = cut_front(4 * usize::from(first % 16), RtpError::CsrcsTooShort, rest)?;
     let (extension, rest) = read_extension(first / 16 % 2 == 1, rest)?;
+    let fixed = fixed_header(
+        *second,
+        [*s1, *s0],
+        [*t3, *t2, *t1, *t0],
+        [*c3, *c2, *c1, *c0],
+    );
     let header = PacketHeader {
-        marker: second / 128 == 1,
-        payload_type: second % 128,
-        sequence_number: u16::from_be_bytes([*s1, *s0]),
-        timestamp: u32::from_be_bytes([*t3, *t2, *t1, *t0]),
-        ssrc: u32::from_be_bytes([*c3, *c2, *c1, *c0]),
         csrcs,
         extension,
+        ..fixed
     };
     Ok((header, first / 32 % 2 == 1, rest))
 }
@@ -326,15 +342,60 @@ fn write_padding(padding: u8, out: &mut Vec<u8>) -> Result<(), AllocError> {
 }
 
 impl<'a> RtpPacket<'a> {
-    /// Reads a packet, from left to right.
+    /// Reads a packet. One with nothing beside the payload, whose first byte is 128, takes the short way.
     #[inline(always)]
     fn read(packet: &'a [u8]) -> Result<RtpPacket<'a>, RtpError> {
+        match RtpPacket::read_plain(packet) {
+            Some(plain) => Ok(plain),
+            None => RtpPacket::read_parts(packet),
+        }
+    }
+
+    /// Reads a packet, from left to right.
+    #[inline(always)]
+    fn read_parts(packet: &'a [u8]) -> Result<RtpPacket<'a>, RtpError> {
         let (header, padded, rest) = read_header(packet)?;
         let (payload, padding) = remove_padding(padded, rest)?;
         Ok(RtpPacket {
             header,
             payload,
             padding,
+        })
+    }
+
+    /// Reads a packet without CSRCs, extension and padding. `None`: it is no such packet.
+    #[inline(always)]
+    fn read_plain(packet: &'a [u8]) -> Option<RtpPacket<'a>> {
+        let [
+            first,
+            second,
+            s1,
+            s0,
+            t3,
+            t2,
+            t1,
+            t0,
+            c3,
+            c2,
+            c1,
+            c0,
+            payload @ ..,
+        ] = packet
+        else {
+            return None;
+        };
+        if first / 64 != 2 || first / 16 % 2 == 1 || first / 32 % 2 == 1 || first % 16 != 0 {
+            return None;
+        }
+        Some(RtpPacket {
+            header: fixed_header(
+                *second,
+                [*s1, *s0],
+                [*t3, *t2, *t1, *t0],
+                [*c3, *c2, *c1, *c0],
+            ),
+            payload,
+            padding: 0,
         })
     }
 

@@ -91,6 +91,12 @@ impl Choice {
         }
     }
 
+    /// Notes the time of a packet of the stream.
+    #[inline(always)]
+    pub(crate) fn note_at(&mut self, now: Ticks) {
+        self.latest = Some(now.0);
+    }
+
     /// Resets the state: no packet waits, and no packet arrived.
     pub(crate) fn forget(&mut self) {
         self.candidates.clear();

@@ -281,9 +281,19 @@ impl Stream {
         }
     }
 
+    /// Returns whether an RTP packet has media of the stream in the plainest form: with its payload type, and no retransmission.
+    #[inline(always)]
+    pub(crate) fn is_media(&self, ssrc: Option<u32>, packet: &RtpPacket<'_>) -> bool {
+        let header = &packet.header;
+        header.payload_type == self.payload_type
+            && !is_sent_again(self.retransmission, header)
+            && !is_other(ssrc, header.ssrc)
+            && !is_padding_only(packet)
+    }
+
     /// Sorts an RTP packet.
     #[inline(always)]
-    fn kind_of<'a>(
+    pub(crate) fn kind_of<'a>(
         &self,
         ssrc: Option<u32>,
         packet: RtpPacket<'a>,
@@ -482,6 +492,20 @@ impl Stream {
         self.push_packet(packets, now, header, packet.payload)
     }
 
+    /// Stores a packet with media, and notes its time.
+    #[inline(always)]
+    pub(crate) fn take_media<B: Depacketizer>(
+        &self,
+        packets: &mut JitterBuffer<B>,
+        seen: &mut SeenTimes,
+        now: Ticks,
+        packet: &RtpPacket<'_>,
+    ) -> Result<Outcome, PacketError> {
+        let outcome = self.push_media(packets, seen, now, packet)?;
+        note_packet(seen, self.red.is_some(), outcome, packet.header.timestamp);
+        Ok(outcome)
+    }
+
     /// Stores a retransmitted packet, by the same rule.
     fn push_again<B: Depacketizer>(
         &self,
@@ -555,11 +579,7 @@ impl Stream {
                 packets.push_no_media(packet.header.sequence_number)?;
                 Outcome::NoMedia
             }
-            Datagram::Media(packet) => {
-                let outcome = self.push_media(packets, seen, now, packet)?;
-                note_packet(seen, self.red.is_some(), outcome, packet.header.timestamp);
-                outcome
-            }
+            Datagram::Media(packet) => self.take_media(packets, seen, now, packet)?,
             Datagram::SentAgain(sent) => {
                 let outcome = self.push_again(packets, seen, now, sent)?;
                 note_packet(seen, self.red.is_some(), outcome, sent.header.timestamp);

@@ -4,6 +4,7 @@
 
 use alloc::vec::Vec;
 
+mod hearing;
 mod unit_pops;
 
 use crate::buffer::{Depacketized, DepacketizingBuffer, RtpMeta, UnitInfo};
@@ -16,10 +17,10 @@ use crate::keyframes::unit_gate::{FromKeyframe, UnitGate};
 use crate::rtp::packet::RtpError;
 use crate::rtp::times::RtpTimes;
 use crate::rtp::values::ExtensionIds;
-use crate::stream::answers::{answer_for, is_out_of_memory};
+use crate::stream::answers::is_out_of_memory;
 use crate::stream::checks::{packets_at_once, red_of, retransmission_fits};
 use crate::stream::choice::{Choice, Origin, Verdict};
-use crate::stream::datagram::{Datagram, Stream, observe, ssrc_after};
+use crate::stream::datagram::{Datagram, Stream};
 use crate::stream::gated::{follow, follow_into, gate_for};
 use crate::stream::reports::{ReceptionReport, ReceptionStatistics};
 use crate::stream::seen_times::SeenTimes;
@@ -396,25 +397,6 @@ impl<B: Depacketizer> Receiver<B> {
     /// Counts `count` packets that waited as packets of other streams.
     fn turn_away(&mut self, count: usize) {
         self.arrived = turned_away(self.arrived, count as u64);
-    }
-
-    /// Receives a datagram, by the SSRC of the stream.
-    fn hear(&mut self, now: Ticks, bytes: &[u8]) -> Result<Outcome, ReceiveError> {
-        let sorted = self.stream.sort(self.ssrc, bytes);
-        let Ok(datagram) = &sorted else {
-            return Err(ReceiveError::OutOfMemory);
-        };
-        let Ok(taken) = self
-            .stream
-            .take(&mut self.packets, &mut self.seen, now, datagram)
-        else {
-            return Err(ReceiveError::OutOfMemory);
-        };
-        self.ssrc = ssrc_after(self.ssrc, datagram);
-        self.arrived = with_datagram(self.arrived, datagram);
-        observe(&mut self.statistics, now, datagram);
-        self.choice.note(now, datagram);
-        answer_for(datagram, taken)
     }
 
     /// Returns the next unit, if one is due at time `now`. See [`JitterBuffer::pop`].

@@ -151,6 +151,7 @@ fn distance(before: u32, after: u32) -> u32 {
 
 /// Returns sixteen times the jitter after a packet with this difference of transit times. A sixteenth of the change is added,
 /// rounded as in RFC 3550.
+#[inline(always)]
 fn jitter_after(jitter: u64, before: Option<u32>, transit: u32) -> u64 {
     match before {
         Some(before) => jitter + u64::from(distance(before, transit)) - (jitter + 8) / 16,

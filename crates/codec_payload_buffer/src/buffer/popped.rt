@@ -11,6 +11,7 @@ use codec_payload_base::interface::CodecExtra;
 use codec_payload_base::wire::{ExtensionValues, MediaTime, SenderInfo, SeqNo, Ticks};
 use std::alloc::Global;
 use std::marker::Model;
+use std::mem;
 use std::ops::RangeInclusive;
 
 /// A unit that a pop wrote, in memory that the next pop uses again.
@@ -128,6 +129,18 @@ impl PoppedUnit {
             layers_allocation: first.layers_allocation.or(last.layers_allocation),
             ..last
         }
+    }
+
+    /// Moves the unit to `to`, and keeps the memory that `to` had. What this unit has afterwards is unspecified.
+    #[inline(always)]
+    pub fn move_to(&mut self, to: &mut PoppedUnit)
+        ensures { to.new ≡ self.old }
+    {
+        to.time = self.time;
+        to.contiguous = self.contiguous;
+        to.codec_extra = self.codec_extra;
+        mem::swap(&mut self.bytes, &mut to.bytes);
+        mem::swap(&mut self.metas, &mut to.metas);
     }
 
     /// Frees memory with room for more than this number of bytes, and memory with room for more than this number of packets. A

@@ -11,7 +11,8 @@ ghost use Rattle.codec_payload_codec.specs.Depacketizers.{is_built_in_depacketiz
 use super::frames::CompleteFrame;
 use super::known::PackedMeta;
 use super::leaving::{Left, left_by, refused_by};
-use super::packets::{frame_range, give_back, make_room, move_frame, starts_next, unpack};
+use super::one_packet::{make_room_for, unpack_frame};
+use super::packets::{frame_range, give_back, move_frame, starts_next};
 use super::popped::PoppedUnit;
 use super::{DepacketizingBuffer, is_out_of_memory};
 use codec_payload_base::error::PacketError;
@@ -30,6 +31,7 @@ pub(super) enum Taken {
 impl<B: Depacketizer> DepacketizingBuffer<B> {
     /// Does the same as [`DepacketizingBuffer::pop_unit`], and returns how many packets left the buffer without being
     /// released. Packets that were evicted by a push are not among them.
+    #[inline(always)]
     pub fn pop_unit_counted(
         &mut self,
         unit: &mut PoppedUnit,
@@ -42,6 +44,23 @@ impl<B: Depacketizer> DepacketizingBuffer<B> {
         ensures fewer { HasTaken (popped_to result.0 unit.new) self.old self.new }
         ensures limit { self.new.limit ≡ self.old.limit }
         // A custom depacketizer is called once for each payload of the unit.
+        ensures own { is_built_in_depacketizer self.old.depacketizer ≡ false → OwnPops B.state B.depacketize_step self.old (popped_to result.0 unit.new) }
+    {
+        match self.due() {
+            Some(_) => self.pop_due_unit(unit),
+            None => (None, left_by(0, 0, 0, 0)),
+        }
+    }
+
+    /// Pops a unit, as [`DepacketizingBuffer::pop_unit_counted`] does.
+    #[inline(never)]
+    fn pop_due_unit(&mut self, unit: &mut PoppedUnit) -> (Option<Result<(), PacketError>>, Left)
+        ensures pops { PopsLeaving self.old (popped_to result.0 unit.new) result.1 self.new }
+        ensures some { HasPacketsIn result.0 unit.new }
+        ensures whole { IsWhole self.old (popped_to result.0 unit.new) result.1 self.new }
+        ensures waits { due_of self.old ≡ Option.None → result.0 ≡ Option.None }
+        ensures fewer { HasTaken (popped_to result.0 unit.new) self.old self.new }
+        ensures limit { self.new.limit ≡ self.old.limit }
         ensures own { is_built_in_depacketizer self.old.depacketizer ≡ false → OwnPops B.state B.depacketize_step self.old (popped_to result.0 unit.new) }
     {
         let before = self.held();
@@ -81,9 +100,9 @@ impl<B: Depacketizer> DepacketizingBuffer<B> {
         let (from, to) = frame_range(&self.packets, frame);
         unit.metas.clear();
         unit.metas.reserve_exact(to - from)?;
-        make_room(&mut unit.bytes, &self.depacketizer, &self.packets, from, to)?;
+        make_room_for(&mut unit.bytes, &self.depacketizer, &self.packets, from, to)?;
         unit.codec_extra = CodecExtra::None;
-        let unpacked = unpack(
+        let unpacked = unpack_frame(
             &mut self.depacketizer,
             &self.packets,
             from,

@@ -10,7 +10,7 @@ invariant_of-self-2 g c =
     let kept : IsCounted (counted c.self.inside.counters c.in_ok-outcome.outcome) (length c.store.new.buffer.held) =
     conserved_in c.self.inside.clock_rate (arrival_of c.args.packet) c.args.number c.self.inside.buffer c.store.new.buffer c.in_ok-outcome.outcome c.self.inside.counters
     c.in_ok-outcome.ensures.takes c.in_ok-outcome.ensures.outcome c.self.invariant in
-    subst (λ (k : PacketCounters). IsCounted k (length c.store.new.buffer.held)) (sym c.with_outcome-self-inside.ensures) kept
+    subst (λ (k : PacketCounters). IsCounted k (length c.store.new.buffer.held)) (sym c.count.ensures) kept
 
 pub returns-clause-ok : goal.returns-clause-ok
 returns-clause-ok g c =
@@ -29,11 +29,11 @@ returns-clause-ok g c =
       room = c.self.inside.room;
     } in
     let after = c.store.new.buffer in
-    let t : Receiving = record r { buffer = after; counters = c.with_outcome-self-inside.result } in
+    let t : Receiving = record r { buffer = after; counters = c.count.new.counters } in
     let made : Accepts (arrival_of c.args.packet) c.args.number r c.in_ok-outcome.outcome t = (
       after,
       c.in_ok-outcome.ensures.takes,
       c.in_ok-outcome.ensures.outcome,
-      ap (λ (k : PacketCounters). record r { buffer = after; counters = k }) c.with_outcome-self-inside.ensures,
+      ap (λ (k : PacketCounters). record r { buffer = after; counters = k }) c.count.ensures,
     ) in
     subst (λ (x : Receiving). Accepts (arrival_of c.args.packet) c.args.number x c.in_ok-outcome.outcome t) c.self.view_is made

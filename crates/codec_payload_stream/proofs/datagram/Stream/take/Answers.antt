@@ -15,8 +15,8 @@ returns-clause-own g c = λ other.
           stores_then _ _ before w.push_no_media.new.self.buffer after (w.in_ok-push_no_media-in-NoMedia.ensures.own other)
           (stores_none _ _ w.push_no_media.new.self.buffer after (ap (λ (x : Receiving). x.buffer) w.packets-is))
       | in-Media+in_ok-outcome-in-Media w ↦
-          stores_then _ _ before w.push_media.new.packets.buffer after (w.in_ok-outcome-in-Media.ensures.own other)
-          (stores_none _ _ w.push_media.new.packets.buffer after (ap (λ (x : Receiving). x.buffer) w.packets-is))
+          stores_then _ _ before w.take_media.new.packets.buffer after (w.in_ok-outcome-in-Media.ensures.own other)
+          (stores_none _ _ w.take_media.new.packets.buffer after (ap (λ (x : Receiving). x.buffer) w.packets-is))
       | in-SentAgain+in_ok-outcome-in-SentAgain w ↦
           stores_then _ _ before w.push_again.new.packets.buffer after (w.in_ok-outcome-in-SentAgain.ensures.own other)
           (stores_none _ _ w.push_again.new.packets.buffer after (ap (λ (x : Receiving). x.buffer) w.packets-is))

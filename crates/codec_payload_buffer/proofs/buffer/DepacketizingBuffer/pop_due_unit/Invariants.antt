@@ -2,7 +2,7 @@ use Rattle.std.proofs.Common.{◌≡◌, ◌≤◌, ◌+◌, List, length}
 use Rattle.codec_payload_buffer.specs.Leaving.{packets_in}
 use Rattle.codec_payload_buffer.specs.Steps.{Passes}
 use Rattle.codec_payload_buffer.specs.declared.buffer.frames.CompleteFrame.{CompleteFrame}
-use Rattle.codec_payload_buffer.proofs.buffer.DepacketizingBuffer.pop_unit_counted.Given as goal
+use Rattle.codec_payload_buffer.proofs.buffer.DepacketizingBuffer.pop_due_unit.Given as goal
 
 abbrev pub invariant-loop-frame : goal.invariant-loop-frame
 invariant-loop-frame g l = record {

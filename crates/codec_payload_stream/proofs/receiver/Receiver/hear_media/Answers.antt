@@ -1,0 +1,46 @@
+use Rattle.std.proofs.Common.{◌≡◌, ◌∙◌, refl, ap, subst, true, Some, Ok}
+use Rattle.codec_payload_rtp.specs.RtpValues.{packet_of}
+use Rattle.codec_payload_stream.specs.Choice.{Choosing, latest_after, origin_of}
+use Rattle.codec_payload_stream.specs.Kinds.{Datagram, WithMedia}
+use Rattle.codec_payload_stream.specs.SeenTimes.{Seen}
+use Rattle.codec_payload_stream.specs.Sessions.{Heard, Session, arrived_with, observed_in, ssrc_after}
+use Rattle.codec_payload_stream.specs.Reports.{Reception}
+use Rattle.codec_payload_stream.proofs.SessionLemmas.{heard, takes_balanced}
+use Rattle.codec_payload_stream.proofs.receiver.Receiver.hear_media.Goals as goal
+
+pub invariant_of-self-2 : goal.invariant_of-self-2
+invariant_of-self-2 g c =
+    takes_balanced c.self.inside.stream c.args.now c.self.inside.arrived (WithMedia (packet_of c.args.packet.now)) (record { packets = c.self.inside.packets; seen = c.self.inside.seen })
+    (record { packets = c.take_media.new.packets; seen = c.take_media.new.seen }) c.in-Ok.outcome true c.in-Ok.ensures.ok c.self.invariant
+
+pub returns-clause-heard : goal.returns-clause-heard
+returns-clause-heard g c =
+    let s : Session = record {
+      stream = c.self.inside.stream;
+      named = c.self.inside.named;
+      ssrc = c.self.inside.ssrc;
+      packets = c.self.inside.packets;
+      arrived = c.self.inside.arrived;
+      time = c.self.inside.times;
+      reception = c.self.inside.statistics;
+      no_reception = c.self.inside.no_statistics;
+      choice = c.self.inside.choice;
+      seen = c.self.inside.seen;
+      gates = c.self.inside.gates;
+    } in
+    let d : Datagram = WithMedia (packet_of c.args.packet.now) in
+    let after = c.take_media.new.packets in
+    let seen : Seen = c.take_media.new.seen in
+    let t : Session = record s { ssrc = ssrc_after s.ssrc d; packets = after; arrived = arrived_with s.arrived d; reception = c.observe.new.self; choice = c.note_at.new.self; seen = seen } in
+    let left : t ≡ record s {
+      ssrc = ssrc_after s.ssrc d;
+      packets = after;
+      arrived = arrived_with s.arrived d;
+      reception = observed_in s.reception c.args.now.0 d;
+      choice = record s.choice { latest = latest_after s.choice.latest c.args.now.0 (origin_of d) };
+      seen = seen;
+    } =
+    ap (λ (x : Reception). record s { ssrc = ssrc_after s.ssrc d; packets = after; arrived = arrived_with s.arrived d; reception = x; choice = c.note_at.new.self; seen = seen }) c.observe.ensures
+    ∙ ap (λ (x : Choosing). record s { ssrc = ssrc_after s.ssrc d; packets = after; arrived = arrived_with s.arrived d; reception = observed_in s.reception c.args.now.0 d; choice = x; seen = seen }) c.note_at.ensures in
+    let made : Heard c.args.now d s (Ok c.in-Ok.outcome) t = heard c.args.now d s t c.in-Ok.outcome true after seen (Ok c.in-Ok.outcome) c.in-Ok.ensures.ok refl left in
+    subst (λ (x : Session). Heard c.args.now d x (Ok c.in-Ok.outcome) t) c.self.view_is made

@@ -1,0 +1,94 @@
+//! How a receiver takes the datagrams of its stream.
+
+ghost use Rattle.std.specs.Prelude.{◌≡◌, false};
+ghost use Rattle.codec_payload_codec.specs.Depacketizers.{is_built_in_depacketizer};
+ghost use Rattle.codec_payload_jitter.specs.OwnReceiving.{OwnStores};
+ghost use Rattle.codec_payload_rtp.specs.RtpValues.{packet_of};
+ghost use Rattle.codec_payload_stream.specs.Kinds.{WithMedia, datagram_at, datagram_of, kind_for};
+ghost use Rattle.codec_payload_stream.specs.Sessions.{Heard};
+
+use super::{ReceiveError, Receiver, with_datagram};
+use crate::answers::answer_for;
+use crate::datagram::{Datagram, Malformation, observe, ssrc_after};
+use codec_payload_base::wire::Ticks;
+use codec_payload_codec::codec::Depacketizer;
+use codec_payload_jitter::jitter::Outcome;
+use codec_payload_rtp::rtp::{RtpPacket, is_rtcp};
+
+impl<B: Depacketizer> Receiver<B> {
+    /// Receives a datagram, by the SSRC of the stream. A packet with media is stored without a [`Datagram`], which is large.
+    pub(super) fn hear(&mut self, now: Ticks, bytes: &[u8]) -> Result<Outcome, ReceiveError>
+        ensures heard { Heard now (datagram_at self.old.stream self.old.ssrc bytes.now) self.old result self.new }
+        ensures own { is_built_in_depacketizer self.old.packets.buffer.depacketizer ≡ false → OwnStores B.is_head B.is_tail self.old.packets.buffer self.new.packets.buffer }
+    {
+        if is_rtcp(bytes) {
+            return self.hear_datagram(now, &Datagram::Rtcp);
+        }
+        match RtpPacket::parse(bytes) {
+            Ok(packet) => {
+                if self.stream.is_media(self.ssrc, &packet) {
+                    self.hear_media(now, &packet)
+                } else {
+                    self.hear_packet(now, packet)
+                }
+            }
+            Err(fault) => self.hear_datagram(now, &Datagram::Malformed(Malformation::Rtp(fault))),
+        }
+    }
+
+    /// Receives an RTP packet with media of the stream.
+    #[inline(always)]
+    fn hear_media(&mut self, now: Ticks, packet: &RtpPacket<'_>) -> Result<Outcome, ReceiveError>
+        ensures heard { Heard now (WithMedia (packet_of packet.now)) self.old result self.new }
+        ensures own { is_built_in_depacketizer self.old.packets.buffer.depacketizer ≡ false → OwnStores B.is_head B.is_tail self.old.packets.buffer self.new.packets.buffer }
+    {
+        let Ok(outcome) = self
+            .stream
+            .take_media(&mut self.packets, &mut self.seen, now, packet)
+        else {
+            return Err(ReceiveError::OutOfMemory);
+        };
+        let header = &packet.header;
+        self.ssrc = Some(header.ssrc);
+        self.arrived.received = self.arrived.received.wrapping_add(1);
+        self.statistics
+            .observe(now, header.sequence_number, header.timestamp);
+        self.choice.note_at(now);
+        Ok(outcome)
+    }
+
+    /// Receives an RTP packet of any kind.
+    #[inline(never)]
+    fn hear_packet(&mut self, now: Ticks, packet: RtpPacket<'_>) -> Result<Outcome, ReceiveError>
+        ensures heard { Heard now (kind_for self.old.stream self.old.ssrc (packet_of packet.entry)) self.old result self.new }
+        ensures own { is_built_in_depacketizer self.old.packets.buffer.depacketizer ≡ false → OwnStores B.is_head B.is_tail self.old.packets.buffer self.new.packets.buffer }
+    {
+        match self.stream.kind_of(self.ssrc, packet) {
+            Ok(datagram) => self.hear_datagram(now, &datagram),
+            Err(_) => Err(ReceiveError::OutOfMemory),
+        }
+    }
+
+    /// Receives a datagram that was sorted.
+    #[inline(never)]
+    fn hear_datagram(
+        &mut self,
+        now: Ticks,
+        datagram: &Datagram<'_>,
+    ) -> Result<Outcome, ReceiveError>
+        ensures heard { Heard now (datagram_of datagram.now) self.old result self.new }
+        ensures own { is_built_in_depacketizer self.old.packets.buffer.depacketizer ≡ false → OwnStores B.is_head B.is_tail self.old.packets.buffer self.new.packets.buffer }
+    {
+        let Ok(taken) = self
+            .stream
+            .take(&mut self.packets, &mut self.seen, now, datagram)
+        else {
+            return Err(ReceiveError::OutOfMemory);
+        };
+        self.ssrc = ssrc_after(self.ssrc, datagram);
+        self.arrived = with_datagram(self.arrived, datagram);
+        observe(&mut self.statistics, now, datagram);
+        self.choice.note(now, datagram);
+        answer_for(datagram, taken)
+    }
+}
