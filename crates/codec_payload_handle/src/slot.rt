@@ -14,6 +14,7 @@ use codec_payload_core::wire::Ticks;
 use codec_payload_stream::receiver::Receiver;
 use std::alloc::Global;
 use std::marker::Model;
+use std::mem;
 
 /// The largest number of bytes that an empty slot keeps for the next unit.
 const MOST_BYTES: usize = 8_192;
@@ -147,7 +148,7 @@ impl UnitSlot {
     {
         taken.is_some = self.is_some;
         self.is_some = false;
-        self.unit.move_to(&mut taken.unit);
+        mem::swap(&mut self.unit, &mut taken.unit);
         self.clear(alloc);
     }
 }
