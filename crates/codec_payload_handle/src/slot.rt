@@ -14,7 +14,6 @@ use codec_payload_core::wire::Ticks;
 use codec_payload_stream::receiver::Receiver;
 use std::alloc::Global;
 use std::marker::Model;
-use std::mem;
 
 /// The largest number of bytes that an empty slot keeps for the next unit.
 const MOST_BYTES: usize = 8_192;
@@ -148,7 +147,7 @@ impl UnitSlot {
     {
         taken.is_some = self.is_some;
         self.is_some = false;
-        mem::swap(&mut self.unit, &mut taken.unit);
+        self.unit.move_to(&mut taken.unit);
         self.clear(alloc);
     }
 }

@@ -81,6 +81,20 @@ impl Feedback {
         }
     }
 
+    /// Returns whether a packet of the format may answer a request. If it may not, its number changes nothing. Reads only two
+    /// bytes of a packet whose number was not requested, if the format has no payload type of retransmissions.
+    fn may_answer(&self, format: &Format, datagram: &[u8]) -> bool {
+        if format.retransmission.is_some() {
+            return true;
+        }
+        match datagram {
+            [_, _, high, low, ..] => self
+                .requests
+                .has_requested(u16::from(*high) * 256 + u16::from(*low)),
+            _ => true,
+        }
+    }
+
     /// Returns how long a frame may wait, by the round trip. `None`: the wait limits stay.
     fn wait(&self) -> Option<u64> {
         match (self.waits, self.requests.round_trip()) {
@@ -136,7 +150,9 @@ impl Feedback {
 /// Records the number of a packet that was accepted.
 pub(crate) fn hear(feedback: &mut Option<Feedback>, format: &Format, now: Ticks, datagram: &[u8]) {
     if let Some(feedback) = feedback {
-        feedback.hear(now, number_of(format, datagram));
+        if feedback.may_answer(format, datagram) {
+            feedback.hear(now, number_of(format, datagram));
+        }
     }
 }
 

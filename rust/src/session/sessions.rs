@@ -211,6 +211,10 @@ impl Session {
     /// stream returns the report, if one is due and a stream is announced. The first one is due one interval after the poll
     /// that has no more events of the first streams, and each later one an interval after the previous one was sent. Once all
     /// announced streams have ended, it begins so again. A report costs one step for each pair of streams.
+    ///
+    /// If a poll returns `None` and no packet left a stream in it, no poll before [`Session::next_deadline`] has an event, until
+    /// the next call of another kind. The one exception is a request for which memory runs out. A poll without an event in which
+    /// packets left has skipped frames or dropped units: the next poll can have an event at any time.
     pub fn poll(&mut self, now: Ticks) -> Option<Event> {
         match self.telephone.take() {
             Some(event) => Some(event),
