@@ -47,6 +47,18 @@ notes_alone n r t kept is = (false, subst (λ (k : Option Arrival). Confirms n k
 
 -- from what the code has done
 
+pub went_on : (n : ℕ) (a : Arrival) (r seen t : Receiving) (buffer : State) (o : Outcome) (times : Noted) (k : PacketCounters) → r ≡ seen → TakesIn r.rate a n r.buffer buffer
+    → o ≡ outcome_at r.buffer n → times ≡ noted_with r.noted (record { number = n; time = a.header.timestamp }) → k ≡ counted r.counters o
+    → t ≡ record r { buffer = buffer; noted = times; counters = k } → GoesOn n a seen o t
+went_on n a r seen t buffer o times k same takes outcome_is noted_is counted_is is =
+    let mid : Receiving = record r { buffer = buffer; counters = counted r.counters o } in
+    subst (λ (x : Receiving). GoesOn n a x o t) same (
+      mid,
+      (buffer, takes, outcome_is, refl),
+      is ∙ (ap (λ (ns : Noted). record r { buffer = buffer; noted = ns; counters = k }) noted_is
+          ∙ ap (λ (x : PacketCounters). record (with_noted n a mid) { counters = x }) counted_is),
+    )
+
 pub stored_both : (n : ℕ) (a b : Arrival) (r seen t : Receiving) (buffer : State) (outcomes : Outcome × Outcome) (times : Noted) (k : PacketCounters) → r ≡ seen
     → TakesInBoth r.rate a n b (kept_number n b.header.sequence_number) r.buffer outcomes buffer
     → times ≡ noted_with r.noted (record { number = n; time = a.header.timestamp }) → k ≡ counted_again (counted_restart (counted r.counters outcomes.0)) outcomes.1

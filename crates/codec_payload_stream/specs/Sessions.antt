@@ -45,8 +45,7 @@ use Rattle.codec_payload_stream.specs.declared.receiver.SettingsError.TheVariant
 
 -- a receiver, as contracts see it: the settings of the stream; the SSRC that the settings name; the SSRC of the stream, if it
 -- is known; the jitter buffer; the counters of datagrams before it; the RTP time of the latest unit; the statistics of the
--- sender, and their first state; the state of the choice; the RTP times of the latest packets and blocks; which units a decoder
--- can show
+-- sender; the state of the choice; the RTP times of the latest packets and blocks; which units a decoder can show
 pub record Session : Type 0 where
   pub stream : Kinds
   pub named : Option ℕ
