@@ -53,16 +53,16 @@ pub struct JitterBuffer<B = NoBox> {
     no_media_numbers: Vec<u64>,
     noted_times: NotedTimes,
     kept: Option<KeptPacket>,
-    clock_rate: Frequency,
     wait_limits: WaitLimits,
-    ended: bool,
     counters: PacketCounters,
     /// The lowest extended number since the latest restart.
     lowest: Option<u64>,
-    /// The caller announced a restart, and no packet has arrived since.
-    is_restarting: bool,
     /// While fewer places than this are free, pops wait for nothing.
     room: usize,
+    clock_rate: Frequency,
+    ended: bool,
+    /// The caller announced a restart, and no packet has arrived since.
+    is_restarting: bool,
 }
 
 impl<B: Depacketizer> JitterBuffer<B> {

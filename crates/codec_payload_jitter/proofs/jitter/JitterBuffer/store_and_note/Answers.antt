@@ -8,5 +8,30 @@ use Rattle.codec_payload_jitter.proofs.ReceivingLemmas.{conserved_in}
 use Rattle.codec_payload_jitter.proofs.RestartingLemmas.{went_on}
 use Rattle.codec_payload_jitter.proofs.jitter.JitterBuffer.store_and_note.Goals as goal
 
+pub invariant_of-self-2 : goal.invariant_of-self-2
+invariant_of-self-2 g c =
+    let kept : IsCounted (counted c.self.inside.counters c.in_ok-outcome.outcome) (length c.store.new.buffer.held) =
+    conserved_in c.self.inside.clock_rate (arrival_of c.args.packet) c.args.number c.self.inside.buffer c.store.new.buffer c.in_ok-outcome.outcome c.self.inside.counters
+    c.in_ok-outcome.ensures.takes c.in_ok-outcome.ensures.outcome c.self.invariant in
+    subst (λ (k : PacketCounters). IsCounted k (length c.store.new.buffer.held)) (sym c.with_outcome-self-inside.ensures) kept
+
 pub returns-clause-ok : goal.returns-clause-ok
-returns-clause-ok g c = ?
+returns-clause-ok g c =
+    let r : Receiving = record {
+      numbering = c.self.inside.numbers;
+      buffer = c.self.inside.buffer;
+      no_media_numbers = c.self.inside.no_media_numbers.items;
+      noted = c.self.inside.noted_times.noted;
+      kept = option_map arrival_of c.self.inside.kept;
+      rate = c.self.inside.clock_rate;
+      wait_limits = c.self.inside.wait_limits;
+      ended = c.self.inside.ended;
+      counters = c.self.inside.counters;
+      lowest = c.self.inside.lowest;
+      is_restarting = c.self.inside.is_restarting;
+      room = c.self.inside.room;
+    } in
+    let x : NotedTime = record { number = c.args.number; time = c.args.packet.header.timestamp } in
+    let noted : c.note.new.self.noted ≡ noted_with r.noted x = (rw c.timestamp.ensures at c.note.ensures) ∙ ap (λ (s : Noted). noted_with s x) c.make_room.ensures.same in
+    went_on c.args.number (arrival_of c.args.packet) r c.args.self.now _ c.store.new.buffer c.in_ok-outcome.outcome c.note.new.self.noted c.with_outcome-self-inside.result c.self.view_is
+    c.in_ok-outcome.ensures.takes c.in_ok-outcome.ensures.outcome noted c.with_outcome-self-inside.ensures refl
