@@ -118,7 +118,8 @@ impl NotedTimes {
         ensures room { OnOk result (needed ≤ self.new.room) }
     {
         let room = needed.max(2 * self.times.len()).max(FIRST_ROOM).min(most);
-        self.times.reserve_exact(room.saturating_sub(self.times.len()))
+        self.times
+            .reserve_exact(room.saturating_sub(self.times.len()))
     }
 
     /// Notes the time of a packet, if its number is a multiple of the spacing. A call of [`NotedTimes::make_room`] made room for
