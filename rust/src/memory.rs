@@ -205,6 +205,8 @@ pub trait TryQueue<T> {
     fn try_insert(&mut self, place: usize, value: T) -> Result<(), AllocError>;
     /// Makes room for at least `count` more items.
     fn try_room(&mut self, count: usize) -> Result<(), AllocError>;
+    /// Makes room for exactly `count` more items.
+    fn try_exact(&mut self, count: usize) -> Result<(), AllocError>;
     /// Gives memory back, down to room for `count` items, if that needs no memory that is refused.
     fn shrink_if_possible(&mut self, count: usize);
 }
@@ -250,6 +252,15 @@ impl<T> TryQueue<T> for VecDeque<T> {
             return Ok(());
         }
         Ok(self.try_reserve(count)?)
+    }
+
+    #[inline]
+    fn try_exact(&mut self, count: usize) -> Result<(), AllocError> {
+        if cfg!(not(feature = "fallible")) {
+            self.reserve_exact(count);
+            return Ok(());
+        }
+        Ok(self.try_reserve_exact(count)?)
     }
 }
 

@@ -5,5 +5,7 @@ pub mod MissingLemmas
 pub mod RunLemmas
 pub mod PressureLemmas
 pub mod RestartLemmas
+pub mod NotedLemmas
+pub mod TimesLemmas
 pub mod RestartingLemmas
 pub mod OwnLemmas

@@ -1,11 +1,7 @@
 -- The noted times of a sender that gives each number one RTP time contradict none of its packets, so no restart is reported.
-use Rattle.std.proofs.Common.{◌≡◌, ◌∙◌, refl, ap, sym, subst, ℕ, List, [], ◌∷◌, Bool, true, false, not, ◌||◌, ◌&&◌, Option, Some, None, inl, inr, cond, eqb, length}
-use Rattle.std.specs.Prelude.{slice_index_or}
-use Rattle.std.proofs.Math.ListN.{get_or-eq_default}
-use Rattle.std.proofs.lemmas.Bool.{eq-eqb, eqb-true, cases_lt}
-use Rattle.std.proofs.lemmas.List.Elements.{All-get_or, All-set, All-replicate}
+use Rattle.std.proofs.Common.{◌≡◌, ◌∙◌, refl, ap, sym, subst, ℕ, List, [], ◌∷◌, Bool, true, false, not, ◌||◌, ◌&&◌, Option, Some, None, cond}
 use Rattle.codec_payload_base.specs.declared.wire.RtpHeader.{RtpHeader}
-use Rattle.codec_payload_jitter.specs.NotedTimes.{AreTimesOf, contradicts, is_noted, noted_with, place_of, placed_in, places_for}
+use Rattle.codec_payload_jitter.specs.NotedTimes.{AreTimesOf, contradicts, noted_with}
 use Rattle.codec_payload_jitter.specs.Numbers.{answer_for, number_within, without_restart}
 use Rattle.codec_payload_jitter.specs.Pressure.{Event, Packet, Retransmitted, Recovered, WithoutMedia, Comes}
 use Rattle.codec_payload_jitter.specs.Receiving.{Receiving, Arrival, Accepts, GoesOn, NotesAs, PopsWith, ReceivesAs, ReceivesAgainAs, RecoversAs, RecoversIf, settled, waiting_at}
@@ -18,40 +14,7 @@ use Rattle.codec_payload_jitter.specs.declared.numbers.Extended.TheVariants as e
 use Rattle.codec_payload_jitter.specs.declared.outcome.Outcome.{Outcome}
 use Rattle.codec_payload_jitter.specs.declared.outcome.Outcome.TheVariants as outcomes
 use Rattle.codec_payload_jitter.specs.declared.outcome.PacketCounters.{PacketCounters}
-
--- Noted times
-
-abbrev pub IsTimeOf : (ℕ → ℕ) → NotedTime → Type 0
-IsTimeOf time_of x = x.time ≡ time_of x.number
-
--- each place holds a number with the time that the sender gave it
-there_is : (time_of : ℕ → ℕ) (noted : List NotedTime) (place : ℕ) (x : NotedTime) → IsTimeOf time_of x → AreTimesOf time_of noted → IsTimeOf time_of (slice_index_or noted place x)
-there_is time_of noted place x mine times = elim (cases_lt place (length noted)) [
-  | inl within ↦ All-get_or (IsTimeOf time_of) noted place x within times
-  | inr past ↦ subst (IsTimeOf time_of) (sym (get_or-eq_default noted x past)) mine
-]
-
-pub never_contradicts : (time_of : ℕ → ℕ) (backward : ℕ) (noted : List NotedTime) (x : NotedTime) → IsTimeOf time_of x → AreTimesOf time_of noted → contradicts backward noted x ≡ false
-never_contradicts time_of backward noted x mine times =
-    let there : NotedTime = slice_index_or noted (place_of backward x.number) x in
-    by_number there (there_is time_of noted (place_of backward x.number) x mine times) (eqb there.number x.number) refl
-  where
-    by_number : (e : NotedTime) → IsTimeOf time_of e → (b : Bool) → eqb e.number x.number ≡ b → (b && not (eqb e.time x.time)) ≡ false
-    by_number e is true same =
-        let number : e.number ≡ x.number = eqb-true e.number x.number same in
-        ap not (eq-eqb e.time x.time (is ∙ (ap time_of number ∙ sym mine)))
-    by_number e is false same = refl
-
-pub still_times : (time_of : ℕ → ℕ) (backward : ℕ) (noted : List NotedTime) (x : NotedTime) → IsTimeOf time_of x → AreTimesOf time_of noted → AreTimesOf time_of (noted_with backward noted x)
-still_times time_of backward noted x mine times = by_test (is_noted backward x.number)
-  where
-    placed_times : (ys : List NotedTime) → AreTimesOf time_of ys → AreTimesOf time_of (placed_in backward ys x)
-    placed_times [] all = All-replicate (IsTimeOf time_of) (places_for backward) x mine
-    placed_times (y ∷ ys) all = All-set (IsTimeOf time_of) (y ∷ ys) (place_of backward x.number) x mine all
-
-    by_test : (b : Bool) → AreTimesOf time_of (cond b (placed_in backward noted x) noted)
-    by_test true = placed_times noted times
-    by_test false = times
+use Rattle.codec_payload_jitter.proofs.TimesLemmas.{never_contradicts, still_times}
 
 -- Answers
 
@@ -72,7 +35,7 @@ pub answer_to_is : (time_of : ℕ → ℕ) (r : Receiving) (header : RtpHeader) 
     → answer_for r.numbering header.sequence_number ≡ extended.Number n → header.timestamp ≡ time_of n → answer_to r header ≡ extended.Number n
 answer_to_is time_of r header n running times within time =
     let x : NotedTime = record { number = n; time = header.timestamp } in
-    let same : is_contradicted r n header.timestamp ≡ false = and_false (not (r.ended || r.is_restarting)) (contradicts r.numbering.backward r.noted x) (never_contradicts time_of r.numbering.backward r.noted x time times) in
+    let same : is_contradicted r n header.timestamp ≡ false = and_false (not (r.ended || r.is_restarting)) (contradicts r.noted x) (never_contradicts time_of r.noted x time times) in
     ap (answer_by_time r header) (answer_in_is r header.sequence_number n running within)
     ∙ ap (λ (b : Bool). cond b (answer_to_contradiction r header) (extended.Number n)) same
 
@@ -114,17 +77,17 @@ accepts_restarts a n r t o got = ap (λ (x : Receiving). x.counters.restarts) go
 goes_on_restarts : (a : Arrival) (n : ℕ) (r t : Receiving) (o : Outcome) → GoesOn n a r o t → t.counters.restarts ≡ r.counters.restarts
 goes_on_restarts a n r t o got = ap (λ (x : Receiving). x.counters.restarts) got.2 ∙ accepts_restarts a n r got.0 o got.1
 
-goes_on_noted : (a : Arrival) (n : ℕ) (r t : Receiving) (o : Outcome) → GoesOn n a r o t → t.noted ≡ noted_with r.numbering.backward r.noted (record { number = n; time = a.header.timestamp })
+goes_on_noted : (a : Arrival) (n : ℕ) (r t : Receiving) (o : Outcome) → GoesOn n a r o t → t.noted ≡ noted_with r.noted (record { number = n; time = a.header.timestamp })
 goes_on_noted a n r t o got =
     ap (λ (x : Receiving). x.noted) got.2
-    ∙ ap (λ (x : Receiving). noted_with x.numbering.backward x.noted (record { number = n; time = a.header.timestamp })) got.1.3
+    ∙ ap (λ (x : Receiving). noted_with x.noted (record { number = n; time = a.header.timestamp })) got.1.3
 
 packet_goes_on : (time_of : ℕ → ℕ) (a : Arrival) (n : ℕ) (r mid t : Receiving) (o : Outcome) → a.header.timestamp ≡ time_of n → AreTimesOf time_of r.noted → GoesOn n a r o mid
     → t.counters.restarts ≡ mid.counters.restarts → t.is_restarting ≡ false → t.noted ≡ mid.noted → GoesOnAs time_of r t
 packet_goes_on time_of a n r mid t o time times goes restarts running noted = record {
   restarts = restarts ∙ goes_on_restarts a n r mid o goes;
   running = running;
-  times = subst (AreTimesOf time_of) (sym (noted ∙ goes_on_noted a n r mid o goes)) (still_times time_of r.numbering.backward r.noted (record { number = n; time = a.header.timestamp }) time times);
+  times = subst (AreTimesOf time_of) (sym (noted ∙ goes_on_noted a n r mid o goes)) (still_times time_of r.noted (record { number = n; time = a.header.timestamp }) time times);
 }
 
 again_goes_on : (time_of : ℕ → ℕ) (number : Option ℕ) (a : Arrival) (r t : Receiving) (o : Outcome) → r.is_restarting ≡ false → AreTimesOf time_of r.noted

@@ -12,10 +12,9 @@ use Rattle.codec_payload_buffer.specs.declared.buffer.placed.Placed.{Placed}
 use Rattle.codec_payload_buffer.specs.declared.buffer.unit.RtpMeta.{RtpMeta}
 use Rattle.codec_payload_jitter.proofs.ReceivingLemmas.{placed_outcome}
 use Rattle.codec_payload_jitter.specs.NoMediaNumbers.{noted_no_media}
-use Rattle.codec_payload_jitter.specs.NotedTimes.{noted_with}
+use Rattle.codec_payload_jitter.specs.NotedTimes.{Noted, noted_with}
 use Rattle.codec_payload_jitter.specs.Receiving.{Receiving, Arrival, Confirms, GoesInAgain, GoesOn, NotesAs, Restarts, RestartsWith, TakesIn, TakesInBoth}
 use Rattle.codec_payload_jitter.specs.Receiving.{counted, counted_again, counted_restart, kept_number, meta_for, outcome_at, outcome_of, restarted, with_noted}
-use Rattle.codec_payload_jitter.specs.declared.noted_times.NotedTime.{NotedTime}
 use Rattle.codec_payload_jitter.specs.declared.numbers.Extended.TheVariants as extended
 use Rattle.codec_payload_jitter.specs.declared.outcome.Outcome.{Outcome}
 use Rattle.codec_payload_jitter.specs.declared.outcome.Outcome.TheVariants as outcomes
@@ -48,9 +47,21 @@ notes_alone n r t kept is = (false, subst (λ (k : Option Arrival). Confirms n k
 
 -- from what the code has done
 
-pub stored_both : (n : ℕ) (a b : Arrival) (r seen t : Receiving) (buffer : State) (outcomes : Outcome × Outcome) (times : List NotedTime) (k : PacketCounters) → r ≡ seen
+pub went_on : (n : ℕ) (a : Arrival) (r seen t : Receiving) (buffer : State) (o : Outcome) (times : Noted) (k : PacketCounters) → r ≡ seen → TakesIn r.rate a n r.buffer buffer
+    → o ≡ outcome_at r.buffer n → times ≡ noted_with r.noted (record { number = n; time = a.header.timestamp }) → k ≡ counted r.counters o
+    → t ≡ record r { buffer = buffer; noted = times; counters = k } → GoesOn n a seen o t
+went_on n a r seen t buffer o times k same takes outcome_is noted_is counted_is is =
+    let mid : Receiving = record r { buffer = buffer; counters = counted r.counters o } in
+    subst (λ (x : Receiving). GoesOn n a x o t) same (
+      mid,
+      (buffer, takes, outcome_is, refl),
+      is ∙ (ap (λ (ns : Noted). record r { buffer = buffer; noted = ns; counters = k }) noted_is
+          ∙ ap (λ (x : PacketCounters). record (with_noted n a mid) { counters = x }) counted_is),
+    )
+
+pub stored_both : (n : ℕ) (a b : Arrival) (r seen t : Receiving) (buffer : State) (outcomes : Outcome × Outcome) (times : Noted) (k : PacketCounters) → r ≡ seen
     → TakesInBoth r.rate a n b (kept_number n b.header.sequence_number) r.buffer outcomes buffer
-    → times ≡ noted_with r.numbering.backward r.noted (record { number = n; time = a.header.timestamp }) → k ≡ counted_again (counted_restart (counted r.counters outcomes.0)) outcomes.1
+    → times ≡ noted_with r.noted (record { number = n; time = a.header.timestamp }) → k ≡ counted_again (counted_restart (counted r.counters outcomes.0)) outcomes.1
     → t ≡ record r { buffer = buffer; noted = times; kept = None; counters = k } → RestartsWith n a b seen t
 stored_both n a b r seen t buffer outcomes times k same takes noted_is counted_is is =
     let taken : Receiving = record r { buffer = takes.0; counters = counted r.counters outcomes.0 } in
@@ -62,7 +73,7 @@ stored_both n a b r seen t buffer outcomes times k same takes noted_is counted_i
       (
         buffer,
         takes.2,
-        is ∙ (ap (λ (ns : List NotedTime). record r { buffer = buffer; noted = ns; kept = None; counters = k }) noted_is
+        is ∙ (ap (λ (ns : Noted). record r { buffer = buffer; noted = ns; kept = None; counters = k }) noted_is
             ∙ (ap (λ (x : PacketCounters). record (restarted mid) { buffer = buffer; counters = x }) counted_is
             ∙ ap (λ (o : Outcome). record (restarted mid) { buffer = buffer; counters = counted_again (restarted mid).counters o }) takes.4)),
       ),

@@ -8,9 +8,9 @@ use Rattle.codec_payload_buffer.specs.Steps.{State, pushed, is_dropped, without_
 use Rattle.codec_payload_buffer.specs.Stretches.{after_pushes}
 use Rattle.codec_payload_jitter.specs.Numbers.{Numbering, low_bits, no_numbers, number_for, numbering_after, numbers_for, answer_for}
 use Rattle.codec_payload_jitter.specs.Numbers.{numbering_with, without_restart, number_in, is_restart, GoOn, moved}
-use Rattle.codec_payload_jitter.specs.NotedTimes.{AreTimesOf, noted_with}
-use Rattle.codec_payload_jitter.specs.declared.noted_times.NotedTime.{NotedTime}
-use Rattle.codec_payload_jitter.proofs.RestartLemmas.{answer_to_is, still_times}
+use Rattle.codec_payload_jitter.specs.NotedTimes.{AreTimesOf, Noted, noted_with}
+use Rattle.codec_payload_jitter.proofs.RestartLemmas.{answer_to_is}
+use Rattle.codec_payload_jitter.proofs.TimesLemmas.{still_times}
 use Rattle.codec_payload_jitter.specs.Receiving.{answer_by_time, answer_to, with_noted}
 use Rattle.codec_payload_jitter.specs.Receiving.{Receiving, Arrival, answer_in, Receives, ReceivesAs, TakesIn, settled, waiting_at, PopsWith}
 use Rattle.codec_payload_jitter.specs.NoMediaNumbers.{passed_no_media, no_media_left}
@@ -40,9 +40,9 @@ takes_depacketizer rate a None s t takes = ap (λ (x : State). x.depacketizer) t
 takes_depacketizer rate a (Some n) s t takes = ap (λ (x : State). x.depacketizer) takes.2 ∙ pushed_depacketizer s takes.0
 
 -- the noted times after a packet
-abbrev pub noted_at : Receiving → Arrival → Option ℕ → List NotedTime
+abbrev pub noted_at : Receiving → Arrival → Option ℕ → Noted
 noted_at r a None = r.noted
-noted_at r a (Some n) = noted_with r.numbering.backward r.noted (record { number = n; time = a.header.timestamp })
+noted_at r a (Some n) = noted_with r.noted (record { number = n; time = a.header.timestamp })
 
 -- the effect of a push, if no restart is reported
 pub record IsOne (number : Option ℕ) (a : Arrival) (r t : Receiving) : Type 0 where
@@ -106,7 +106,7 @@ answer_of time_of r a extended.Spent running is on times time =
 -- the noted times are still the sender's
 still_at : (time_of : ℕ → ℕ) (r : Receiving) (a : Arrival) (number : Option ℕ) → HasTime time_of a number → AreTimesOf time_of r.noted → AreTimesOf time_of (noted_at r a number)
 still_at time_of r a None time times = times
-still_at time_of r a (Some n) time times = still_times time_of r.numbering.backward r.noted (record { number = n; time = a.header.timestamp }) time times
+still_at time_of r a (Some n) time times = still_times time_of r.noted (record { number = n; time = a.header.timestamp }) time times
 
 -- one push
 pub record OneOf (time_of : ℕ → ℕ) (a : Arrival) (r t : Receiving) : Type 0 where

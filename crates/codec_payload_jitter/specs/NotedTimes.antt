@@ -1,5 +1,5 @@
 -- Noted times: the RTP times of every fourth or every eighth of the latest numbers.
-use Rattle.std.specs.Prelude.{◌≡◌, ℕ, ◌+◌, ◌-◌, ◌*◌, ◌/◌, ◌%◌, ◌^◌, ◌==◌, ◌&&◌, not, nat_le, if◌then◌else◌, Bool, List, [], ◌∷◌, All, replicate, slice_index_or, slice_set}
+use Rattle.std.specs.Prelude.{◌≡◌, ℕ, ◌+◌, ◌-◌, ◌*◌, ◌/◌, ◌%◌, ◌^◌, ◌==◌, ◌&&◌, not, nat_le, nat_lt, min, if◌then◌else◌, zero, suc, Bool, false, List, [], ◌∷◌, ◌++◌, drop, length, Option, Some, None, IfSome, ⊤, slice_index_or, slice_set}
 use Rattle.codec_payload_base.specs.declared.wire.RtpHeader.{RtpHeader}
 use Rattle.codec_payload_jitter.specs.declared.noted_times.NotedTime.{NotedTime}
 
@@ -11,35 +11,86 @@ spacing_of backward = if nat_le backward 1000 then 4 else 8
 abbrev pub places_for : ℕ → ℕ
 places_for backward = if nat_le backward 1000 then 256 else 640
 
+-- the index of a number among those that are noted
+abbrev pub index_of : ℕ → ℕ → ℕ
+index_of backward n = n / spacing_of backward
+
 abbrev pub is_noted : ℕ → ℕ → Bool
 is_noted backward n = n % spacing_of backward == 0
 
--- the place of a number: later numbers take the places of earlier ones
-abbrev pub place_of : ℕ → ℕ → ℕ
-place_of backward n = n / spacing_of backward % places_for backward
+-- the noted times: the backward window of the numbers; an index; the RTP times of the number with this index and of those with
+-- the next ones, as far as packets with these numbers arrived
+pub record Noted : Type 0 where
+  pub backward : ℕ
+  pub first : ℕ
+  pub times : List (Option ℕ)
 
--- its place holds its number with another time
-abbrev pub contradicts : ℕ → List NotedTime → NotedTime → Bool
-contradicts backward noted x =
-    let there = slice_index_or noted (place_of backward x.number) x in
-    there.number == x.number && not (there.time == x.time)
+abbrev pub none_noted : ℕ → Noted
+none_noted backward = record { backward = backward; first = 0; times = [] }
 
--- the first noted packet fills all places
-abbrev pub first_places : ℕ → List NotedTime → NotedTime → List NotedTime
-first_places backward [] x = if is_noted backward x.number then replicate (places_for backward) x else []
-first_places backward (y ∷ ys) x = []
+-- the noted times, and for how many there is memory
+pub record Noting : Type 0 where
+  pub noted : Noted
+  pub room : ℕ
 
--- each later packet fills its own place
-abbrev pub placed_in : ℕ → List NotedTime → NotedTime → List NotedTime
-placed_in backward [] x = replicate (places_for backward) x
-placed_in backward (y ∷ ys) x = slice_set (y ∷ ys) (place_of backward x.number) x
+-- the noted time of the number with this index
+abbrev pub time_at : ℕ → Noted → Option ℕ
+time_at index s = if nat_le s.first index then slice_index_or s.times (index - s.first) None else None
 
-abbrev pub noted_with : ℕ → List NotedTime → NotedTime → List NotedTime
-noted_with backward noted x = if is_noted backward x.number then placed_in backward noted x else noted
+abbrev pub is_another : Option ℕ → ℕ → Bool
+is_another None time = false
+is_another (Some noted) time = not (noted == time)
 
--- each noted number has its time of `time_of`
-abbrev pub AreTimesOf : (ℕ → ℕ) → List NotedTime → Type 0
-AreTimesOf time_of noted = All (λ (x : NotedTime). x.time ≡ time_of x.number) noted
+-- its number is noted with another time
+abbrev pub contradicts : Noted → NotedTime → Bool
+contradicts s x = is_noted s.backward x.number && is_another (time_at (index_of s.backward x.number) s) x.time
+
+-- one more time, which takes the place of the first if there are `most`
+abbrev pub pushed_time : ℕ → Option ℕ → List (Option ℕ) → List (Option ℕ)
+pushed_time most time times = (if nat_lt (length times) most then times else drop 1 times) ++ (time ∷ [])
+
+-- the next indices get no time
+abbrev pub skipped : ℕ → ℕ → List (Option ℕ) → List (Option ℕ)
+skipped most zero times = times
+skipped most (suc gap) times = pushed_time most None (skipped most gap times)
+
+-- a gap as long as the list leaves none of the earlier times
+abbrev pub gone_on : ℕ → ℕ → List (Option ℕ) → List (Option ℕ)
+gone_on most gap times = if nat_lt gap most then skipped most gap times else []
+
+-- the time of an index after all others; the indices between have none
+abbrev pub with_last : ℕ → List (Option ℕ) → Noted → Noted
+with_last index times s = record s { first = index - (length times - 1); times = times }
+
+abbrev pub appended_to : ℕ → ℕ → ℕ → Noted → Noted
+appended_to most index time s = with_last index (pushed_time most (Some time) (gone_on most (index - s.first - length s.times) s.times)) s
+
+-- the time of this index; a number below the first index is not noted
+abbrev pub noted_at : ℕ → ℕ → ℕ → Noted → Noted
+noted_at most index time s =
+    if nat_lt index s.first then s
+    else (if nat_lt (index - s.first) (length s.times) then record s { times = slice_set s.times (index - s.first) (Some time) }
+    else appended_to most index time s)
+
+abbrev pub noted_with : Noted → NotedTime → Noted
+noted_with s x = if is_noted s.backward x.number then noted_at (places_for s.backward) (index_of s.backward x.number) x.time s else s
+
+-- how many times are held at most until this index has its time
+abbrev pub room_for : ℕ → ℕ → Noted → ℕ
+room_for index most s = if nat_lt (index - s.first) (length s.times + most) then min (index - s.first) (most - 1) + 1 else 1
+
+abbrev pub room_for_time : Noted → NotedTime → ℕ
+room_for_time s x =
+    if is_noted s.backward x.number && nat_le s.first (index_of s.backward x.number) then room_for (index_of s.backward x.number) (places_for s.backward) s else 0
+
+-- the time of each index from this one on is that of its number by `time_of`
+abbrev pub AreTimesFrom : (ℕ → ℕ) → ℕ → ℕ → List (Option ℕ) → Type 0
+AreTimesFrom time_of spacing index [] = ⊤
+AreTimesFrom time_of spacing index (time ∷ times) = IfSome time (λ t. t ≡ time_of (index * spacing)) × AreTimesFrom time_of spacing (index + 1) times
+
+-- each noted time is that of its number
+abbrev pub AreTimesOf : (ℕ → ℕ) → Noted → Type 0
+AreTimesOf time_of s = AreTimesFrom time_of (spacing_of s.backward) s.first s.times
 
 -- how many numbers and how many ticks the later header is after the earlier one, modulo 2^16 and 2^32
 abbrev pub numbers_after : RtpHeader → RtpHeader → ℕ

@@ -1,15 +1,20 @@
 //! The RTP times of the latest numbers. If a number arrives again with another time, the sender has restarted.
 
-ghost use Rattle.std.specs.Prelude.{◌≡◌, IfOk, []};
-ghost use Rattle.codec_payload_jitter.specs.NotedTimes.{contradicts, first_places, is_noted, is_soon_after, noted_with, place_of, places_for, spacing_of};
+ghost use Rattle.std.specs.Prelude.{◌≡◌, ◌≤◌, ◌<◌, ◌+◌, ◌-◌, OnOk, length, min, None, Some};
+ghost use Rattle.std.specs.VecDeque.{deque_len, deque_capacity};
+ghost use Rattle.codec_payload_jitter.specs.NotedTimes.{contradicts, gone_on, index_of, is_noted, is_soon_after, none_noted, noted_with, places_for, pushed_time, appended_to, room_for, room_for_time, spacing_of};
 
 use codec_payload_base::wire::Frequency;
 use codec_payload_buffer::buffer::PackedHeader;
 use std::alloc::{AllocError, Global};
+use std::collections::VecDeque;
 use std::marker::Model;
 
 /// The largest backward window for which every fourth number is noted.
 const NARROW: u16 = 1_000;
+
+/// The number of times for which the first noted number allocates.
+const FIRST_ROOM: usize = 16;
 
 /// A number, and the RTP time of its packet.
 #[derive(Clone, Copy, Debug)]
@@ -19,80 +24,167 @@ pub struct NotedTime {
 }
 
 /// The RTP times of the latest numbers: of every fourth number, for the last 1,024 numbers; with a backward window above 1,000,
-/// of every eighth number, for the last 5,120. It allocates 4 kB, or 10 kB for a wider window, when the first number is noted.
+/// of every eighth number, for the last 5,120. A number takes 8 bytes. The memory grows with the noted numbers from 128 bytes
+/// to 2 kB, or 5 kB for a wider window.
 #[derive(Debug, Drop)]
 pub(crate) struct NotedTimes {
-    places: Vec<NotedTime>,
+    /// The backward window of the numbers.
+    backward: u16,
+    /// The index of the first place: its number, divided by the spacing.
+    first: u64,
+    /// The time at this index and at each index after it; `None`: no packet with its number arrived.
+    times: VecDeque<Option<u32>>,
 }
 
 impl Model for NotedTimes {
-    ghost use Rattle.std.specs.Prelude.{List};
-    ghost use Rattle.codec_payload_jitter.specs.declared.noted_times.NotedTime.{NotedTime as Noted};
+    ghost use Rattle.std.specs.VecDeque.{deque_capacity};
+    ghost use Rattle.codec_payload_jitter.specs.NotedTimes.{Noting};
 
-    ghost Value = { List Noted };
+    ghost Value = { Noting };
 
-    ghost view = { λ n. n.places.items };
+    ghost view = { λ n. record { noted = record { backward = n.backward; first = n.first; times = n.times.items }; room = deque_capacity n.times } };
 }
 
 impl NotedTimes {
-    /// Creates an empty list.
-    pub(crate) fn new(alloc: Global) -> Self
-        ensures { result ≡ [] }
+    /// Creates an empty list, for numbers with this backward window.
+    pub(crate) fn new(alloc: Global, backward: u16) -> Self
+        ensures { result.noted ≡ none_noted backward }
     {
         NotedTimes {
-            places: Vec::new(alloc),
+            backward,
+            first: 0,
+            times: VecDeque::new(alloc),
         }
     }
 
     /// Returns whether the number is noted with another time.
     #[inline(always)]
-    pub(crate) fn contradicts(&self, backward: u16, packet: NotedTime) -> bool
-        ensures { result ≡ contradicts backward self.now packet }
+    pub(crate) fn contradicts(&self, packet: NotedTime) -> bool
+        ensures { result ≡ contradicts self.now.noted packet }
     {
-        let place = place_of(backward, packet.number);
-        if place >= self.places.len() {
+        if !is_noted(self.backward, packet.number) {
             return false;
         }
-        let noted = self.places[place];
-        noted.number == packet.number && noted.time != packet.time
+        let index = index_of(self.backward, packet.number);
+        if index < self.first || index - self.first >= self.times.len() as u64 {
+            return false;
+        }
+        match self.times[(index - self.first) as usize] {
+            Some(time) => time != packet.time,
+            None => false,
+        }
     }
 
-    /// Allocates all places if this packet is the first whose time is noted; otherwise returns an empty list.
+    /// Makes room for the time of this packet. Allocates if more places than before are needed.
     #[inline(always)]
-    pub(crate) fn first_places(
-        &self,
-        backward: u16,
-        packet: NotedTime,
-    ) -> Result<Vec<NotedTime>, AllocError>
-        ensures { IfOk result (λ places. places.items ≡ first_places backward self.now packet) }
+    pub(crate) fn make_room(&mut self, packet: NotedTime) -> Result<(), AllocError>
+        ensures same { self.new.noted ≡ self.old.noted }
+        ensures room { OnOk result (room_for_time self.new.noted packet ≤ self.new.room) }
     {
-        let alloc = *self.places.allocator();
-        if !self.places.is_empty() || !is_noted(backward, packet.number) {
-            return Ok(Vec::new(alloc));
+        if !is_noted(self.backward, packet.number) {
+            return Ok(());
         }
-        let places = vec![in alloc; packet; places_for(backward)]?;
-        Ok(places)
+        let index = index_of(self.backward, packet.number);
+        if index < self.first {
+            return Ok(());
+        }
+        let needed = self.room_for(index, places_for(self.backward));
+        if needed <= self.times.capacity() {
+            return Ok(());
+        }
+        self.grow(needed, places_for(self.backward))
     }
 
-    /// Notes the time of a packet, if its number is a multiple of the spacing. `places` comes from
-    /// [`NotedTimes::first_places`].
+    /// Returns how many times are held at most until the time of this index is appended.
     #[inline(always)]
-    pub(crate) fn note(&mut self, places: Vec<NotedTime>, backward: u16, packet: NotedTime)
-        requires { places.items ≡ first_places backward self.old packet }
-        ensures { self.new ≡ noted_with backward self.old packet }
+    fn room_for(&self, index: u64, most: usize) -> usize
+        requires after { self.now.noted.first ≤ index }
+        requires some { 1 ≤ most }
+        ensures value { result ≡ room_for index most self.now.noted }
+        ensures within { result ≤ most }
     {
-        if !is_noted(backward, packet.number) {
+        let place = index - self.first;
+        let held = self.times.len() as u64;
+        if place >= held && place - held >= most as u64 {
+            return 1;
+        }
+        place.min(most as u64 - 1) as usize + 1
+    }
+
+    /// Makes room for `needed` times, and for some more, at most `most`.
+    fn grow(&mut self, needed: usize, most: usize) -> Result<(), AllocError>
+        requires { needed ≤ most }
+        ensures same { self.new.noted ≡ self.old.noted }
+        ensures room { OnOk result (needed ≤ self.new.room) }
+    {
+        let room = needed.max(2 * self.times.len()).max(FIRST_ROOM).min(most);
+        self.times
+            .reserve_exact(room.saturating_sub(self.times.len()))
+    }
+
+    /// Notes the time of a packet, if its number is a multiple of the spacing. A call of [`NotedTimes::make_room`] made room for
+    /// it.
+    #[inline(always)]
+    pub(crate) fn note(&mut self, packet: NotedTime)
+        requires { room_for_time self.old.noted packet ≤ self.old.room }
+        ensures { self.new.noted ≡ noted_with self.old.noted packet }
+    {
+        if !is_noted(self.backward, packet.number) {
             return;
         }
-        if self.places.is_empty() {
-            self.places = places;
+        let index = index_of(self.backward, packet.number);
+        if index < self.first {
             return;
         }
-        let place = place_of(backward, packet.number);
-        if place < self.places.len() {
-            self.places[place] = packet;
+        let held = self.times.len() as u64;
+        if index - self.first < held {
+            self.times[(index - self.first) as usize] = Some(packet.time);
+        } else {
+            self.append(index, packet.time, places_for(self.backward));
         }
     }
+
+    /// Appends the time of this index, which comes after all others. The indices between get no time.
+    fn append(&mut self, index: u64, time: u32, most: usize)
+        requires after { self.old.noted.first + length self.old.noted.times ≤ index }
+        requires room { room_for index most self.old.noted ≤ self.old.room }
+        requires some { 1 ≤ most }
+        ensures { self.new.noted ≡ appended_to most index time self.old.noted }
+    {
+        let gap = index - self.first - self.times.len() as u64;
+        skip(&mut self.times, gap, most);
+        push(&mut self.times, Some(time), most);
+        self.first = index - (self.times.len() as u64 - 1);
+    }
+}
+
+/// Appends `gap` indices without a time. With `most` of them no earlier time is left, and none is appended.
+fn skip(times: &mut VecDeque<Option<u32>>, gap: u64, most: usize)
+    requires room { gap < most → min (length times.old.items + gap) most ≤ deque_capacity times.old }
+    requires some { 1 ≤ most }
+    ensures items { times.new.items ≡ gone_on most gap times.old.items }
+    ensures capacity { deque_capacity times.old ≤ deque_capacity times.new }
+{
+    if gap >= most as u64 {
+        times.clear();
+        return;
+    }
+    for _ in 0..gap {
+        push(times, None, most);
+    }
+}
+
+/// Appends a time. If there are `most` times, the first one leaves.
+fn push(times: &mut VecDeque<Option<u32>>, time: Option<u32>, most: usize)
+    requires room { min (length times.old.items + 1) most ≤ deque_capacity times.old }
+    requires some { 1 ≤ most }
+    ensures items { times.new.items ≡ pushed_time most time times.old.items }
+    ensures capacity { deque_capacity times.old ≤ deque_capacity times.new }
+{
+    if times.len() >= most {
+        times.pop_front();
+    }
+    times.push_back(time).unwrap();
 }
 
 /// Returns the distance between two noted numbers.
@@ -116,11 +208,11 @@ fn is_noted(backward: u16, number: u64) -> bool
     number % spacing_of(backward) == 0
 }
 
-/// Returns the place of a number.
-fn place_of(backward: u16, number: u64) -> usize
-    ensures { result ≡ place_of backward number }
+/// Returns the index of a number.
+fn index_of(backward: u16, number: u64) -> u64
+    ensures { result ≡ index_of backward number }
 {
-    (number / spacing_of(backward) % places_for(backward) as u64) as usize
+    number / spacing_of(backward)
 }
 
 /// Returns whether `later` comes 1 to 16 numbers after `earlier`, and at most 2 seconds of RTP time after it.

@@ -129,6 +129,17 @@ impl SequenceNumbers {
         })
     }
 
+    /// Returns a numbering with the same windows, before its first packet.
+    pub fn anew(&self) -> Self
+        ensures { result ≡ no_numbers self.now.forward self.now.backward }
+    {
+        SequenceNumbers {
+            greatest: None,
+            suspect: None,
+            ..*self
+        }
+    }
+
     /// Extends the sequence number `low` of the next packet.
     #[inline(always)]
     pub fn number(&mut self, low: u16) -> Extended

@@ -3,7 +3,7 @@ use Rattle.std.specs.Prelude.{◌≡◌, ℕ, ◌+◌, ◌-◌, ◌*◌, ◌/◌
 use Rattle.std.specs.Option.{option_map}
 use lib.IntN.{ℤ, pos, neg_ℤ}
 use Rattle.codec_payload_base.specs.Time.{rebased}
-use Rattle.codec_payload_jitter.specs.Numbers.{Numbering, answer_for, numbering_after}
+use Rattle.codec_payload_jitter.specs.Numbers.{Numbering, answer_for, no_numbers, numbering_after}
 use Rattle.codec_payload_jitter.specs.declared.numbers.Extended.{Extended}
 use Rattle.codec_payload_jitter.specs.declared.numbers.Extended.TheVariants as extended
 use Rattle.codec_payload_stream.specs.declared.reports.ReceptionReport.{ReceptionReport}
@@ -34,6 +34,10 @@ no_reception numbering tick_rate rate = record {
   transit = None;
   jitter = 0;
 }
+
+-- the same clocks and windows, before the first packet
+abbrev pub reception_anew : Reception → Reception
+reception_anew r = no_reception (no_numbers r.numbering.forward r.numbering.backward) r.tick_rate r.rate
 
 -- Packets arrive
 

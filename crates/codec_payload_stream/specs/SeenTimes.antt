@@ -1,11 +1,19 @@
 -- The RTP times of the latest packets and blocks of a stream with RED (RFC 2198).
-use Rattle.std.specs.Prelude.{ℕ, ◌+◌, ◌%◌, ◌==◌, ◌&&◌, ◌||◌, Bool, false, List, [], ◌∷◌, Option, Some, None, replicate, slice_set}
+use Rattle.std.specs.Prelude.{ℕ, ◌+◌, ◌%◌, ◌==◌, ◌&&◌, ◌||◌, Bool, true, false, List, [], ◌∷◌, Option, Some, None, replicate, slice_set}
+use Rattle.codec_payload_stream.specs.declared.seen_times.Kind.{Kind}
+use Rattle.codec_payload_stream.specs.declared.seen_times.Kind.TheVariants.{Nothing, Packet, Block}
 use Rattle.codec_payload_stream.specs.declared.seen_times.SeenTime.{SeenTime}
 
 -- the latest 64 times, and the index of the next one
 pub record Seen : Type 0 where
   pub places : List (Option SeenTime)
   pub next : ℕ
+
+-- a place, from its time and from what arrived with it
+abbrev pub seen_at : ℕ × Kind → Option SeenTime
+seen_at (time, Nothing) = None
+seen_at (time, Packet) = Some (record { time = time; is_block = false })
+seen_at (time, Block) = Some (record { time = time; is_block = true })
 
 abbrev pub none_seen : Seen
 none_seen = record { places = replicate 64 None; next = 0 }

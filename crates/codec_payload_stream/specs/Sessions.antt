@@ -24,7 +24,7 @@ use Rattle.codec_payload_keyframes.specs.UnitGates.{Gating, new_gating, with_ski
 use Rattle.codec_payload_stream.specs.Choice.{Choosing, IsCandidate, is_silent, latest_after, leaving, no_choice, origin_of, verdict_of, waiting_with}
 use Rattle.codec_payload_stream.specs.Kinds.{Kinds, Carrier, Datagram, RtcpPacket, Malformed, OfOthers, WithoutMedia, WithMedia, InRed, Again, AgainInRed, AgainEmpty, block_header, datagram_at, header_for, original_header}
 use Rattle.codec_payload_stream.specs.SeenTimes.{Seen, has_block, is_seen, none_seen, seen_with}
-use Rattle.codec_payload_stream.specs.Reports.{Reception, no_reception, observed}
+use Rattle.codec_payload_stream.specs.Reports.{Reception, no_reception, observed, reception_anew}
 use Rattle.codec_payload_stream.specs.declared.blocks.BlockCopy.{BlockCopy}
 use Rattle.codec_payload_stream.specs.declared.choice.Candidate.{Candidate}
 use Rattle.codec_payload_stream.specs.declared.choice.Origin.{Origin}
@@ -45,8 +45,7 @@ use Rattle.codec_payload_stream.specs.declared.receiver.SettingsError.TheVariant
 
 -- a receiver, as contracts see it: the settings of the stream; the SSRC that the settings name; the SSRC of the stream, if it
 -- is known; the jitter buffer; the counters of datagrams before it; the RTP time of the latest unit; the statistics of the
--- sender, and their first state; the state of the choice; the RTP times of the latest packets and blocks; which units a decoder
--- can show
+-- sender; the state of the choice; the RTP times of the latest packets and blocks; which units a decoder can show
 pub record Session : Type 0 where
   pub stream : Kinds
   pub named : Option ℕ
@@ -55,7 +54,6 @@ pub record Session : Type 0 where
   pub arrived : Arrived
   pub time : Option ℕ
   pub reception : Reception
-  pub no_reception : Reception
   pub choice : Choosing
   pub seen : Seen
   pub gates : Gating
@@ -360,7 +358,7 @@ SettlesOn (Some c) false s t = t ≡ s
 
 -- the next packet is the first of another sender, with this SSRC if it is known
 abbrev pub gone_over_to : Option ℕ → Session → Session
-gone_over_to ssrc s = record s { ssrc = ssrc; packets = begun_anew s.packets; reception = s.no_reception; seen = none_seen }
+gone_over_to ssrc s = record s { ssrc = ssrc; packets = begun_anew s.packets; reception = reception_anew s.reception; seen = none_seen }
 
 -- a stream that was silent is left, as if the caller had announced a restart
 abbrev pub opened_if : Bool → Session → Session
@@ -462,7 +460,6 @@ session_with s depacketizer red numbering = record {
   arrived = nothing_arrived;
   time = None;
   reception = no_reception numbering s.tick_rate s.clock_rate;
-  no_reception = no_reception numbering s.tick_rate s.clock_rate;
   choice = no_choice (2 * s.tick_rate);
   seen = none_seen;
   gates = new_gating (video_codec (kind_of_depacketizer depacketizer)) s.from_keyframe;

@@ -2,7 +2,7 @@
 
 ghost use Rattle.std.specs.Prelude.{◌≡◌, ◌≤◌, ◌^◌, ◌/◌};
 ghost use Rattle.codec_payload_base.specs.Time.{rebased};
-ghost use Rattle.codec_payload_stream.specs.Reports.{arrival_of, begun, distance, expected_of, fraction_of, gone_on, highest_of, jitter_after, lost_of, no_reception, observed, observed_as, report_of, reported, transit_change};
+ghost use Rattle.codec_payload_stream.specs.Reports.{arrival_of, begun, distance, expected_of, fraction_of, gone_on, highest_of, jitter_after, lost_of, no_reception, observed, observed_as, reception_anew, report_of, reported, transit_change};
 
 use crate::receiver::Receiver;
 use codec_payload_base::wire::{Frequency, MediaTime, Ticks};
@@ -100,6 +100,13 @@ impl ReceptionStatistics {
             transit: None,
             jitter: 0,
         }
+    }
+
+    /// Returns the statistics for the same clocks and windows, before the first packet.
+    pub(crate) fn anew(&self) -> ReceptionStatistics
+        ensures { result ≡ reception_anew self.now }
+    {
+        ReceptionStatistics::over(self.numbers.anew(), self.tick_rate, self.clock_rate)
     }
 
     /// Counts a packet with this number and RTP time that arrived at `now`.

@@ -1,7 +1,7 @@
 //! The RTP times of the latest packets and blocks of a stream with RED (RFC 2198).
 
-ghost use Rattle.std.specs.Prelude.{◌≡◌};
-ghost use Rattle.codec_payload_stream.specs.SeenTimes.{has_block, is_seen, none_seen, seen_with};
+ghost use Rattle.std.specs.Prelude.{◌≡◌, ◌<◌, None, Some, length, slice_index_or};
+ghost use Rattle.codec_payload_stream.specs.SeenTimes.{has_block, is_seen, none_seen, seen_at, seen_with};
 
 use std::marker::Model;
 
@@ -15,24 +15,35 @@ pub(crate) struct SeenTime {
     pub(crate) is_block: bool,
 }
 
+/// What is remembered at a place.
+#[derive(Clone, Copy, Debug)]
+pub(crate) enum Kind {
+    Nothing,
+    Packet,
+    Block,
+}
+
 /// The latest 64 times. It does not allocate.
 #[derive(Debug, Drop)]
 pub(crate) struct SeenTimes {
     /// A new time replaces the oldest.
-    places: [Option<SeenTime>; MOST],
+    times: [u32; MOST],
+    /// What arrived with each of the times.
+    kinds: [Kind; MOST],
     /// The index of the next time.
-    next: usize,
+    next: u8,
 }
 
 impl Model for SeenTimes {
-    ghost use Rattle.std.specs.Prelude.{◌≡◌, ◌<◌, length};
-    ghost use Rattle.codec_payload_stream.specs.SeenTimes.{Seen};
+    ghost use Rattle.std.specs.Prelude.{◌≡◌, ◌<◌, length, map};
+    ghost use Rattle.std.specs.List.{zip};
+    ghost use Rattle.codec_payload_stream.specs.SeenTimes.{Seen, seen_at};
 
     ghost Value = { Seen };
 
-    ghost view = { λ s. record { places = s.places; next = s.next } };
+    ghost view = { λ s. record { places = map seen_at (zip s.times s.kinds); next = s.next } };
 
-    ghost invariant = { λ s. (length s.places ≡ 64) × (s.next < 64) };
+    ghost invariant = { λ s. (length s.times ≡ 64) × (length s.kinds ≡ 64) × (s.next < 64) };
 }
 
 impl SeenTimes {
@@ -41,17 +52,36 @@ impl SeenTimes {
         ensures { result ≡ none_seen }
     {
         SeenTimes {
-            places: [None; MOST],
+            times: [0; MOST],
+            kinds: [Kind::Nothing; MOST],
             next: 0,
         }
+    }
+
+    /// Returns the number of places.
+    #[inline(always)]
+    fn len(&self) -> usize
+        ensures value { result ≡ 64 }
+        ensures all { result ≡ length self.now.places }
+    {
+        self.times.as_slice().len()
+    }
+
+    /// Returns the time at a place.
+    #[inline(always)]
+    fn at(&self, place: usize) -> Option<SeenTime>
+        requires { place < 64 }
+        ensures { result ≡ slice_index_or self.now.places place None }
+    {
+        seen_at(self.times[place], self.kinds[place])
     }
 
     /// Returns whether a packet with this time arrived, or a block with this time was stored.
     pub(crate) fn is_seen(&self, time: u32) -> bool
         ensures { result ≡ is_seen time self.now.places }
     {
-        for place in &self.places {
-            if let Some(seen) = place
+        for place in 0..self.len() {
+            if let Some(seen) = self.at(place)
                 && seen.time == time
             {
                 return true;
@@ -64,8 +94,8 @@ impl SeenTimes {
     pub(crate) fn has_block(&self, time: u32) -> bool
         ensures { result ≡ has_block time self.now.places }
     {
-        for place in &self.places {
-            if let Some(seen) = place
+        for place in 0..self.len() {
+            if let Some(seen) = self.at(place)
                 && seen.is_block
                 && seen.time == time
             {
@@ -79,7 +109,38 @@ impl SeenTimes {
     pub(crate) fn note(&mut self, seen: SeenTime)
         ensures { self.new ≡ seen_with seen self.old }
     {
-        self.places[self.next] = Some(seen);
-        self.next = (self.next + 1) % MOST;
+        let place = usize::from(self.next);
+        self.times[place] = seen.time;
+        self.kinds[place] = kind_of(seen);
+        self.next = (self.next + 1) % MOST as u8;
+    }
+}
+
+/// Returns the time of a place, if there is one.
+#[inline(always)]
+fn seen_at(time: u32, kind: Kind) -> Option<SeenTime>
+    ensures { result ≡ seen_at (time, kind) }
+{
+    match kind {
+        Kind::Nothing => None,
+        Kind::Packet => Some(SeenTime {
+            time,
+            is_block: false,
+        }),
+        Kind::Block => Some(SeenTime {
+            time,
+            is_block: true,
+        }),
+    }
+}
+
+/// Returns what arrived with this time.
+fn kind_of(seen: SeenTime) -> Kind
+    ensures { seen_at (seen.time, result) ≡ Some seen }
+{
+    if seen.is_block {
+        Kind::Block
+    } else {
+        Kind::Packet
     }
 }

@@ -5,6 +5,7 @@
 
 use alloc::vec::Vec;
 
+mod due;
 mod restarting;
 mod unit_pops;
 
@@ -14,7 +15,7 @@ use crate::buffer::{
 use crate::codec::{CodecDepacketizer, Depacketizer, NoBox};
 use crate::error::PacketError;
 use crate::jitter::missing::MissingNumbers;
-use crate::jitter::no_media_numbers::{is_late, is_noted, note_no_media, pass_no_media_numbers};
+use crate::jitter::no_media_numbers::{is_late, is_noted, note_no_media};
 use crate::jitter::noted_times::{NotedTime, NotedTimes, is_soon_after};
 use crate::jitter::numbers::{
     Extended, SequenceNumbers, lowest_with, number_within, without_restart,
@@ -25,7 +26,7 @@ use crate::jitter::outcome::{
     with_outcome, with_pop, with_recovered,
 };
 pub use crate::jitter::waiting::WaitLimits;
-use crate::jitter::waiting::{deadline, overdue, room_for};
+use crate::jitter::waiting::{deadline, room_for};
 use crate::wire::{Frequency, MediaTime, RtpHeader, SeqNo, Ticks};
 
 /// The largest number of packets that one push stores: the pushed packet, and a suspect packet.
@@ -43,7 +44,7 @@ pub struct KeptPacket {
 /// due by count or by time.
 ///
 /// It reads no clock: you pass in all times. It works only inside calls. It allocates for held packets, for numbers without
-/// media (at most 1,024), and for noted RTP times (4 kB or 10 kB).
+/// media (at most 1,024), and for noted RTP times (at most 2 kB or 5 kB).
 #[derive(Debug)]
 pub struct JitterBuffer<B = NoBox> {
     numbers: SequenceNumbers,
@@ -52,16 +53,16 @@ pub struct JitterBuffer<B = NoBox> {
     no_media_numbers: Vec<u64>,
     noted_times: NotedTimes,
     kept: Option<KeptPacket>,
-    clock_rate: Frequency,
     wait_limits: WaitLimits,
-    ended: bool,
     counters: PacketCounters,
     /// The lowest extended number since the latest restart.
     lowest: Option<u64>,
-    /// The caller announced a restart, and no packet has arrived since.
-    is_restarting: bool,
     /// While fewer places than this are free, pops wait for nothing.
     room: usize,
+    clock_rate: Frequency,
+    ended: bool,
+    /// The caller announced a restart, and no packet has arrived since.
+    is_restarting: bool,
 }
 
 impl<B: Depacketizer> JitterBuffer<B> {
@@ -90,10 +91,10 @@ impl<B: Depacketizer> JitterBuffer<B> {
         assert!(buffer.held() == 0);
         let room = room_for(buffer.limit(), AT_ONCE);
         JitterBuffer {
+            noted_times: NotedTimes::new(numbers.backward()),
             numbers,
             buffer,
             no_media_numbers: Vec::new(),
-            noted_times: NotedTimes::new(),
             kept: None,
             clock_rate,
             wait_limits,
@@ -408,8 +409,7 @@ impl<B: Depacketizer> JitterBuffer<B> {
     #[inline(always)]
     fn is_contradicted(&self, number: u64, time: u32) -> bool {
         let packet = NotedTime { number, time };
-        let backward = self.numbers.backward();
-        !(self.ended || self.is_restarting) && self.noted_times.contradicts(backward, packet)
+        !(self.ended || self.is_restarting) && self.noted_times.contradicts(packet)
     }
 
     /// Returns whether the packet comes soon after the suspect packet.
@@ -465,10 +465,10 @@ impl<B: Depacketizer> JitterBuffer<B> {
             number,
             time: packet.header.timestamp(),
         };
-        let backward = self.numbers.backward();
-        let places = self.noted_times.first_places(backward, noted)?;
-        let outcome = self.accept(number, packet)?;
-        self.noted_times.note(places, backward, noted);
+        self.noted_times.make_room(noted)?;
+        let outcome = store(&mut self.buffer, self.clock_rate, packet, number)?;
+        self.noted_times.note(noted);
+        self.counters = with_outcome(self.counters, outcome);
         Ok(outcome)
     }
 
@@ -530,35 +530,6 @@ impl<B: Depacketizer> JitterBuffer<B> {
         let outcome = store(&mut self.buffer, self.clock_rate, packet, number)?;
         count(&mut self.counters, outcome);
         Ok(outcome)
-    }
-
-    /// Moves the cutoff past the numbers without media that come right after it.
-    fn settle(&mut self) {
-        pass_no_media_numbers(&mut self.buffer, &mut self.no_media_numbers);
-    }
-
-    /// Returns whether pops wait for nothing at that time.
-    fn is_pressed(&self, now: Ticks) -> bool {
-        self.ended
-            || overdue(self.wait_limits.max_wait, now, self.buffer.ready_since())
-            || self.has_little_room()
-    }
-
-    /// Returns whether fewer places are free than `room`.
-    fn has_little_room(&self) -> bool {
-        self.buffer.limit().saturating_sub(self.buffer.held()) < self.room
-    }
-
-    /// Returns how many complete frames wait behind a gap at that time. `None`: the stream is starting, and no frame is
-    /// released.
-    fn waiting(&self, now: Ticks) -> Option<usize> {
-        if self.is_pressed(now) {
-            Some(0)
-        } else if self.buffer.cutoff().is_none() && self.buffer.ready() <= self.wait_limits.start {
-            None
-        } else {
-            Some(self.wait_limits.most_held_back())
-        }
     }
 }
 

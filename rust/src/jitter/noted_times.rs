@@ -3,12 +3,15 @@
 //! The RTP times of the latest numbers. If a number arrives again with another time, the sender has restarted.
 
 use crate::buffer::PackedHeader;
-use crate::memory::{AllocError, TryVec};
+use crate::memory::{AllocError, TryQueue};
 use crate::wire::Frequency;
-use alloc::vec::Vec;
+use alloc::collections::VecDeque;
 
 /// The largest backward window for which every fourth number is noted.
 const NARROW: u16 = 1_000;
+
+/// The number of times for which the first noted number allocates.
+const FIRST_ROOM: usize = 16;
 
 /// A number, and the RTP time of its packet.
 #[derive(Clone, Copy, Debug)]
@@ -18,59 +21,123 @@ pub struct NotedTime {
 }
 
 /// The RTP times of the latest numbers: of every fourth number, for the last 1,024 numbers; with a backward window above 1,000,
-/// of every eighth number, for the last 5,120. It allocates 4 kB, or 10 kB for a wider window, when the first number is noted.
+/// of every eighth number, for the last 5,120. A number takes 8 bytes. The memory grows with the noted numbers from 128 bytes
+/// to 2 kB, or 5 kB for a wider window.
 #[derive(Debug)]
 pub(crate) struct NotedTimes {
-    places: Vec<NotedTime>,
+    /// The backward window of the numbers.
+    backward: u16,
+    /// The index of the first place: its number, divided by the spacing.
+    first: u64,
+    /// The time at this index and at each index after it; `None`: no packet with its number arrived.
+    times: VecDeque<Option<u32>>,
 }
 
 impl NotedTimes {
-    /// Creates an empty list.
-    pub(crate) fn new() -> Self {
-        NotedTimes { places: Vec::new() }
+    /// Creates an empty list, for numbers with this backward window.
+    pub(crate) fn new(backward: u16) -> Self {
+        NotedTimes {
+            backward,
+            first: 0,
+            times: VecDeque::new(),
+        }
     }
 
     /// Returns whether the number is noted with another time.
     #[inline(always)]
-    pub(crate) fn contradicts(&self, backward: u16, packet: NotedTime) -> bool {
-        let place = place_of(backward, packet.number);
-        if place >= self.places.len() {
+    pub(crate) fn contradicts(&self, packet: NotedTime) -> bool {
+        if !is_noted(self.backward, packet.number) {
             return false;
         }
-        let noted = self.places[place];
-        noted.number == packet.number && noted.time != packet.time
+        let index = index_of(self.backward, packet.number);
+        if index < self.first || index - self.first >= self.times.len() as u64 {
+            return false;
+        }
+        match self.times[(index - self.first) as usize] {
+            Some(time) => time != packet.time,
+            None => false,
+        }
     }
 
-    /// Allocates all places if this packet is the first whose time is noted; otherwise returns an empty list.
+    /// Makes room for the time of this packet. Allocates if more places than before are needed.
     #[inline(always)]
-    pub(crate) fn first_places(
-        &self,
-        backward: u16,
-        packet: NotedTime,
-    ) -> Result<Vec<NotedTime>, AllocError> {
-        if !self.places.is_empty() || !is_noted(backward, packet.number) {
-            return Ok(Vec::new());
+    pub(crate) fn make_room(&mut self, packet: NotedTime) -> Result<(), AllocError> {
+        if !is_noted(self.backward, packet.number) {
+            return Ok(());
         }
-        let places = Vec::try_filled(packet, places_for(backward))?;
-        Ok(places)
+        let index = index_of(self.backward, packet.number);
+        if index < self.first {
+            return Ok(());
+        }
+        let needed = self.room_for(index, places_for(self.backward));
+        if needed <= self.times.capacity() {
+            return Ok(());
+        }
+        self.grow(needed, places_for(self.backward))
     }
 
-    /// Notes the time of a packet, if its number is a multiple of the spacing. `places` comes from
-    /// [`NotedTimes::first_places`].
+    /// Returns how many times are held at most until the time of this index is appended.
     #[inline(always)]
-    pub(crate) fn note(&mut self, places: Vec<NotedTime>, backward: u16, packet: NotedTime) {
-        if !is_noted(backward, packet.number) {
+    fn room_for(&self, index: u64, most: usize) -> usize {
+        let place = index - self.first;
+        let held = self.times.len() as u64;
+        if place >= held && place - held >= most as u64 {
+            return 1;
+        }
+        place.min(most as u64 - 1) as usize + 1
+    }
+
+    /// Makes room for `needed` times, and for some more, at most `most`.
+    fn grow(&mut self, needed: usize, most: usize) -> Result<(), AllocError> {
+        let room = needed.max(2 * self.times.len()).max(FIRST_ROOM).min(most);
+        self.times.try_exact(room.saturating_sub(self.times.len()))
+    }
+
+    /// Notes the time of a packet, if its number is a multiple of the spacing. A call of [`NotedTimes::make_room`] made room for
+    /// it.
+    #[inline(always)]
+    pub(crate) fn note(&mut self, packet: NotedTime) {
+        if !is_noted(self.backward, packet.number) {
             return;
         }
-        if self.places.is_empty() {
-            self.places = places;
+        let index = index_of(self.backward, packet.number);
+        if index < self.first {
             return;
         }
-        let place = place_of(backward, packet.number);
-        if place < self.places.len() {
-            self.places[place] = packet;
+        let held = self.times.len() as u64;
+        if index - self.first < held {
+            self.times[(index - self.first) as usize] = Some(packet.time);
+        } else {
+            self.append(index, packet.time, places_for(self.backward));
         }
     }
+
+    /// Appends the time of this index, which comes after all others. The indices between get no time.
+    fn append(&mut self, index: u64, time: u32, most: usize) {
+        let gap = index - self.first - self.times.len() as u64;
+        skip(&mut self.times, gap, most);
+        push(&mut self.times, Some(time), most);
+        self.first = index - (self.times.len() as u64 - 1);
+    }
+}
+
+/// Appends `gap` indices without a time. With `most` of them no earlier time is left, and none is appended.
+fn skip(times: &mut VecDeque<Option<u32>>, gap: u64, most: usize) {
+    if gap >= most as u64 {
+        times.clear();
+        return;
+    }
+    for _ in 0..gap {
+        push(times, None, most);
+    }
+}
+
+/// Appends a time. If there are `most` times, the first one leaves.
+fn push(times: &mut VecDeque<Option<u32>>, time: Option<u32>, most: usize) {
+    if times.len() >= most {
+        times.pop_front();
+    }
+    times.push_back(time);
 }
 
 /// Returns the distance between two noted numbers.
@@ -88,9 +155,9 @@ fn is_noted(backward: u16, number: u64) -> bool {
     number % spacing_of(backward) == 0
 }
 
-/// Returns the place of a number.
-fn place_of(backward: u16, number: u64) -> usize {
-    (number / spacing_of(backward) % places_for(backward) as u64) as usize
+/// Returns the index of a number.
+fn index_of(backward: u16, number: u64) -> u64 {
+    number / spacing_of(backward)
 }
 
 /// Returns whether `later` comes 1 to 16 numbers after `earlier`, and at most 2 seconds of RTP time after it.

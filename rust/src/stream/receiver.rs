@@ -216,8 +216,6 @@ pub struct Receiver<B = NoBox> {
     /// The extended RTP times of units.
     times: RtpTimes,
     pub(crate) statistics: ReceptionStatistics,
-    /// The statistics of receiver reports, before the first packet.
-    no_statistics: ReceptionStatistics,
     choice: Choice,
     /// The RTP times of the latest packets and blocks, if the stream uses RED.
     seen: SeenTimes,
@@ -276,7 +274,6 @@ impl<B: Depacketizer> Receiver<B> {
             arrived: Arrived::nothing(),
             times: RtpTimes::new(),
             statistics,
-            no_statistics: statistics,
             choice,
             seen: SeenTimes::none(),
             gates,
@@ -553,7 +550,7 @@ impl<B: Depacketizer> Receiver<B> {
     /// Begins the numbers of another sender, with this SSRC if it is known.
     fn go_over_to(&mut self, ssrc: Option<u32>) {
         self.ssrc = ssrc;
-        self.statistics = self.no_statistics;
+        self.statistics = self.statistics.anew();
         self.seen = SeenTimes::none();
         self.packets.restart();
     }

@@ -64,6 +64,11 @@ impl ReceptionStatistics {
         }
     }
 
+    /// Returns the statistics for the same clocks and windows, before the first packet.
+    pub(crate) fn anew(&self) -> ReceptionStatistics {
+        ReceptionStatistics::over(self.numbers.anew(), self.tick_rate, self.clock_rate)
+    }
+
     /// Counts a packet with this number and RTP time that arrived at `now`.
     #[inline(always)]
     pub fn observe(&mut self, now: Ticks, number: u16, timestamp: u32) {

@@ -12,28 +12,51 @@ pub(crate) struct SeenTime {
     pub(crate) is_block: bool,
 }
 
+/// What is remembered at a place.
+#[derive(Clone, Copy, Debug)]
+pub(crate) enum Kind {
+    Nothing,
+    Packet,
+    Block,
+}
+
 /// The latest 64 times. It does not allocate.
 #[derive(Debug)]
 pub(crate) struct SeenTimes {
     /// A new time replaces the oldest.
-    places: [Option<SeenTime>; MOST],
+    times: [u32; MOST],
+    /// What arrived with each of the times.
+    kinds: [Kind; MOST],
     /// The index of the next time.
-    next: usize,
+    next: u8,
 }
 
 impl SeenTimes {
     /// Returns the state before the first packet.
     pub(crate) fn none() -> SeenTimes {
         SeenTimes {
-            places: [None; MOST],
+            times: [0; MOST],
+            kinds: [Kind::Nothing; MOST],
             next: 0,
         }
     }
 
+    /// Returns the number of places.
+    #[inline(always)]
+    fn len(&self) -> usize {
+        self.times.as_slice().len()
+    }
+
+    /// Returns the time at a place.
+    #[inline(always)]
+    fn at(&self, place: usize) -> Option<SeenTime> {
+        seen_at(self.times[place], self.kinds[place])
+    }
+
     /// Returns whether a packet with this time arrived, or a block with this time was stored.
     pub(crate) fn is_seen(&self, time: u32) -> bool {
-        for place in &self.places {
-            if let Some(seen) = place
+        for place in 0..self.len() {
+            if let Some(seen) = self.at(place)
                 && seen.time == time
             {
                 return true;
@@ -44,8 +67,8 @@ impl SeenTimes {
 
     /// Returns whether a block with this time was stored.
     pub(crate) fn has_block(&self, time: u32) -> bool {
-        for place in &self.places {
-            if let Some(seen) = place
+        for place in 0..self.len() {
+            if let Some(seen) = self.at(place)
                 && seen.is_block
                 && seen.time == time
             {
@@ -57,7 +80,34 @@ impl SeenTimes {
 
     /// Notes one more time.
     pub(crate) fn note(&mut self, seen: SeenTime) {
-        self.places[self.next] = Some(seen);
-        self.next = (self.next + 1) % MOST;
+        let place = usize::from(self.next);
+        self.times[place] = seen.time;
+        self.kinds[place] = kind_of(seen);
+        self.next = (self.next + 1) % MOST as u8;
+    }
+}
+
+/// Returns the time of a place, if there is one.
+#[inline(always)]
+fn seen_at(time: u32, kind: Kind) -> Option<SeenTime> {
+    match kind {
+        Kind::Nothing => None,
+        Kind::Packet => Some(SeenTime {
+            time,
+            is_block: false,
+        }),
+        Kind::Block => Some(SeenTime {
+            time,
+            is_block: true,
+        }),
+    }
+}
+
+/// Returns what arrived with this time.
+fn kind_of(seen: SeenTime) -> Kind {
+    if seen.is_block {
+        Kind::Block
+    } else {
+        Kind::Packet
     }
 }

@@ -4,6 +4,7 @@ use crate::datagrams::*;
 use crate::live_bytes;
 use codec_payload::rtcp::{CompoundRule, RtcpPacket, read_compound};
 use codec_payload::session::*;
+use codec_payload::stream::Receiver;
 use codec_payload::*;
 use std::collections::BTreeMap;
 
@@ -164,9 +165,9 @@ fn bytes_behind<T>(make: impl FnOnce() -> T) -> (T, usize) {
     (made, live_bytes().wrapping_sub(before))
 }
 
-/// A stream of this SSRC gets 40 packets, of which one comes late. All units leave: it is idle.
-fn play(session: &mut Session, ssrc: u32, datagram: impl Fn(u32, u16) -> Vec<u8>) {
-    for place in 0..40 {
+/// A stream of this SSRC gets this many packets, of which one comes late. All units leave: it is idle.
+fn play(session: &mut Session, ssrc: u32, packets: u16, datagram: impl Fn(u32, u16) -> Vec<u8>) {
+    for place in 0..packets {
         let number = match place {
             20 => 21,
             21 => 20,
@@ -189,14 +190,22 @@ fn memory_of_sessions_and_streams() {
         size_of::<Session>()
     );
     assert!(size_of::<Session>() + session <= 580);
+    println!("a receiver: {} bytes", size_of::<Receiver>());
+    assert!(size_of::<Receiver>() <= 1_300);
     type Datagram = fn(u32, u16) -> Vec<u8>;
     let audio: Datagram = opus;
     let video: Datagram = |ssrc, number| vp8(ssrc, number, number == 0);
-    for (name, datagram, most) in [("audio", audio, 7_000), ("video", video, 13_300)] {
+    let lines = [
+        ("audio", audio, 40, 2_600),
+        ("audio", audio, 1_500, 4_700),
+        ("video", video, 40, 2_700),
+        ("video", video, 6_000, 8_000),
+    ];
+    for (name, datagram, packets, most) in lines {
         // The list of streams has places for a power of two.
         let (session, streams) = bytes_behind(|| {
             let mut session = Session::new(settings());
-            (0..16).for_each(|ssrc| play(&mut session, ssrc, datagram));
+            (0..16).for_each(|ssrc| play(&mut session, ssrc, packets, datagram));
             session
         });
         let held: usize = (0..16)
@@ -204,7 +213,7 @@ fn memory_of_sessions_and_streams() {
             .map(|it| it.held)
             .sum();
         let one = streams / 16;
-        println!("an idle stream of {name}: {one} bytes");
+        println!("an idle stream of {name} after {packets} packets: {one} bytes");
         assert!(held == 0 && one <= most, "{one} bytes, {held} packets held");
     }
 }

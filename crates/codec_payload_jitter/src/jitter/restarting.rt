@@ -90,8 +90,7 @@ impl<B: Depacketizer> JitterBuffer<B> {
             number,
             time: packet.header.timestamp(),
         };
-        let backward = self.numbers.backward();
-        let places = self.noted_times.first_places(backward, noted)?;
+        self.noted_times.make_room(noted)?;
         let before = kept_number(number, kept.header.sequence_number());
         let outcomes = store_two(
             &mut self.buffer,
@@ -99,7 +98,7 @@ impl<B: Depacketizer> JitterBuffer<B> {
             (packet, number),
             (kept, before),
         )?;
-        self.noted_times.note(places, backward, noted);
+        self.noted_times.note(noted);
         let counters = with_restart(with_outcome(self.counters, outcomes.0));
         self.counters = with_kept(counters, outcomes.1);
         self.kept = None;

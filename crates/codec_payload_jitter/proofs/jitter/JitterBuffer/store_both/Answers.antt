@@ -1,5 +1,7 @@
 use Rattle.std.proofs.Common.{◌≡◌, ◌∙◌, ap, sym, subst, refl, length}
 use Rattle.std.specs.Option.{option_map}
+use Rattle.codec_payload_jitter.specs.NotedTimes.{Noted, noted_with}
+use Rattle.codec_payload_jitter.specs.declared.noted_times.NotedTime.{NotedTime}
 use Rattle.codec_payload_jitter.specs.Receiving.{Receiving, IsCounted, arrival_of, counted, counted_again, counted_restart}
 use Rattle.codec_payload_jitter.specs.declared.outcome.PacketCounters.{PacketCounters}
 use Rattle.codec_payload_jitter.proofs.ReceivingLemmas.{conserved_both}
@@ -22,7 +24,7 @@ returns-clause-ok g c =
       numbering = c.self.inside.numbers;
       buffer = c.self.inside.buffer;
       no_media_numbers = c.self.inside.no_media_numbers.items;
-      noted = c.self.inside.noted_times;
+      noted = c.self.inside.noted_times.noted;
       kept = option_map arrival_of c.self.inside.kept;
       rate = c.self.inside.clock_rate;
       wait_limits = c.self.inside.wait_limits;
@@ -36,5 +38,7 @@ returns-clause-ok g c =
     let counters : c.with_kept-self-inside.result ≡ counted_again (counted_restart (counted r.counters both.0)) both.1 =
     c.with_kept-self-inside.ensures ∙ (ap (λ (k : PacketCounters). counted_again k both.1) c.with_restart-counters.ensures
     ∙ ap (λ (k : PacketCounters). counted_again (counted_restart k) both.1) c.with_outcome.ensures) in
-    stored_both c.args.number (arrival_of c.args.packet) (arrival_of c.args.kept) r c.args.self.now _ c.store_two.new.buffer both c.note.new.self c.with_kept-self-inside.result c.self.view_is
-    (rw (c.kept_number-before.ensures, c.sequence_number.ensures) at c.in_ok-outcomes.ensures.takes) (rw (c.backward-backward.ensures, c.timestamp.ensures) at c.note.ensures) counters refl
+    let x : NotedTime = record { number = c.args.number; time = c.args.packet.header.timestamp } in
+    let noted : c.note.new.self.noted ≡ noted_with r.noted x = (rw c.timestamp.ensures at c.note.ensures) ∙ ap (λ (s : Noted). noted_with s x) c.make_room.ensures.same in
+    stored_both c.args.number (arrival_of c.args.packet) (arrival_of c.args.kept) r c.args.self.now _ c.store_two.new.buffer both c.note.new.self.noted c.with_kept-self-inside.result c.self.view_is
+    (rw (c.kept_number-before.ensures, c.sequence_number.ensures) at c.in_ok-outcomes.ensures.takes) noted counters refl

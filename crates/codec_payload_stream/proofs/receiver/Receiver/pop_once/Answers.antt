@@ -17,7 +17,6 @@ returns-clause-pops g c =
       arrived = c.self.inside.arrived;
       time = c.self.inside.times;
       reception = c.self.inside.statistics;
-      no_reception = c.self.inside.no_statistics;
       choice = c.self.inside.choice;
       seen = c.self.inside.seen;
       gates = c.self.inside.gates;
