@@ -23,7 +23,6 @@ returns-clause-heard g c =
       arrived = c.self.inside.arrived;
       time = c.self.inside.times;
       reception = c.self.inside.statistics;
-      no_reception = c.self.inside.no_statistics;
       choice = c.self.inside.choice;
       seen = c.self.inside.seen;
       gates = c.self.inside.gates;
