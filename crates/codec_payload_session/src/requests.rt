@@ -175,10 +175,10 @@ impl Feedback {
 pub(crate) fn hear(feedback: &mut Option<Feedback>, format: &Format, now: Ticks, datagram: &[u8])
     ensures { feedback.new ≡ heard_by now.0 (number_at format.now datagram.now) feedback.old }
 {
-    if let Some(feedback) = feedback {
-        if feedback.may_answer(format, datagram) {
-            feedback.hear(now, number_of(format, datagram));
-        }
+    if let Some(feedback) = feedback
+        && feedback.may_answer(format, datagram)
+    {
+        feedback.hear(now, number_of(format, datagram));
     }
 }
 

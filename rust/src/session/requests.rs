@@ -149,10 +149,10 @@ impl Feedback {
 
 /// Records the number of a packet that was accepted.
 pub(crate) fn hear(feedback: &mut Option<Feedback>, format: &Format, now: Ticks, datagram: &[u8]) {
-    if let Some(feedback) = feedback {
-        if feedback.may_answer(format, datagram) {
-            feedback.hear(now, number_of(format, datagram));
-        }
+    if let Some(feedback) = feedback
+        && feedback.may_answer(format, datagram)
+    {
+        feedback.hear(now, number_of(format, datagram));
     }
 }
 
