@@ -222,11 +222,11 @@ all_first forward backward first (k ∷ ks) begun = (
   begun.1,
 )
   where
-    number_first : (forward backward n x : ℕ) → number_in (answer_anew (no_numbers forward backward) n) ≡ Some x → answer_for (no_numbers forward backward) n ≡ extended.Number x
-    number_first forward backward n x is = ap (λ (y : ℕ). extended.Number y) (same_number n x is)
-
     same_number : (n x : ℕ) → Some (65536 + n) ≡ Some x → 65536 + n ≡ x
     same_number n x e = cc
+
+    number_first : (forward backward n x : ℕ) → number_in (answer_anew (no_numbers forward backward) n) ≡ Some x → answer_for (no_numbers forward backward) n ≡ extended.Number x
+    number_first forward backward n x is = ap (λ (y : ℕ). extended.Number y) (same_number n x is)
 
 pub through_first : (forward backward first : ℕ) (ks : List ℕ) → numbering_through first (no_numbers forward backward) ks ≡ numbering_begun first (no_numbers forward backward) ks
 through_first forward backward first [] = refl

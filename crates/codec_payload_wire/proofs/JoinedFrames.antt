@@ -1,6 +1,7 @@
 -- Packets of two parts in one buffer: no complete frame has packets of both, as their numbers lie apart.
 use Rattle.std.proofs.Common.{◌≡◌, ◌∙◌, refl, sym, ap, subst, ℕ, suc, ◌+◌, ◌<◌, ◌≤◌, ◌||◌, ◌&&◌, not, cond, List, [], ◌∷◌, ◌++◌, Bool, true, false, Option, Some, None, append_assoc, append-nil, arith, eqb, length, ltb}
 use Rattle.std.proofs.lemmas.Bool.Decides.{nat_tests}
+use Rattle.std.proofs.lemmas.Bool.{lt-ltb}
 use Rattle.codec_payload_base.specs.Time.{Time}
 use Rattle.codec_payload_buffer.proofs.FrameParts.{IsPart, IsRun}
 use Rattle.codec_payload_buffer.proofs.PopLemmas.{due_first, part_due}
@@ -9,6 +10,7 @@ use Rattle.codec_payload_buffer.specs.Frames.{ended_at, frame_at, frames, frames
 use Rattle.codec_payload_buffer.specs.Held.{AllAbove, Held, Rises, above, between, has_number, number_of, placed}
 use Rattle.codec_payload_buffer.specs.Scan.{first_of}
 use Rattle.codec_payload_buffer.specs.Steps.{State, due_among, due_of, starts_right_after}
+use Rattle.codec_payload_codec.proofs.CaseLemmas.{by_test}
 use Rattle.codec_payload_buffer.specs.declared.buffer.frames.CompleteFrame.{CompleteFrame}
 
 -- all numbers are below a bound
@@ -56,10 +58,11 @@ joined bound old new under over = frames_joined bound [] old new tt under over
 -- The frame that is due
 
 -- if nothing waits, the first frame is due
-due_at_once : (s : State) (f : CompleteFrame) (fs : List CompleteFrame) → s.hold_back ≡ 0 → due_among s (f ∷ fs) ≡ Some f
+pub due_at_once : (s : State) (f : CompleteFrame) (fs : List CompleteFrame) → s.hold_back ≡ 0 → due_among s (f ∷ fs) ≡ Some f
 due_at_once s f fs none =
     ap (λ (h : ℕ). cond (starts_right_after s.cutoff f.first || ltb h (length (f ∷ fs))) (Some f) None) none
-    ∙ ap (λ (b : Bool). cond b (Some f) None) (or_true (starts_right_after s.cutoff f.first))
+    ∙ (ap (λ (b : Bool). cond (starts_right_after s.cutoff f.first || b) (Some f) None) (lt-ltb 0 (length (f ∷ fs)) (omega arith))
+    ∙ ap (λ (b : Bool). cond b (Some f) None) (or_true (starts_right_after s.cutoff f.first)))
   where
     or_true : (b : Bool) → (b || true) ≡ true
     or_true true = refl
@@ -166,24 +169,15 @@ has_later bound n (q ∷ old) new high under =
 
 pub over_placed : (bound : ℕ) (p : Held) (hs : List Held) → bound < p.meta.seq_no.0 → AllAbove bound hs → AllAbove bound (placed p hs)
 over_placed bound p [] high over = (high, tt)
-over_placed bound p (q ∷ qs) high over = by_case (ltb q.meta.seq_no.0 p.meta.seq_no.0)
-  where
-    by_case : (b : Bool) → AllAbove bound (cond b (q ∷ placed p qs) (p ∷ q ∷ qs))
-    by_case true = (over.0, over_placed bound p qs high over.1)
-    by_case false = (high, over)
+over_placed bound p (q ∷ qs) high over =
+    by_test (ltb q.meta.seq_no.0 p.meta.seq_no.0) (λ b. AllAbove bound (cond b (q ∷ placed p qs) (p ∷ q ∷ qs))) (λ e. (over.0, over_placed bound p qs high over.1)) (λ e. (high, over))
 
 pub under_placed : (bound : ℕ) (p : Held) (hs : List Held) → p.meta.seq_no.0 < bound → AllUnder bound hs → AllUnder bound (placed p hs)
 under_placed bound p [] low under = (low, tt)
-under_placed bound p (q ∷ qs) low under = by_case (ltb q.meta.seq_no.0 p.meta.seq_no.0)
-  where
-    by_case : (b : Bool) → AllUnder bound (cond b (q ∷ placed p qs) (p ∷ q ∷ qs))
-    by_case true = (under.0, under_placed bound p qs low under.1)
-    by_case false = (low, under)
+under_placed bound p (q ∷ qs) low under =
+    by_test (ltb q.meta.seq_no.0 p.meta.seq_no.0) (λ b. AllUnder bound (cond b (q ∷ placed p qs) (p ∷ q ∷ qs))) (λ e. (under.0, under_placed bound p qs low under.1)) (λ e. (low, under))
 
 pub under_above : (bound last : ℕ) (hs : List Held) → AllUnder bound hs → AllUnder bound (above last hs)
 under_above bound last [] under = tt
-under_above bound last (p ∷ ps) under = by_case (ltb last p.meta.seq_no.0)
-  where
-    by_case : (b : Bool) → AllUnder bound (cond b (p ∷ above last ps) (above last ps))
-    by_case true = (under.0, under_above bound last ps under.1)
-    by_case false = under_above bound last ps under.1
+under_above bound last (p ∷ ps) under =
+    by_test (ltb last p.meta.seq_no.0) (λ b. AllUnder bound (cond b (p ∷ above last ps) (above last ps))) (λ e. (under.0, under_above bound last ps under.1)) (λ e. under_above bound last ps under.1)

@@ -91,9 +91,9 @@ module _ (known : ℕ → Packet → RtpMeta → Type 0) (splits : Bool) (units 
 
 -- No part
 
-nothing_due : (s : State) (f : CompleteFrame) → s.held ≡ [] → due_of s ≡ Some f → ⊥
-nothing_due s f none due =
-    let here : None ≡ Some f = sym (ap (λ (hs : List Held). due_among s (frames hs)) none) ∙ due in
+pub nothing_due : (s : State) (f : CompleteFrame) → s.held ≡ [] → due_of s ≡ Some f → ⊥
+nothing_due s f empty due =
+    let here : None ≡ Some f = sym (ap (λ (hs : List Held). due_among s (frames hs)) empty) ∙ due in
     cc
 
 -- an unused buffer
@@ -103,7 +103,7 @@ pub record IsEmpty (kind : DepacketizerKind) (from : ℕ) (s : State) : Type 0 w
   pub no_cutoff : s.cutoff ≡ None
   pub reads : kind_of_depacketizer s.depacketizer ≡ kind
 
-pub no_parts : (known : ℕ → Packet → RtpMeta → Type 0) (splits : Bool) (units : List SentUnit) (kind : DepacketizerKind) → Order known splits units kind 0 0
+abbrev pub no_parts : (known : ℕ → Packet → RtpMeta → Type 0) (splits : Bool) (units : List SentUnit) (kind : DepacketizerKind) → Order known splits units kind 0 0
 no_parts known splits units kind = record {
   Is = IsEmpty kind;
   sound = λ from s is. record {
@@ -201,14 +201,14 @@ module _ (known : ℕ → Packet → RtpMeta → Type 0) (splits : Bool) (units 
   beyond_lowest j s p ps held is =
       let rises : Rises (p ∷ ps) = subst Rises held is.rises in
       let sent : ArePushes c (p ∷ ps) = subst (ArePushes c) held is.sent in
-      let over : next_after c.first s.cutoff ≤ p.meta.seq_no.0 = next_le s.cutoff (subst (IsAboveCutoff s.cutoff) held is.beyond) (number_is p sent.0) in
+      let over : next_after c.first s.cutoff ≤ p.meta.seq_no.0 = next_le s.cutoff (subst (IsAboveCutoff s.cutoff) held is.beyond) sent.0.0 (number_is p sent.0) in
       record { rises = rises.1; beyond = rises.0; sent = sent.1; floor = omega (arith, is.floor, over); reads = is.reads }
     where
-      next_le : (cutoff : Option ℕ) → IsAboveCutoff cutoff (p ∷ ps) → {n : ℕ} → p.meta.seq_no.0 ≡ c.first + n → next_after c.first cutoff ≤ p.meta.seq_no.0
-      next_le None a number = omega (arith, number)
-      next_le (Some m) a number = omega (arith, a.0)
+      next_le : (cutoff : Option ℕ) → IsAboveCutoff cutoff (p ∷ ps) → (n : ℕ) → p.meta.seq_no.0 ≡ c.first + n → next_after c.first cutoff ≤ p.meta.seq_no.0
+      next_le None a n number = omega (arith, number)
+      next_le (Some m) a n number = omega (arith, a.0)
 
-  layered_lowest : (from : ℕ) (s : State) → IsLayered from s → IsLayered from (without_lowest s s.held)
+  pub layered_lowest : (from : ℕ) (s : State) → IsLayered from s → IsLayered from (without_lowest s s.held)
   layered_lowest from s (before (q ∷ old) new held is new_is) =
       let t : State = record s { held = old ++ new; cutoff = Some q.meta.seq_no.0; evicted = true } in
       let left : IsLayered from t = before old new refl (o.lowest from (earlier_in (q ∷ old) s) is) (same_beyond 0 (later_in new s) (later_in new t) refl refl new_is.reads new_is) in
@@ -349,7 +349,7 @@ module _ (known : ℕ → Packet → RtpMeta → Type 0) (splits : Bool) (units 
         contiguous = out.contiguous;
         left = ap (earlier_in rest) out.left;
       } in
-      let after = o.releases from (earlier_in old s) (earlier_in rest t) r one in
+      let after = o.releases from (earlier_in old s) (earlier_in rest t) r is one in
       record {
         place = after.0;
         not_before = after.1;
@@ -365,7 +365,7 @@ module _ (known : ℕ → Packet → RtpMeta → Type 0) (splits : Bool) (units 
 
   -- Frames that are skipped
 
-  layered_over : (from : ℕ) (s t : State) → IsLayered from s → PassesOver s t → IsLayered from t
+  pub layered_over : (from : ℕ) (s t : State) → IsLayered from s → PassesOver s t → IsLayered from t
   layered_over from s t (beyond j few place cutoff is) p =
       beyond j few place (cutoff_at p.frame.last t.cutoff (ap (λ (x : State). x.cutoff) p.left) (due_under next s p.frame (all_low s.held is.sent) p.is_due)) (passed_beyond c j s t (p.frame ∷ []) is (one_more none p))
   layered_over from s t (before old new held is new_is) p =
@@ -389,7 +389,7 @@ module _ (known : ℕ → Packet → RtpMeta → Type 0) (splits : Bool) (units 
 
   -- Units
 
-  layered_releases : (from : ℕ) (s t : State) (r : Release) → IsLayered from s → Releases s r t → (place : ℕ) × (from ≤ place) × IsUnitAt known splits units place r × IsLayered (place + 1) t
+  pub layered_releases : (from : ℕ) (s t : State) (r : Release) → IsLayered from s → Releases s r t → (place : ℕ) × (from ≤ place) × IsUnitAt known splits units place r × IsLayered (place + 1) t
   layered_releases from s t r (beyond j few place cutoff is) out =
       let unit = released c.known c.clock_rate c.first c.kind c.faithful c.splits c.units c.lawful c.numbered j s t r is out in
       let there = slice_get_within c.units unit.0 unit.2.sent unit.2.at_place in (

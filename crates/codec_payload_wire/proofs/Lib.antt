@@ -21,3 +21,4 @@ pub mod WholeParts
 pub mod PartLemmas
 pub mod PlaceLemmas
 pub mod RestartLemmas
+pub mod RestartRunExamples

@@ -1,5 +1,5 @@
 -- One part of a run with announced restarts: what it sends, and what its deliveries push.
-use Rattle.std.proofs.Common.{◌≡◌, ◌∙◌, refl, sym, ap, subst, ℕ, ◌+◌, ◌-◌, ◌%◌, ◌^◌, ◌<◌, ◌≤◌, ◌⊎◌, inl, inr, List, [], ◌∷◌, ◌++◌, cond, Bool, false, Option, None, Some, arith, length, ltb, map}
+use Rattle.std.proofs.Common.{◌≡◌, ◌∙◌, refl, sym, ap, subst, ℕ, ◌+◌, ◌-◌, ◌%◌, ◌^◌, ◌<◌, ◌≤◌, ◌⊎◌, inl, inr, List, [], ◌∷◌, ◌++◌, cond, Bool, true, false, Option, None, Some, arith, length, ltb, map}
 use Rattle.std.specs.Prelude.{slice_get}
 use Rattle.std.proofs.lemmas.Bool.{le-ltb, lt-ltb}
 use Rattle.std.proofs.lemmas.Option.{slice_get_within}
@@ -157,7 +157,7 @@ module _ (g : PartGiven) where
   abbrev unused_buffer : State
   unused_buffer = empty_buffer 0 1 g.depacketizer
 
-  sent : SendsRun unused_buffer g.sender.stream g.sender.mtu first 0 g.samples g.all_steps (begins g.sender g.receiver) g.end []
+  pub sent : SendsRun unused_buffer g.sender.stream g.sender.mtu first 0 g.samples g.all_steps (begins g.sender g.receiver) g.end []
   sent = sends_run unused_buffer g.sender.stream g.sender.mtu first small g.samples None 0 g.all_steps (begins g.sender g.receiver) g.end []
       (record { mtu = refl; built_in = g.one_stream.built_in; kept = refl; number = bits; reads = tt; numbered = tt; few = omega arith })
       (proceeds None g.samples g.all_steps (begins g.sender g.receiver) g.end g.run)
@@ -171,7 +171,7 @@ module _ (g : PartGiven) where
   abbrev sends : List Step
   sends = sending_steps g.sender.mtu g.all_steps
 
-  unused : IsUnused start
+  pub unused : IsUnused start
   unused = record {
     built_in = g.one_stream.built_in;
     nothing_sent = refl;
@@ -183,10 +183,10 @@ module _ (g : PartGiven) where
     nothing_kept = refl;
   }
 
-  units_sent : Streams g.samples sends start after
+  pub units_sent : Streams g.samples sends start after
   units_sent = streams plainly g.samples 0 sends start after sent.entries [] (unused_exactly g.samples sends start sent.entries [] after unused sent.runs)
 
-  whole : SendsAll start after units_sent.units
+  pub whole : SendsAll start after units_sent.units
   whole = sends_all g.samples sends start after unused units_sent
 
   abbrev pub units : List SentUnit
@@ -198,13 +198,13 @@ module _ (g : PartGiven) where
   abbrev splits : Bool
   splits = may_split g.sender.packetizer
 
-  lawful : AllLawful kind splits units
+  pub lawful : AllLawful kind splits units
   lawful = units_sent.lawful g.readable
 
   abbrev pub Known : ExtensionIds → ℕ → Packet → RtpMeta → Type 0
   Known ids = IsDelivery ids g.sender.stream (packets_of units) received
 
-  faithful : (ids : ExtensionIds) → IsFaithful (Known ids) rate kind
+  pub faithful : (ids : ExtensionIds) → IsFaithful (Known ids) rate kind
   faithful ids = record {
     number = λ k q m known. known.1.number;
     time = λ k q m known. known.1.time;

@@ -14,12 +14,16 @@ packets_joined (u ∷ us) vs = ap (λ (ps : List Packet). u.packets ++ ps) (pack
 
 -- the unit behind `done` others
 pub get_behind : (done us : List SentUnit) (j : ℕ) → slice_get (done ++ us) (length done + j) ≡ slice_get us j
-get_behind [] us j = refl
-get_behind (d ∷ done) us j = get_behind done us j
+get_behind [] us j = let e : length {A = SentUnit} [] + j ≡ j = omega arith in ap (slice_get us) e
+get_behind (d ∷ done) us j =
+    let e : length (d ∷ done) + j ≡ suc (length done + j) = omega arith in
+    ap (slice_get (d ∷ done ++ us)) e ∙ get_behind done us j
 
 take_behind : (done us : List SentUnit) (j : ℕ) → take (length done + j) (done ++ us) ≡ done ++ take j us
-take_behind [] us j = refl
-take_behind (d ∷ done) us j = ap (λ (vs : List SentUnit). d ∷ vs) (take_behind done us j)
+take_behind [] us j = let e : length {A = SentUnit} [] + j ≡ j = omega arith in ap (λ (n : ℕ). take n us) e
+take_behind (d ∷ done) us j =
+    let e : length (d ∷ done) + j ≡ suc (length done + j) = omega arith in
+    ap (λ (n : ℕ). take n (d ∷ done ++ us)) e ∙ ap (λ (vs : List SentUnit). d ∷ vs) (take_behind done us j)
 
 pub before_behind : (done us : List SentUnit) (j : ℕ) → packets_before (length done + j) (done ++ us) ≡ length (packets_of done) + packets_before j us
 before_behind done us j =

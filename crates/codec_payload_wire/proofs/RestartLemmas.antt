@@ -109,7 +109,7 @@ module _ (samples : List Sample) (settings : Settings) (depacketizer : Depacketi
         within.in_time refl,
       )
 
-  given_part : (later : Bool) (name highest : Option ℕ) (s mid : Session) (part : Part) (sender sent : Sending) (run : DatagramRun) (more : ℕ) → IsBetween later name highest s
+  abbrev given_part : (later : Bool) (name highest : Option ℕ) (s mid : Session) (part : Part) (sender sent : Sending) (run : DatagramRun) (more : ℕ) → IsBetween later name highest s
       → IsPartWithin samples later (settings_in later part (named name)) depacketizer part sender run
       → Runs samples part.steps.items (begins sender (told_if later part.ssrc s)) (wire_of sent mid run)
       → bound_of highest + (196608 + length run.datagrams.items + more) < 2 ^ 62 → PartGiven
@@ -270,6 +270,9 @@ release_with_restarts samples parts senders receiver runs after t run within =
     (new_between samples within.settings within.depacketizer receiver begun) within.each (omega (arith, within.few)) in
     let us : List (List SentUnit) = all.all_units in
     let is_known = IsKnownInParts receiver.stream.ids samples parts senders runs us in
+    let behind : (k : ℕ) (q : Packet) (m : RtpMeta) → is_known k q m → is_known (length (packets_of []) + k) q m = λ k q m told_it.
+    let same_index : k ≡ length (packets_of []) + k = omega arith in
+    subst (λ (n : ℕ). is_known n q m) same_index told_it in
     let same : kind ≡ kind_of_depacketizer receiver.packets.buffer.depacketizer = sym (ap (λ (x : Session). kind_of_depacketizer x.packets.buffer.depacketizer) begun.is) in
     let empty : IsEmpty kind 0 receiver.packets.buffer = record {
       nothing_done = refl;
@@ -280,6 +283,6 @@ release_with_restarts samples parts senders receiver runs after t run within =
     subst (ReleasesParts samples parts senders receiver runs) same (record {
       units = us;
       each = all.each;
-      in_order = all.in_order is_known (units_in us) 0 (no_parts is_known (splits_in kind) (units_in us) kind) [] refl refl (λ k q m told_it. told_it) 0 empty;
-      exactly = all.exactly is_known (units_in us) 0 (no_parts is_known (splits_in kind) (units_in us) kind) [] refl refl (λ k q m told_it. told_it) 0 empty receiver.packets.buffer.limit refl;
+      in_order = all.in_order is_known (units_in us) 0 (no_parts is_known (splits_in kind) (units_in us) kind) [] refl refl behind 0 empty;
+      exactly = all.exactly is_known (units_in us) 0 (no_parts is_known (splits_in kind) (units_in us) kind) [] refl refl behind 0 empty receiver.packets.buffer.limit refl;
     })

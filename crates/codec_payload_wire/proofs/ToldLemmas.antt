@@ -49,10 +49,10 @@ pub record IsTold (stream : Stream) (s : Session) : Type 0 where
   pub kept : s.packets.kept ≡ None
 
 -- a receiver between two parts
-pub record IsResting (kinds : Kinds) (named : Option ℕ) (rate : ℕ) (s : Session) : Type 0 where
-  pub kinds : s.stream ≡ kinds
-  pub named : s.named ≡ named
-  pub rate : s.packets.rate ≡ rate
+pub record IsResting (stream : Kinds) (name : Option ℕ) (clock : ℕ) (s : Session) : Type 0 where
+  pub kinds : s.stream ≡ stream
+  pub named : s.named ≡ name
+  pub rate : s.packets.rate ≡ clock
   pub none_noted : s.packets.no_media_numbers ≡ []
   pub of_codec : is_built_in_depacketizer s.packets.buffer.depacketizer ≡ true
   pub drops_none : s.gates.drops ≡ false

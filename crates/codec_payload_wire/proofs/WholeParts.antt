@@ -39,7 +39,7 @@ use Rattle.codec_payload_runs.specs.SentStream.{SentUnit, packets_of}
 use Rattle.codec_payload_send.specs.Packets.{AreNumbered, Packet}
 use Rattle.codec_payload_wire.proofs.EventLemmas.{AllAtOnce}
 use Rattle.codec_payload_wire.proofs.JoinedFrames.{AllUnder, IsDueIn, due_at_once, due_in, earlier_in, has_later, in_earlier, in_later, joined, later_in, placed_later}
-use Rattle.codec_payload_wire.proofs.LayerLemmas.{CutoffUnder, IsLaterFrame, IsLow, Order, all_high, before, earlier_over, earlier_releases, later_frame, layered_refuses, low_in, new_stays, number_high, number_is, same_beyond}
+use Rattle.codec_payload_wire.proofs.LayerLemmas.{CutoffUnder, IsLow, Order, all_high, before, earlier_over, earlier_releases, later_frame, layered_refuses, low_in, new_stays, number_high, number_is, same_beyond}
 use Rattle.codec_payload_wire.specs.RestartReleases.{AreEarlier, EndsWithAll}
 
 not_not : (b : Bool) → not (not b) ≡ b
@@ -111,70 +111,65 @@ module _ (known : ℕ → Packet → RtpMeta → Type 0) (splits : Bool) (units 
 
   -- a buffer with room evicts nothing
   none_evicted : (start x : State) (hs : List Held) → 0 < length hs → x.cutoff ≡ None → Filling c start (cond (ltb x.limit (length hs)) (without_lowest x hs) x) → ltb x.limit (length hs) ≡ false
-  none_evicted start x [] some none filling = absurd (omega (arith, some))
-  none_evicted start x (h ∷ hs) some none filling = by_case (ltb x.limit (length (h ∷ hs))) filling
+  none_evicted start x [] some no_cutoff filling = absurd (omega (arith, some))
+  none_evicted start x (h ∷ hs) some no_cutoff filling = by_case (ltb x.limit (length (h ∷ hs))) filling
     where
       by_case : (b : Bool) → Filling c start (cond b (without_lowest x (h ∷ hs)) x) → b ≡ false
       by_case true evicts = let no = evicts.no_cutoff in absurd (cc)
       by_case false stays = refl
 
-  partly_pushed : (from : ℕ) (start : State) (new : List Held) (s : State) (p : Held) → IsPush c p → IsPartly from start new s → HasMore from start p.meta.seq_no.0 new (pushed s p)
-  partly_pushed from start new s p push is = by_case (has_number n new) refl
-    where
-      n : ℕ
-      n = p.meta.seq_no.0
+  -- the buffer with one more packet
+  abbrev with_placed : Held → State → State
+  with_placed p s = record s { held = placed p s.held }
 
-      high : bound < n
+  partly_pushed : (from : ℕ) (start : State) (new : List Held) (s : State) (p : Held) → IsPush c p → IsPartly from start new s → HasMore from start p.meta.seq_no.0 new (pushed s p)
+  partly_pushed from start new s p push is = by_case (has_number p.meta.seq_no.0 new) refl
+    where
+      high : bound < p.meta.seq_no.0
       high = number_high known splits units kind bound done o c same_kind gap next grows within embeds p push
 
-      drops : is_dropped s n ≡ has_number n new
-      drops = dropped_as from is.old new s n is.held is.earlier high
+      drops : is_dropped s p.meta.seq_no.0 ≡ has_number p.meta.seq_no.0 new
+      drops = dropped_as from is.old new s p.meta.seq_no.0 is.held is.earlier high
 
-      view : State
-      view = later_in new s
+      fills : IsFilled c.known c.clock_rate c.first c.kind c.faithful c.splits c.units c.lawful c.numbered start (later_in new s) p.meta.seq_no.0 (pushed (later_in new s) p)
+      fills = filled c.known c.clock_rate c.first c.kind c.faithful c.splits c.units c.lawful c.numbered start (later_in new s) p push is.filling
 
-      fills : IsFilled c.known c.clock_rate c.first c.kind c.faithful c.splits c.units c.lawful c.numbered start view n (pushed view p)
-      fills = filled c.known c.clock_rate c.first c.kind c.faithful c.splits c.units c.lawful c.numbered start view p push is.filling
-
-      placed_is : State
-      placed_is = record s { held = placed p s.held }
-
-      more : placed_is.held ≡ is.old ++ placed p new
+      more : (with_placed p s).held ≡ is.old ++ placed p new
       more = ap (placed p) is.held ∙ placed_later bound p is.old new high (low_at from is.old s is.earlier).under
 
-      there : has_number n (placed p new) ≡ true
-      there = has_placed n p new ∙ grind (arith, nat_tests)
+      there : has_number p.meta.seq_no.0 (placed p new) ≡ true
+      there = has_placed p.meta.seq_no.0 p new ∙ grind (arith, nat_tests)
 
       stays : (m : ℕ) → has_number m new ≡ true → has_number m (placed p new) ≡ true
-      stays m h = has_placed m p new ∙ (ap (λ (b : Bool). eqb n m || b) h ∙ or_true (eqb n m))
+      stays m h = has_placed m p new ∙ (ap (λ (b : Bool). eqb p.meta.seq_no.0 m || b) h ∙ or_true (eqb p.meta.seq_no.0 m))
 
       -- the lowest packet of the earlier parts is evicted, or none is
-      kept : Filling c start (record view { held = placed p new }) → ltb s.limit (length (placed p new)) ≡ false → IsPartly from start (placed p new) (kept_to_limit placed_is)
+      kept : Filling c start (record (later_in new s) { held = placed p new }) → ltb s.limit (length (placed p new)) ≡ false → IsPartly from start (placed p new) (kept_to_limit (with_placed p s))
       kept filling fits =
-          by_test (ltb s.limit (length placed_is.held)) (λ b. IsPartly from start (placed p new) (cond b (without_lowest placed_is placed_is.held) placed_is))
-          (λ over. subst (λ (hs : List Held). IsPartly from start (placed p new) (without_lowest placed_is hs)) (sym more) (evicts is.old is.earlier (sym (ap (λ (hs : List Held). ltb s.limit (length hs)) more) ∙ over)))
+          by_test (ltb s.limit (length (with_placed p s).held)) (λ b. IsPartly from start (placed p new) (cond b (without_lowest (with_placed p s) (with_placed p s).held) (with_placed p s)))
+          (λ over. subst (λ (hs : List Held). IsPartly from start (placed p new) (without_lowest (with_placed p s) hs)) (sym more) (evicts is.old is.earlier (sym (ap (λ (hs : List Held). ltb s.limit (length hs)) more) ∙ over)))
           (λ room. record { old = is.old; held = more; earlier = is.earlier; filling = filling })
         where
-          evicts : (old : List Held) → o.Is from (earlier_in old s) → ltb s.limit (length (old ++ placed p new)) ≡ true → IsPartly from start (placed p new) (without_lowest placed_is (old ++ placed p new))
+          evicts : (old : List Held) → o.Is from (earlier_in old s) → ltb s.limit (length (old ++ placed p new)) ≡ true → IsPartly from start (placed p new) (without_lowest (with_placed p s) (old ++ placed p new))
           evicts [] earlier over = absurd (cc)
           evicts (q ∷ old) earlier over = record {
             old = old;
             held = refl;
             earlier = o.lowest from (earlier_in (q ∷ old) s) earlier;
-            filling = same_filling start (record view { held = placed p new }) (later_in (placed p new) (without_lowest placed_is (q ∷ old ++ placed p new))) refl refl refl refl refl filling;
+            filling = same_filling start (record (later_in new s) { held = placed p new }) (later_in (placed p new) (without_lowest (with_placed p s) (q ∷ old ++ placed p new))) refl refl refl refl refl filling;
           }
 
-      by_case : (b : Bool) → has_number n new ≡ b → HasMore from start n new (pushed s p)
+      by_case : (b : Bool) → has_number p.meta.seq_no.0 new ≡ b → HasMore from start p.meta.seq_no.0 new (pushed s p)
       by_case true e =
-          let same : pushed s p ≡ s = ap (λ (b : Bool). cond b s (kept_to_limit placed_is)) (drops ∙ e) in
+          let same : pushed s p ≡ s = ap (λ (b : Bool). cond b s (kept_to_limit (with_placed p s))) (drops ∙ e) in
           record { new = new; partly = subst (IsPartly from start new) (sym same) is; has = e; still = λ m h. h }
       by_case false e =
-          let goes : pushed s p ≡ kept_to_limit placed_is = ap (λ (b : Bool). cond b s (kept_to_limit placed_is)) (drops ∙ e) in
-          let view_goes : pushed view p ≡ kept_to_limit (record view { held = placed p new }) = ap (λ (b : Bool). cond b view (kept_to_limit (record view { held = placed p new }))) e in
+          let goes : pushed s p ≡ kept_to_limit (with_placed p s) = ap (λ (b : Bool). cond b s (kept_to_limit (with_placed p s))) (drops ∙ e) in
+          let view_goes : pushed (later_in new s) p ≡ kept_to_limit (record (later_in new s) { held = placed p new }) = ap (λ (b : Bool). cond b (later_in new s) (kept_to_limit (record (later_in new s) { held = placed p new }))) e in
           let filling = subst (Filling c start) view_goes fills.filling in
-          let fits = none_evicted start (record view { held = placed p new }) (placed p new) (omega (arith, length_placed p new)) refl filling in
-          let stayed : kept_to_limit (record view { held = placed p new }) ≡ record view { held = placed p new } =
-          ap (λ (b : Bool). cond b (without_lowest (record view { held = placed p new }) (placed p new)) (record view { held = placed p new })) fits in
+          let fits = none_evicted start (record (later_in new s) { held = placed p new }) (placed p new) (omega (arith, length_placed p new)) refl filling in
+          let stayed : kept_to_limit (record (later_in new s) { held = placed p new }) ≡ record (later_in new s) { held = placed p new } =
+          ap (λ (b : Bool). cond b (without_lowest (record (later_in new s) { held = placed p new }) (placed p new)) (record (later_in new s) { held = placed p new })) fits in
           record {
             new = placed p new;
             partly = subst (IsPartly from start (placed p new)) (sym goes) (kept (subst (Filling c start) stayed filling) fits);
@@ -185,7 +180,7 @@ module _ (known : ℕ → Packet → RtpMeta → Type 0) (splits : Bool) (units 
   reads_here : (from : ℕ) (old : List Held) (s : State) → o.Is from (earlier_in old s) → kind_of_depacketizer s.depacketizer ≡ c.kind
   reads_here from old s is = (low_at from old s is).reads ∙ sym same_kind
 
-  push_of : (s : State) (k : ℕ) (meta : RtpMeta) (q : Packet) → slice_get (packets_of c.units) k ≡ Some q → c.known k q meta → kind_of_depacketizer s.depacketizer ≡ c.kind
+  abbrev push_of : (s : State) (k : ℕ) (meta : RtpMeta) (q : Packet) → slice_get (packets_of c.units) k ≡ Some q → c.known k q meta → kind_of_depacketizer s.depacketizer ≡ c.kind
       → IsPush c (arrived s.depacketizer meta q.payload)
   push_of s k meta q at told reads = (k, q, at, told, ap (λ (x : DepacketizerKind). held_as x meta q.payload) reads)
 
@@ -235,10 +230,10 @@ module _ (known : ℕ → Packet → RtpMeta → Type 0) (splits : Bool) (units 
   -- alone they would be released one after another
   exactly_at : (v : State) → Exact c.known c.clock_rate c.kind c.faithful 0 (packets_of c.units) v.held → Rises v.held → v.cutoff ≡ None → kind_of_depacketizer v.depacketizer ≡ c.kind
       → Exactly c 0 c.units v
-  exactly_at v row rises none reads = record {
+  exactly_at v row rises no_cutoff reads = record {
     row = row;
     rises = rises;
-    next = ap (next_after c.first) none ∙ first_is;
+    next = ap (next_after c.first) no_cutoff ∙ first_is;
     count = omega arith;
     lawful = c.lawful;
     numbered = subst (λ (n : ℕ). AreNumbered n (packets_of c.units)) first_is c.numbered;
@@ -353,34 +348,21 @@ module _ (known : ℕ → Packet → RtpMeta → Type 0) (splits : Bool) (units 
   due_marked v b [] = refl
   due_marked v b (f ∷ fs) = refl
 
+  -- the packets of this part alone, with a mark if the numbers do not follow; and after its first unit
+  abbrev view_of : List Held → State → CompleteFrame → State
+  view_of new s f = record (later_in new s) { evicted = not (follows s f) }
+
+  abbrev left_of : List Held → State → CompleteFrame → State
+  left_of new t f = record t { held = above f.last new; hold_back = 0 }
+
   -- the first unit of this part
-  first_unit : (from : ℕ) (s t fin : State) (r : Release) (events : List Event) (more : List Answer) (is : IsFullIn from s) (out : Releases s r t) → due_of (later_in is.new s) ≡ Some out.frame
-      → AllKnown c events → AllAtOnce events → Meets c.clock_rate (packets_of c.units) events t more fin → AnswersAll c.known 0 c.units (Some (Ok r) ∷ more)
-  first_unit from s t fin r events more is out due all once meets =
-      pop_answers c.known c.clock_rate c.first c.kind c.faithful c.splits c.units 0 c.units view after (Some (Ok r)) more (exactly_at view is.row is.there.rises refl is.there.reads) (λ e. cc)
-      ([], (view, none, one)) (λ n left there. answers_after n left events t fin more all once (back n left there) meets)
-    where
-      f : CompleteFrame
-      f = out.frame
-
-      later : IsLaterFrame known splits units kind bound done o c same_kind gap next grows within embeds is.old is.new s f
-      later = later_frame known splits units kind bound done o c same_kind gap next grows within embeds from is.old is.new s f is.held is.earlier is.there due
-
-      abbrev rest : List Held
-      rest = above f.last is.new
-
-      -- with a mark if the numbers do not follow
-      abbrev view : State
-      view = record (later_in is.new s) { evicted = not (follows s f) }
-
-      abbrev after : State
-      after = record t { held = rest; hold_back = 0 }
-
-      same : follows view f ≡ follows s f
-      same = not_not (follows s f)
-
-      one : Releases view r after
-      one = record {
+  first_releases : (from : ℕ) (s t : State) (r : Release) (is : IsFullIn from s) (out : Releases s r t) → due_of (later_in is.new s) ≡ Some out.frame
+      → Releases (view_of is.new s out.frame) r (left_of is.new t out.frame)
+  first_releases from s t r is out due =
+      let f : CompleteFrame = out.frame in
+      let later = later_frame known splits units kind bound done o c same_kind gap next grows within embeds from is.old is.new s f is.held is.earlier is.there due in
+      let same : follows (view_of is.new s f) f ≡ follows s f = not_not (follows s f) in
+      record {
         frame = f;
         is_due = due_marked (later_in is.new s) (not (follows s f)) (frames is.new) ∙ due;
         depacketizer = out.depacketizer;
@@ -389,24 +371,35 @@ module _ (known : ℕ → Packet → RtpMeta → Type 0) (splits : Bool) (units 
         time = subst (AllOfTime r.time) later.packets out.time;
         metas = out.metas ∙ ap metas_of later.packets;
         contiguous = out.contiguous ∙ ap (λ (b : Bool). (checked s.contiguity r.codec_extra b).1) (sym same);
-        left = ap (λ (x : State). record x { held = rest; hold_back = 0 }) out.left
-            ∙ ap (λ (b : Bool). without view f out.depacketizer (checked s.contiguity r.codec_extra b).2 false) (sym same);
+        left = ap (λ (x : State). record x { held = above f.last is.new; hold_back = 0 }) out.left
+            ∙ ap (λ (b : Bool). without (view_of is.new s f) f out.depacketizer (checked s.contiguity r.codec_extra b).2 false) (sym same);
       }
 
-      back : (n : ℕ) (left : List SentUnit) → Exactly c n left after → Exactly c n left t
-      back n left e =
-          let held : t.held ≡ rest = ap (λ (x : State). x.held) out.left ∙ later.left in
-          record {
-            row = subst (Exact c.known c.clock_rate c.kind c.faithful n (packets_of left)) (sym held) e.row;
-            rises = subst Rises (sym held) e.rises;
-            next = e.next;
-            count = e.count;
-            lawful = e.lawful;
-            numbered = e.numbered;
-            one_time = e.one_time;
-            reads = e.reads;
-            may_go = e.may_go;
-          }
+  -- the others are left
+  exactly_left : (from : ℕ) (s t : State) (r : Release) (is : IsFullIn from s) (out : Releases s r t) → due_of (later_in is.new s) ≡ Some out.frame → (n : ℕ) (left : List SentUnit)
+      → Exactly c n left (left_of is.new t out.frame) → Exactly c n left t
+  exactly_left from s t r is out due n left e =
+      let later = later_frame known splits units kind bound done o c same_kind gap next grows within embeds from is.old is.new s out.frame is.held is.earlier is.there due in
+      let held : t.held ≡ above out.frame.last is.new = ap (λ (x : State). x.held) out.left ∙ later.left in
+      record {
+        row = subst (Exact c.known c.clock_rate c.kind c.faithful n (packets_of left)) (sym held) e.row;
+        rises = subst Rises (sym held) e.rises;
+        next = e.next;
+        count = e.count;
+        lawful = e.lawful;
+        numbered = e.numbered;
+        one_time = e.one_time;
+        reads = e.reads;
+        may_go = e.may_go;
+      }
+
+  first_unit : (from : ℕ) (s t fin : State) (r : Release) (events : List Event) (more : List Answer) (is : IsFullIn from s) (out : Releases s r t) → due_of (later_in is.new s) ≡ Some out.frame
+      → AllKnown c events → AllAtOnce events → Meets c.clock_rate (packets_of c.units) events t more fin → AnswersAll c.known 0 c.units (Some (Ok r) ∷ more)
+  first_unit from s t fin r events more is out due all once meets =
+      let view : State = view_of is.new s out.frame in
+      let after : State = left_of is.new t out.frame in
+      pop_answers c.known c.clock_rate c.first c.kind c.faithful c.splits c.units 0 c.units view after (Some (Ok r)) more (exactly_at view is.row is.there.rises refl is.there.reads) (λ e. cc)
+      ([], (view, none, first_releases from s t r is out due)) (λ n left there. answers_after n left events t fin more all once (exactly_left from s t r is out due n left there) meets)
 
   -- one more unit of an earlier part
   one_older : (r : Release) (place : ℕ) (more : List Answer) → place < done → IsUnitAt known splits units place r → EndsWithAll known splits units done c.known c.units more
@@ -418,6 +411,40 @@ module _ (known : ℕ → Packet → RtpMeta → Type 0) (splits : Bool) (units 
     earlier = ((place, low, unit), rest.earlier);
     all = rest.all;
   }
+
+  -- a pop: `later` are the answers of the later pops
+  after_release : (from : ℕ) (s t : State) (r : Release) (more : List Answer) (is : IsFullIn from s) (out : Releases s r t) → IsDueIn is.old is.new s out.frame
+      → ((n : ℕ) → IsFullIn n t → EndsWithAll known splits units done c.known c.units more)
+      → (due_of (later_in is.new s) ≡ Some out.frame → AnswersAll c.known 0 c.units (Some (Ok r) ∷ more)) → EndsWithAll known splits units done c.known c.units (Some (Ok r) ∷ more)
+  after_release from s t r more is out (in_earlier due) later unit =
+      let gone = earlier_releases known splits units kind bound done o c same_kind gap next grows within embeds from is.old is.new s t r out is.held is.earlier is.there due in
+      let rest : List Held = above out.frame.last is.old in
+      let low = low_at (gone.place + 1) rest t gone.left.earlier in
+      one_older r gone.place more (omega (arith, low.few)) gone.unit (later (gone.place + 1) (record {
+        old = rest;
+        new = is.new;
+        held = gone.left.held;
+        earlier = gone.left.earlier;
+        row = is.row;
+        there = new_stays known splits units kind bound done o c same_kind gap next grows within embeds (gone.place + 1) rest is.new s t gone.left.earlier is.there;
+      }))
+  after_release from s t r more is out (in_later no_frames due) later unit = record { older = []; rest = Some (Ok r) ∷ more; whole = refl; earlier = tt; all = unit due }
+
+  popped : (from : ℕ) (s t : State) (over : List CompleteFrame) (a : Answer) (more : List Answer) → IsFullIn from s → s.hold_back ≡ 0 → 0 < length c.units → a ≢ Some (Err faults.OutOfMemory)
+      → PopsOver s over a t → ((n : ℕ) → IsFullIn n t → EndsWithAll known splits units done c.known c.units more)
+      → ((mid : State) (r : Release) (is : IsFullIn from mid) (out : Releases mid r t) → due_of (later_in is.new mid) ≡ Some out.frame → AnswersAll c.known 0 c.units (Some (Ok r) ∷ more))
+      → EndsWithAll known splits units done c.known c.units (a ∷ more)
+  popped from s t over None more is at_once some found pop later unit =
+      absurd (some_due from t (full_passes from s t over is pop.0) some (passes_hold s t over pop.0 ∙ at_once) pop.1)
+  popped from s t over (Some (Ok r)) more is at_once some found pop later unit =
+      let now = full_passes from s pop.0 over is pop.1 in
+      after_release from pop.0 t r more now pop.2 (due_here from pop.0 pop.2.frame now pop.2.is_due) later (unit pop.0 r now pop.2)
+  popped from s t over (Some (Err fault)) more is at_once some found pop later unit = elim pop.2 [
+    | inl memory ↦ absurd (found (ap (λ e. Some (Err e)) memory.0))
+    | inr refusal ↦
+        let now = full_passes from s pop.0 over is pop.1 in
+        absurd (layered_refuses known splits units kind bound done o c same_kind gap next grows within embeds from pop.0 t fault (before now.old now.new now.held now.earlier now.there) refusal)
+  ]
 
   full_pops : (from : ℕ) (events : List Event) (s t : State) (answers : List Answer) → AllKnown c events → AllAtOnce events → IsFullIn from s → 0 < length c.units
       → Meets c.clock_rate (packets_of c.units) events s answers t → EndsWithAll known splits units done c.known c.units answers
@@ -436,46 +463,13 @@ module _ (known : ℕ → Packet → RtpMeta → Type 0) (splits : Bool) (units 
       let same : pushed s p ≡ s = rw drop refl in
       full_pops from events s t answers (λ i m at. all i m (inr at)) once is some (subst (λ (x : State). Meets c.clock_rate (packets_of c.units) events x answers t) same meets.3)
   full_pops from (Asked wait ∷ events) s t answers all once is some meets =
-      let waiting : State = record s { hold_back = 0 } in
-      let full : IsFullIn from waiting = record { old = is.old; new = is.new; held = is.held; earlier = is.earlier; row = is.row; there = is.there } in
+      let full : IsFullIn from (record s { hold_back = 0 }) = record { old = is.old; new = is.new; held = is.held; earlier = is.earlier; row = is.row; there = is.there } in
       let pops = subst (λ (w : Option ℕ). PopsWaiting w s meets.0 meets.2) once.0 meets.4 in
-      subst (EndsWithAll known splits units done c.known c.units) (sym meets.3) (popped pops.1.0 meets.0 full pops.0 pops.1.1)
-    where
-      popped : (over : List CompleteFrame) (a : Answer) → IsFullIn from (record s { hold_back = 0 }) → a ≢ Some (Err faults.OutOfMemory) → PopsOver (record s { hold_back = 0 }) over a meets.2
-          → EndsWithAll known splits units done c.known c.units (a ∷ meets.1)
-      popped over None full found pop =
-          absurd (some_due from meets.2 (full_passes from (record s { hold_back = 0 }) meets.2 over full pop.0) some (passes_hold (record s { hold_back = 0 }) meets.2 over pop.0) pop.1)
-      popped over (Some (Ok r)) full found pop =
-          let now = full_passes from (record s { hold_back = 0 }) pop.0 over full pop.1 in
-          released now (due_here from pop.0 pop.2.frame now pop.2.is_due)
-        where
-          released : (now : IsFullIn from pop.0) → IsDueIn now.old now.new pop.0 pop.2.frame → EndsWithAll known splits units done c.known c.units (Some (Ok r) ∷ meets.1)
-          released now (in_earlier due) =
-              let gone = earlier_releases known splits units kind bound done o c same_kind gap next grows within embeds from now.old now.new pop.0 meets.2 r pop.2 now.held now.earlier now.there due in
-              let rest : List Held = above pop.2.frame.last now.old in
-              let low = low_at (gone.place + 1) rest meets.2 gone.left.earlier in
-              let after : IsFullIn (gone.place + 1) meets.2 = record {
-                old = rest;
-                new = now.new;
-                held = gone.left.held;
-                earlier = gone.left.earlier;
-                row = now.row;
-                there = new_stays known splits units kind bound done o c same_kind gap next grows within embeds (gone.place + 1) rest now.new pop.0 meets.2 gone.left.earlier now.there;
-              } in
-              one_older r gone.place meets.1 (omega (arith, low.few)) gone.unit (full_pops (gone.place + 1) events meets.2 t meets.1 (λ i m at. all i m (inr at)) once.1 after some meets.5)
-          released now (in_later no_frames due) = record {
-            older = [];
-            rest = Some (Ok r) ∷ meets.1;
-            whole = refl;
-            earlier = tt;
-            all = first_unit from pop.0 meets.2 t r events meets.1 now pop.2 due (λ i m at. all i m (inr at)) once.1 meets.5;
-          }
-      popped over (Some (Err fault)) full found pop = elim pop.2 [
-        | inl memory ↦ absurd (found (ap (λ e. Some (Err e)) memory.0))
-        | inr refusal ↦
-            let now = full_passes from (record s { hold_back = 0 }) pop.0 over full pop.1 in
-            absurd (layered_refuses known splits units kind bound done o c same_kind gap next grows within embeds from pop.0 meets.2 fault (before now.old now.new now.held now.earlier now.there) refusal)
-      ]
+      let all_later : AllKnown c events = λ i m at. all i m (inr at) in
+      subst (EndsWithAll known splits units done c.known c.units) (sym meets.3)
+      (popped from (record s { hold_back = 0 }) meets.2 pops.1.0 meets.0 meets.1 full refl some pops.0 pops.1.1
+      (λ n there. full_pops n events meets.2 t meets.1 all_later once.1 there some meets.5)
+      (λ mid r now out due. first_unit from mid meets.2 t r events meets.1 now out due all_later once.1 meets.5))
 
   -- all datagrams arrive before the first pop
   pub part_whole : (from : ℕ) (first after : List Event) (s t : State) (answers : List Answer) → AllKnown c (first ++ after) → OnlyArrive first → AllAtOnce after

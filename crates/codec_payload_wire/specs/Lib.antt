@@ -9,3 +9,4 @@ pub mod OwnHistoryRuns
 pub mod HistoryRunExample
 pub mod RestartRuns
 pub mod RestartReleases
+pub mod RestartRunExample
