@@ -36,7 +36,7 @@ Brings at_end (steps.Pop now ∷ later) events = (wait : Option ℕ) × (rest : 
 Brings at_end (steps.Finish ∷ later) events = Brings true later events
 
 -- the packet of a datagram
-packet_at_index : (stream : Stream) (first : ℕ) (packets : List Packet) (datagrams : List (List ℕ)) (k : ℕ) (bytes : List ℕ) → AreDatagrams stream packets datagrams
+pub packet_at_index : (stream : Stream) (first : ℕ) (packets : List Packet) (datagrams : List (List ℕ)) (k : ℕ) (bytes : List ℕ) → AreDatagrams stream packets datagrams
     → AreNumbered first packets → slice_get datagrams k ≡ Some bytes
     → (q : Packet) × (slice_get packets k ≡ Some q) × ReadsAs stream q bytes × (q.number ≡ first + k)
 packet_at_index stream first [] [] k bytes are numbered there = absurd (cc)
@@ -56,16 +56,30 @@ time_in (q ∷ packets) (suc n) = time_in packets n
 abbrev pub times_from : ℕ → List Packet → ℕ → ℕ
 times_from first packets n = time_in packets (n - first)
 
-time_at : (packets : List Packet) (k : ℕ) (q : Packet) → slice_get packets k ≡ Some q → q.rtp_time ≡ time_in packets k
+pub time_at : (packets : List Packet) (k : ℕ) (q : Packet) → slice_get packets k ≡ Some q → q.rtp_time ≡ time_in packets k
 time_at [] k q there = absurd (cc)
 time_at (p ∷ packets) zero q there = ap (λ (x : Packet). x.rtp_time) (sym (same_Some p q there))
 time_at (p ∷ packets) (suc k) q there = time_at packets k q there
+
+-- a sender gave the packets with these indices these times
+abbrev pub AllTimed : (ℕ → ℕ) → ℕ → List Packet → List ℕ → Type 0
+AllTimed time_of first packets [] = Unit {0}
+AllTimed time_of first packets (k ∷ ks) = (time_in packets k ≡ time_of (first + k)) × AllTimed time_of first packets ks
+
+all_timed : (first : ℕ) (packets : List Packet) (ks : List ℕ) → AllTimed (times_from first packets) first packets ks
+all_timed first packets [] = tt
+all_timed first packets (k ∷ ks) = let place : k ≡ first + k - first = omega arith in (ap (time_in packets) place, all_timed first packets ks)
+
+-- the numbering after the packets with these indices
+abbrev pub numbering_through : ℕ → Numbering → List ℕ → Numbering
+numbering_through first n [] = n
+numbering_through first n (k ∷ ks) = numbering_through first (numbering_after n ((first + k) % 2 ^ 16)) ks
 
 -- each push has the values of its packet
 abbrev pub AllHaveValues : ExtensionIds → Stream → List Packet → List Event → Type 0
 AllHaveValues ids stream packets events = (k : ℕ) (meta : RtpMeta) → IsIn (Arrives k meta) events → HasValuesOf ids stream packets k meta
 
-values_with : (ids : ExtensionIds) (stream : Stream) (packets : List Packet) (events : List Event) (k : ℕ) (meta : RtpMeta) → HasValuesOf ids stream packets k meta
+pub values_with : (ids : ExtensionIds) (stream : Stream) (packets : List Packet) (events : List Event) (k : ℕ) (meta : RtpMeta) → HasValuesOf ids stream packets k meta
     → AllHaveValues ids stream packets events → AllHaveValues ids stream packets (Arrives k meta ∷ events)
 values_with ids stream packets events k meta one rest j m is = elim is [
   | inl here ↦
@@ -75,7 +89,7 @@ values_with ids stream packets events k meta one rest j m is = elim is [
   | inr later ↦ rest j m later
 ]
 
-values_asked : (ids : ExtensionIds) (stream : Stream) (packets : List Packet) (events : List Event) (wait : Option ℕ)
+pub values_asked : (ids : ExtensionIds) (stream : Stream) (packets : List Packet) (events : List Event) (wait : Option ℕ)
     → AllHaveValues ids stream packets events → AllHaveValues ids stream packets (Asked wait ∷ events)
 values_asked ids stream packets events wait rest j m is = elim is [ inl here ↦ absurd (cc) | inr later ↦ rest j m later ]
 
@@ -104,40 +118,62 @@ pub record IsMet (r : Receiving) (stream : Stream) (packets : List Packet) (all_
   pub values : AllHaveValues s.stream.ids stream packets events
   pub logs : (w : Stretch) → w.now ≡ s.packets.buffer → HasLog (IsRead s.stream.ids stream packets) packets r s.packets.ended all_steps w answers t.packets.buffer
 
+-- the same, and what the receiver is in the end
+pub record IsMetOn (again : Option RetransmissionStream) (time_of : ℕ → ℕ) (first : ℕ) (r : Receiving) (stream : Stream) (packets : List Packet) (all_steps : List DatagramStep) (s : Session) (answers : List Answer) (t : Session) : Type 0 where
+  pub met : IsMet r stream packets all_steps s answers t
+  pub listening : IsListening again stream t
+  pub times : AreTimesOf time_of t.packets.noted
+  pub through : t.packets.numbering ≡ numbering_through first s.packets.numbering (delivered all_steps)
+  pub kinds : t.stream ≡ s.stream
+
 module _ (again : Option RetransmissionStream) (stream : Stream) (types : (stream.payload_type < 64) ⊎ (95 < stream.payload_type)) (first : ℕ) (packets : List Packet) (datagrams : List (List ℕ))
     (are : AreDatagrams stream packets datagrams) (numbered : AreNumbered first packets) (r : Receiving) where
-  pub met : (all_steps : List DatagramStep) (s t : Session) (answers : List Answer) → IsListening again stream s → KeepsLimits r s.packets
-      → AllNumbered first s.packets.numbering (delivered all_steps) → AreTimesOf (times_from first packets) s.packets.noted → Takes again all_steps datagrams s answers t
-      → IsMet r stream packets all_steps s answers t
-  met [] s t answers listening keeps numbers times takes = record {
+  pub met_by : (time_of : ℕ → ℕ) (all_steps : List DatagramStep) (s t : Session) (answers : List Answer) → IsListening again stream s → KeepsLimits r s.packets
+      → AllNumbered first s.packets.numbering (delivered all_steps) → AllTimed time_of first packets (delivered all_steps) → AreTimesOf time_of s.packets.noted
+      → Takes again all_steps datagrams s answers t → IsMetOn again time_of first r stream packets all_steps s answers t
+  met_by time_of [] s t answers listening keeps numbers timed times takes = record {
+    met = record {
     events = [];
     meets = (takes.0, ap (λ (x : Session). x.packets.buffer) takes.1);
     brings = refl;
     values = λ k m is. absurd is;
     logs = λ w is. record { turns = []; end = w; is_log = refl; answers_are = sym takes.0; left = is ∙ sym (ap (λ (x : Session). x.packets.buffer) takes.1) };
+    };
+    listening = subst (IsListening again stream) (sym takes.1) listening;
+    times = subst (λ (x : Session). AreTimesOf time_of x.packets.noted) (sym takes.1) times;
+    through = ap (λ (x : Session). x.packets.numbering) takes.1;
+    kinds = ap (λ (x : Session). x.stream) takes.1;
   }
-  met (steps.Send i ∷ later) s t answers listening keeps numbers times takes =
-      let rest = met later s t answers listening keeps numbers times takes in
+  met_by time_of (steps.Send i ∷ later) s t answers listening keeps numbers timed times takes =
+      let all = met_by time_of later s t answers listening keeps numbers timed times takes in
+      let rest = all.met in
       record {
-        events = rest.events;
-        meets = rest.meets;
-        brings = rest.brings;
-        values = rest.values;
-        logs = λ w is. let l = rest.logs w is in record { turns = l.turns; end = l.end; is_log = l.is_log; answers_are = l.answers_are; left = l.left };
+        met = record {
+          events = rest.events;
+          meets = rest.meets;
+          brings = rest.brings;
+          values = rest.values;
+          logs = λ w is. let l = rest.logs w is in record { turns = l.turns; end = l.end; is_log = l.is_log; answers_are = l.answers_are; left = l.left };
+        };
+        listening = all.listening;
+        times = all.times;
+        through = all.through;
+        kinds = all.kinds;
       }
-  met (steps.Deliver k now ∷ later) s t answers listening keeps numbers times takes =
+  met_by time_of (steps.Deliver k now ∷ later) s t answers listening keeps numbers timed times takes =
       let mid : Session = takes.5 in
       let p = packet_at_index stream first packets datagrams k takes.0 are numbered takes.1 in
       let q : Packet = p.0 in
       let p_at : slice_get packets k ≡ Some q = p.1 in
       let number : answer_for s.packets.numbering (q.number % 2 ^ 16) ≡ extended.Number q.number =
       subst (λ (n : ℕ). answer_for s.packets.numbering (n % 2 ^ 16) ≡ extended.Number n) (sym p.3) numbers.0 in
-      let place : k ≡ q.number - first = omega (arith, p.3) in
-      let time : q.rtp_time ≡ times_from first packets q.number = time_at packets k q p.1 ∙ ap (time_in packets) place in
-      let one = pushes_copy again (times_from first packets) stream now q takes.0 takes.2 s mid takes.4 types listening p.2 takes.3 number times time takes.6 in
+      let time : q.rtp_time ≡ time_of q.number = time_at packets k q p.1 ∙ (timed.0 ∙ ap time_of (sym p.3)) in
+      let one = pushes_copy again time_of stream now q takes.0 takes.2 s mid takes.4 types listening p.2 takes.3 number times time takes.6 in
       let numbering : mid.packets.numbering ≡ numbering_after s.packets.numbering ((first + k) % 2 ^ 16) = one.numbering ∙ ap (λ (n : ℕ). numbering_after s.packets.numbering (n % 2 ^ 16)) p.3 in
-      let rest = met later mid t answers one.listening (keeps_then r s.packets mid.packets keeps one.limits) (subst (λ (n : Numbering). AllNumbered first n (delivered later)) (sym numbering) numbers.1) one.times takes.7 in
+      let all = met_by time_of later mid t answers one.listening (keeps_then r s.packets mid.packets keeps one.limits) (subst (λ (n : Numbering). AllNumbered first n (delivered later)) (sym numbering) numbers.1) timed.1 one.times takes.7 in
+      let rest = all.met in
       record {
+        met = record {
         events = Arrives k one.meta ∷ rest.events;
         meets = (q, p.1, one.tells, subst (λ (b : State). Meets stream.clock_rate packets rest.events b answers t.packets.buffer) one.buffer rest.meets);
         brings = (one.meta, rest.events, refl, one.received, subst (λ (b : Bool). Brings b later rest.events) one.ended rest.brings);
@@ -155,12 +191,19 @@ module _ (again : Option RetransmissionStream) (stream : Stream) (types : (strea
               answers_are = l.answers_are;
               left = l.left;
             };
+        };
+        listening = all.listening;
+        times = all.times;
+        through = all.through ∙ ap (λ (n : Numbering). numbering_through first n (delivered later)) numbering;
+        kinds = all.kinds ∙ one.kinds;
       }
-  met (steps.Pop now ∷ later) s t answers listening keeps numbers times takes =
+  met_by time_of (steps.Pop now ∷ later) s t answers listening keeps numbers timed times takes =
       let mid : Session = takes.2 in
       let one = pops_as again stream now takes.0 s mid listening takes.4 takes.5 in
-      let rest = met later mid t takes.1 one.listening (keeps_then r s.packets mid.packets keeps one.limits) (subst (λ (n : Numbering). AllNumbered first n (delivered later)) (sym one.numbering) numbers) (subst (AreTimesOf (times_from first packets)) (sym one.noted) times) takes.6 in
+      let all = met_by time_of later mid t takes.1 one.listening (keeps_then r s.packets mid.packets keeps one.limits) (subst (λ (n : Numbering). AllNumbered first n (delivered later)) (sym one.numbering) numbers) timed (subst (AreTimesOf time_of) (sym one.noted) times) takes.6 in
+      let rest = all.met in
       record {
+        met = record {
         events = Asked one.wait ∷ rest.events;
         meets = (takes.0, takes.1, mid.packets.buffer, takes.3, one.pops, rest.meets);
         brings = (one.wait, rest.events, refl, one.at_end, subst (λ (b : Bool). Brings b later rest.events) one.ended rest.brings);
@@ -179,10 +222,15 @@ module _ (again : Option RetransmissionStream) (stream : Stream) (types : (strea
               answers_are = ap (λ (as' : List Answer). takes.0 ∷ as') l.answers_are ∙ sym takes.3;
               left = l.left;
             };
+        };
+        listening = all.listening;
+        times = all.times;
+        through = all.through ∙ ap (λ (n : Numbering). numbering_through first n (delivered later)) one.numbering;
+        kinds = all.kinds ∙ one.kinds;
       }
-  met (steps.Finish ∷ later) s t answers listening keeps numbers times takes =
+  met_by time_of (steps.Finish ∷ later) s t answers listening keeps numbers timed times takes =
       let at_end : takes.0 ≡ ended s = finishes_as again stream s takes.0 listening takes.1 in
-      let rest = met later (ended s) t answers (record {
+      let all = met_by time_of later (ended s) t answers (record {
         payload_type = listening.payload_type;
         named = listening.named;
         ssrc = listening.ssrc;
@@ -194,14 +242,27 @@ module _ (again : Option RetransmissionStream) (stream : Stream) (types : (strea
         no_block_seen = listening.no_block_seen;
         drops_none = listening.drops_none;
         heard = listening.heard;
-      }) (record { wait_limits = keeps.wait_limits; room = keeps.room }) numbers times (subst (λ (x : Session). Takes again later datagrams x answers t) at_end takes.2) in
+      }) (record { wait_limits = keeps.wait_limits; room = keeps.room }) numbers timed times (subst (λ (x : Session). Takes again later datagrams x answers t) at_end takes.2) in
+      let rest = all.met in
       record {
-        events = rest.events;
-        meets = rest.meets;
-        brings = rest.brings;
-        values = rest.values;
-        logs = λ w is. let l = rest.logs w is in record { turns = l.turns; end = l.end; is_log = l.is_log; answers_are = l.answers_are; left = l.left };
+        met = record {
+          events = rest.events;
+          meets = rest.meets;
+          brings = rest.brings;
+          values = rest.values;
+          logs = λ w is. let l = rest.logs w is in record { turns = l.turns; end = l.end; is_log = l.is_log; answers_are = l.answers_are; left = l.left };
+        };
+        listening = all.listening;
+        times = all.times;
+        through = all.through;
+        kinds = all.kinds;
       }
+
+  pub met : (all_steps : List DatagramStep) (s t : Session) (answers : List Answer) → IsListening again stream s → KeepsLimits r s.packets
+      → AllNumbered first s.packets.numbering (delivered all_steps) → AreTimesOf (times_from first packets) s.packets.noted → Takes again all_steps datagrams s answers t
+      → IsMet r stream packets all_steps s answers t
+  met all_steps s t answers listening keeps numbers times takes =
+      (met_by (times_from first packets) all_steps s t answers listening keeps numbers (all_timed first packets (delivered all_steps)) times takes).met
 
 -- If all datagrams are delivered first
 
@@ -214,6 +275,19 @@ made_after (steps.Pop now ∷ later) events brings =
     subst AllAreMade (sym (brings.2 ∙ ap (λ (w : Option ℕ). Asked w ∷ brings.1) (brings.3 refl))) (made_after later brings.1 brings.4)
 made_after (steps.Finish ∷ later) events brings = made_after later events brings
 
+-- and nothing waits
+abbrev pub AllAtOnce : List Event → Type 0
+AllAtOnce [] = Unit {0}
+AllAtOnce (Arrives k meta ∷ events) = AllAtOnce events
+AllAtOnce (Asked wait ∷ events) = (wait ≡ Some 0) × AllAtOnce events
+
+once_after : (later : List DatagramStep) (events : List Event) → Brings true later events → AllAtOnce events
+once_after [] events brings = subst AllAtOnce (sym brings) tt
+once_after (steps.Send i ∷ later) events brings = once_after later events brings
+once_after (steps.Deliver k now ∷ later) events brings = subst AllAtOnce (sym brings.2) (once_after later brings.1 brings.4)
+once_after (steps.Pop now ∷ later) events brings = subst AllAtOnce (sym brings.2) (brings.3 refl, once_after later brings.1 brings.4)
+once_after (steps.Finish ∷ later) events brings = once_after later events brings
+
 -- the events before the end of the stream, if no pop is among them, and the events after it
 pub record IsSplit (before : List DatagramStep) (events : List Event) : Type 0 where
   pub first : List Event
@@ -222,12 +296,13 @@ pub record IsSplit (before : List DatagramStep) (events : List Event) : Type 0 w
   pub only : OnlyArrive first
   pub has : (k : ℕ) → IsIn k (delivered before) → HasArrival k first
   pub made : AllAreMade rest
+  pub at_once : AllAtOnce rest
 
 pub split_at_end : (at_end : Bool) (before after : List DatagramStep) (events : List Event) → HaveNoPops before → Brings at_end (before ++ steps.Finish ∷ after) events → IsSplit before events
-split_at_end at_end [] after events no_pops brings = record { first = []; rest = events; whole = refl; only = tt; has = λ k is. absurd is; made = made_after after events brings }
+split_at_end at_end [] after events no_pops brings = record { first = []; rest = events; whole = refl; only = tt; has = λ k is. absurd is; made = made_after after events brings; at_once = once_after after events brings }
 split_at_end at_end (steps.Send i ∷ before) after events no_pops brings =
     let r = split_at_end at_end before after events no_pops brings in
-    record { first = r.first; rest = r.rest; whole = r.whole; only = r.only; has = r.has; made = r.made }
+    record { first = r.first; rest = r.rest; whole = r.whole; only = r.only; has = r.has; made = r.made; at_once = r.at_once }
 split_at_end at_end (steps.Deliver k now ∷ before) after events no_pops brings =
     let r = split_at_end at_end before after brings.1 no_pops brings.4 in
     record {
@@ -237,11 +312,12 @@ split_at_end at_end (steps.Deliver k now ∷ before) after events no_pops brings
       only = r.only;
       has = λ j is. elim is [ inl here ↦ inl (sym here) | inr later ↦ inr (r.has j later) ];
       made = r.made;
+      at_once = r.at_once;
     }
 split_at_end at_end (steps.Pop now ∷ before) after events no_pops brings = absurd no_pops
 split_at_end at_end (steps.Finish ∷ before) after events no_pops brings =
     let r = split_at_end true before after events no_pops brings in
-    record { first = r.first; rest = r.rest; whole = r.whole; only = r.only; has = r.has; made = r.made }
+    record { first = r.first; rest = r.rest; whole = r.whole; only = r.only; has = r.has; made = r.made; at_once = r.at_once }
 
 -- Metadata of packets
 

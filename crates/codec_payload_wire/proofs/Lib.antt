@@ -13,3 +13,12 @@ pub mod SendingLemmas
 pub mod StepLemmas
 pub mod ValueLemmas
 pub mod WireRunExamples
+pub mod ToldLemmas
+pub mod BegunNumbers
+pub mod JoinedFrames
+pub mod LayerLemmas
+pub mod WholeParts
+pub mod PartLemmas
+pub mod PlaceLemmas
+pub mod RestartLemmas
+pub mod RestartRunExamples

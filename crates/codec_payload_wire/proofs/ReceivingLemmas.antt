@@ -67,7 +67,7 @@ pub record IsListening (again : Option RetransmissionStream) (stream : Stream) (
 -- Receiving
 
 -- the answer for a datagram, unless memory runs out
-heard : (now : Ticks) (d : Datagram) (s t : Session) (receipt : Receipt) → receipt ≢ Err refusals.OutOfMemory → Heard now d s receipt t → Hears now d s receipt t
+pub heard : (now : Ticks) (d : Datagram) (s t : Session) (receipt : Receipt) → receipt ≢ Err refusals.OutOfMemory → Heard now d s receipt t → Hears now d s receipt t
 heard now d s t (Ok outcome) not_memory told = told
 heard now d s t (Err refusals.OutOfMemory) not_memory told = absurd (not_memory refl)
 heard now d s t (Err (refusals.Rtp e)) not_memory told = told
@@ -80,12 +80,12 @@ second : {X : Type 0} (P : X → Type 0) (b : Bool) (x y : X) → b ≡ false �
 second P b x y taken known = subst (λ (c : Bool). P (cond c x y)) taken known
 
 -- a receiver with a named SSRC receives each datagram by its stream
-heard_at_once : (again : Option RetransmissionStream) (stream : Stream) (now : Ticks) (bytes : List ℕ) (s t : Session) (receipt : Receipt) → IsListening again stream s
+pub heard_at_once : (ssrc : ℕ) (now : Ticks) (bytes : List ℕ) (s t : Session) (receipt : Receipt) → s.named ≡ Some ssrc
     → Delivers now bytes s receipt t → Heard now (datagram_at s.stream s.ssrc bytes) s receipt t
-heard_at_once again stream now bytes s t receipt listening delivers = by_case delivers.1
+heard_at_once ssrc now bytes s t receipt is_named delivers = by_case delivers.1
   where
     settled_already : is_open s now.0 ≡ false
-    settled_already = ap (λ (named : Option ℕ). is_none_of named && not s.packets.ended && (is_none_of s.ssrc || is_silent s.choice now.0)) listening.named
+    settled_already = ap (λ (named : Option ℕ). is_none_of named && not s.packets.ended && (is_none_of s.ssrc || is_silent s.choice now.0)) is_named
 
     by_case : ReceivesBytes now bytes s receipt t → Heard now (datagram_at s.stream s.ssrc bytes) s receipt t
     by_case (inl by) =
@@ -95,15 +95,18 @@ heard_at_once again stream now bytes s t receipt listening delivers = by_case de
     by_case (inr got) = absurd (delivers.0 got.0)
 
 -- its SSRC is the same
-same_ssrc : (again : Option RetransmissionStream) (stream : Stream) (s : Session) → IsListening again stream s → is_other s.ssrc stream.ssrc ≡ false
-same_ssrc again stream s listening = ap (λ (o : Option ℕ). is_other o stream.ssrc) listening.ssrc ∙ ap not (eq-eqb stream.ssrc stream.ssrc refl)
+pub same_ssrc : (stream : Stream) (s : Session) → s.ssrc ≡ Some stream.ssrc → is_other s.ssrc stream.ssrc ≡ false
+same_ssrc stream s is = ap (λ (o : Option ℕ). is_other o stream.ssrc) is ∙ ap not (eq-eqb stream.ssrc stream.ssrc refl)
 
 -- at the end of the stream no packet waits for the choice
-pub finishes_as : (again : Option RetransmissionStream) (stream : Stream) (s t : Session) → IsListening again stream s → Finishes s t → t ≡ ended s
-finishes_as again stream s t listening finishes =
-    let none : first_waiting s ≡ None = ap (λ (o : Option ℕ). cond (is_none_of o) (slice_get s.choice.candidates 0) None) listening.ssrc in
+pub finishes_at : (ssrc : ℕ) (s t : Session) → s.ssrc ≡ Some ssrc → Finishes s t → t ≡ ended s
+finishes_at ssrc s t is finishes =
+    let none : first_waiting s ≡ None = ap (λ (o : Option ℕ). cond (is_none_of o) (slice_get s.choice.candidates 0) None) is in
     let stays : SettlesOn None finishes.0 s finishes.1 = subst (λ (o : Option Candidate). SettlesOn o finishes.0 s finishes.1) none finishes.2 in
     finishes.3 ∙ ap ended stays.1
+
+pub finishes_as : (again : Option RetransmissionStream) (stream : Stream) (s t : Session) → IsListening again stream s → Finishes s t → t ≡ ended s
+finishes_as again stream s t listening finishes = finishes_at stream.ssrc s t listening.ssrc finishes
 
 -- the limits of the receiver stay
 pub record KeepsLimits (r t : Receiving) : Type 0 where
@@ -119,11 +122,11 @@ wait_same r s now keeps =
     ap (λ (l : WaitLimits). waiting_at (record r { buffer = s.buffer; ended = s.ended; wait_limits = l; room = s.room }) now) keeps.wait_limits
     ∙ ap (λ (n : ℕ). waiting_at (record r { buffer = s.buffer; ended = s.ended; room = n }) now) keeps.room
 
--- a push of the packet with this number, which has the RTP time of its number
-pub record TakesIn (time_of : ℕ → ℕ) (n : ℕ) (a : Arrival) (r t : Receiving) : Type 0 where
+-- a push of the packet with this number, which has the RTP time of its number, by this answer
+pub record TakesIn (time_of : ℕ → ℕ) (e : Extended) (n : ℕ) (a : Arrival) (r t : Receiving) : Type 0 where
   pub times : AreTimesOf time_of t.noted
   pub buffer : t.buffer ≡ pushed r.buffer (arrived r.buffer.depacketizer (meta_for a.now r.rate a.header n) a.bytes)
-  pub numbering : t.numbering ≡ numbering_after r.numbering a.header.sequence_number
+  pub numbering : t.numbering ≡ numbering_with r.numbering e a.header.sequence_number
   pub rate : t.rate ≡ r.rate
   pub running : t.is_restarting ≡ false
   pub no_media_numbers : t.no_media_numbers ≡ r.no_media_numbers
@@ -131,12 +134,11 @@ pub record TakesIn (time_of : ℕ → ℕ) (n : ℕ) (a : Arrival) (r t : Receiv
   pub ended : t.ended ≡ r.ended
 
 -- a packet that was stored under this number
-went_in : (time_of : ℕ → ℕ) (n : ℕ) (a : Arrival) (r mid t : Receiving) (outcome : Outcome) (counters : PacketCounters) (e : Extended)
-    → is_built_in_depacketizer r.buffer.depacketizer ≡ true → answer_for r.numbering a.header.sequence_number ≡ extended.Number n → e ≡ extended.Number n
+pub went_in : (time_of : ℕ → ℕ) (n : ℕ) (a : Arrival) (r mid t : Receiving) (outcome : Outcome) (counters : PacketCounters) (kept : Option Arrival) (e : Extended)
+    → is_built_in_depacketizer r.buffer.depacketizer ≡ true
     → AreTimesOf time_of r.noted → a.header.timestamp ≡ time_of n → GoesOn n a r outcome mid
-    → t ≡ numbered r e a.header.sequence_number (record mid { counters = counters }) → TakesIn time_of n a r t
-went_in time_of n a r mid t outcome counters e of_codec is answer times time went left =
-    let low : ℕ = a.header.sequence_number in
+    → t ≡ numbered r e a.header.sequence_number (record mid { counters = counters; kept = kept }) → TakesIn time_of e n a r t
+went_in time_of n a r mid t outcome counters kept e of_codec times time went left =
     let trusted : mid ≡ with_noted n a went.0 = went.2 in
     let accepted = went.1.3 in
     let packet : went.1.1.0 ≡ arrived r.buffer.depacketizer (meta_for a.now r.rate a.header n) a.bytes = went.1.1.1.2 of_codec in
@@ -146,7 +148,7 @@ went_in time_of n a r mid t outcome counters e of_codec is answer times time wen
     record {
       times = subst (AreTimesOf time_of) (sym noted) (still_times time_of r.numbering.backward r.noted x time times);
       buffer = ap (λ (x : Receiving). x.buffer) left ∙ (ap (λ (x : Receiving). x.buffer) trusted ∙ (ap (λ (x : Receiving). x.buffer) accepted ∙ (went.1.1.2 ∙ ap (pushed r.buffer) packet)));
-      numbering = ap (λ (x : Receiving). x.numbering) left ∙ ap (λ (e : Extended). numbering_with r.numbering e low) (answer ∙ sym is);
+      numbering = ap (λ (x : Receiving). x.numbering) left;
       rate = ap (λ (x : Receiving). x.rate) left ∙ (ap (λ (x : Receiving). x.rate) trusted ∙ ap (λ (x : Receiving). x.rate) accepted);
       running = ap (λ (x : Receiving). x.is_restarting) left;
       no_media_numbers = ap (λ (x : Receiving). x.no_media_numbers) left ∙ (ap (λ (x : Receiving). x.no_media_numbers) trusted ∙ ap (λ (x : Receiving). x.no_media_numbers) accepted);
@@ -159,53 +161,78 @@ went_in time_of n a r mid t outcome counters e of_codec is answer times time wen
 
 takes_in : (time_of : ℕ → ℕ) (n : ℕ) (a : Arrival) (r t : Receiving) (outcome : Outcome) → r.is_restarting ≡ false → is_built_in_depacketizer r.buffer.depacketizer ≡ true
     → answer_for r.numbering a.header.sequence_number ≡ extended.Number n → AreTimesOf time_of r.noted → a.header.timestamp ≡ time_of n
-    → Receives a r outcome t → TakesIn time_of n a r t
+    → Receives a r outcome t → TakesIn time_of (answer_for r.numbering a.header.sequence_number) n a r t
 takes_in time_of n a r t outcome running of_codec is times time receives =
     let answer : answer_to r a.header ≡ extended.Number n = answer_to_is time_of r a.header n running times is time in
     let mid : Receiving = receives.0 in
     let went : GoesOn n a r outcome mid = subst (λ (e : Extended). ReceivesAs e a r outcome mid) answer receives.1 in
-    went_in time_of n a r mid t outcome mid.counters (answer_to r a.header) of_codec is answer times time went receives.2
+    subst (λ (e : Extended). TakesIn time_of e n a r t) (answer ∙ sym is)
+    (went_in time_of n a r mid t outcome mid.counters mid.kept (answer_to r a.header) of_codec times time went receives.2)
 
 -- the same for a retransmitted packet
 takes_in_again : (time_of : ℕ → ℕ) (n : ℕ) (a : Arrival) (r t : Receiving) (outcome : Outcome) → r.is_restarting ≡ false → is_built_in_depacketizer r.buffer.depacketizer ≡ true
     → answer_for r.numbering a.header.sequence_number ≡ extended.Number n → AreTimesOf time_of r.noted → a.header.timestamp ≡ time_of n
-    → ReceivesAgain a r outcome t → TakesIn time_of n a r t
+    → ReceivesAgain a r outcome t → TakesIn time_of (answer_for r.numbering a.header.sequence_number) n a r t
 takes_in_again time_of n a r t outcome running of_codec is times time receives =
     let number : number_again r a.header.sequence_number ≡ Some n =
     ap (λ (b : Bool). cond b None (number_within (answer_for r.numbering a.header.sequence_number))) running ∙ ap number_within is in
     let here : ReceivesAgainAs (Some n) a r outcome t = subst (λ (o : Option ℕ). ReceivesAgainAs o a r outcome t) number receives in
-    went_in time_of n a r here.0 t outcome (counted_in_again here.0.counters outcome) (extended.Number n) of_codec is refl times time here.1 here.2
+    subst (λ (e : Extended). TakesIn time_of e n a r t) (sym is)
+    (went_in time_of n a r here.0 t outcome (counted_in_again here.0.counters outcome) here.0.kept (extended.Number n) of_codec times time here.1 here.2)
 
--- a copy of a datagram of the sender is a push of its packet
-pub record IsPushed (again : Option RetransmissionStream) (time_of : ℕ → ℕ) (stream : Stream) (now : Ticks) (q : Packet) (s t : Session) : Type 0 where
+-- a copy of a datagram of the sender is a push of its packet, by this answer
+pub record IsPushedBy (e : Extended) (again : Option RetransmissionStream) (time_of : ℕ → ℕ) (stream : Stream) (now : Ticks) (q : Packet) (s t : Session) : Type 0 where
   pub times : AreTimesOf time_of t.packets.noted
   pub meta : RtpMeta
   pub tells : Tells stream.clock_rate q meta
   pub values : meta.header.ext_vals ≡ values_read s.stream.ids stream q.ext_vals
   pub received : meta.received ≡ now
   pub buffer : t.packets.buffer ≡ pushed s.packets.buffer (arrived s.packets.buffer.depacketizer meta q.payload)
-  pub numbering : t.packets.numbering ≡ numbering_after s.packets.numbering (q.number % 2 ^ 16)
+  pub numbering : t.packets.numbering ≡ numbering_with s.packets.numbering e (q.number % 2 ^ 16)
   pub listening : IsListening again stream t
   pub kinds : t.stream ≡ s.stream
   pub limits : KeepsLimits s.packets t.packets
   pub ended : t.packets.ended ≡ s.packets.ended
 
+-- the same for a packet within the windows
+abbrev pub IsPushed : Option RetransmissionStream → (ℕ → ℕ) → Stream → Ticks → Packet → Session → Session → Type 0
+IsPushed again time_of stream now q s t = IsPushedBy (answer_for s.packets.numbering (q.number % 2 ^ 16)) again time_of stream now q s t
+
 -- the packet on arrival
-abbrev arrival_at : Stream → Ticks → Packet → Session → Arrival
+abbrev pub arrival_at : Stream → Ticks → Packet → Session → Arrival
 arrival_at stream now q s = record { now = now; header = header_for s.stream (packet_at stream q).header; bytes = q.payload }
 
 -- the jitter buffer has stored the packet, and the rest of the receiver is as before, as far as the stream is concerned
-record HasStored (time_of : ℕ → ℕ) (stream : Stream) (now : Ticks) (q : Packet) (s t : Session) : Type 0 where
-  takes : TakesIn time_of q.number (arrival_at stream now q s) s.packets t.packets
-  kinds : t.stream ≡ s.stream
-  named : t.named ≡ s.named
-  ssrc : t.ssrc ≡ Some stream.ssrc
-  seen : HasNoBlock t.seen
-  drops : t.gates.drops ≡ s.gates.drops
+pub record HasStored (e : Extended) (time_of : ℕ → ℕ) (stream : Stream) (now : Ticks) (q : Packet) (s t : Session) : Type 0 where
+  pub takes : TakesIn time_of e q.number (arrival_at stream now q s) s.packets t.packets
+  pub kinds : t.stream ≡ s.stream
+  pub named : t.named ≡ s.named
+  pub ssrc : t.ssrc ≡ Some stream.ssrc
+  pub seen : HasNoBlock t.seen
+  pub drops : t.gates.drops ≡ s.gates.drops
 
-stored_is_pushed : (again : Option RetransmissionStream) (time_of : ℕ → ℕ) (stream : Stream) (now : Ticks) (q : Packet) (s t : Session) → IsListening again stream s
-    → HasStored time_of stream now q s t → IsPushed again time_of stream now q s t
-stored_is_pushed again time_of stream now q s t listening has =
+-- the receiver as if no restart was announced
+abbrev pub calmed : Session → Session
+calmed s = record s { packets = record s.packets { is_restarting = false } }
+
+pub still_calm : (again : Option RetransmissionStream) (stream : Stream) (s : Session) → IsListening again stream s → IsListening again stream (calmed s)
+still_calm again stream s listening = record {
+  payload_type = listening.payload_type;
+  named = listening.named;
+  ssrc = listening.ssrc;
+  not_again = listening.not_again;
+  rate = listening.rate;
+  running = refl;
+  none_noted = listening.none_noted;
+  of_codec = listening.of_codec;
+  no_block_seen = listening.no_block_seen;
+  drops_none = listening.drops_none;
+  heard = listening.heard;
+}
+
+pub stored_is_pushed : (e : Extended) (again : Option RetransmissionStream) (time_of : ℕ → ℕ) (stream : Stream) (now : Ticks) (q : Packet) (s t : Session) → IsListening again stream (calmed s)
+    → HasStored e time_of stream now q s t → IsPushedBy e again time_of stream now q s t
+stored_is_pushed e again time_of stream now q s t listening has =
     let one = has.takes in
     let a : Arrival = arrival_at stream now q s in
     let meta : RtpMeta = meta_for now s.packets.rate a.header q.number in
@@ -242,9 +269,9 @@ stored_is_pushed again time_of stream now q s t listening has =
     }
 
 -- no packet repeats a block
-not_repeated : (again : Option RetransmissionStream) (stream : Stream) (s : Session) (time low : ℕ) → IsListening again stream s → is_repeat s.stream s.seen s.packets time low ≡ false
-not_repeated again stream s time low listening =
-    ap (λ (b : Bool). (is_some s.stream.red && b) && would_store s.packets low) (listening.no_block_seen time) ∙ ap (λ (b : Bool). b && would_store s.packets low) (and_false (is_some s.stream.red))
+pub not_repeated : (s : Session) (time low : ℕ) → HasNoBlock s.seen → is_repeat s.stream s.seen s.packets time low ≡ false
+not_repeated s time low none =
+    ap (λ (b : Bool). (is_some s.stream.red && b) && would_store s.packets low) (none time) ∙ ap (λ (b : Bool). b && would_store s.packets low) (and_false (is_some s.stream.red))
 
 -- a datagram of the sender
 pushes : (again : Option RetransmissionStream) (time_of : ℕ → ℕ) (stream : Stream) (now : Ticks) (q : Packet) (bytes : List ℕ) (s t : Session) (receipt : Receipt) → (stream.payload_type < 64)
@@ -253,17 +280,18 @@ pushes : (again : Option RetransmissionStream) (time_of : ℕ → ℕ) (stream :
     → Delivers now bytes s receipt t → IsPushed again time_of stream now q s t
 pushes again time_of stream now q bytes s t receipt types listening reads numbered times time delivers =
     let is : datagram_at s.stream s.ssrc bytes ≡ WithMedia (packet_at stream q) =
-    datagram_is s.stream s.ssrc stream q bytes reads listening.payload_type types (same_ssrc again stream s listening) listening.not_again in
+    datagram_is s.stream s.ssrc stream q bytes reads listening.payload_type types (same_ssrc stream s listening.ssrc) listening.not_again in
     let hears : Hears now (WithMedia (packet_at stream q)) s receipt t =
-    subst (λ (d : Datagram). Hears now d s receipt t) is (heard now (datagram_at s.stream s.ssrc bytes) s t receipt delivers.0 (heard_at_once again stream now bytes s t receipt listening delivers)) in
+    subst (λ (d : Datagram). Hears now d s receipt t) is (heard now (datagram_at s.stream s.ssrc bytes) s t receipt delivers.0 (heard_at_once stream.ssrc now bytes s t receipt listening.named delivers)) in
     let a : Arrival = arrival_at stream now q s in
-    let new = not_repeated again stream s a.header.timestamp a.header.sequence_number listening in
+    let new = not_repeated s a.header.timestamp a.header.sequence_number listening.no_block_seen in
     let receives : Receives a s.packets hears.outcome hears.packets = subst (λ (b : Bool). TakesMedia b a s.packets hears.outcome hears.packets) new hears.takes.0 in
     let packets : t.packets ≡ hears.packets = ap (λ (x : Session). x.packets) hears.left in
     let one = takes_in time_of q.number a s.packets hears.packets hears.outcome listening.running listening.of_codec numbered times time receives in
     let seen : t.seen ≡ packet_seen (is_some s.stream.red) hears.outcome a.header.timestamp s.seen = ap (λ (x : Session). x.seen) hears.left ∙ hears.takes.1 in
-    stored_is_pushed again time_of stream now q s t listening (record {
-      takes = subst (TakesIn time_of q.number a s.packets) (sym packets) one;
+    let e : Extended = answer_for s.packets.numbering (q.number % 2 ^ 16) in
+    stored_is_pushed e again time_of stream now q s t (still_calm again stream s listening) (record {
+      takes = subst (TakesIn time_of e q.number a s.packets) (sym packets) one;
       kinds = ap (λ (x : Session). x.stream) hears.left;
       named = ap (λ (x : Session). x.named) hears.left;
       ssrc = ap (λ (x : Session). x.ssrc) hears.left;
@@ -281,15 +309,16 @@ pushes_again again next time_of stream now q datagram bytes s t receipt listenin
     again_is s.stream s.ssrc again next stream q datagram bytes reads repeats listening.ssrc listening.heard.0 listening.heard.1 in
     let hears : Hears now (Again (original_at again next stream q)) s receipt t =
     subst (λ (d : Datagram). Hears now d s receipt t) is
-    (heard now (datagram_at s.stream s.ssrc bytes) s t receipt delivers.0 (heard_at_once (Some again) stream now bytes s t receipt listening delivers)) in
+    (heard now (datagram_at s.stream s.ssrc bytes) s t receipt delivers.0 (heard_at_once stream.ssrc now bytes s t receipt listening.named delivers)) in
     let a : Arrival = arrival_at stream now q s in
-    let new = not_repeated (Some again) stream s a.header.timestamp a.header.sequence_number listening in
+    let new = not_repeated s a.header.timestamp a.header.sequence_number listening.no_block_seen in
     let receives : ReceivesAgain a s.packets hears.outcome hears.packets = subst (λ (b : Bool). TakesAgain b a s.packets hears.outcome hears.packets) new hears.takes.0 in
     let packets : t.packets ≡ hears.packets = ap (λ (x : Session). x.packets) hears.left in
     let one = takes_in_again time_of q.number a s.packets hears.packets hears.outcome listening.running listening.of_codec numbered times time receives in
     let seen : t.seen ≡ packet_seen (is_some s.stream.red) hears.outcome a.header.timestamp s.seen = ap (λ (x : Session). x.seen) hears.left ∙ hears.takes.1 in
-    stored_is_pushed (Some again) time_of stream now q s t listening (record {
-      takes = subst (TakesIn time_of q.number a s.packets) (sym packets) one;
+    let e : Extended = answer_for s.packets.numbering (q.number % 2 ^ 16) in
+    stored_is_pushed e (Some again) time_of stream now q s t (still_calm (Some again) stream s listening) (record {
+      takes = subst (TakesIn time_of e q.number a s.packets) (sym packets) one;
       kinds = ap (λ (x : Session). x.stream) hears.left;
       named = ap (λ (x : Session). x.named) hears.left;
       ssrc = ap (λ (x : Session). x.ssrc) hears.left ∙ listening.ssrc;
@@ -312,7 +341,7 @@ pushes_copy (Some again) time_of stream now q datagram bytes s t receipt types l
 -- Pops
 
 -- with nothing remembered, nothing is settled
-settled_none : (r : Receiving) → r.no_media_numbers ≡ [] → settled r ≡ r
+pub settled_none : (r : Receiving) → r.no_media_numbers ≡ [] → settled r ≡ r
 settled_none r none =
     ap (λ (ns : List ℕ). record r { buffer = passed_no_media r.buffer ns; no_media_numbers = no_media_left r.buffer ns }) none ∙ ap (λ (ns : List ℕ). record r { no_media_numbers = ns }) (sym none)
 
@@ -346,8 +375,9 @@ pub record IsTurn (wait : Option ℕ) (r : Receiving) (answer : Answer) (t : Rec
   pub is_restarting : t.is_restarting ≡ r.is_restarting
   pub limits : KeepsLimits r t
   pub ended : t.ended ≡ r.ended
+  pub kept : t.kept ≡ r.kept
 
-turn_of : (wait : Option ℕ) (r : Receiving) (answer : Answer) (t : Receiving) → is_built_in_depacketizer r.buffer.depacketizer ≡ true → answer ≢ Some (Err faults.OutOfMemory)
+pub turn_of : (wait : Option ℕ) (r : Receiving) (answer : Answer) (t : Receiving) → is_built_in_depacketizer r.buffer.depacketizer ≡ true → answer ≢ Some (Err faults.OutOfMemory)
     → PopsWith wait r answer t → IsTurn wait r answer t
 turn_of None r answer t of_codec not_memory pops = record {
   pops = (pops.0, ap (λ (x : Receiving). x.buffer) pops.1);
@@ -359,6 +389,7 @@ turn_of None r answer t of_codec not_memory pops = record {
   is_restarting = ap (λ (x : Receiving). x.is_restarting) pops.1;
   limits = record { wait_limits = ap (λ (x : Receiving). x.wait_limits) pops.1; room = ap (λ (x : Receiving). x.room) pops.1 };
   ended = ap (λ (x : Receiving). x.ended) pops.1;
+  kept = ap (λ (x : Receiving). x.kept) pops.1;
 }
 turn_of (Some h) r answer t of_codec not_memory pops = record {
   pops = (not_memory, subst (λ (s : State). Pops (record r.buffer { hold_back = h }) answer s) (sym (ap (λ (x : Receiving). x.buffer) pops.2)) pops.1);
@@ -370,10 +401,11 @@ turn_of (Some h) r answer t of_codec not_memory pops = record {
   is_restarting = ap (λ (x : Receiving). x.is_restarting) pops.2;
   limits = record { wait_limits = ap (λ (x : Receiving). x.wait_limits) pops.2; room = ap (λ (x : Receiving). x.room) pops.2 };
   ended = ap (λ (x : Receiving). x.ended) pops.2;
+  kept = ap (λ (x : Receiving). x.kept) pops.2;
 }
 
 -- after the end of the stream pops wait for nothing
-waits_for_nothing : (r : Receiving) (now : ℕ) → r.ended ≡ true → waiting_at r now ≡ Some 0
+pub waits_for_nothing : (r : Receiving) (now : ℕ) → r.ended ≡ true → waiting_at r now ≡ Some 0
 waits_for_nothing r now at_end =
     ap (λ (b : Bool). cond b (Some 0) (cond (is_starting r) None (Some (most_held_back r.wait_limits.hold_back)))) (or_left r.ended _ at_end)
 

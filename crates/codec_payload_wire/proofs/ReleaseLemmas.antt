@@ -89,7 +89,7 @@ first_for number [] = number % 65536
 first_for number (k ∷ ks) = number + 65536 - 65536 * ((number + k) / 65536)
 
 -- a number of 16 bits occurs
-first_small : (forward backward number : ℕ) (ks : List ℕ) → number < 65536 → ComeWithin forward backward ks → first_for number ks < 2 ^ 32
+first_small : (forward backward number : ℕ) (ks : List ℕ) → number < 65536 → ComeWithin forward backward ks → first_for number ks < 2 ^ 63
 first_small forward backward number [] low within = omega arith
 first_small forward backward number (k ∷ ks) low within = omega (arith, low, within.0)
 
@@ -185,7 +185,7 @@ module _ (again : Option RetransmissionStream) (samples : List Sample) (all_step
   }
 
   -- from a number with these low bits on
-  sends_from : (start : ℕ) → start < 2 ^ 32 → sender.stream.number % 2 ^ 16 ≡ (start + 0) % 2 ^ 16
+  sends_from : (start : ℕ) → start < 2 ^ 63 → sender.stream.number % 2 ^ 16 ≡ (start + 0) % 2 ^ 16
       → SendsRun receiver.packets.buffer sender.stream sender.mtu start 0 samples all_steps (begins sender receiver) t []
   sends_from start small same =
       sends_run receiver.packets.buffer sender.stream sender.mtu start small samples again 0 all_steps (begins sender receiver) t []

@@ -141,7 +141,7 @@ pub record SendsBoth (buffer : State) (stream : Stream) (budget start place : �
 
 -- a sample for which the packetizer gave payloads
 sent_both : (buffer : State) (stream : Stream) (budget start place : ℕ) (sample : Sample) (s t : Sending) (before after : List (List ℕ)) (packets : List Packet)
-    → start < 2 ^ 32 → IsAt stream budget start s before packets → after ≡ before ++ t.datagrams → length after < 2 ^ 63 → Sends s (sent_sample sample) t
+    → start < 2 ^ 63 → IsAt stream budget start s before packets → after ≡ before ++ t.datagrams → length after < 2 ^ 63 → Sends s (sent_sample sample) t
     → SendsBoth buffer stream budget start place sample s t after packets
 sent_both buffer stream budget start place sample s t before after packets small at gained few sends =
     let payloads : List (List ℕ) = sends.payloads in
@@ -237,7 +237,7 @@ refused_both buffer stream budget start place sample fault s t before after pack
     }
 
 one_sample : (buffer : State) (stream : Stream) (budget start place : ℕ) (sample : Sample) (fault : Option PacketError) (s t : Sending) (before after : List (List ℕ)) (packets : List Packet)
-    → start < 2 ^ 32 → IsAt stream budget start s before packets → after ≡ before ++ t.datagrams → length after < 2 ^ 63 → SendsOrRefuses (sent_sample sample) s fault t
+    → start < 2 ^ 63 → IsAt stream budget start s before packets → after ≡ before ++ t.datagrams → length after < 2 ^ 63 → SendsOrRefuses (sent_sample sample) s fault t
     → SendsBoth buffer stream budget start place sample s t after packets
 one_sample buffer stream budget start place sample None s t before after packets small at gained few sends = sent_both buffer stream budget start place sample s t
     before after packets small at gained few sends
@@ -253,7 +253,7 @@ pub record SendsRun (buffer : State) (stream : Stream) (budget start place : ℕ
   pub runs : core.Runs samples place (sending_steps budget all_steps) (running buffer start stream.clock_rate s.sending packets) entries [] (running buffer start stream.clock_rate t.sending all)
   pub at : IsAt stream budget start t.sending t.datagrams all
 
-module _ (buffer : State) (stream : Stream) (budget start : ℕ) (small : start < 2 ^ 32) (samples : List Sample) where
+module _ (buffer : State) (stream : Stream) (budget start : ℕ) (small : start < 2 ^ 63) (samples : List Sample) where
   abbrev Goes : ℕ → List DatagramStep → Wire → Wire → List Packet → Type 0
   Goes place all_steps s t packets = SendsRun buffer stream budget start place samples all_steps s t packets
 

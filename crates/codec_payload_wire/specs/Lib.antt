@@ -7,3 +7,6 @@ pub mod HistoryRuns
 pub mod HistoryReleases
 pub mod OwnHistoryRuns
 pub mod HistoryRunExample
+pub mod RestartRuns
+pub mod RestartReleases
+pub mod RestartRunExample

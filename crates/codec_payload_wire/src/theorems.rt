@@ -1,6 +1,7 @@
 //! Theorems on runs over datagrams. These functions exist for their proofs and do nothing.
 
 ghost use Rattle.codec_payload_wire.specs.HistoryRunExample.{HistoryCanBeMet};
+ghost use Rattle.codec_payload_wire.specs.RestartRunExample.{RestartCanBeMet};
 ghost use Rattle.codec_payload_wire.specs.WireRunExample.{CanBeMet};
 
 /// The premises of a run over datagrams can be met: datagrams of Opus that arrive in another order, one of them twice, are
@@ -13,4 +14,10 @@ pub fn premises_can_be_met()
 /// too. The other retransmission arrives before the stream ends, so each packet has arrived.
 pub fn history_premises_can_be_met()
     ensures { HistoryCanBeMet }
+{}
+
+/// The premises of a run with an announced restart can be met: after two datagrams of Opus another sender takes over, with another
+/// SSRC and other numbers. All datagrams of each part arrive before its stream ends.
+pub fn restart_premises_can_be_met()
+    ensures { RestartCanBeMet }
 {}

@@ -3,6 +3,7 @@
 mod losses;
 mod own_codec;
 mod resent;
+mod restarted;
 mod rows;
 mod sides;
 
