@@ -56,7 +56,7 @@ time_in (q ∷ packets) (suc n) = time_in packets n
 abbrev pub times_from : ℕ → List Packet → ℕ → ℕ
 times_from first packets n = time_in packets (n - first)
 
-time_at : (packets : List Packet) (k : ℕ) (q : Packet) → slice_get packets k ≡ Some q → q.rtp_time ≡ time_in packets k
+pub time_at : (packets : List Packet) (k : ℕ) (q : Packet) → slice_get packets k ≡ Some q → q.rtp_time ≡ time_in packets k
 time_at [] k q there = absurd (cc)
 time_at (p ∷ packets) zero q there = ap (λ (x : Packet). x.rtp_time) (sym (same_Some p q there))
 time_at (p ∷ packets) (suc k) q there = time_at packets k q there

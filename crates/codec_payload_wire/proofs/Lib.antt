@@ -13,3 +13,10 @@ pub mod SendingLemmas
 pub mod StepLemmas
 pub mod ValueLemmas
 pub mod WireRunExamples
+pub mod RedStepLemmas
+pub mod RedReadingLemmas
+pub mod RedCourses
+pub mod RedReceivingLemmas
+pub mod RedExactLemmas
+pub mod RedReleaseLemmas
+pub mod RedRunExamples

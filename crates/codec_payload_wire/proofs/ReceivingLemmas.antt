@@ -67,7 +67,7 @@ pub record IsListening (again : Option RetransmissionStream) (stream : Stream) (
 -- Receiving
 
 -- the answer for a datagram, unless memory runs out
-heard : (now : Ticks) (d : Datagram) (s t : Session) (receipt : Receipt) → receipt ≢ Err refusals.OutOfMemory → Heard now d s receipt t → Hears now d s receipt t
+pub heard : (now : Ticks) (d : Datagram) (s t : Session) (receipt : Receipt) → receipt ≢ Err refusals.OutOfMemory → Heard now d s receipt t → Hears now d s receipt t
 heard now d s t (Ok outcome) not_memory told = told
 heard now d s t (Err refusals.OutOfMemory) not_memory told = absurd (not_memory refl)
 heard now d s t (Err (refusals.Rtp e)) not_memory told = told
@@ -157,7 +157,7 @@ went_in time_of n a r mid t outcome counters e of_codec is answer times time wen
       ended = ap (λ (x : Receiving). x.ended) left ∙ (ap (λ (x : Receiving). x.ended) trusted ∙ ap (λ (x : Receiving). x.ended) accepted);
     }
 
-takes_in : (time_of : ℕ → ℕ) (n : ℕ) (a : Arrival) (r t : Receiving) (outcome : Outcome) → r.is_restarting ≡ false → is_built_in_depacketizer r.buffer.depacketizer ≡ true
+pub takes_in : (time_of : ℕ → ℕ) (n : ℕ) (a : Arrival) (r t : Receiving) (outcome : Outcome) → r.is_restarting ≡ false → is_built_in_depacketizer r.buffer.depacketizer ≡ true
     → answer_for r.numbering a.header.sequence_number ≡ extended.Number n → AreTimesOf time_of r.noted → a.header.timestamp ≡ time_of n
     → Receives a r outcome t → TakesIn time_of n a r t
 takes_in time_of n a r t outcome running of_codec is times time receives =
@@ -312,7 +312,7 @@ pushes_copy (Some again) time_of stream now q datagram bytes s t receipt types l
 -- Pops
 
 -- with nothing remembered, nothing is settled
-settled_none : (r : Receiving) → r.no_media_numbers ≡ [] → settled r ≡ r
+pub settled_none : (r : Receiving) → r.no_media_numbers ≡ [] → settled r ≡ r
 settled_none r none =
     ap (λ (ns : List ℕ). record r { buffer = passed_no_media r.buffer ns; no_media_numbers = no_media_left r.buffer ns }) none ∙ ap (λ (ns : List ℕ). record r { no_media_numbers = ns }) (sym none)
 
@@ -347,7 +347,7 @@ pub record IsTurn (wait : Option ℕ) (r : Receiving) (answer : Answer) (t : Rec
   pub limits : KeepsLimits r t
   pub ended : t.ended ≡ r.ended
 
-turn_of : (wait : Option ℕ) (r : Receiving) (answer : Answer) (t : Receiving) → is_built_in_depacketizer r.buffer.depacketizer ≡ true → answer ≢ Some (Err faults.OutOfMemory)
+pub turn_of : (wait : Option ℕ) (r : Receiving) (answer : Answer) (t : Receiving) → is_built_in_depacketizer r.buffer.depacketizer ≡ true → answer ≢ Some (Err faults.OutOfMemory)
     → PopsWith wait r answer t → IsTurn wait r answer t
 turn_of None r answer t of_codec not_memory pops = record {
   pops = (pops.0, ap (λ (x : Receiving). x.buffer) pops.1);
@@ -373,7 +373,7 @@ turn_of (Some h) r answer t of_codec not_memory pops = record {
 }
 
 -- after the end of the stream pops wait for nothing
-waits_for_nothing : (r : Receiving) (now : ℕ) → r.ended ≡ true → waiting_at r now ≡ Some 0
+pub waits_for_nothing : (r : Receiving) (now : ℕ) → r.ended ≡ true → waiting_at r now ≡ Some 0
 waits_for_nothing r now at_end =
     ap (λ (b : Bool). cond b (Some 0) (cond (is_starting r) None (Some (most_held_back r.wait_limits.hold_back)))) (or_left r.ended _ at_end)
 

@@ -7,3 +7,7 @@ pub mod HistoryRuns
 pub mod HistoryReleases
 pub mod OwnHistoryRuns
 pub mod HistoryRunExample
+pub mod RedRuns
+pub mod RedReleases
+pub mod OwnRedRuns
+pub mod RedRunExample

@@ -2,5 +2,6 @@
 #![tactic(auto)]
 
 pub mod history_run;
+pub mod red_run;
 pub mod run;
 pub mod theorems;

@@ -1,6 +1,7 @@
 //! Theorems on runs over datagrams. These functions exist for their proofs and do nothing.
 
 ghost use Rattle.codec_payload_wire.specs.HistoryRunExample.{HistoryCanBeMet};
+ghost use Rattle.codec_payload_wire.specs.RedRunExample.{RedCanBeMet};
 ghost use Rattle.codec_payload_wire.specs.WireRunExample.{CanBeMet};
 
 /// The premises of a run over datagrams can be met: datagrams of Opus that arrive in another order, one of them twice, are
@@ -13,4 +14,10 @@ pub fn premises_can_be_met()
 /// too. The other retransmission arrives before the stream ends, so each packet has arrived.
 pub fn history_premises_can_be_met()
     ensures { HistoryCanBeMet }
+{}
+
+/// The premises of a run in RED can be met: of three datagrams of Opus the second is lost, and the third repeats its payload. So
+/// each packet comes before the stream ends.
+pub fn red_premises_can_be_met()
+    ensures { RedCanBeMet }
 {}
