@@ -23,7 +23,7 @@ metas_in : (before : List DatagramStep) (ps : List Held) → AllIn before ps →
 metas_in before [] all = tt
 metas_in before (p ∷ ps) all = (all.0, metas_in before ps all.1)
 
-one_more_step : (step : DatagramStep) (before : List DatagramStep) (ps : List Held) → AllIn before ps → AllIn (step ∷ before) ps
+pub one_more_step : (step : DatagramStep) (before : List DatagramStep) (ps : List Held) → AllIn before ps → AllIn (step ∷ before) ps
 one_more_step step before [] all = tt
 one_more_step step before (p ∷ ps) all = ((all.0.0, inr all.0.1), one_more_step step before ps all.1)
 
@@ -54,7 +54,7 @@ in_kept before s all =
     by_test (ltb s.limit (length s.held)) (λ b. AllIn before (cond b (without_lowest s s.held) s).held) (λ e. in_without before s s.held all all) (λ e. all)
 
 -- a push
-in_pushed : (before : List DatagramStep) (s : State) (p : Held) → WasDelivered before p.meta → AllIn before s.held → AllIn before (pushed s p).held
+pub in_pushed : (before : List DatagramStep) (s : State) (p : Held) → WasDelivered before p.meta → AllIn before s.held → AllIn before (pushed s p).held
 in_pushed before s p l all =
     let more : State = record s { held = placed p s.held } in
     by_test (is_dropped s (number_of p)) (λ b. AllIn before (cond b s (kept_to_limit more)).held) (λ e. all) (λ e. in_kept before more (in_placed before p s.held l all))
@@ -83,7 +83,7 @@ in_pop before s t over (Some (Err fault)) found pop all =
       ],
     )
 
-in_waiting : (before : List DatagramStep) (wait : Option ℕ) (s t : State) (a : Answer) → PopsWaiting wait s a t → AllIn before s.held → IsOfDeliveries before a × AllIn before t.held
+pub in_waiting : (before : List DatagramStep) (wait : Option ℕ) (s t : State) (a : Answer) → PopsWaiting wait s a t → AllIn before s.held → IsOfDeliveries before a × AllIn before t.held
 in_waiting before None s t a pops all = (subst (IsOfDeliveries before) (sym pops.0) tt, subst (λ (x : State). AllIn before x.held) (sym pops.1) all)
 in_waiting before (Some hold_back) s t a pops all = in_pop before (record s { hold_back = hold_back }) t pops.1.0 a pops.0 pops.1.1 all
 

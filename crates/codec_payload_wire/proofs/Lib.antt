@@ -22,3 +22,10 @@ pub mod PartLemmas
 pub mod PlaceLemmas
 pub mod RestartLemmas
 pub mod RestartRunExamples
+pub mod RedStepLemmas
+pub mod RedReadingLemmas
+pub mod RedCourses
+pub mod RedReceivingLemmas
+pub mod RedExactLemmas
+pub mod RedReleaseLemmas
+pub mod RedRunExamples

@@ -11,7 +11,7 @@ use Rattle.codec_payload_stream.specs.declared.receiver.Settings.{Settings}
 use Rattle.codec_payload_stream.specs.declared.receiver.SettingsError.{SettingsError}
 use Rattle.codec_payload_stream.specs.declared.receiver.SettingsError.TheVariants as settings
 
-passed : {A E : Type 0} (b : Bool) (r : Result A E) (d : E) (y : A) → cond b r (Err d) ≡ Ok y → (b ≡ true) × (r ≡ Ok y)
+pub passed : {A E : Type 0} (b : Bool) (r : Result A E) (d : E) (y : A) → cond b r (Err d) ≡ Ok y → (b ≡ true) × (r ≡ Ok y)
 passed true r d y e = (refl, e)
 passed false r d y e = absurd cc
 

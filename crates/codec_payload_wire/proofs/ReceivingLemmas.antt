@@ -159,7 +159,7 @@ went_in time_of n a r mid t outcome counters kept e of_codec times time went lef
       ended = ap (λ (x : Receiving). x.ended) left ∙ (ap (λ (x : Receiving). x.ended) trusted ∙ ap (λ (x : Receiving). x.ended) accepted);
     }
 
-takes_in : (time_of : ℕ → ℕ) (n : ℕ) (a : Arrival) (r t : Receiving) (outcome : Outcome) → r.is_restarting ≡ false → is_built_in_depacketizer r.buffer.depacketizer ≡ true
+pub takes_in : (time_of : ℕ → ℕ) (n : ℕ) (a : Arrival) (r t : Receiving) (outcome : Outcome) → r.is_restarting ≡ false → is_built_in_depacketizer r.buffer.depacketizer ≡ true
     → answer_for r.numbering a.header.sequence_number ≡ extended.Number n → AreTimesOf time_of r.noted → a.header.timestamp ≡ time_of n
     → Receives a r outcome t → TakesIn time_of (answer_for r.numbering a.header.sequence_number) n a r t
 takes_in time_of n a r t outcome running of_codec is times time receives =

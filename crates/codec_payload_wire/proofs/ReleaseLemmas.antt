@@ -84,21 +84,21 @@ all_numbered number first reach s (k ∷ ks) is numbers on =
     (answer, all_numbered number first reach (numbering_after s low) ks is rest on.1)
 
 -- the number of the first sent datagram, as the receiver extends it with the others
-abbrev first_for : ℕ → List ℕ → ℕ
+abbrev pub first_for : ℕ → List ℕ → ℕ
 first_for number [] = number % 65536
 first_for number (k ∷ ks) = number + 65536 - 65536 * ((number + k) / 65536)
 
 -- a number of 16 bits occurs
-first_small : (forward backward number : ℕ) (ks : List ℕ) → number < 65536 → ComeWithin forward backward ks → first_for number ks < 2 ^ 63
+pub first_small : (forward backward number : ℕ) (ks : List ℕ) → number < 65536 → ComeWithin forward backward ks → first_for number ks < 2 ^ 63
 first_small forward backward number [] low within = omega arith
 first_small forward backward number (k ∷ ks) low within = omega (arith, low, within.0)
 
-first_low : (forward backward number : ℕ) (ks : List ℕ) → ComeWithin forward backward ks → number % 2 ^ 16 ≡ (first_for (number % 65536) ks + 0) % 2 ^ 16
+pub first_low : (forward backward number : ℕ) (ks : List ℕ) → ComeWithin forward backward ks → number % 2 ^ 16 ≡ (first_for (number % 65536) ks + 0) % 2 ^ 16
 first_low forward backward number [] within = omega arith
 first_low forward backward number (k ∷ ks) within = omega (arith, within.0)
 
 -- all of them are below a number
-abbrev AllBelow : ℕ → List ℕ → Type 0
+abbrev pub AllBelow : ℕ → List ℕ → Type 0
 AllBelow bound [] = Unit {0}
 AllBelow bound (k ∷ ks) = (k < bound) × AllBelow bound ks
 
@@ -124,7 +124,7 @@ stay_near forward backward number bound g (k ∷ ks) low few below within = (
   subst (λ (m : ℕ). StayNear forward backward m (trues number ks)) (sym (max_more number g k)) (stay_near forward backward number bound (max g k) ks low few below.1 within.2),
 )
 
-numbered_within : (forward backward number bound : ℕ) (ks : List ℕ) → IsNumbering (no_numbers forward backward) → number < 65536 → bound < 2 ^ 63 → AllBelow bound ks → ComeWithin forward backward ks
+pub numbered_within : (forward backward number bound : ℕ) (ks : List ℕ) → IsNumbering (no_numbers forward backward) → number < 65536 → bound < 2 ^ 63 → AllBelow bound ks → ComeWithin forward backward ks
     → AllNumbered (first_for number ks) (no_numbers forward backward) ks
 numbered_within forward backward number bound [] windows low few below within = tt
 numbered_within forward backward number bound (k ∷ ks) windows low few below within =

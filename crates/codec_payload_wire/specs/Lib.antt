@@ -10,3 +10,7 @@ pub mod HistoryRunExample
 pub mod RestartRuns
 pub mod RestartReleases
 pub mod RestartRunExample
+pub mod RedRuns
+pub mod RedReleases
+pub mod OwnRedRuns
+pub mod RedRunExample

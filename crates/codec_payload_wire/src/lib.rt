@@ -3,5 +3,6 @@
 
 pub mod history_run;
 pub mod restart_run;
+pub mod red_run;
 pub mod run;
 pub mod theorems;

@@ -2,6 +2,7 @@
 
 ghost use Rattle.codec_payload_wire.specs.HistoryRunExample.{HistoryCanBeMet};
 ghost use Rattle.codec_payload_wire.specs.RestartRunExample.{RestartCanBeMet};
+ghost use Rattle.codec_payload_wire.specs.RedRunExample.{RedCanBeMet};
 ghost use Rattle.codec_payload_wire.specs.WireRunExample.{CanBeMet};
 
 /// The premises of a run over datagrams can be met: datagrams of Opus that arrive in another order, one of them twice, are
@@ -20,4 +21,10 @@ pub fn history_premises_can_be_met()
 /// SSRC and other numbers. All datagrams of each part arrive before its stream ends.
 pub fn restart_premises_can_be_met()
     ensures { RestartCanBeMet }
+{}
+
+/// The premises of a run in RED can be met: of three datagrams of Opus the second is lost, and the third repeats its payload. So
+/// each packet comes before the stream ends.
+pub fn red_premises_can_be_met()
+    ensures { RedCanBeMet }
 {}

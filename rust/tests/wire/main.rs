@@ -2,6 +2,7 @@
 
 mod losses;
 mod own_codec;
+mod red;
 mod resent;
 mod restarted;
 mod rows;
