@@ -5,10 +5,20 @@
 #[doc(hidden)]
 pub mod history_run;
 #[doc(hidden)]
+pub mod red_run;
+#[doc(hidden)]
+pub mod restart_run;
+#[doc(hidden)]
 pub mod run;
 
 #[doc(inline)]
 pub use history_run::{HistoryRun, HistoryStep, Link, run_with_history};
+
+#[doc(inline)]
+pub use restart_run::{Part, run_with_restarts};
+
+#[doc(inline)]
+pub use red_run::{RedLink, RedRun, run_in_red};
 
 #[doc(inline)]
 pub use run::{DatagramRun, DatagramStep, SentSample, run_datagrams};
