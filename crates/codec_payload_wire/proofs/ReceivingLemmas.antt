@@ -20,7 +20,8 @@ use Rattle.codec_payload_jitter.specs.Numbers.{Numbering, answer_for, number_wit
 use Rattle.codec_payload_jitter.specs.Receiving.{Arrival, GoesOn, PopsWith, Receives, ReceivesAgain, ReceivesAgainAs, ReceivesAs, Receiving}
 use Rattle.codec_payload_jitter.specs.Receiving.{answer_to, counted_in_again, is_starting, meta_for, number_again, numbered, settled, waiting_at, with_noted, would_store}
 use Rattle.codec_payload_jitter.specs.Waiting.{most_held_back}
-use Rattle.codec_payload_jitter.proofs.RestartLemmas.{answer_to_is, still_times}
+use Rattle.codec_payload_jitter.proofs.RestartLemmas.{answer_to_is}
+use Rattle.codec_payload_jitter.proofs.TimesLemmas.{still_times}
 use Rattle.codec_payload_jitter.specs.declared.noted_times.NotedTime.{NotedTime}
 use Rattle.codec_payload_jitter.specs.declared.numbers.Extended.{Extended}
 use Rattle.codec_payload_jitter.specs.declared.numbers.Extended.TheVariants as extended
@@ -143,10 +144,10 @@ went_in time_of n a r mid t outcome counters kept e of_codec times time went lef
     let accepted = went.1.3 in
     let packet : went.1.1.0 ≡ arrived r.buffer.depacketizer (meta_for a.now r.rate a.header n) a.bytes = went.1.1.1.2 of_codec in
     let x : NotedTime = record { number = n; time = a.header.timestamp } in
-    let noted : t.noted ≡ noted_with r.numbering.backward r.noted x =
-    ap (λ (y : Receiving). y.noted) left ∙ (ap (λ (y : Receiving). y.noted) trusted ∙ ap (λ (y : Receiving). noted_with y.numbering.backward y.noted x) accepted) in
+    let noted : t.noted ≡ noted_with r.noted x =
+    ap (λ (y : Receiving). y.noted) left ∙ (ap (λ (y : Receiving). y.noted) trusted ∙ ap (λ (y : Receiving). noted_with y.noted x) accepted) in
     record {
-      times = subst (AreTimesOf time_of) (sym noted) (still_times time_of r.numbering.backward r.noted x time times);
+      times = subst (AreTimesOf time_of) (sym noted) (still_times time_of r.noted x time times);
       buffer = ap (λ (x : Receiving). x.buffer) left ∙ (ap (λ (x : Receiving). x.buffer) trusted ∙ (ap (λ (x : Receiving). x.buffer) accepted ∙ (went.1.1.2 ∙ ap (pushed r.buffer) packet)));
       numbering = ap (λ (x : Receiving). x.numbering) left;
       rate = ap (λ (x : Receiving). x.rate) left ∙ (ap (λ (x : Receiving). x.rate) trusted ∙ ap (λ (x : Receiving). x.rate) accepted);

@@ -40,7 +40,6 @@ use Rattle.codec_payload_stream.specs.SeenTimes.{Seen, has_block, is_seen, none_
 use Rattle.codec_payload_stream.specs.Sessions.{Holding, RecoversAll, RecoversUnless, RecoversUnseen, Session, TakesPrimary, TakesPrimaryIf}
 use Rattle.codec_payload_stream.specs.Sessions.{all_carried, block_seen, ended, is_own_media, is_repeat, is_restart, is_suspect, packet_seen, told_of_red}
 use Rattle.codec_payload_stream.specs.declared.receiver.ReceiveError.TheVariants as refusals
-use Rattle.codec_payload_stream.specs.declared.seen_times.SeenTime.{SeenTime}
 use Rattle.codec_payload_wire.proofs.ReadingLemmas.{packet_at}
 use Rattle.codec_payload_wire.proofs.ReceivingLemmas.{AllNumbered, settled_none, waits_for_nothing}
 use Rattle.codec_payload_wire.proofs.RedCourses.{Feeds, fed_push}
@@ -105,6 +104,13 @@ or_later true b h = refl
 or_later false b h = h
 
 -- Seen times
+
+-- the type of the items; the crate of receivers exports no name for a seen time
+abbrev type_in : {A : Type 0} → List (Option A) → Type 0
+type_in {A} times = A
+
+abbrev SeenTime : Type 0
+SeenTime = type_in none_seen.places
 
 seen_set : (places : List (Option SeenTime)) (n time : ℕ) (x : SeenTime) → is_seen time (slice_set places n (Some x)) ≡ true → (x.time ≡ time) ⊎ (is_seen time places ≡ true)
 seen_set [] n time x is = absurd (cc)

@@ -202,7 +202,7 @@ module _ (again : Option RetransmissionStream) (samples : List Sample) (all_step
   sent = sends_from first (first_small forward backward number (delivered received) low within.within) (first_low forward backward sender.stream.number (delivered received) within.within)
 
   nothing_noted : AreTimesOf (times_from first sent.all) receiver.packets.noted
-  nothing_noted = subst (λ (x : Session). AreTimesOf (times_from first sent.all) x.packets.noted) (sym begun.is) (λ k d below. absurd (omega (arith, below)))
+  nothing_noted = subst (λ (x : Session). AreTimesOf (times_from first sent.all) x.packets.noted) (sym begun.is) tt
 
   come : IsMet receiver.packets sender.stream sent.all received receiver t.pops t.session
   come = met again sender.stream within.one_stream.not_rtcp first sent.all t.datagrams sent.at.reads sent.at.numbered receiver.packets received receiver t.session t.pops listening (record { wait_limits = refl; room = refl }) numbers nothing_noted takes

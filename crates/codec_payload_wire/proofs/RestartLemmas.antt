@@ -257,7 +257,7 @@ module _ (samples : List Sample) (settings : Settings) (depacketizer : Depacketi
     kinds = refl;
     numbering = ap (λ (x : Session). x.packets.numbering) begun.is;
     time_of = λ n. 0;
-    noted = λ t agrees. subst (λ (x : Session). AreTimesOf t x.packets.noted) (sym begun.is) (λ k d below. absurd (omega (arith, below)));
+    noted = λ t agrees. subst (λ (x : Session). AreTimesOf t x.packets.noted) (sym begun.is) tt;
   }
 
 -- Runs with announced restarts

@@ -118,7 +118,7 @@ answer_told : (r : Receiving) (header : RtpHeader) (e : Extended) → r.is_resta
 answer_told r header (extended.Number n) waiting is =
     let x : NotedTime = record { number = n; time = header.timestamp } in
     let never : is_contradicted r n header.timestamp ≡ false =
-    ap (λ (b : Bool). not (r.ended || b) && contradicts r.numbering.backward r.noted x) waiting ∙ none_contradicts r.ended (contradicts r.numbering.backward r.noted x) in
+    ap (λ (b : Bool). not (r.ended || b) && contradicts r.noted x) waiting ∙ none_contradicts r.ended (contradicts r.noted x) in
     ap (answer_by_time r header) is ∙ ap (λ (b : Bool). cond b (answer_to_contradiction r header) (extended.Number n)) never
 answer_told r header (extended.Restarted n) waiting is = ap (answer_by_time r header) is
 answer_told r header extended.Suspect waiting is = ap (answer_by_time r header) is
