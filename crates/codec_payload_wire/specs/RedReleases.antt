@@ -109,8 +109,8 @@ IsKnownInRed samples all_steps s t =
     IsRedDelivery s.wire.session.stream.ids s.wire.sending.stream s.writer t.wire.datagrams (received_steps samples 0 all_steps t.wire.sends)
 
 -- The datagrams of the sender read as the packets of canonical units. The units are popped in order, each at most once and
--- complete, from packets that came with datagrams that were delivered before the pop. If all packets come before the stream ends,
--- and all pops come after that, all units are popped.
+-- complete, from packets that came with delivered datagrams. Their times of arrival are times of deliveries before the pop. If all
+-- packets come before the stream ends, and all pops come after that, all units are popped.
 pub record ReleasesUnitsInRed (samples : List Sample) (all_steps : List DatagramStep) (s t : RedWire) : Type 0 where
   pub units : List SentUnit
   pub canonical : map (λ (u : SentUnit). u.parts) units ≡ units_of_run s.wire.sending.packetizer samples (sending_steps s.wire.sending.mtu all_steps)
