@@ -1,9 +1,8 @@
 -- What a run in RED does to the buffer of the receiver: each delivery pushes sent packets, and before a pop the cutoff may move past
 -- numbers that are not held. Units are released in order, each at most once.
-use Rattle.std.proofs.Common.{◌≡◌, ◌≢◌, ◌∙◌, refl, sym, ap, subst, ℕ, suc, ◌+◌, ◌<◌, ◌≤◌, ◌&&◌, ◌||◌, List, [], ◌∷◌, ◌++◌, Bool, true, false, not, cond, eqb, Option, Some, None, Err, inl, arith}
+use Rattle.std.proofs.Common.{◌≡◌, ◌≢◌, ◌∙◌, refl, sym, ap, subst, ℕ, ◌+◌, ◌≤◌, ◌&&◌, ◌||◌, List, [], ◌∷◌, ◌++◌, Bool, true, false, not, cond, eqb, Option, Some, None, inl, arith}
 use Rattle.std.specs.Prelude.{slice_get}
-use Rattle.std.proofs.lemmas.Bool.{and_parts, eqb-true, eq-eqb}
-use Rattle.codec_payload_base.specs.declared.error.PacketError.TheVariants as faults
+use Rattle.std.proofs.lemmas.Bool.{eqb-true, eq-eqb}
 use Rattle.codec_payload_base.specs.declared.wire.Ticks.{Ticks}
 use Rattle.codec_payload_buffer.specs.Blanks.{is_right_after, passed_number}
 use Rattle.codec_payload_buffer.specs.Held.{AllAbove, Held, IsAboveCutoff, has_number, number_of}

@@ -44,7 +44,7 @@ use Rattle.codec_payload_wire.proofs.ReadingLemmas.{packet_at}
 use Rattle.codec_payload_wire.proofs.ReceivingLemmas.{AllNumbered, settled_none, waits_for_nothing}
 use Rattle.codec_payload_wire.proofs.RedCourses.{Feeds, fed_push}
 use Rattle.codec_payload_wire.proofs.RedReadingLemmas.{AreBlocks, IsBlock, blocks_are, carrier_at, kept_carried}
-use Rattle.codec_payload_wire.proofs.RedReceivingLemmas.{IsPast, PushesBlock, RedSide, Steady, StoresBlocks, StoresOwn, Tuned, all_recovered, block_known, deliver_fed, finish_is, hears_red}
+use Rattle.codec_payload_wire.proofs.RedReceivingLemmas.{IsPast, RedSide, Steady, StoresBlocks, StoresOwn, Tuned, all_recovered, block_known, deliver_fed, finish_is, hears_red}
 use Rattle.codec_payload_wire.proofs.RedReceivingLemmas.{own_header, own_known, past_number, pop_once, primary_is, pushes_block, recovered_if, stores_none, stores_own, stores_then, tuned_ended, writer_at}
 use Rattle.codec_payload_wire.proofs.RedStepLemmas.{RedTakes}
 use Rattle.codec_payload_wire.specs.RedReleases.{Carries}
@@ -474,7 +474,6 @@ module _ (l : RedSide) (start : State) (own_type : eqb (l.writer.red.primary_pt 
       and_true : (b : Bool) → b && true ≡ b
       and_true true = refl
       and_true false = refl
-
 
   -- all blocks of a datagram
   record AreBlocksIn (now : Ticks) (all : List Arrival) (x y : Holding) : Type 0 where

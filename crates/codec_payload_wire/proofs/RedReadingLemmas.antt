@@ -1,6 +1,6 @@
 -- What a receiver reads in a datagram in RED: its packet, and blocks of earlier packets.
-use Rattle.std.proofs.Common.{◌≡◌, ◌∙◌, refl, sym, ap, subst, ℕ, zero, suc, ◌+◌, ◌-◌, ◌%◌, ◌^◌, ◌/◌, ◌<◌, ◌≤◌, ◌⊎◌, inl, inr, ◌&&◌, ◌==◌, List, [], ◌∷◌, ◌++◌}
-use Rattle.std.proofs.Common.{Bool, true, false, not, cond, eqb, ltb, leb, Option, Some, None, Ok, length, map, take, arith}
+use Rattle.std.proofs.Common.{◌≡◌, ◌∙◌, refl, sym, ap, subst, ℕ, zero, suc, ◌+◌, ◌-◌, ◌%◌, ◌^◌, ◌/◌, ◌<◌, ◌≤◌, ◌⊎◌, inl, inr, ◌&&◌, List, [], ◌∷◌, ◌++◌}
+use Rattle.std.proofs.Common.{Bool, true, false, cond, eqb, ltb, leb, Option, Some, None, Ok, length, map, take, arith}
 use Rattle.std.specs.Prelude.{slice_get}
 use Rattle.std.specs.List.{AllByRecursion, cons_option, filter_map}
 use Rattle.std.specs.Option.{option_map}
@@ -10,7 +10,7 @@ use Rattle.codec_payload_base.specs.Extensions.{no_values}
 use Rattle.codec_payload_base.specs.declared.wire.Ticks.{Ticks}
 use Rattle.codec_payload_jitter.specs.Receiving.{Arrival}
 use Rattle.codec_payload_red.proofs.RedRunLemmas.{fits_at, output_reads, recovers_sent, same_distances}
-use Rattle.codec_payload_red.specs.RedBlocks.{Block, blocks_in, older}
+use Rattle.codec_payload_red.specs.RedBlocks.{Block, older}
 use Rattle.codec_payload_buffer.proofs.MemberLemmas.{IsIn, in_contains}
 use Rattle.codec_payload_red.specs.RedLevels.{Entry, Sender, is_accepted, level, output, wrapped}
 use Rattle.codec_payload_red.specs.RedPayload.{Red, Redundant}
@@ -26,7 +26,7 @@ use Rattle.codec_payload_runs.specs.RedSchedule.{all_remembered, remembered}
 use Rattle.codec_payload_send.specs.Packets.{Packet}
 use Rattle.codec_payload_sender.specs.declared.sender.Stream.{Stream}
 use Rattle.codec_payload_stream.specs.Kinds.{Carrier, InRed, Kinds, carrier_with, datagram_at, is_other, is_sent_again, red_again_of, red_of}
-use Rattle.codec_payload_stream.specs.Sessions.{all_carried, block_arrival, carried, packet_in}
+use Rattle.codec_payload_stream.specs.Sessions.{all_carried, block_arrival}
 use Rattle.codec_payload_stream.specs.declared.datagram.RedStream.{RedStream}
 use Rattle.codec_payload_stream.specs.declared.receiver.Retransmission.{Retransmission}
 use Rattle.codec_payload_wire.proofs.ReadingLemmas.{is_no_rtcp, packet_at}
@@ -358,9 +358,11 @@ kept_carried stream packets w first k j now kinds receiver q p given there numbe
           let y : RecoveredPacket = record x { seq_no = m - back.back } in
           let is : recovered_from receiver m q.rtp_time (older one.0) ≡ Some y = ap (λ (b : Bool). cond b (recovered_older receiver m q.rtp_time (older one.0)) None) old.0 ∙ back.there in
           let made : option_map (block_arrival kinds now stream.ssrc) (recovered_from receiver m q.rtp_time (older one.0)) ≡ Some (block_arrival kinds now stream.ssrc y) =
-          ap (λ (o : Option RecoveredPacket). option_map (block_arrival kinds now stream.ssrc) o) is in
-          (block_arrival kinds now stream.ssrc y,
-          found_in Arrival (λ (b : Block). option_map (block_arrival kinds now stream.ssrc) (recovered_from receiver m q.rtp_time b)) red.redundant one.0 (block_arrival kinds now stream.ssrc y) one.1 made, time)
+          ap (λ (o : Option RecoveredPacket). option_map (block_arrival kinds now stream.ssrc) o) is in (
+            block_arrival kinds now stream.ssrc y,
+            found_in Arrival (λ (b : Block). option_map (block_arrival kinds now stream.ssrc) (recovered_from receiver m q.rtp_time b)) red.redundant one.0 (block_arrival kinds now stream.ssrc y) one.1 made,
+            time,
+          )
       | inr own ↦
           let number_x : x.seq_no ≡ n = primary_number receiver n q.rtp_time red x own in
           let place : x.seq_no ≡ first + 65536 + j = found.2.number in

@@ -1,9 +1,9 @@
 -- A receiver of a stream in RED does with written datagrams and with pops what its buffer does with their packets and blocks.
-use Rattle.std.proofs.Common.{◌≡◌, ◌≢◌, ◌∙◌, refl, sym, ap, subst, ℕ, ◌+◌, ◌-◌, ◌%◌, ◌^◌, ◌<◌, ◌≤◌, ◌⊎◌, inl, inr, ◌&&◌, ◌||◌, List, [], ◌∷◌, ◌++◌, Bool, true, false, not, cond, eqb, ltb, leb, max}
-use Rattle.std.proofs.Common.{Option, Some, None, Ok, Err, length, take, arith}
+use Rattle.std.proofs.Common.{◌≡◌, ◌≢◌, ◌∙◌, refl, sym, ap, subst, ℕ, ◌+◌, ◌-◌, ◌%◌, ◌^◌, ◌<◌, ◌≤◌, inl, inr, ◌&&◌, ◌||◌, List, [], ◌∷◌, ◌++◌, Bool, true, false, not, cond, eqb, ltb, leb, max}
+use Rattle.std.proofs.Common.{Option, Some, None, Err, length, take, arith}
 use Rattle.std.specs.Prelude.{Contains, slice_get}
 use Rattle.std.specs.Option.{option_map}
-use Rattle.std.proofs.lemmas.Bool.{cases_lt, eq-eqb, le-leb, le-ltb, leb-true, ltb-true, lt-ltb, ne_eqb}
+use Rattle.std.proofs.lemmas.Bool.{eq-eqb, leb-true, ltb-true, ne_eqb}
 use Rattle.std.proofs.lemmas.Option.{same_Some, slice_get-map}
 use Rattle.codec_payload_base.specs.declared.error.PacketError.TheVariants as faults
 use Rattle.codec_payload_base.specs.declared.wire.RtpHeader.{RtpHeader}
@@ -16,13 +16,13 @@ use Rattle.codec_payload_codec.specs.Depacketizers.{is_built_in_depacketizer}
 use Rattle.codec_payload_jitter.proofs.RestartLemmas.{answer_in_is, answer_to_is}
 use Rattle.codec_payload_jitter.specs.NotedTimes.{AreTimesOf}
 use Rattle.codec_payload_jitter.specs.Numbers.{Numbering, ahead, answer_by, answer_for, answer_near, behind, fitting, follows_suspect, greater, is_restarting, number_within, numbering_after, numbering_with}
-use Rattle.codec_payload_jitter.specs.Receiving.{Arrival, GoesOn, Notes, NotesAs, PopsWith, Receives, ReceivesAs, Receiving, Recovers, RecoversAs, RecoversIf}
+use Rattle.codec_payload_jitter.specs.Receiving.{Arrival, GoesOn, Notes, NotesAs, Receives, ReceivesAs, Receiving, RecoversAs, RecoversIf}
 use Rattle.codec_payload_jitter.specs.Receiving.{answer_in, answer_to, may_recover, meta_for, number_again, outcome_at, settled, waiting_at}
 use Rattle.codec_payload_jitter.specs.declared.numbers.Extended.{Extended}
 use Rattle.codec_payload_jitter.specs.declared.numbers.Extended.TheVariants as extended
 use Rattle.codec_payload_jitter.specs.declared.outcome.Outcome.{Outcome}
 use Rattle.codec_payload_red.proofs.RedRunLemmas.{fits_at, same_distances}
-use Rattle.codec_payload_red.specs.RedLevels.{Entry, Sender, is_accepted}
+use Rattle.codec_payload_red.specs.RedLevels.{Entry, is_accepted}
 use Rattle.codec_payload_red.specs.RedRun.{IsKeptIn, IsRecoverable, sender_at}
 use Rattle.codec_payload_red_writer.specs.Writers.{IsInRed, Writer}
 use Rattle.codec_payload_runs.proofs.order.SafetyLemmas.{number_at}
@@ -40,11 +40,10 @@ use Rattle.codec_payload_stream.specs.Choice.{is_silent, origin_of, verdict_of}
 use Rattle.codec_payload_stream.specs.Kinds.{Carrier, Datagram, InRed, Kinds, datagram_at, header_for, is_other}
 use Rattle.codec_payload_stream.specs.Pops.{PopsOnce}
 use Rattle.codec_payload_stream.specs.SeenTimes.{is_seen}
-use Rattle.codec_payload_stream.specs.Sessions.{Finishes, Heard, Hears, Holding, ReceivesBy, ReceivesBytes, RecoversAll, RecoversOne, RecoversUnless, RecoversUnseen, Session, SettlesOn, TakesPrimary, TakesPrimaryIf}
+use Rattle.codec_payload_stream.specs.Sessions.{Finishes, Heard, Hears, Holding, ReceivesBy, ReceivesBytes, RecoversAll, RecoversUnless, RecoversUnseen, Session, SettlesOn, TakesPrimary, TakesPrimaryIf}
 use Rattle.codec_payload_stream.specs.Sessions.{all_carried, ended, first_waiting, is_none_of, is_open, is_own_media, is_repeat, is_suspect, packet_seen}
 use Rattle.codec_payload_stream.specs.declared.choice.Candidate.{Candidate}
 use Rattle.codec_payload_stream.specs.declared.datagram.RedStream.{RedStream}
-use Rattle.codec_payload_stream.specs.declared.receiver.ReceiveError.TheVariants as refusals
 use Rattle.codec_payload_wire.proofs.EventLemmas.{time_at, time_in, times_from}
 use Rattle.codec_payload_wire.proofs.ReadingLemmas.{packet_at}
 use Rattle.codec_payload_wire.proofs.ReceivingLemmas.{AllNumbered, heard, takes_in, turn_of}

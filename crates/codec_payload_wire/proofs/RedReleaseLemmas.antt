@@ -1,8 +1,7 @@
 -- The units that a run in RED releases, from three parts: what it sends, what it receives, and the theorem of the buffer.
-use Rattle.std.proofs.Common.{◌≡◌, ◌∙◌, refl, sym, ap, subst, ℕ, ◌+◌, ◌-◌, ◌%◌, ◌^◌, ◌<◌, ◌≤◌, ◌&&◌, List, [], ◌∷◌, ◌++◌, inr, inl, map, Bool, true, false, not, eqb, ltb, leb, Option, None, Some, Result, Ok, Err, length, arith}
-use Rattle.std.specs.Prelude.{slice_get}
+use Rattle.std.proofs.Common.{◌≡◌, ◌∙◌, refl, sym, ap, subst, ℕ, ◌+◌, ◌-◌, ◌%◌, ◌^◌, ◌<◌, ◌≤◌, ◌&&◌, List, [], ◌∷◌, ◌++◌, inr, inl, Bool, true, false, not, eqb, ltb, leb, Option, None, Some, Result, Ok, Err, length, arith}
 use Rattle.std.proofs.lemmas.Bool.{and_parts, eq-eqb, leb-true}
-use Rattle.std.proofs.lemmas.Option.{same_Some, slice_get_within}
+use Rattle.std.proofs.lemmas.Option.{slice_get_within}
 use Rattle.codec_payload_buffer.proofs.MemberLemmas.{IsIn, in_contains, in_right}
 use Rattle.codec_payload_buffer.specs.ContiguityTable.{contiguity_for}
 use Rattle.codec_payload_buffer.specs.declared.buffer.unit.RtpMeta.{RtpMeta}
@@ -13,7 +12,6 @@ use Rattle.codec_payload_jitter.specs.NotedTimes.{AreTimesOf}
 use Rattle.codec_payload_jitter.specs.Numbers.{Numbering, no_numbers, numbering_within}
 use Rattle.codec_payload_jitter.specs.declared.numbers.WindowError.{WindowError}
 use Rattle.codec_payload_jitter.specs.declared.numbers.WindowError.TheVariants as windows
-use Rattle.codec_payload_red.specs.RedLevels.{Entry}
 use Rattle.codec_payload_red.specs.RedRun.{IsRecoverable}
 use Rattle.codec_payload_red_writer.specs.Writers.{Writer}
 use Rattle.codec_payload_runs.proofs.order.RunSettings.{empty, fresh, may_go, setting}
@@ -40,14 +38,14 @@ use Rattle.codec_payload_stream.specs.declared.receiver.RedSettings.{RedSettings
 use Rattle.codec_payload_stream.specs.declared.receiver.Settings.{Settings}
 use Rattle.codec_payload_stream.specs.declared.receiver.SettingsError.{SettingsError}
 use Rattle.codec_payload_stream.specs.declared.receiver.SettingsError.TheVariants as settings_errors
-use Rattle.codec_payload_wire.proofs.Courses.{Proceeds, proceeds}
+use Rattle.codec_payload_wire.proofs.Courses.{proceeds}
 use Rattle.codec_payload_wire.proofs.DeliveredLemmas.{AllIn}
 use Rattle.codec_payload_wire.proofs.EventLemmas.{times_from}
 use Rattle.codec_payload_wire.proofs.NewReceivers.{IsBegun, new_is_begun, passed}
 use Rattle.codec_payload_wire.proofs.ReceivingLemmas.{AllNumbered}
 use Rattle.codec_payload_wire.proofs.RedCourses.{Course, course_in_order, fed_before}
 use Rattle.codec_payload_wire.proofs.RedExactLemmas.{IsFillingUp, NearNumbers, answers_exactly, fills}
-use Rattle.codec_payload_wire.proofs.RedReadingLemmas.{IsRedFor, IsWritten, entries_are, written_at}
+use Rattle.codec_payload_wire.proofs.RedReadingLemmas.{IsRedFor, entries_are, written_at}
 use Rattle.codec_payload_wire.proofs.RedReceivingLemmas.{IsTuned, RedSide, red_course}
 use Rattle.codec_payload_wire.proofs.RedStepLemmas.{RedComes, RedTakes, SendsAlone, only_sends, red_comes_to, same_sends, sends_alone, writes_count, written_in}
 use Rattle.codec_payload_wire.proofs.ReleaseLemmas.{AllBelow, first_for, first_low, first_small, numbered_within}
@@ -55,7 +53,7 @@ use Rattle.codec_payload_wire.proofs.SendingLemmas.{SendsRun, running, same_coun
 use Rattle.codec_payload_wire.specs.RedReleases.{AllComeInRed, IsInRedWithinWindows, IsRedDelivery, ReleaseInRed, ReleasesUnitsInRed, entries_in, is_ssrc_of, red_receiver}
 use Rattle.codec_payload_wire.specs.RedRuns.{RedRuns, RedWire, WritesAll, begins_in_red}
 use Rattle.codec_payload_wire.specs.Releases.{AreDatagrams, ComeWithin, delivered, received_steps, sending_steps}
-use Rattle.codec_payload_wire.specs.WireRuns.{Wire, begins}
+use Rattle.codec_payload_wire.specs.WireRuns.{begins}
 use Rattle.codec_payload_wire.specs.declared.run.DatagramStep.{DatagramStep}
 use Rattle.codec_payload_wire.specs.declared.run.DatagramStep.TheVariants as steps
 use Rattle.codec_payload_wire.specs.declared.run.SentSample.{SentSample}

@@ -1,10 +1,10 @@
 -- A run in RED, as steps of the receiver over written datagrams; and what the writer wrote.
-use Rattle.std.proofs.Common.{◌≡◌, ◌≢◌, ◌∙◌, refl, sym, ap, subst, ℕ, zero, suc, ◌+◌, ◌≤◌, List, []}
+use Rattle.std.proofs.Common.{◌≡◌, ◌≢◌, ◌∙◌, refl, sym, ap, subst, ℕ, suc, ◌+◌, List, []}
 use Rattle.std.proofs.Common.{◌∷◌, ◌++◌, true, false, ltb, Option, Some, None, Err, MatchOption, drop, length, arith, append_assoc, append-nil}
 use Rattle.std.specs.Prelude.{slice_get}
 use Rattle.std.proofs.Math.Seq.{drop-append_seam}
 use Rattle.std.proofs.lemmas.Bool.{lt-ltb, le-ltb}
-use Rattle.std.proofs.lemmas.List.{length-append, length-drop}
+use Rattle.std.proofs.lemmas.List.{length-append}
 use Rattle.std.proofs.lemmas.Option.{slice_get_within}
 use Rattle.codec_payload_base.specs.declared.error.PacketError.TheVariants as faults
 use Rattle.codec_payload_base.specs.declared.wire.Ticks.{Ticks}
@@ -16,7 +16,7 @@ use Rattle.codec_payload_send.specs.Sending.{Sample}
 use Rattle.codec_payload_stream.specs.Sessions.{Finishes, Session}
 use Rattle.codec_payload_wire.proofs.StepLemmas.{get_append, past_end}
 use Rattle.codec_payload_wire.specs.HistoryRuns.{sent_since}
-use Rattle.codec_payload_wire.specs.RedRuns.{DeliversWhole, DoesRedStep, RedRuns, RedWire, WritesAll, WritesWhatIsSent}
+use Rattle.codec_payload_wire.specs.RedRuns.{DeliversWhole, RedRuns, RedWire, WritesAll, WritesWhatIsSent}
 use Rattle.codec_payload_wire.specs.Releases.{received_steps, sending_steps, sends_after, sent_after}
 use Rattle.codec_payload_wire.specs.WireRuns.{DoesStep, PopsUnit, Receipt, Runs, SendsIt, Wire}
 use Rattle.codec_payload_wire.specs.declared.run.DatagramStep.{DatagramStep}

@@ -1,5 +1,5 @@
 -- The units that a run in RED releases. A packet arrives with its own datagram, or as a block of a later one (RFC 2198).
-use Rattle.std.specs.Prelude.{◌≡◌, ℕ, ◌+◌, ◌-◌, ◌%◌, ◌<◌, ◌≤◌, ◌⊎◌, ◌==◌, Bool, true, false, List, [], ◌∷◌, ◌++◌, Option, Some, None, Result, Ok, Err, Contains, length, map, refl}
+use Rattle.std.specs.Prelude.{◌≡◌, ℕ, ◌+◌, ◌-◌, ◌%◌, ◌<◌, ◌≤◌, ◌⊎◌, ◌==◌, Bool, true, false, List, [], ◌∷◌, ◌++◌, Option, Some, None, Result, Ok, Err, Contains, length, map}
 use Rattle.codec_payload_base.specs.Extensions.{no_values}
 use Rattle.codec_payload_buffer.specs.declared.buffer.unit.RtpMeta.{RtpMeta}
 use Rattle.codec_payload_codec.specs.Packetizers.{is_video, payloads_by, may_split}
@@ -43,8 +43,7 @@ entries_in datagrams = map (λ datagram. entry_read (rtp_at datagram)) datagrams
 abbrev pub Carries : Writer → List (List ℕ) → ℕ → ℕ → Type 0
 Carries w sent carrier k = (k ≡ carrier) ⊎ IsKeptIn w.red w.budget (entries_in sent) k carrier
 
--- what the metadata of a packet has besides number and time: its marker and its values if it came with its own datagram, and
--- neither if it came as a block
+-- marker and values in the metadata of a packet: of the packet, if it came with its own datagram. A block has neither
 abbrev pub HasHeaderOf : Bool → ExtensionIds → Stream → Packet → RtpMeta → Type 0
 HasHeaderOf true ids stream q meta = (meta.header.marker ≡ q.marker) × (meta.header.ext_vals ≡ values_read ids stream q.ext_vals)
 HasHeaderOf false ids stream q meta = (meta.header.marker ≡ false) × (meta.header.ext_vals ≡ no_values)
@@ -78,8 +77,8 @@ pub record AreOfOneRed (sender : Sending) (writer : Writer) (settings : Settings
   pub not_rtcp : (writer.red_type < 64) ⊎ (95 < writer.red_type)
   pub not_again : is_ssrc_of settings.retransmission sender.stream.ssrc ≡ false
 
--- the premises of a run without RED, about the written datagrams; the codec is not VP8, VP9 or AV1; the windows leave room for
--- blocks; and the packets can be recovered from blocks: a new writer, and packets whose times are as many ticks apart as the
+-- The premises of a run without RED, about the written datagrams. The codec is not VP8, VP9 or AV1. The windows leave room for
+-- blocks. The packets can be recovered from blocks: the writer is new, and the times of the packets are as many ticks apart as the
 -- receiver's step
 pub record IsInRedWithinWindows (samples : List Sample) (all_steps : List DatagramStep) (s t : RedWire) : Type 0 where
   pub plain : IsWithinWindows samples all_steps s.wire.sending s.wire.session t.wire.sends
@@ -91,9 +90,9 @@ pub record IsInRedWithinWindows (samples : List Sample) (all_steps : List Datagr
 
 -- Guarantees
 
--- the buffer has room for `count` packets; a datagram that carries it is delivered before the stream ends, for each packet; no pop
--- is made before that; and each datagram is at most `backward` - 8 behind the highest one before it, so its blocks are within the
--- windows too
+-- The buffer has room for `count` packets. For each packet, a datagram that carries the packet is delivered before the stream ends.
+-- No pop is made before that. Each datagram is at most `backward` - 8 behind the highest one before it, so its blocks are within
+-- the windows too
 pub record AllComeInRed (limit count : ℕ) (numbering : Numbering) (w : Writer) (sent : List (List ℕ)) (received : List DatagramStep) : Type 0 where
   pub few : count ≤ limit
   pub before : List DatagramStep
@@ -110,8 +109,8 @@ IsKnownInRed samples all_steps s t =
     IsRedDelivery s.wire.session.stream.ids s.wire.sending.stream s.writer t.wire.datagrams (received_steps samples 0 all_steps t.wire.sends)
 
 -- The datagrams of the sender read as the packets of canonical units. The units are popped in order, each at most once and
--- complete, from packets that came with datagrams that were delivered before the pop. If all packets come before the stream ends,
--- and all pops come after that, all units are popped.
+-- complete, from packets that came with delivered datagrams. Their times of arrival are times of deliveries before the pop. If all
+-- packets come before the stream ends, and all pops come after that, all units are popped.
 pub record ReleasesUnitsInRed (samples : List Sample) (all_steps : List DatagramStep) (s t : RedWire) : Type 0 where
   pub units : List SentUnit
   pub canonical : map (λ (u : SentUnit). u.parts) units ≡ units_of_run s.wire.sending.packetizer samples (sending_steps s.wire.sending.mtu all_steps)

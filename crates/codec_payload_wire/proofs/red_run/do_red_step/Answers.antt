@@ -1,4 +1,4 @@
-use Rattle.std.proofs.Common.{◌≡◌, ◌∙◌, ◌++◌, ◌∷◌, [], ℕ, List, ◌-◌, ap, inl, inr, length, take, drop, option_map, refl, rules, sym, subst, arith, OnOk, OnErr}
+use Rattle.std.proofs.Common.{◌≡◌, ◌∙◌, ◌++◌, ◌∷◌, [], ℕ, List, ◌-◌, ap, inr, length, take, drop, option_map, refl, rules, sym, subst, arith, OnOk, OnErr}
 use Rattle.std.specs.Global.{Vec}
 use Rattle.std.specs.Prelude.{All, map, slice_get}
 use Rattle.std.proofs.lemmas.List.{drop-map, length-drop, length-map, take_all}
@@ -66,9 +66,14 @@ returns-in_ok-do_step-in_default g c =
     × (bytes_in c.write_all.new.written.items ≡ bytes_in c.args.run.now.written.items ++ outs))) (sym is) c.write_all.ensures.ok in
     let stopped = subst (λ (ds : List (List ℕ)). OnErr c.write_all.result (WritesSome c.args.link.now.writer ds c.write_all.new.writer)) (sym is) c.write_all.ensures.err in
     record {
-      ok = on_ok c.write_all.result (λ writes. plain_step (map sample_of c.args.samples.now) c.args.step s t c.in_default.not-Deliver
-          (after, writes.0, c.write_all.new.writer, c.in_ok-do_step-in_default.ensures.ok, writes.1,
-          ap (λ (outs : List (List ℕ)). record { wire = after; writer = c.write_all.new.writer; written = outs }) writes.2)) written;
+      ok = on_ok c.write_all.result (λ writes. plain_step (map sample_of c.args.samples.now) c.args.step s t c.in_default.not-Deliver (
+        after,
+        writes.0,
+        c.write_all.new.writer,
+        c.in_ok-do_step-in_default.ensures.ok,
+        writes.1,
+        ap (λ (outs : List (List ℕ)). record { wire = after; writer = c.write_all.new.writer; written = outs }) writes.2,
+      )) written;
       err = from_err c.write_all.result (λ stops. plain_stop (map sample_of c.args.samples.now) c.args.step s c.do_step.new.sender c.write_all.new.writer c.do_step.new.receiver c.in_default.not-Deliver
           (inr (after, c.in_ok-do_step-in_default.ensures.ok, refl, refl, stops))) stopped;
       fault = c.write_all.ensures.fault;

@@ -1,8 +1,8 @@
-use Rattle.std.proofs.Common.{◌≡◌, ◌∙◌, ℕ, zero, suc, ◌+◌, ◌++◌, ◌<◌, List, [], ◌∷◌, ap, refl, sym, subst, inl, inr, length, drop, get_or, map, arith, append_assoc, append-nil, rules}
+use Rattle.std.proofs.Common.{◌≡◌, ◌∙◌, ℕ, zero, suc, ◌+◌, ◌++◌, ◌<◌, List, [], ◌∷◌, ap, refl, sym, subst, inl, inr, length, drop, get_or, arith, append_assoc, append-nil, rules}
 use Rattle.std.specs.Global.{Vec}
 use Rattle.std.proofs.lemmas.List.{drop_all, length-map, map-append}
 use Rattle.codec_payload_codec.proofs.AnswerLemmas.{on_err}
-use Rattle.codec_payload_red_writer.specs.Writers.{IsFault, Writes, Writer}
+use Rattle.codec_payload_red_writer.specs.Writers.{IsFault, Writes}
 use Rattle.codec_payload_red_writer.specs.declared.red_writer.RedWriteError.TheVariants as faults
 use Rattle.codec_payload_wire.specs.HistoryRuns.{IsPacket}
 use Rattle.codec_payload_wire.specs.RedRuns.{WritesAll, WritesSome}
