@@ -282,7 +282,7 @@ module _ (samples : List Sample) (all_steps : List DatagramStep) (sender : Sendi
   }
 
   nothing_noted : AreTimesOf (times_from first packets) receiver.packets.noted
-  nothing_noted = subst (λ (x : Session). AreTimesOf (times_from first packets) x.packets.noted) (sym begun.is) (λ k d l. absurd (omega (arith, l)))
+  nothing_noted = subst (λ (x : Session). AreTimesOf (times_from first packets) x.packets.noted) (sym begun.is) tt
 
   tuned : IsTuned sender.stream receiver.stream forward backward (times_from first packets) receiver
   tuned = record {
