@@ -133,11 +133,11 @@ module _ (again : Option RetransmissionStream) (stream : Stream) (types : (strea
       → Takes again all_steps datagrams s answers t → IsMetOn again time_of first r stream packets all_steps s answers t
   met_by time_of [] s t answers listening keeps numbers timed times takes = record {
     met = record {
-    events = [];
-    meets = (takes.0, ap (λ (x : Session). x.packets.buffer) takes.1);
-    brings = refl;
-    values = λ k m is. absurd is;
-    logs = λ w is. record { turns = []; end = w; is_log = refl; answers_are = sym takes.0; left = is ∙ sym (ap (λ (x : Session). x.packets.buffer) takes.1) };
+      events = [];
+      meets = (takes.0, ap (λ (x : Session). x.packets.buffer) takes.1);
+      brings = refl;
+      values = λ k m is. absurd is;
+      logs = λ w is. record { turns = []; end = w; is_log = refl; answers_are = sym takes.0; left = is ∙ sym (ap (λ (x : Session). x.packets.buffer) takes.1) };
     };
     listening = subst (IsListening again stream) (sym takes.1) listening;
     times = subst (λ (x : Session). AreTimesOf time_of x.packets.noted) (sym takes.1) times;
@@ -174,23 +174,23 @@ module _ (again : Option RetransmissionStream) (stream : Stream) (types : (strea
       let rest = all.met in
       record {
         met = record {
-        events = Arrives k one.meta ∷ rest.events;
-        meets = (q, p.1, one.tells, subst (λ (b : State). Meets stream.clock_rate packets rest.events b answers t.packets.buffer) one.buffer rest.meets);
-        brings = (one.meta, rest.events, refl, one.received, subst (λ (b : Bool). Brings b later rest.events) one.ended rest.brings);
-        values = values_with s.stream.ids stream packets rest.events k one.meta (q, p.1, one.values)
-            (subst (λ (x : Kinds). AllHaveValues x.ids stream packets rest.events) one.kinds rest.values);
-        logs = λ w is.
-            let p : Held = arrived w.now.depacketizer one.meta q.payload in
-            let next : pushed w.now p ≡ mid.packets.buffer = ap (λ (b : State). pushed b (arrived b.depacketizer one.meta q.payload)) is ∙ sym one.buffer in
-            let l = subst (λ (x : Kinds). HasLog (IsRead x.ids stream packets) packets r s.packets.ended later (with_pushes w (p ∷ [])) answers t.packets.buffer) one.kinds
-            (subst (λ (b : Bool). HasLog (IsRead mid.stream.ids stream packets) packets r b later (with_pushes w (p ∷ [])) answers t.packets.buffer) one.ended (rest.logs (with_pushes w (p ∷ [])) next)) in
-            record {
-              turns = l.turns;
-              end = l.end;
-              is_log = (q, one.meta, p_at, (one.tells, (q, p_at, one.values)), one.received, l.is_log);
-              answers_are = l.answers_are;
-              left = l.left;
-            };
+          events = Arrives k one.meta ∷ rest.events;
+          meets = (q, p.1, one.tells, subst (λ (b : State). Meets stream.clock_rate packets rest.events b answers t.packets.buffer) one.buffer rest.meets);
+          brings = (one.meta, rest.events, refl, one.received, subst (λ (b : Bool). Brings b later rest.events) one.ended rest.brings);
+          values = values_with s.stream.ids stream packets rest.events k one.meta (q, p.1, one.values)
+              (subst (λ (x : Kinds). AllHaveValues x.ids stream packets rest.events) one.kinds rest.values);
+          logs = λ w is.
+              let p : Held = arrived w.now.depacketizer one.meta q.payload in
+              let next : pushed w.now p ≡ mid.packets.buffer = ap (λ (b : State). pushed b (arrived b.depacketizer one.meta q.payload)) is ∙ sym one.buffer in
+              let l = subst (λ (x : Kinds). HasLog (IsRead x.ids stream packets) packets r s.packets.ended later (with_pushes w (p ∷ [])) answers t.packets.buffer) one.kinds
+              (subst (λ (b : Bool). HasLog (IsRead mid.stream.ids stream packets) packets r b later (with_pushes w (p ∷ [])) answers t.packets.buffer) one.ended (rest.logs (with_pushes w (p ∷ [])) next)) in
+              record {
+                turns = l.turns;
+                end = l.end;
+                is_log = (q, one.meta, p_at, (one.tells, (q, p_at, one.values)), one.received, l.is_log);
+                answers_are = l.answers_are;
+                left = l.left;
+              };
         };
         listening = all.listening;
         times = all.times;
@@ -204,24 +204,24 @@ module _ (again : Option RetransmissionStream) (stream : Stream) (types : (strea
       let rest = all.met in
       record {
         met = record {
-        events = Asked one.wait ∷ rest.events;
-        meets = (takes.0, takes.1, mid.packets.buffer, takes.3, one.pops, rest.meets);
-        brings = (one.wait, rest.events, refl, one.at_end, subst (λ (b : Bool). Brings b later rest.events) one.ended rest.brings);
-        values = values_asked s.stream.ids stream packets rest.events one.wait (subst (λ (x : Kinds). AllHaveValues x.ids stream packets rest.events) one.kinds rest.values);
-        logs = λ w is.
-            let wait : one.wait ≡ wait_of r s.packets.ended w.now now.0 =
-            one.wait_is ∙ (wait_same r s.packets now.0 keeps ∙ ap (λ (b : State). wait_of r s.packets.ended b now.0) (sym is)) in
-            let turn = turn_at (wait_of r s.packets.ended w.now now.0) w.now mid.packets.buffer takes.0
-            (subst (λ (o : Option ℕ). PopsWaiting o w.now takes.0 mid.packets.buffer) wait (subst (λ (b : State). PopsWaiting one.wait b takes.0 mid.packets.buffer) (sym is) one.pops)) in
-            let l = subst (λ (x : Kinds). HasLog (IsRead x.ids stream packets) packets r s.packets.ended later (begun mid.packets.buffer) takes.1 t.packets.buffer) one.kinds
-            (subst (λ (b : Bool). HasLog (IsRead mid.stream.ids stream packets) packets r b later (begun mid.packets.buffer) takes.1 t.packets.buffer) one.ended (rest.logs (begun mid.packets.buffer) refl)) in
-            record {
-              turns = record { stretch = w; passed = turn.0; answer = takes.0; after = mid.packets.buffer } ∷ l.turns;
-              end = l.end;
-              is_log = (refl, turn.1, l.is_log);
-              answers_are = ap (λ (as' : List Answer). takes.0 ∷ as') l.answers_are ∙ sym takes.3;
-              left = l.left;
-            };
+          events = Asked one.wait ∷ rest.events;
+          meets = (takes.0, takes.1, mid.packets.buffer, takes.3, one.pops, rest.meets);
+          brings = (one.wait, rest.events, refl, one.at_end, subst (λ (b : Bool). Brings b later rest.events) one.ended rest.brings);
+          values = values_asked s.stream.ids stream packets rest.events one.wait (subst (λ (x : Kinds). AllHaveValues x.ids stream packets rest.events) one.kinds rest.values);
+          logs = λ w is.
+              let wait : one.wait ≡ wait_of r s.packets.ended w.now now.0 =
+              one.wait_is ∙ (wait_same r s.packets now.0 keeps ∙ ap (λ (b : State). wait_of r s.packets.ended b now.0) (sym is)) in
+              let turn = turn_at (wait_of r s.packets.ended w.now now.0) w.now mid.packets.buffer takes.0
+              (subst (λ (o : Option ℕ). PopsWaiting o w.now takes.0 mid.packets.buffer) wait (subst (λ (b : State). PopsWaiting one.wait b takes.0 mid.packets.buffer) (sym is) one.pops)) in
+              let l = subst (λ (x : Kinds). HasLog (IsRead x.ids stream packets) packets r s.packets.ended later (begun mid.packets.buffer) takes.1 t.packets.buffer) one.kinds
+              (subst (λ (b : Bool). HasLog (IsRead mid.stream.ids stream packets) packets r b later (begun mid.packets.buffer) takes.1 t.packets.buffer) one.ended (rest.logs (begun mid.packets.buffer) refl)) in
+              record {
+                turns = record { stretch = w; passed = turn.0; answer = takes.0; after = mid.packets.buffer } ∷ l.turns;
+                end = l.end;
+                is_log = (refl, turn.1, l.is_log);
+                answers_are = ap (λ (as' : List Answer). takes.0 ∷ as') l.answers_are ∙ sym takes.3;
+                left = l.left;
+              };
         };
         listening = all.listening;
         times = all.times;
