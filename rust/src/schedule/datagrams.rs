@@ -15,10 +15,10 @@ pub mod run;
 pub use history_run::{HistoryRun, HistoryStep, Link, run_with_history};
 
 #[doc(inline)]
-pub use restart_run::{Part, run_with_restarts};
+pub use red_run::{RedLink, RedRun, run_in_red};
 
 #[doc(inline)]
-pub use red_run::{RedLink, RedRun, run_in_red};
+pub use restart_run::{Part, run_with_restarts};
 
 #[doc(inline)]
 pub use run::{DatagramRun, DatagramStep, SentSample, run_datagrams};

@@ -37,7 +37,7 @@ pub struct RedLink<P: Packetizer, D: Depacketizer> {
 ///
 /// # Errors
 ///
-/// `OutOfMemory` ends the run, also if memory ran out for a redundant block: sender, writer and receiver are as the failed call
+/// `OutOfMemory` ends the run, also if memory ran out for a redundant block. Sender, writer and receiver are as the failed call
 /// left them, and the results of earlier steps are discarded.
 pub fn run_in_red<P: Packetizer, D: Depacketizer>(
     link: &mut RedLink<P, D>,
