@@ -10,9 +10,7 @@ use codec_payload::schedule::datagrams::{DatagramStep, RedLink, RedRun, run_in_r
 use codec_payload::sender::Sender;
 use codec_payload::stream::RedSettings;
 use codec_payload::stream::receiver::Receiver;
-use codec_payload::wire::{
-    Codec, ExtensionValues, Frequency, MediaTime, Pt, Ticks, ToPayload,
-};
+use codec_payload::wire::{Codec, ExtensionValues, Frequency, MediaTime, Pt, Ticks, ToPayload};
 
 /// How many frames there are; each has one datagram, from number 65,535 on.
 const FRAMES: usize = 300;
@@ -29,10 +27,7 @@ fn samples() -> Vec<ToPayload> {
         .map(|index| ToPayload {
             pt: Pt::new_with_value(96),
             wallclock: Ticks(0),
-            rtp_time: MediaTime::new(
-                index as u64 * u64::from(STEP),
-                Frequency::FORTY_EIGHT_KHZ,
-            ),
+            rtp_time: MediaTime::new(index as u64 * u64::from(STEP), Frequency::FORTY_EIGHT_KHZ),
             bytes: frame_of(index).to_vec(),
             start_of_talk_spurt: false,
             ext_vals: ExtensionValues::default(),
@@ -180,10 +175,7 @@ fn each_written_datagram_has_the_header_of_its_datagram() -> Result<(), Fail> {
         let written = RtpPacket::parse(written).map_err(|_| "no packet")?;
         assert_eq!(plain.header.payload_type, 96);
         assert_eq!(written.header.payload_type, 63);
-        assert_eq!(
-            written.header.sequence_number,
-            plain.header.sequence_number
-        );
+        assert_eq!(written.header.sequence_number, plain.header.sequence_number);
         assert_eq!(written.header.timestamp, plain.header.timestamp);
         assert!(written.payload.ends_with(plain.payload));
         let blocks = index.min(2);

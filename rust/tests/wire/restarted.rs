@@ -111,7 +111,10 @@ fn senders_of(changes: bool) -> Result<Vec<Sender<NoBox>>, Fail> {
     (0..PARTS)
         .map(|part| {
             let ssrc = if changes { 7 + u32::from(part) } else { 7 };
-            sender_from(ssrc, u16::from(part).wrapping_mul(50_001).wrapping_add(65_533))
+            sender_from(
+                ssrc,
+                u16::from(part).wrapping_mul(50_001).wrapping_add(65_533),
+            )
         })
         .collect()
 }
@@ -136,8 +139,7 @@ fn each_part_is_released_whole() -> Result<(), Fail> {
             })
             .collect();
         let mut receiver = receiver_of(UNTIL_THE_END)?;
-        let runs =
-            run_with_restarts(&mut senders_of(changes)?, &mut receiver, &samples(), &parts)?;
+        let runs = run_with_restarts(&mut senders_of(changes)?, &mut receiver, &samples(), &parts)?;
         assert_eq!(runs.len(), usize::from(PARTS));
         for (part, run) in (0..PARTS).zip(&runs) {
             assert_eq!(popped_in(run)?, frames_in(part), "part {part}");
