@@ -47,7 +47,7 @@ pub struct RedLink<P: Packetizer, D: Depacketizer> {
 ///
 /// `OutOfMemory` ends the run, also if memory ran out for a redundant block. Sender, writer and receiver are as the failed call
 /// left them, and the results of earlier steps are discarded.
-pub fn run_in_red<P: Packetizer, D: Depacketizer>(
+pub fn run_datagrams_in_red<P: Packetizer, D: Depacketizer>(
     alloc: Global,
     link: &mut RedLink<P, D>,
     samples: &[ToPayload],

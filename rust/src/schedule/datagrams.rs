@@ -15,7 +15,7 @@ pub mod run;
 pub use history_run::{HistoryRun, HistoryStep, Link, run_with_history};
 
 #[doc(inline)]
-pub use red_run::{RedLink, RedRun, run_in_red};
+pub use red_run::{RedLink, RedRun, run_datagrams_in_red};
 
 #[doc(inline)]
 pub use restart_run::{Part, run_with_restarts};

@@ -6,7 +6,7 @@ use codec_payload::codec::{CodecDepacketizer, CodecPacketizer, NoBox};
 use codec_payload::jitter::jitter_buffer::{Outcome, WaitLimits};
 use codec_payload::red_writer::RedWriter;
 use codec_payload::rtp::RtpPacket;
-use codec_payload::schedule::datagrams::{DatagramStep, RedLink, RedRun, run_in_red};
+use codec_payload::schedule::datagrams::{DatagramStep, RedLink, RedRun, run_datagrams_in_red};
 use codec_payload::sender::Sender;
 use codec_payload::stream::RedSettings;
 use codec_payload::stream::receiver::Receiver;
@@ -81,7 +81,7 @@ fn run_with_losses(distances: &[u32], is_lost: impl Fn(usize) -> bool) -> Result
     steps.push(DatagramStep::Finish);
     steps.extend((0..FRAMES).map(|_| DatagramStep::Pop { now: Ticks(0) }));
     let mut link = link_of(distances, 4_096)?;
-    Ok(run_in_red(&mut link, &samples(), &steps)?)
+    Ok(run_datagrams_in_red(&mut link, &samples(), &steps)?)
 }
 
 /// The bytes and the sequence numbers of all popped units, which have one packet each.
@@ -146,7 +146,7 @@ fn a_datagram_after_its_block_is_a_duplicate() -> Result<(), Fail> {
         DatagramStep::Pop { now: Ticks(9) },
         DatagramStep::Pop { now: Ticks(9) },
     ];
-    let run = run_in_red(&mut link, &samples(), &steps)?;
+    let run = run_datagrams_in_red(&mut link, &samples(), &steps)?;
     let receipts: Vec<Outcome> = run.run.receipts.iter().cloned().flatten().collect();
     let wanted = [
         Outcome::Held,
@@ -193,7 +193,7 @@ fn evicted_packets_stay_lost() -> Result<(), Fail> {
     steps.push(DatagramStep::Finish);
     steps.extend((0..FRAMES).map(|_| DatagramStep::Pop { now: Ticks(0) }));
     let mut link = link_of(&[1], 4)?;
-    let run = run_in_red(&mut link, &samples(), &steps)?;
+    let run = run_datagrams_in_red(&mut link, &samples(), &steps)?;
     assert_eq!(popped_in(&run)?, wanted_of(FRAMES - 4..FRAMES));
     assert!(
         run.run.receipts[FRAMES / 2..]

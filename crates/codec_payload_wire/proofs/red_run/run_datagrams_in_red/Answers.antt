@@ -7,7 +7,7 @@ use Rattle.codec_payload_wire.specs.RedRuns.{RedRuns, RedStops, RedWire, red_wir
 use Rattle.codec_payload_wire.specs.OwnRedRuns.{AsksInRedRun}
 use Rattle.codec_payload_wire.specs.OwnRuns.{AsksForEnds, AsksForUnit, AsksPacketizer}
 use Rattle.codec_payload_wire.specs.declared.run.DatagramStep.{DatagramStep}
-use Rattle.codec_payload_wire.proofs.red_run.run_in_red.Goals as goal
+use Rattle.codec_payload_wire.proofs.red_run.run_datagrams_in_red.Goals as goal
 
 pub loop-step-preserved : goal.loop-step-preserved
 loop-step-preserved g c =

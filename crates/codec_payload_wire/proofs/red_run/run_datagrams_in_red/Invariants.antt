@@ -6,7 +6,7 @@ use Rattle.codec_payload_stream.specs.Sessions.{Session}
 use Rattle.codec_payload_wire.specs.RedRuns.{RedRuns, RedStops, RedWire, begins_in_red, red_wire_of}
 use Rattle.codec_payload_wire.specs.OwnRedRuns.{AsksInRedRun}
 use Rattle.codec_payload_wire.specs.OwnRuns.{AsksForEnds, AsksForUnit, AsksPacketizer}
-use Rattle.codec_payload_wire.proofs.red_run.run_in_red.Given as goal
+use Rattle.codec_payload_wire.proofs.red_run.run_datagrams_in_red.Given as goal
 
 -- the remaining steps lead to the same result as all steps
 abbrev pub invariant-loop-step : goal.invariant-loop-step
