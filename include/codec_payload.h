@@ -582,7 +582,7 @@ typedef struct {
     uint32_t rtx_ssrc;         /**< with has_rtx: SSRC of the retransmissions */
     uint16_t rtx_first_number; /**< with has_rtx: sequence number of the first retransmission */
     uint8_t rtx_payload_type;  /**< with has_rtx: payload type of the retransmissions, 0 to 127 */
-    bool has_rtx;              /**< retransmissions are a stream of their own (RFC 4588). If not, a packet is resent as it was */
+    bool has_rtx;              /**< retransmissions are a separate stream (RFC 4588). If not, a packet is resent as it was */
 } cpay_history_settings;
 
 /** Creates a history of the sent packets of one stream, in an empty handle. CPAY_INVALID: `limit` or `rtx_payload_type` out of

@@ -159,7 +159,7 @@ typedef struct {
 } cpay_sdp_session_fault;
 
 /** Writes settings of a session that receives these sections on one port: all sections of a bundle (RFC 9143), or the one section
- * of a port of its own. Leave out sections that were refused. Sections that are not RTP are ignored.
+ * of a port that has no other section. Leave out sections that were refused. Sections that are not RTP are ignored.
  *
  * - Formats: all media, in the order of the sections. RED is over the payload type that it names first; RED that names none is over
  *   the first format of media of its section. Retransmissions have the first format of RTX whose `apt` is the payload type, and

@@ -583,7 +583,8 @@ fn report_of_a_session() {
     assert!(refused >= 3, "{refused}");
 }
 
-/// A session of VP8 with retransmissions and of Opus in RED, that requests what it misses. Only so many allocations succeed.
+/// A session of VP8 with retransmissions and of Opus in RED, that requests what it misses. Only the given number of allocations
+/// succeed.
 struct Life {
     session: Session,
     left: usize,

@@ -205,11 +205,11 @@ fn frames_counted(ticks: u16, bytes: &[u8]) -> Result<u8, MediaError>
 }
 
 impl OpusPacket {
-    /// Reads a packet that meets the rules of RFC 6716, section 3.4. Reads the first byte, the lengths of frames and the size of
-    /// the padding, and does not allocate.
+    /// Reads a packet that meets the requirements R1 to R7 of RFC 6716, section 3.4. Reads the first byte, the lengths of frames
+    /// and the size of the padding, and does not allocate.
     ///
     /// The first fault from left to right. `MissingBytes`: the packet is empty, or the number of frames, the length of one or the
-    /// size of the padding is cut off (rules R1, R4, R6, R7). `ReservedValue`: no frames, or more than 120 ms (R5).
+    /// size of the padding is cut off (R1, R4, R6, R7 of the RFC). `ReservedValue`: no frames, or more than 120 ms (R5).
     /// `SizesDoNotFit`: a frame is longer than 1,275 bytes (R2), frames of one length do not fill the packet (R3, R6), or lengths
     /// exceed the packet (R4, R6, R7).
     pub fn parse(packet: &[u8]) -> Result<OpusPacket, MediaError>

@@ -135,7 +135,7 @@ pub struct SessionCounts {
     pub unassociated: u64,
     /// Datagrams that the removed streams took.
     pub ended: u64,
-    /// Packets of telephone events that a stream took, but that have no event, since 32 others waited.
+    /// Packets of telephone events that a stream took and that have no event, since 32 others waited.
     pub telephone_dropped: u64,
 }
 

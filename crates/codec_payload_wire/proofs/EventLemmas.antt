@@ -93,7 +93,7 @@ pub values_asked : (ids : ExtensionIds) (stream : Stream) (packets : List Packet
     → AllHaveValues ids stream packets events → AllHaveValues ids stream packets (Asked wait ∷ events)
 values_asked ids stream packets events wait rest j m is = elim is [ inl here ↦ absurd (cc) | inr later ↦ rest j m later ]
 
--- what is known of the metadata of a packet, besides its delivery
+-- what is known of the metadata of a packet, apart from its delivery
 abbrev pub IsRead : ExtensionIds → Stream → List Packet → ℕ → Packet → RtpMeta → Type 0
 IsRead ids stream packets k q meta = Tells stream.clock_rate q meta × HasValuesOf ids stream packets k meta
 

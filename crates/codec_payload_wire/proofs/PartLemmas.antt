@@ -70,7 +70,7 @@ below_in bound k [] below is = absurd is
 below_in bound k (j ∷ ks) below (inl same) = subst (λ (n : ℕ). n < bound) (sym same) below.0
 below_in bound k (j ∷ ks) below (inr is) = below_in bound k ks below.1 is
 
--- how the part starts: the receiver is new, or was told of a restart
+-- how the part starts: the receiver is new, or a restart was announced to it
 abbrev pub Starts : Sending → Session → Option ℕ → List DatagramStep → Type 0
 Starts sender s greatest received =
     (IsListening None sender.stream s × (greatest ≡ None)) ⊎ (IsTold sender.stream s × EndsAfterFirst received)

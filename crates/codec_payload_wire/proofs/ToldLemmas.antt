@@ -1,4 +1,4 @@
--- A receiver that was told of a restart: the next packet of its stream begins new numbers.
+-- A receiver after an announced restart: the next packet of its stream begins new numbers.
 use Rattle.std.proofs.Common.{◌≡◌, ◌≢◌, ◌∙◌, refl, sym, ap, subst, ℕ, ◌+◌, ◌%◌, ◌^◌, ◌<◌, ◌⊎◌, inl, inr, ◌||◌, ◌&&◌, not, cond, List, [], ◌∷◌, Bool, true, false, Option, Some, None, Err, arith}
 use Rattle.std.specs.Prelude.{slice_get, is_some}
 use Rattle.std.proofs.lemmas.Option.{same_Some}

@@ -218,7 +218,7 @@ module _ (known : ℕ → Packet → RtpMeta → Type 0) (splits : Bool) (units 
 
   -- Full
 
-  -- exactly the packets of this part are held besides those of earlier parts
+  -- of packets that are not of earlier parts, exactly those of this part are held
   record IsFullIn (from : ℕ) (s : State) : Type 0 where
     old : List Held
     new : List Held

@@ -14,7 +14,7 @@ use Rattle.codec_payload_wire.specs.declared.restart_run.Part.{Part}
 use Rattle.codec_payload_wire.specs.declared.run.DatagramRun.{DatagramRun}
 use Rattle.codec_payload_wire.specs.declared.run.DatagramStep.{DatagramStep}
 
--- the receiver after it was told of a restart, with the SSRC of the next sender if it was named
+-- the receiver after a restart was announced, with the SSRC of the next sender if it was named
 abbrev pub told : Option ℕ → Session → Session
 told None s = restarted s.named s
 told (Some ssrc) s = restarted (Some ssrc) (record s { stream = retransmitted_under None s.stream; named = Some ssrc })

@@ -1,4 +1,4 @@
-//! Whole runs over datagrams whose sender restarts: another sender takes over, and the receiver is told.
+//! Whole runs over datagrams whose sender restarts: another sender takes over, and the restart is announced to the receiver.
 
 ghost use Rattle.std.specs.Prelude.{◌≡◌, map, IfOk, IfErr, OnErr, Bool};
 ghost use Rattle.codec_payload_base.specs.declared.error.PacketError.TheVariants.{OutOfMemory};
@@ -18,15 +18,15 @@ use std::alloc::Global;
 /// The steps of one sender, until the next sender takes over.
 #[derive(Debug, Drop)]
 pub struct Part {
-    /// The SSRC of this sender, if the receiver is told by [`Receiver::restart_as`]; with `None` it is told by
-    /// [`Receiver::restart`]. Ignored in the first part, before which nobody restarts.
+    /// The SSRC of this sender, if the restart is announced by [`Receiver::restart_as`]. `None`: [`Receiver::restart`] announces
+    /// it. Ignored in the first part, before which nobody restarts.
     pub ssrc: Option<u32>,
     /// The steps. `Deliver` names a datagram of this part.
     pub steps: Vec<DatagramStep>,
 }
 
-/// Executes the parts in order, each with its own sender. Before each part, except the first, the receiver is told that the sender
-/// has restarted. Returns the results of each part.
+/// Executes the parts in order, each with its own sender. Before each part, except the first, the restart is announced to the
+/// receiver. Returns the results of each part.
 ///
 /// A part that has no sender is skipped, and a sender that has no part sends nothing. The receiver continues through all parts:
 /// pops of a part return the units of earlier parts that it still holds first.
@@ -62,7 +62,7 @@ pub fn run_with_restarts<P: Packetizer, D: Depacketizer>(
     Ok(runs)
 }
 
-/// Tells the receiver that the sender has restarted, with this SSRC if it is another one. Tells nothing before the first part.
+/// Announces a restart to the receiver, with the SSRC of the next sender if it is named. Does nothing before the first part.
 fn tell_if<D: Depacketizer>(receiver: &mut Receiver<D>, later: bool, ssrc: Option<u32>)
     ensures { receiver.new ≡ told_if later ssrc receiver.old }
 {

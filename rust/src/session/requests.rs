@@ -254,7 +254,7 @@ fn collect_missing(
 }
 
 /// Returns the number that a packet answers: that of a retransmission is its original number (RFC 4588, section 4). If
-/// retransmissions have a payload type of their own, no other packet answers: it may only be late.
+/// retransmissions have a separate payload type, no other packet answers: it may only be late.
 fn number_of(format: &Format, datagram: &[u8]) -> Option<u16> {
     match RtpPacket::parse(datagram) {
         Ok(packet) if format.resends(packet.header.payload_type) => original_number(packet.payload),

@@ -1,5 +1,5 @@
 //! Runs whose sender restarts: each part has a new sender, with other numbers and times, over a network that repeats and reorders
-//! datagrams. The units of a part come out in order, after all units of earlier parts.
+//! datagrams. The units of a part are released in order, after all units of earlier parts.
 
 use crate::Fail;
 use crate::sides::{receiver_of, sample_of, sender_settings};
@@ -106,7 +106,7 @@ fn frames_in(part: u8) -> Vec<u8> {
     (0..FRAMES).flat_map(|i| frame_of(part, i)).collect()
 }
 
-/// Senders of all parts: of one SSRC, or each of its own.
+/// Senders of all parts: all of one SSRC, or each of another.
 fn senders_of(changes: bool) -> Result<Vec<Sender<NoBox>>, Fail> {
     (0..PARTS)
         .map(|part| {
