@@ -1,0 +1,76 @@
+#!/usr/bin/env python3
+"""Prints what a received packet takes through the library for C, as `make` builds it: instructions by callgrind, and times.
+
+  scripts/receiving.py           instructions of a packet, with 64 held, and with 4,096
+  scripts/receiving.py --times   nanoseconds too, over a ring in C that makes no promises, and of 10,000 receivers in turn
+
+The program is tools/bench/receive.c. Needs make, a C compiler, $CC or cc, and valgrind. Times depend on the machine and on what
+else runs on it; instructions do not.
+"""
+import os
+import re
+import subprocess
+import sys
+import tempfile
+
+ROOT = os.path.dirname(os.path.dirname(os.path.realpath(__file__)))
+ROUNDS = 2176
+# What each row calls, and the functions that are counted for it.
+KINDS = {"opus": "Opus, in order", "ranges": "Opus, ranges of 32 in reverse", "vp8": "VP8, 17 packets a frame"}
+CALLS = {"cpay_receiver_receive": "receive", "cpay_receiver_pop": "pop", "cpay_buffer_push": "push", "cpay_buffer_pop": "pop_buffer"}
+
+
+def built(folder):
+    """The program, over the library that `make` builds."""
+    subprocess.run(["make", "-s", "-C", ROOT], stdout=subprocess.DEVNULL, check=True)
+    program = f"{folder}/receive"
+    source, library = f"{ROOT}/tools/bench/receive.c", f"{ROOT}/c/out/libcodec_payload.a"
+    subprocess.run([os.environ.get("CC", "cc"), "-std=c99", "-O2", f"-I{ROOT}/include", source, library, "-o", program], check=True)
+    return program
+
+
+def instructions(program, call, kind, held):
+    """The instructions of a packet inside one function."""
+    words = ["valgrind", "--tool=callgrind", "--callgrind-out-file=/dev/null", f"--toggle-collect={call}", program, call, kind, held]
+    ran = subprocess.run([*map(str, words)], capture_output=True, text=True, check=True)
+    return int(re.search(r"Collected : (\d+)", ran.stderr)[1]) / ROUNDS
+
+
+def time_of(program, call, kind, held):
+    return float(subprocess.run([program, call, kind, str(held)], capture_output=True, text=True, check=True).stdout)
+
+
+def print_instructions(program):
+    print("| packets | held | " + " | ".join(f"`{it}`" for it in CALLS) + " | receiver, both |")
+    print("|---" * (len(CALLS) + 3) + "|")
+    for held in 64, 4_096:
+        for kind, name in KINDS.items():
+            counts = [instructions(program, call, kind, held) for call in CALLS.values()]
+            print(f"| {name} | {held:,} | " + " | ".join(f"{it:,.0f}" for it in [*counts, sum(counts[:2])]) + " |", flush=True)
+    ring = [instructions(program, call, "ring", 64) for call in ("put", "take")]
+    print(f"\nA ring of slots that makes no promises takes {sum(ring):,.0f} instructions of Opus.")
+
+
+def print_times(program):
+    print("\n| packets | held | receiver, ns | buffer, ns | ring, ns | receiver over ring |")
+    print("|---" * 6 + "|")
+    for held in 64, 4_096:
+        for kind, name in list(KINDS.items())[:2]:
+            receiver, ring = time_of(program, "time", kind, held), time_of(program, "time", "ring", held)
+            buffer = time_of(program, "time-buffer", kind, held)
+            print(f"| {name} | {held:,} | {receiver:,.0f} | {buffer:,.0f} | {ring:,.0f} | {receiver / ring:.1f} |", flush=True)
+    print(f"\n10,000 receivers of Opus in turn take {time_of(program, 'time-cold', 'opus', 0):,.0f} ns a packet.")
+
+
+def main(words):
+    if words not in ([], ["--times"]):
+        sys.exit(__doc__.strip())
+    with tempfile.TemporaryDirectory() as folder:
+        program = built(folder)
+        print_instructions(program)
+        if words:
+            print_times(program)
+
+
+if __name__ == "__main__":
+    main(sys.argv[1:])
