@@ -101,7 +101,7 @@ pub struct Report {
 
 /// The header fields that all packets of a stream share, and the number of the next packet.
 #[derive(Clone, Copy, Debug)]
-pub(crate) struct Stream {
+pub(crate) struct Outgoing {
     ssrc: u32,
     payload_type: u8,
     clock_rate: Frequency,
@@ -133,7 +133,7 @@ struct Packets {
 pub struct Sender<B = NoBox> {
     packetizer: CodecPacketizer<B>,
     mtu: usize,
-    stream: Stream,
+    stream: Outgoing,
     counts: Counts,
     packets: Packets,
 }
@@ -148,7 +148,7 @@ fn extension_by(profile: Option<u16>, bytes: &[u8]) -> Option<HeaderExtension<'_
 
 /// Returns the header of a packet of the stream, with this extension.
 fn header_by<'a>(
-    stream: &Stream,
+    stream: &Outgoing,
     fields: Fields,
     extension: Option<HeaderExtension<'a>>,
 ) -> PacketHeader<'a> {
@@ -165,7 +165,7 @@ fn header_by<'a>(
 
 /// Writes the header of a packet of the stream to `out`, and its extension to `words`. Both replace the previous bytes.
 fn write_header(
-    stream: &Stream,
+    stream: &Outgoing,
     fields: Fields,
     values: &ExtensionValues,
     words: &mut Vec<u8>,
@@ -179,12 +179,12 @@ fn write_header(
 }
 
 /// Returns a time by the RTP clock of the stream, modulo 2^32.
-fn rtp_time_at(stream: &Stream, time: MediaTime) -> u32 {
+fn rtp_time_at(stream: &Outgoing, time: MediaTime) -> u32 {
     (time.rebase(stream.clock_rate).numer() % (1 << 32)) as u32
 }
 
 /// Returns the RTP time of a sample.
-fn time_of(stream: &Stream, sample: &Sample<'_>) -> u32 {
+fn time_of(stream: &Outgoing, sample: &Sample<'_>) -> u32 {
     rtp_time_at(stream, sample.rtp_time)
 }
 
@@ -221,7 +221,7 @@ fn is_marked<B: Packetizer>(
 /// Writes the header of the packet at a place in front of its payload.
 fn put_header<B: Packetizer>(
     packetizer: &mut CodecPacketizer<B>,
-    stream: &Stream,
+    stream: &Outgoing,
     sample: &Sample<'_>,
     place: usize,
     packets: &mut Packets,
@@ -247,7 +247,7 @@ fn put_header<B: Packetizer>(
 /// Writes the headers of all packets of a sample in front of their payloads.
 fn put_headers<B: Packetizer>(
     packetizer: &mut CodecPacketizer<B>,
-    stream: &Stream,
+    stream: &Outgoing,
     sample: &Sample<'_>,
     packets: &mut Packets,
 ) -> Result<(), PacketError> {
@@ -424,8 +424,8 @@ impl<B: Packetizer> Sender<B> {
 }
 
 /// Returns the shared fields of a stream with these settings.
-fn stream_by(settings: &SenderSettings) -> Stream {
-    Stream {
+fn stream_by(settings: &SenderSettings) -> Outgoing {
+    Outgoing {
         ssrc: settings.ssrc,
         payload_type: settings.payload_type,
         clock_rate: settings.clock_rate,

@@ -13,7 +13,7 @@ PLACES = {"rtp": "rtp", "rtcp": "rtcp", "vpx": "media::vpx", "media": "media", "
 # Modules with another name in the one crate.
 RENAMED_MODULES = {("rtp", "rtp"): "packet", ("jitter", "jitter"): "jitter_buffer", ("session", "session"): "sessions"}
 # Types with another name in the one crate, since another type has theirs: crate, module, name.
-RENAMED_TYPES = {("rtp", "rtp", "RtpHeader"): "PacketHeader", ("stream", "receiver", "Settings"): "ReceiverSettings"}
+RENAMED_TYPES = {("stream", "receiver", "Settings"): "ReceiverSettings"}
 # Crates whose public modules are hidden: what they hold is public in the module above them.
 FLAT = {"rtp", "rtcp", "history", "vpx", "media", "keyframes", "requests", "feedback", "adaptive_wait", "jitter", "stream", "session", "wire", "session_runs"}
 # Modules of such crates that stay.

@@ -8,7 +8,7 @@ use Rattle.codec_payload_session.specs.Ports.{receiver_among, taken_in, waits_of
 use Rattle.codec_payload_session.specs.Streams.{is_of}
 use Rattle.codec_payload_session.specs.declared.stream.Stage.{Stage}
 use Rattle.codec_payload_session.specs.declared.stream.Stage.TheVariants as stages
-use Rattle.codec_payload_session.specs.declared.stream.Stream.{Stream}
+use Rattle.codec_payload_session.specs.declared.stream.StreamState.{StreamState}
 use Rattle.codec_payload_stream.specs.Sessions.{Session as Receiver}
 use Rattle.codec_payload_c.specs.Sessions.{ending_number}
 use Rattle.codec_payload_c.specs.StreamReceivers.{TellsCounts, without_units}
@@ -54,7 +54,7 @@ end_time (stages.Leaving why at) = at
 end_time (stages.Draining why) = 0
 
 -- the description of a stream
-pub record TellsStream (s : Stream) (i : SessionStream) : Type 0 where
+pub record TellsStream (s : StreamState) (i : SessionStream) : Type 0 where
   pub taken : i.taken ≡ s.taken
   pub ends_at : i.ends_at ≡ end_time s.stage
   pub ssrc_is : i.ssrc ≡ s.ssrc
@@ -64,7 +64,7 @@ pub record TellsStream (s : Stream) (i : SessionStream) : Type 0 where
   pub counts : TellsCounts (without_units s.receiver) i.counts
 
 -- a stream, if there is one; otherwise status 32
-abbrev pub TellsStreamAt : Option Stream → ℕ → (before after : SessionStream) → Type 0
+abbrev pub TellsStreamAt : Option StreamState → ℕ → (before after : SessionStream) → Type 0
 TellsStreamAt None status before after = (status ≡ 32) × (after ≡ before)
 TellsStreamAt (Some s) status before after = (status ≡ 0) × TellsStream s after
 

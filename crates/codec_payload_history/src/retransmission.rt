@@ -6,7 +6,7 @@ ghost use Rattle.codec_payload_history.specs.Histories.{HasNot, IsAt, IsFault, I
 ghost use Rattle.codec_payload_history.specs.Packets.{Sent, number_in, packets_of, sent_of, stream_fits};
 
 use codec_payload_base::wire::Ticks;
-use codec_payload_rtp::rtp::{RtpError, RtpHeader, RtpPacket};
+use codec_payload_rtp::rtp::{PacketHeader, RtpError, RtpPacket};
 use std::alloc::{AllocError, Global};
 use std::collections::VecDeque;
 use std::marker::Model;
@@ -130,10 +130,10 @@ fn stream_fits(stream: Option<RetransmissionStream>) -> bool
 
 impl RetransmissionStream {
     /// The header of a retransmission of a packet with that header, under that number.
-    fn header<'a>(&self, header: RtpHeader<'a>, number: u16) -> RtpHeader<'a>
+    fn header<'a>(&self, header: PacketHeader<'a>, number: u16) -> PacketHeader<'a>
         ensures { header_of result ≡ record (header_of header.entry) { payload_type = self.now.payload_type; sequence_number = number; ssrc = self.now.ssrc } }
     {
-        RtpHeader {
+        PacketHeader {
             payload_type: self.payload_type,
             sequence_number: number,
             ssrc: self.ssrc,

@@ -8,7 +8,7 @@ ghost use Rattle.codec_payload_red_writer.specs.Writers.{IsFault, IsInRed, Write
 use codec_payload_base::error::PacketError;
 use codec_payload_base::wire::Pt;
 use codec_payload_red::red::RedSender;
-use codec_payload_rtp::rtp::{RtpError, RtpHeader, RtpPacket};
+use codec_payload_rtp::rtp::{PacketHeader, RtpError, RtpPacket};
 use std::alloc::Global;
 use std::marker::Model;
 use thiserror::Error;
@@ -173,7 +173,7 @@ impl RedWriter {
             self.media_type
         };
         let wrapped = RtpPacket {
-            header: RtpHeader {
+            header: PacketHeader {
                 payload_type,
                 ..packet.header
             },

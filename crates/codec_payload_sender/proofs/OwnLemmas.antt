@@ -9,7 +9,7 @@ use Rattle.codec_payload_codec.specs.Packetizers.{PacketizerState}
 use Rattle.codec_payload_rtp.specs.RtpReading.{rtp_at}
 use Rattle.codec_payload_sender.specs.Datagrams.{IsHeader, IsHeadedAt, Sample, header_at, joined}
 use Rattle.codec_payload_sender.specs.OwnDatagrams.{AreAsked, IsAskedAt, OwnSample, ReadsAt}
-use Rattle.codec_payload_sender.specs.declared.sender.Stream.{Stream}
+use Rattle.codec_payload_sender.specs.declared.sender.Outgoing.{Outgoing}
 use Rattle.codec_payload_sender.proofs.SenderLemmas.{joined_at, length-joined}
 
 -- the same questions, with a consequence of each marker
@@ -43,12 +43,12 @@ asked_then state mark spurts sample payloads P n b mid b' marker asked next =
     (asked_as state mark spurts sample payloads P (λ _ _. Unit {0}) n b mid (λ place marker few holds. tt) asked) next tt
 
 -- the bytes at that place read as the header of its packet
-abbrev pub HeadsAt : Stream → Sample → ℕ → List (List ℕ) → ℕ → Bool → Type 0
+abbrev pub HeadsAt : Outgoing → Sample → ℕ → List (List ℕ) → ℕ → Bool → Type 0
 HeadsAt stream sample count headers place marker = IsHeader (get_or headers place []) (header_at stream sample place count marker)
 
 -- the next header was put in front of its payload
 pub asked_headed : {B : Type 0} (state : B → List ℕ) (mark : B → List ℕ → Option (List ℕ) → Bool → Bool → List ℕ → Type 0) (spurts : B → Bool)
-    (stream : Stream) (sample : Sample) (payloads headers headers' : List (List ℕ)) (header : List ℕ) (count n : ℕ) (b mid b' : B) (marker : Bool)
+    (stream : Outgoing) (sample : Sample) (payloads headers headers' : List (List ℕ)) (header : List ℕ) (count n : ℕ) (b mid b' : B) (marker : Bool)
     → n < length headers → headers' ≡ slice_set headers n header
     → AreAsked state mark spurts sample payloads (HeadsAt stream sample count headers) n b mid → IsAskedAt state mark spurts sample payloads n mid marker b'
     → IsHeader header (header_at stream sample n count marker)
@@ -61,7 +61,7 @@ asked_headed {B} state mark spurts stream sample payloads headers headers' heade
     next (subst (λ (x : List ℕ). IsHeader x (header_at stream sample n count marker)) (sym (get_or-set_same headers n header [] few)) holds))
 
 -- headers so far, and the one that was put at the next place
-pub headed_next : (stream : Stream) (packetizer : PacketizerState) (sample : Sample) (count n : ℕ) (headers headers' : List (List ℕ)) (header : List ℕ)
+pub headed_next : (stream : Outgoing) (packetizer : PacketizerState) (sample : Sample) (count n : ℕ) (headers headers' : List (List ℕ)) (header : List ℕ)
     → n < length headers → headers' ≡ slice_set headers n header → IsHeadedAt stream packetizer sample count n header
     → ((k : ℕ) → k < n → IsHeadedAt stream packetizer sample count k (get_or headers k []))
     → (k : ℕ) → k < n + 1 → IsHeadedAt stream packetizer sample count k (get_or headers' k [])
@@ -86,7 +86,7 @@ landed P payloads done (Err fault) holds lands = absurd (cc)
 -- a sample whose payloads have their headers was sent
 pub own_sends : {B : Type 0} (state : B → List ℕ) (packetize : B → ℕ → List ℕ → Result (List (List ℕ)) PacketError → List ℕ → Type 0)
     (mark : B → List ℕ → Option (List ℕ) → Bool → Bool → List ℕ → Type 0) (spurts : B → Bool)
-    (mtu : ℕ) (stream : Stream) (sample : Sample) (b cut b' : B) (done : Unit {0}) (out last : PayloadList) (headers : List (List ℕ))
+    (mtu : ℕ) (stream : Outgoing) (sample : Sample) (b cut b' : B) (done : Unit {0}) (out last : PayloadList) (headers : List (List ℕ))
     → last ≡ record out { headers = headers } → packetize b mtu sample.bytes (Ok out.payloads) (state cut)
     → AreAsked state mark spurts sample out.payloads (HeadsAt stream sample (length out.payloads) headers) (length out.payloads) cut b'
     → OwnSample state packetize mark spurts mtu stream sample b (Ok done) b' (joined last.headers last.payloads)
@@ -105,7 +105,7 @@ own_sends {B} state packetize mark spurts mtu stream sample b cut b' done out la
 -- a sample whose payloads were not written was refused
 pub own_refused : {B : Type 0} (state : B → List ℕ) (packetize : B → ℕ → List ℕ → Result (List (List ℕ)) PacketError → List ℕ → Type 0)
     (mark : B → List ℕ → Option (List ℕ) → Bool → Bool → List ℕ → Type 0) (spurts : B → Bool)
-    (mtu : ℕ) (stream : Stream) (sample : Sample) (b b' : B) (fault : PacketError) (written datagrams : List (List ℕ)) (answer : Result (List (List ℕ)) PacketError)
+    (mtu : ℕ) (stream : Outgoing) (sample : Sample) (b b' : B) (fault : PacketError) (written datagrams : List (List ℕ)) (answer : Result (List (List ℕ)) PacketError)
     → packetize b mtu sample.bytes answer (state b') → Lands answer (Err fault) written
     → OwnSample state packetize mark spurts mtu stream sample b (Err fault) b' datagrams
 own_refused state packetize mark spurts mtu stream sample b b' fault written datagrams (Ok packets) step lands = inr (lands, packets, b', step, 0, omega arith, refl)

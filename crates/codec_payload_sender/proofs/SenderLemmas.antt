@@ -6,7 +6,7 @@ use Rattle.codec_payload_codec.specs.Packetizers.{PacketizerState, PacketizerSte
 use Rattle.codec_payload_rtp.specs.RtpReading.{rtp_at}
 use Rattle.codec_payload_sender.specs.Datagrams.{AreSent, IsHeadedAt, Sample, header_at, joined, octets_in, time_of}
 use Rattle.codec_payload_sender.specs.Senders.{Sending, Sends}
-use Rattle.codec_payload_sender.specs.declared.sender.Stream.{Stream}
+use Rattle.codec_payload_sender.specs.declared.sender.Outgoing.{Outgoing}
 
 pub length-joined : (headers payloads : List (List ℕ)) → length (joined headers payloads) ≡ length payloads
 length-joined headers [] = refl
@@ -26,7 +26,7 @@ pub on_ok_at : {X E : Type 0} (result : Result X E) (x : X) (P : Type 0) → res
 on_ok_at {X} {E} result x P e holds = subst (λ (r : Result X E). OnOk r P) e holds
 
 -- payloads behind their headers are datagrams
-pub sent_all : (stream : Stream) (packetizer : PacketizerState) (sample : Sample) (headers payloads : List (List ℕ))
+pub sent_all : (stream : Outgoing) (packetizer : PacketizerState) (sample : Sample) (headers payloads : List (List ℕ))
     → ((place : ℕ) → place < length payloads → IsHeadedAt stream packetizer sample (length payloads) place (get_or headers place []))
     → AreSent stream packetizer sample payloads (joined headers payloads)
 sent_all stream packetizer sample headers payloads headed = (

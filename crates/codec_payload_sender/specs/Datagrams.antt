@@ -9,7 +9,7 @@ use Rattle.codec_payload_rtp.specs.RtpPackets.{Header}
 use Rattle.codec_payload_rtp.specs.RtpReading.{rtp_at}
 use Rattle.codec_payload_sender.specs.declared.sender.Fields.{Fields}
 use Rattle.codec_payload_sender.specs.declared.sender.Sample.{Sample as LentSample}
-use Rattle.codec_payload_sender.specs.declared.sender.Stream.{Stream}
+use Rattle.codec_payload_sender.specs.declared.sender.Outgoing.{Outgoing}
 
 -- a sample, without where its bytes lie
 pub record Sample : Type 0 where
@@ -22,11 +22,11 @@ abbrev pub sample_of : LentSample → Sample
 sample_of s = record { rtp_time = s.rtp_time; bytes = s.bytes.now; start_of_talk_spurt = s.start_of_talk_spurt; ext_vals = s.ext_vals }
 
 -- the RTP time of a sample: by the RTP clock, of which 32 bits are kept
-abbrev pub time_of : Stream → Sample → ℕ
+abbrev pub time_of : Outgoing → Sample → ℕ
 time_of stream sample = (rebased sample.rtp_time stream.clock_rate).numer % 2 ^ 32
 
 -- the header of a packet of the stream, with the elements of these values
-abbrev pub header_with : Stream → Fields → ExtensionValues → Header
+abbrev pub header_with : Outgoing → Fields → ExtensionValues → Header
 header_with stream fields values = record {
   marker = fields.marker;
   payload_type = stream.payload_type;
@@ -38,11 +38,11 @@ header_with stream fields values = record {
 }
 
 -- what the fields of the packet at a place are, whose marker this is
-abbrev pub fields_at : Stream → Sample → ℕ → Bool → Fields
+abbrev pub fields_at : Outgoing → Sample → ℕ → Bool → Fields
 fields_at stream sample place marker = record { marker = marker; number = (stream.number + place) % 2 ^ 16; time = time_of stream sample }
 
 -- its header, with this number of packets of the sample
-abbrev pub header_at : Stream → Sample → ℕ → ℕ → Bool → Header
+abbrev pub header_at : Outgoing → Sample → ℕ → ℕ → Bool → Header
 header_at stream sample place count marker = header_with stream (fields_at stream sample place marker) (stripped sample.ext_vals place count)
 
 -- the marker of a packetizer that is built in, for the packet at a place of so many; one that a caller brings marks as it likes
@@ -55,19 +55,19 @@ abbrev pub IsHeader : List ℕ → Header → Type 0
 IsHeader bytes header = (payload : List ℕ) → rtp_at (bytes ++ payload) ≡ Ok (record { header = header; payload = payload; padding = 0 })
 
 -- the header of the packet at a place
-pub record IsHeadedAt (stream : Stream) (packetizer : PacketizerState) (sample : Sample) (count place : ℕ) (bytes : List ℕ) : Type 0 where
+pub record IsHeadedAt (stream : Outgoing) (packetizer : PacketizerState) (sample : Sample) (count place : ℕ) (bytes : List ℕ) : Type 0 where
   pub marker : Bool
   pub marked : IsMarker packetizer sample place count marker
   pub reads : IsHeader bytes (header_at stream sample place count marker)
 
 -- the datagram reads as the packet at a place, with that payload
-pub record IsSentAt (stream : Stream) (packetizer : PacketizerState) (sample : Sample) (count place : ℕ) (payload datagram : List ℕ) : Type 0 where
+pub record IsSentAt (stream : Outgoing) (packetizer : PacketizerState) (sample : Sample) (count place : ℕ) (payload datagram : List ℕ) : Type 0 where
   pub marker : Bool
   pub marked : IsMarker packetizer sample place count marker
   pub reads : rtp_at datagram ≡ Ok (record { header = header_at stream sample place count marker; payload = payload; padding = 0 })
 
 -- each of these datagrams reads as the packet at its place, with its payload
-abbrev pub AreSent : Stream → PacketizerState → Sample → List (List ℕ) → List (List ℕ) → Type 0
+abbrev pub AreSent : Outgoing → PacketizerState → Sample → List (List ℕ) → List (List ℕ) → Type 0
 AreSent stream packetizer sample payloads datagrams =
     (length datagrams ≡ length payloads)
     × ((place : ℕ) → place < length payloads → IsSentAt stream packetizer sample (length payloads) place (slice_index_or payloads place []) (slice_index_or datagrams place []))

@@ -4,7 +4,7 @@ use Rattle.codec_payload_base.specs.declared.error.PacketError.{PacketError}
 use Rattle.codec_payload_base.specs.declared.error.PacketError.TheVariants as faults
 use Rattle.codec_payload_rtp.specs.RtpReading.{rtp_at}
 use Rattle.codec_payload_sender.specs.Datagrams.{Sample, header_at}
-use Rattle.codec_payload_sender.specs.declared.sender.Stream.{Stream}
+use Rattle.codec_payload_sender.specs.declared.sender.Outgoing.{Outgoing}
 
 -- the payload before the one at a place, if the sample has one
 abbrev pub previous_of : List (List ℕ) → ℕ → Option (List ℕ)
@@ -27,7 +27,7 @@ AreAsked {B} state mark spurts sample payloads P (suc n) b b' =
     (mid : B) × AreAsked state mark spurts sample payloads P n b mid × (marker : Bool) × IsAskedAt state mark spurts sample payloads n mid marker b' × P n marker
 
 -- the datagram at a place reads as the packet with that payload and that marker
-abbrev pub ReadsAt : Stream → Sample → List (List ℕ) → List (List ℕ) → ℕ → Bool → Type 0
+abbrev pub ReadsAt : Outgoing → Sample → List (List ℕ) → List (List ℕ) → ℕ → Bool → Type 0
 ReadsAt stream sample payloads datagrams place marker =
     rtp_at (slice_index_or datagrams place []) ≡ Ok (record { header = header_at stream sample place (length payloads) marker; payload = slice_index_or payloads place []; padding = 0 })
 
@@ -35,7 +35,7 @@ ReadsAt stream sample payloads datagrams place marker =
 -- marker. On a fault the packetizer answered with it, or memory ran out, and the first n markers were asked for
 abbrev pub OwnSample : {B : Type 0} (state : B → List ℕ) (packetize : B → ℕ → List ℕ → Result (List (List ℕ)) PacketError → List ℕ → Type 0)
     (mark : B → List ℕ → Option (List ℕ) → Bool → Bool → List ℕ → Type 0) (spurts : B → Bool)
-    → ℕ → Stream → Sample → B → Result (Unit {0}) PacketError → B → List (List ℕ) → Type 0
+    → ℕ → Outgoing → Sample → B → Result (Unit {0}) PacketError → B → List (List ℕ) → Type 0
 OwnSample {B} state packetize mark spurts mtu stream sample b (Ok _) b' datagrams =
     (payloads : List (List ℕ)) × (cut : B) × packetize b mtu sample.bytes (Ok payloads) (state cut) × (length datagrams ≡ length payloads)
     × AreAsked state mark spurts sample payloads (ReadsAt stream sample payloads datagrams) (length payloads) cut b'

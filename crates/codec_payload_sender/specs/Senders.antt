@@ -12,14 +12,14 @@ use Rattle.codec_payload_sender.specs.declared.sender.Report.{Report}
 use Rattle.codec_payload_sender.specs.declared.sender.SenderSettings.{SenderSettings}
 use Rattle.codec_payload_sender.specs.declared.sender.SenderError.{SenderError}
 use Rattle.codec_payload_sender.specs.declared.sender.SenderError.TheVariants as errors
-use Rattle.codec_payload_sender.specs.declared.sender.Stream.{Stream}
+use Rattle.codec_payload_sender.specs.declared.sender.Outgoing.{Outgoing}
 
 -- a sender, as contracts see it: its packetizer, the most bytes of a payload, what its packets share and the number of the next,
 -- the bytes that are free behind each datagram, what reports count, and the datagrams of the sample that was sent last
 pub record Sending : Type 0 where
   pub packetizer : PacketizerState
   pub mtu : ℕ
-  pub stream : Stream
+  pub stream : Outgoing
   pub tailroom : ℕ
   pub counts : Counts
   pub datagrams : List (List ℕ)

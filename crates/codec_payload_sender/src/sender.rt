@@ -20,7 +20,7 @@ use codec_payload_base::error::PacketError;
 use codec_payload_base::payloads::Payloads;
 use codec_payload_base::wire::{ExtensionValues, Frequency, MediaTime};
 use codec_payload_codec::codec::{CodecPacketizer, NoBox, Packetizer};
-use codec_payload_rtp::rtp::{HeaderExtension, RtpHeader};
+use codec_payload_rtp::rtp::{HeaderExtension, PacketHeader};
 use codec_payload_rtp::values::ExtensionIds;
 use std::alloc::Global;
 use std::marker::Model;
@@ -105,7 +105,7 @@ pub struct Report {
 
 /// The header fields that all packets of a stream share, and the number of the next packet.
 #[derive(Clone, Copy, Debug)]
-pub(crate) struct Stream {
+pub(crate) struct Outgoing {
     ssrc: u32,
     payload_type: u8,
     clock_rate: Frequency,
@@ -138,7 +138,7 @@ pub struct Sender<B = NoBox> {
     alloc: Global,
     packetizer: CodecPacketizer<B>,
     mtu: usize,
-    stream: Stream,
+    stream: Outgoing,
     counts: Counts,
     packets: Packets,
 }
@@ -176,13 +176,13 @@ fn extension_by(profile: Option<u16>, bytes: &[u8]) -> Option<HeaderExtension<'_
 
 /// Returns the header of a packet of the stream, with this extension.
 fn header_by<'a>(
-    stream: &Stream,
+    stream: &Outgoing,
     fields: Fields,
     extension: Option<HeaderExtension<'a>>,
-) -> RtpHeader<'a>
+) -> PacketHeader<'a>
     ensures { header_of result ≡ record { marker = fields.marker; payload_type = stream.now.payload_type; sequence_number = fields.number; timestamp = fields.time; ssrc = stream.now.ssrc; csrcs = []; extension = extension_of extension.entry } }
 {
-    RtpHeader {
+    PacketHeader {
         marker: fields.marker,
         payload_type: stream.payload_type,
         sequence_number: fields.number,
@@ -195,7 +195,7 @@ fn header_by<'a>(
 
 /// Writes the header of a packet of the stream to `out`, and its extension to `words`. Both replace the previous bytes.
 fn write_header(
-    stream: &Stream,
+    stream: &Outgoing,
     fields: Fields,
     values: &ExtensionValues,
     words: &mut Vec<u8>,
@@ -215,14 +215,14 @@ fn write_header(
 }
 
 /// Returns a time by the RTP clock of the stream, modulo 2^32.
-fn rtp_time_at(stream: &Stream, time: MediaTime) -> u32
+fn rtp_time_at(stream: &Outgoing, time: MediaTime) -> u32
     ensures { result ≡ (rebased time stream.now.clock_rate).numer % 2 ^ 32 }
 {
     (time.rebase(stream.clock_rate).numer() % (1 << 32)) as u32
 }
 
 /// Returns the RTP time of a sample.
-fn time_of(stream: &Stream, sample: &Sample<'_>) -> u32
+fn time_of(stream: &Outgoing, sample: &Sample<'_>) -> u32
     ensures { result ≡ time_of stream.now (sample_of sample.now) }
 {
     rtp_time_at(stream, sample.rtp_time)
@@ -274,7 +274,7 @@ fn is_marked<B: Packetizer>(
 /// Writes the header of the packet at a place in front of its payload.
 fn put_header<B: Packetizer>(
     packetizer: &mut CodecPacketizer<B>,
-    stream: &Stream,
+    stream: &Outgoing,
     sample: &Sample<'_>,
     place: usize,
     packets: &mut Packets,
@@ -314,7 +314,7 @@ fn put_header<B: Packetizer>(
 /// Writes the headers of all packets of a sample in front of their payloads.
 fn put_headers<B: Packetizer>(
     packetizer: &mut CodecPacketizer<B>,
-    stream: &Stream,
+    stream: &Outgoing,
     sample: &Sample<'_>,
     packets: &mut Packets,
 ) -> Result<(), PacketError>
@@ -543,10 +543,10 @@ impl<B: Packetizer> Sender<B> {
 }
 
 /// Returns the shared fields of a stream with these settings.
-fn stream_by(settings: &SenderSettings) -> Stream
+fn stream_by(settings: &SenderSettings) -> Outgoing
     ensures { result ≡ record { ssrc = settings.now.ssrc; payload_type = settings.now.payload_type; clock_rate = settings.now.clock_rate; ids = settings.now.extension_ids; number = settings.now.first_number } }
 {
-    Stream {
+    Outgoing {
         ssrc: settings.ssrc,
         payload_type: settings.payload_type,
         clock_rate: settings.clock_rate,

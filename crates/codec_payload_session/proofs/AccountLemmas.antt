@@ -41,51 +41,51 @@ use Rattle.codec_payload_session.specs.declared.stream.Stage.{Stage}
 use Rattle.codec_payload_session.specs.declared.stream.Stage.TheVariants as stages
 use Rattle.codec_payload_session.specs.declared.stream.Step.{Step}
 use Rattle.codec_payload_session.specs.declared.stream.Step.TheVariants as steps
-use Rattle.codec_payload_session.specs.declared.stream.Stream.{Stream}
+use Rattle.codec_payload_session.specs.declared.stream.StreamState.{StreamState}
 
 -- ---- the datagrams that the streams took, and the number of streams
 
-taken_set : (ss : List Stream) (i : ℕ) (s t : Stream) → slice_get ss i ≡ Some s → taken_in (slice_set ss i t) + s.taken ≡ taken_in ss + t.taken
+taken_set : (ss : List StreamState) (i : ℕ) (s t : StreamState) → slice_get ss i ≡ Some s → taken_in (slice_set ss i t) + s.taken ≡ taken_in ss + t.taken
 taken_set [] i s t is = absurd (cc)
 taken_set (x ∷ xs) zero s t is = omega (arith, ap taken_of is)
 taken_set (x ∷ xs) (suc i) s t is = omega (arith, taken_set xs i s t is)
 
-length_set : (ss : List Stream) (i : ℕ) (t : Stream) → length (slice_set ss i t) ≡ length ss
+length_set : (ss : List StreamState) (i : ℕ) (t : StreamState) → length (slice_set ss i t) ≡ length ss
 length_set [] i t = refl
 length_set (x ∷ xs) zero t = refl
 length_set (x ∷ xs) (suc i) t = ap suc (length_set xs i t)
 
-taken_removed : (ss : List Stream) (i : ℕ) → taken_in (remove ss i) + taken_of (slice_get ss i) ≡ taken_in ss
+taken_removed : (ss : List StreamState) (i : ℕ) → taken_in (remove ss i) + taken_of (slice_get ss i) ≡ taken_in ss
 taken_removed [] zero = refl
 taken_removed [] (suc i) = refl
 taken_removed (x ∷ xs) zero = omega arith
 taken_removed (x ∷ xs) (suc i) = omega (arith, taken_removed xs i)
 
-length_removed : (ss : List Stream) (i : ℕ) → i < length ss → length (remove ss i) + 1 ≡ length ss
+length_removed : (ss : List StreamState) (i : ℕ) → i < length ss → length (remove ss i) + 1 ≡ length ss
 length_removed [] i within = absurd (omega (arith, within))
 length_removed (x ∷ xs) zero within = omega arith
 length_removed (x ∷ xs) (suc i) within = omega (arith, length_removed xs i (omega (arith, within)))
 
-taken_appended : (ss ts : List Stream) → taken_in (ss ++ ts) ≡ taken_in ss + taken_in ts
+taken_appended : (ss ts : List StreamState) → taken_in (ss ++ ts) ≡ taken_in ss + taken_in ts
 taken_appended [] ts = omega arith
 taken_appended (x ∷ xs) ts = omega (arith, taken_appended xs ts)
 
-length_appended : (ss ts : List Stream) → length (ss ++ ts) ≡ length ss + length ts
+length_appended : (ss ts : List StreamState) → length (ss ++ ts) ≡ length ss + length ts
 length_appended [] ts = omega arith
 length_appended (x ∷ xs) ts = omega (arith, length_appended xs ts)
 
-taken_left_if : (who : ℕ → Bool) (why : Ending) (at : ℕ) (s : Stream) → (left_if who why at s).taken ≡ s.taken
+taken_left_if : (who : ℕ → Bool) (why : Ending) (at : ℕ) (s : StreamState) → (left_if who why at s).taken ≡ s.taken
 taken_left_if who why at s = by_test (who s.ssrc)
   where
     by_test : (b : Bool) → (left_when b why at s).taken ≡ s.taken
     by_test true = refl
     by_test false = refl
 
-taken_left : (who : ℕ → Bool) (why : Ending) (at : ℕ) (ss : List Stream) → taken_in (left_where who why at ss) ≡ taken_in ss
+taken_left : (who : ℕ → Bool) (why : Ending) (at : ℕ) (ss : List StreamState) → taken_in (left_where who why at ss) ≡ taken_in ss
 taken_left who why at [] = refl
 taken_left who why at (x ∷ xs) = omega (arith, taken_left_if who why at x, taken_left who why at xs)
 
-length_left : (who : ℕ → Bool) (why : Ending) (at : ℕ) (ss : List Stream) → length (left_where who why at ss) ≡ length ss
+length_left : (who : ℕ → Bool) (why : Ending) (at : ℕ) (ss : List StreamState) → length (left_where who why at ss) ≡ length ss
 length_left who why at [] = refl
 length_left who why at (x ∷ xs) = ap suc (length_left who why at xs)
 
@@ -95,18 +95,18 @@ abbrev taken_unless : Bool → ℕ → ℕ
 taken_unless true n = n
 taken_unless false n = next n
 
-waiting_taken : (o : Option ℕ) (s : Stream) → (waiting_for o s).taken ≡ s.taken
+waiting_taken : (o : Option ℕ) (s : StreamState) → (waiting_for o s).taken ≡ s.taken
 waiting_taken None s = refl
 waiting_taken (Some wait) s = refl
 
-received_taken : (now : ℕ) (bytes : List ℕ) (accepted : Bool) (r : Receiver) (s : Stream) → (received now bytes accepted r s).taken ≡ s.taken
+received_taken : (now : ℕ) (bytes : List ℕ) (accepted : Bool) (r : Receiver) (s : StreamState) → (received now bytes accepted r s).taken ≡ s.taken
 received_taken now bytes true r s =
     waiting_taken (wait_by (heard_by now (number_at s.format bytes) s.feedback)) (record s { receiver = r; feedback = heard_by now (number_at s.format bytes) s.feedback })
 received_taken now bytes false r s = refl
 
-takes_taken : (now : Ticks) (probation : ℕ) (bytes : List ℕ) (s : Stream) (told : Result Outcome ReceiveError) (t : Stream) → Takes now probation bytes s told t
+takes_taken : (now : Ticks) (probation : ℕ) (bytes : List ℕ) (s : StreamState) (told : Result Outcome ReceiveError) (t : StreamState) → Takes now probation bytes s told t
     → t.taken ≡ taken_unless (is_no_memory told) s.taken
-takes_taken now probation bytes s told t got = ap (λ (x : Stream). x.taken) got.2 ∙ by_test (is_no_memory told)
+takes_taken now probation bytes s told t got = ap (λ (x : StreamState). x.taken) got.2 ∙ by_test (is_no_memory told)
   where
     same : (received now.0 bytes (is_accepted told) got.0 s).taken ≡ s.taken
     same = received_taken now.0 bytes (is_accepted told) got.0 s
@@ -144,7 +144,7 @@ feeds_keep settings c place now bytes p answer q got kept =
     }
 
 -- a sender report is no datagram that a stream takes
-taken_noted : (now : Ticks) (o : Result (List Packet) RtcpError) (ss : List Stream) → taken_in (noted_in now o ss) ≡ taken_in ss
+taken_noted : (now : Ticks) (o : Result (List Packet) RtcpError) (ss : List StreamState) → taken_in (noted_in now o ss) ≡ taken_in ss
 taken_noted now (Err e) ss = refl
 taken_noted now (Ok ps) [] = refl
 taken_noted now (Ok ps) (s ∷ ss) = ap (λ (n : ℕ). s.taken + n) (taken_noted now (Ok ps) ss)
@@ -174,10 +174,10 @@ unassociated_keeps settings c p kept = record { accounted = omega (arith, kept.a
 -- ---- a datagram that begins a stream
 
 -- the sum of the datagrams, and the number of streams, after a stream was added
-abbrev Adds : ℕ → Stream → Port → Port → Type 0
+abbrev Adds : ℕ → StreamState → Port → Port → Type 0
 Adds most s p q = ((q.ended + taken_in q.streams) % 2 ^ 64 ≡ (p.ended + taken_in p.streams + s.taken) % 2 ^ 64) × (length q.streams ≤ most)
 
-adds_by : (b : Bool) (o : Option ℕ) (most : ℕ) (s : Stream) (p : Port) → nat_lt (length p.streams) most ≡ b → position on_probation p.streams ≡ o → (b || is_some o) ≡ true → length p.streams ≤ most
+adds_by : (b : Bool) (o : Option ℕ) (most : ℕ) (s : StreamState) (p : Port) → nat_lt (length p.streams) most ≡ b → position on_probation p.streams ≡ o → (b || is_some o) ≡ true → length p.streams ≤ most
     → Adds most s p (without (cond b None o) (record p { streams = p.streams ++ s ∷ [] }))
 adds_by true o most s p less at place within =
     let there_is : length p.streams < most = grind (arith, nat_tests) in
@@ -192,7 +192,7 @@ has_place_by : (f : Bool) (b : Bool) → (not f && b) ≡ true → b ≡ true
 has_place_by true b is = absurd (cc)
 has_place_by false b is = is
 
-adds : (most : ℕ) (s : Stream) (p : Port) → has_place most p ≡ true → length p.streams ≤ most → Adds most s p (added most s p)
+adds : (most : ℕ) (s : StreamState) (p : Port) → has_place most p ≡ true → length p.streams ≤ most → Adds most s p (added most s p)
 adds most s p place within =
     adds_by (nat_lt (length p.streams) most) (position on_probation p.streams) most s p refl refl (has_place_by p.finished _ place) within
 
@@ -267,18 +267,18 @@ left_keeps settings c who why at finished p kept = record {
 }
 
 -- a stream that waits longer takes nothing
-taken_waiting_if : (ssrc payload_type : ℕ) (limits : WaitLimits) (s : Stream) → (waiting_if ssrc payload_type limits s).taken ≡ s.taken
+taken_waiting_if : (ssrc payload_type : ℕ) (limits : WaitLimits) (s : StreamState) → (waiting_if ssrc payload_type limits s).taken ≡ s.taken
 taken_waiting_if ssrc payload_type limits s = by_test (is_of ssrc payload_type s)
   where
     by_test : (b : Bool) → (waiting_when b limits s).taken ≡ s.taken
     by_test true = refl
     by_test false = refl
 
-taken_waiting : (ssrc payload_type : ℕ) (limits : WaitLimits) (ss : List Stream) → taken_in (waiting_where ssrc payload_type limits ss) ≡ taken_in ss
+taken_waiting : (ssrc payload_type : ℕ) (limits : WaitLimits) (ss : List StreamState) → taken_in (waiting_where ssrc payload_type limits ss) ≡ taken_in ss
 taken_waiting ssrc payload_type limits [] = refl
 taken_waiting ssrc payload_type limits (x ∷ xs) = omega (arith, taken_waiting_if ssrc payload_type limits x, taken_waiting ssrc payload_type limits xs)
 
-length_waiting : (ssrc payload_type : ℕ) (limits : WaitLimits) (ss : List Stream) → length (waiting_where ssrc payload_type limits ss) ≡ length ss
+length_waiting : (ssrc payload_type : ℕ) (limits : WaitLimits) (ss : List StreamState) → length (waiting_where ssrc payload_type limits ss) ≡ length ss
 length_waiting ssrc payload_type limits [] = refl
 length_waiting ssrc payload_type limits (x ∷ xs) = ap suc (length_waiting ssrc payload_type limits xs)
 
@@ -302,43 +302,43 @@ reports_keep settings c (Some place) tick_rate now answer p q got kept =
 
 -- ---- turns
 
-drains_taken : (o : Option Ending) (s t : Stream) → Drains o s t → t.taken ≡ s.taken
-drains_taken None s t got = ap (λ (x : Stream). x.taken) got
-drains_taken (Some why) s t got = ap (λ (x : Stream). x.taken) got.2
+drains_taken : (o : Option Ending) (s t : StreamState) → Drains o s t → t.taken ≡ s.taken
+drains_taken None s t got = ap (λ (x : StreamState). x.taken) got
+drains_taken (Some why) s t got = ap (λ (x : StreamState). x.taken) got.2
 
-requests_taken : (o : Option Asking) (now : ℕ) (s : Stream) (step : Step) (t : Stream) → RequestsBy o now s step t → t.taken ≡ s.taken
-requests_taken None now s step t got = ap (λ (x : Stream). x.taken) got.1
-requests_taken (Some a) now s step t got = ap (λ (x : Stream). x.taken) got.after
+requests_taken : (o : Option Asking) (now : ℕ) (s : StreamState) (step : Step) (t : StreamState) → RequestsBy o now s step t → t.taken ≡ s.taken
+requests_taken None now s step t got = ap (λ (x : StreamState). x.taken) got.1
+requests_taken (Some a) now s step t got = ap (λ (x : StreamState). x.taken) got.after
 
-rests_taken : (stage : Stage) (now : ℕ) (s : Stream) (step : Step) (t : Stream) → RestsBy stage now s step t → t.taken ≡ s.taken
-rests_taken stages.Probation now s step t got = ap (λ (x : Stream). x.taken) got.1
+rests_taken : (stage : Stage) (now : ℕ) (s : StreamState) (step : Step) (t : StreamState) → RestsBy stage now s step t → t.taken ≡ s.taken
+rests_taken stages.Probation now s step t got = ap (λ (x : StreamState). x.taken) got.1
 rests_taken stages.Playing now s step t got = requests_taken s.feedback now s step t got
-rests_taken (stages.Leaving why at) now s step t got = ap (λ (x : Stream). x.taken) got.1
-rests_taken (stages.Draining why) now s step t got = ap (λ (x : Stream). x.taken) got.1
+rests_taken (stages.Leaving why at) now s step t got = ap (λ (x : StreamState). x.taken) got.1
+rests_taken (stages.Draining why) now s step t got = ap (λ (x : StreamState). x.taken) got.1
 
-follows_taken : (o : Option (Result Release PacketError)) (now : ℕ) (s : Stream) (step : Step) (t : Stream) → Follows o now s step t → t.taken ≡ s.taken
+follows_taken : (o : Option (Result Release PacketError)) (now : ℕ) (s : StreamState) (step : Step) (t : StreamState) → Follows o now s step t → t.taken ≡ s.taken
 follows_taken None now s step t got = rests_taken s.stage now s step t got
-follows_taken (Some unit) now s step t got = ap (λ (x : Stream). x.taken) got.1
+follows_taken (Some unit) now s step t got = ap (λ (x : StreamState). x.taken) got.1
 
-plays_taken : (now : Ticks) (idle : ℕ) (s : Stream) (step : Step) (t : Stream) → Plays now idle s step t → t.taken ≡ s.taken
+plays_taken : (now : Ticks) (idle : ℕ) (s : StreamState) (step : Step) (t : StreamState) → Plays now idle s step t → t.taken ≡ s.taken
 plays_taken now idle s step t got = follows_taken got.2.popped now.0 (record got.0 { receiver = got.2.receiver }) step t got.2.follows ∙ drains_taken (end_of now.0 idle s) s got.0 got.1
 
-steps_by_taken : (b told : Bool) (now : Ticks) (idle : ℕ) (s : Stream) (step : Step) (t : Stream) → StepsBy b told now idle s step t → t.taken ≡ s.taken
-steps_by_taken true told now idle s step t got = ap (λ (x : Stream). x.taken) got.1
-steps_by_taken false false now idle s step t got = ap (λ (x : Stream). x.taken) got.1
+steps_by_taken : (b told : Bool) (now : Ticks) (idle : ℕ) (s : StreamState) (step : Step) (t : StreamState) → StepsBy b told now idle s step t → t.taken ≡ s.taken
+steps_by_taken true told now idle s step t got = ap (λ (x : StreamState). x.taken) got.1
+steps_by_taken false false now idle s step t got = ap (λ (x : StreamState). x.taken) got.1
 steps_by_taken false true now idle s step t got = plays_taken now idle s step t got
 
-steps_taken : (now : Ticks) (idle : ℕ) (s : Stream) (step : Step) (t : Stream) → Steps now idle s step t → t.taken ≡ s.taken
+steps_taken : (now : Ticks) (idle : ℕ) (s : StreamState) (step : Step) (t : StreamState) → Steps now idle s step t → t.taken ≡ s.taken
 steps_taken now idle s step t got = steps_by_taken (is_probation s.stage) s.told now idle s step t got
 
-quiet_taken : (now : Ticks) (idle : ℕ) (ss ts : List Stream) → AreQuiet now idle ss ts → taken_in ts ≡ taken_in ss
+quiet_taken : (now : Ticks) (idle : ℕ) (ss ts : List StreamState) → AreQuiet now idle ss ts → taken_in ts ≡ taken_in ss
 quiet_taken now idle [] [] got = refl
 quiet_taken now idle [] (t ∷ ts) got = absurd got
 quiet_taken now idle (s ∷ ss) [] got = absurd got
 quiet_taken now idle (s ∷ ss) (t ∷ ts) got = omega (arith, steps_taken now idle s steps.Nothing t got.0, quiet_taken now idle ss ts got.1)
 
 -- a stream that ended is counted among the ended streams
-kept_taken : (step : Step) (t : Stream) (rest : List Stream) (ended : ℕ)
+kept_taken : (step : Step) (t : StreamState) (rest : List StreamState) (ended : ℕ)
     → ((ended_after step t ended + taken_in (kept_after step t rest)) % 2 ^ 64 ≡ (ended + t.taken + taken_in rest) % 2 ^ 64) × (length (kept_after step t rest) ≤ 1 + length rest)
 kept_taken steps.Begun t rest ended = (omega arith, omega arith)
 kept_taken (steps.Unit unit) t rest ended = (omega arith, omega arith)
@@ -357,7 +357,7 @@ turn_keeps now idle settings c p q None got kept =
     })
 turn_keeps now idle settings c p q (Some event) got kept =
     let there_taken : taken_in p.streams ≡ taken_in got.front + (got.stream.taken + taken_in got.rest) = ap taken_in got.there ∙ taken_appended got.front (got.stream ∷ got.rest) in
-    let there_length : length p.streams ≡ length got.front + length (got.stream ∷ got.rest) = ap (λ (l : List Stream). length l) got.there ∙ length_appended got.front (got.stream ∷ got.rest) in
+    let there_length : length p.streams ≡ length got.front + length (got.stream ∷ got.rest) = ap (λ (l : List StreamState). length l) got.there ∙ length_appended got.front (got.stream ∷ got.rest) in
     let one = steps_taken now idle got.stream got.step got.stepped got.steps in
     let kept_one = kept_taken got.step got.stepped got.rest p.ended in
     let after_taken = taken_appended got.quiet (kept_after got.step got.stepped got.rest) in

@@ -25,14 +25,14 @@ use Rattle.codec_payload_session.specs.declared.session.Arrival.TheVariants as a
 use Rattle.codec_payload_session.specs.declared.session.ArrivalCounts.{ArrivalCounts}
 use Rattle.codec_payload_session.specs.declared.sort.Sorted.{Sorted}
 use Rattle.codec_payload_session.specs.declared.sort.Sorted.TheVariants as sorted
-use Rattle.codec_payload_session.specs.declared.stream.Stream.{Stream}
+use Rattle.codec_payload_session.specs.declared.stream.StreamState.{StreamState}
 use Rattle.codec_payload_session.proofs.AccountLemmas.{takes_in_keeps}
 use Rattle.codec_payload_session.proofs.PairLemmas.{paired_keeps}
 
 -- ---- the only stream that fits
 
 -- the answer, if that one was found in front of the list
-abbrev pub owner_after : Option ℕ → List Stream → Option ℕ
+abbrev pub owner_after : Option ℕ → List StreamState → Option ℕ
 owner_after None ss = only_ssrc ss
 owner_after (Some n) [] = Some n
 owner_after (Some n) (s ∷ ss) = None
@@ -62,7 +62,7 @@ unpaired_stays : (s : SessionSettings) (now : Ticks) (bytes : List ℕ) (p : Por
 unpaired_stays s now bytes p answer q u got is = subst (λ (d : Sorted). TakesInAs d s now bytes p answer q) (sorted_unpaired s bytes u is) got
 
 -- a datagram with another answer needs no pair
-pub no_pair : (s : SessionSettings) (now : Ticks) (bytes : List ℕ) (p : Port) (answer : Result Arrival AllocError) (q : Port) (n : ℕ) (ss : List Stream)
+pub no_pair : (s : SessionSettings) (now : Ticks) (bytes : List ℕ) (p : Port) (answer : Result Arrival AllocError) (q : Port) (n : ℕ) (ss : List StreamState)
     → TakesIn s now bytes p answer q → is_unassociated answer ≡ false → pair_at s n bytes ss ≡ None
 no_pair s now bytes p answer q n ss got is = by_kind (unpaired_at s bytes) refl
   where

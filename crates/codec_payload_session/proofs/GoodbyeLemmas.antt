@@ -6,7 +6,7 @@ use Rattle.codec_payload_session.specs.Streams.{left_when, stage_left}
 use Rattle.codec_payload_session.specs.declared.stream.Ending.{Ending}
 use Rattle.codec_payload_session.specs.declared.stream.Stage.{Stage}
 use Rattle.codec_payload_session.specs.declared.stream.Stage.TheVariants as stages
-use Rattle.codec_payload_session.specs.declared.stream.Stream.{Stream}
+use Rattle.codec_payload_session.specs.declared.stream.StreamState.{StreamState}
 
 -- who leaves twice at one time leaves once
 stage_twice : (why : Ending) (at : ℕ) (x : Stage) → stage_left why at (stage_left why at x) ≡ stage_left why at x
@@ -15,25 +15,25 @@ stage_twice why at stages.Playing = ap (λ (n : ℕ). stages.Leaving why n) (min
 stage_twice why at (stages.Leaving first before) = ap (λ (n : ℕ). stages.Leaving first n) (min-eq_left (min-le_right before at))
 stage_twice why at (stages.Draining first) = refl
 
-left_twice : (why : Ending) (at : ℕ) (b : Bool) (s : Stream) → left_when b why at (left_when true why at s) ≡ left_when true why at s
+left_twice : (why : Ending) (at : ℕ) (b : Bool) (s : StreamState) → left_when b why at (left_when true why at s) ≡ left_when true why at s
 left_twice why at true s = ap (λ (x : Stage). record s { stage = x }) (stage_twice why at s.stage)
 left_twice why at false s = refl
 
-left_once : (why : Ending) (at : ℕ) (B : ℕ → Bool) (a : Bool) (s : Stream)
+left_once : (why : Ending) (at : ℕ) (B : ℕ → Bool) (a : Bool) (s : StreamState)
     → left_when (B (left_when a why at s).ssrc) why at (left_when a why at s) ≡ left_when (a || B s.ssrc) why at s
 left_once why at B true s = left_twice why at (B s.ssrc) s
 left_once why at B false s = refl
 
 -- those of A, and then those of B
-pub left_either : (A B : ℕ → Bool) (why : Ending) (at : ℕ) (ss : List Stream)
+pub left_either : (A B : ℕ → Bool) (why : Ending) (at : ℕ) (ss : List StreamState)
     → left_where B why at (left_where A why at ss) ≡ left_where (λ ssrc. A ssrc || B ssrc) why at ss
 left_either A B why at [] = refl
 left_either A B why at (s ∷ ss) = rw (left_once why at B (A s.ssrc) s, left_either A B why at ss) refl
 
-pub left_same : (A B : ℕ → Bool) (why : Ending) (at : ℕ) (ss : List Stream) → ((ssrc : ℕ) → A ssrc ≡ B ssrc) → left_where A why at ss ≡ left_where B why at ss
+pub left_same : (A B : ℕ → Bool) (why : Ending) (at : ℕ) (ss : List StreamState) → ((ssrc : ℕ) → A ssrc ≡ B ssrc) → left_where A why at ss ≡ left_where B why at ss
 left_same A B why at [] same = refl
 left_same A B why at (s ∷ ss) same = rw (same s.ssrc, left_same A B why at ss same) refl
 
-pub left_nobody : (A : ℕ → Bool) (why : Ending) (at : ℕ) (ss : List Stream) → ((ssrc : ℕ) → A ssrc ≡ false) → left_where A why at ss ≡ ss
+pub left_nobody : (A : ℕ → Bool) (why : Ending) (at : ℕ) (ss : List StreamState) → ((ssrc : ℕ) → A ssrc ≡ false) → left_where A why at ss ≡ ss
 left_nobody A why at [] none = refl
 left_nobody A why at (s ∷ ss) none = rw (none s.ssrc, left_nobody A why at ss none) refl

@@ -18,7 +18,7 @@ use Rattle.codec_payload_session.specs.Ports.{Session}
 use Rattle.codec_payload_session.specs.Quiet.{IsBefore, PopsNothing}
 use Rattle.codec_payload_session.specs.Reporting.{ReportsBy, ReportsEach, ReportsIf, any_announced, deadline_if, is_report_due, is_time, report_deadline}
 use Rattle.codec_payload_session.specs.Requests.{Asking, Asks, is_heard, refreshed, requests_due}
-use Rattle.codec_payload_session.specs.Streams.{Drains, Follows, Plays, Pops, RequestsBy, RestsBy, Steps, StepsBy, Stream, due_by, due_in, due_of, earlier, end_by, end_of, is_probation, later as time_after, request_deadline, step_of, work_deadline}
+use Rattle.codec_payload_session.specs.Streams.{Drains, Follows, Plays, Pops, RequestsBy, RestsBy, Steps, StepsBy, StreamState, due_by, due_in, due_of, earlier, end_by, end_of, is_probation, later as time_after, request_deadline, step_of, work_deadline}
 use Rattle.codec_payload_session.specs.Telephone.{Queue, due_before}
 use Rattle.codec_payload_session.specs.Turns.{AreQuiet, TakesTurn, event_of}
 use Rattle.codec_payload_session.specs.declared.formats.FeedbackSettings.{FeedbackSettings}
@@ -115,7 +115,7 @@ told_quiet (Ok None) now last r a b none asks = tt
 told_quiet (Ok (Some packet)) now last r a b none asks = absurd (none packet b asks)
 told_quiet (Err e) now last r a b none asks = tt
 
-requests_quiet : (o : Option Asking) (now : ℕ) (t u : Stream) (step : Step) → AsksNone o now t.last t.receiver → RequestsBy o now t step u → IsQuietStep step
+requests_quiet : (o : Option Asking) (now : ℕ) (t u : StreamState) (step : Step) → AsksNone o now t.last t.receiver → RequestsBy o now t step u → IsQuietStep step
 requests_quiet None now t u step none got = nothing_quiet step got.0
 requests_quiet (Some a) now t u step none got = subst (λ (x : Step). IsQuietStep x) (sym got.answers) (told_quiet got.told now t.last t.receiver a got.asking none got.asks)
 
@@ -125,14 +125,14 @@ is_draining stages.Playing = false
 is_draining (stages.Leaving why at) = false
 is_draining (stages.Draining why) = true
 
-rests_quiet : (g : Stage) (now : ℕ) (t u : Stream) (step : Step) → is_draining g ≡ false → (g ≡ stages.Playing → AsksNone t.feedback now t.last t.receiver) → RestsBy g now t step u → IsQuietStep step
+rests_quiet : (g : Stage) (now : ℕ) (t u : StreamState) (step : Step) → is_draining g ≡ false → (g ≡ stages.Playing → AsksNone t.feedback now t.last t.receiver) → RestsBy g now t step u → IsQuietStep step
 rests_quiet stages.Probation now t u step drains none got = nothing_quiet step got.0
 rests_quiet stages.Playing now t u step drains none got = requests_quiet t.feedback now t u step (none refl) got
 rests_quiet (stages.Leaving why at) now t u step drains none got = nothing_quiet step got.0
 rests_quiet (stages.Draining why) now t u step drains none got = absurd (cc)
 
 -- what the step leaves
-record Rested (now : ℕ) (s t : Stream) : Type 0 where
+record Rested (now : ℕ) (s t : StreamState) : Type 0 where
   receiver : t.receiver ≡ s.receiver
   told_is : t.told ≡ s.told
   stage_is : t.stage ≡ s.stage
@@ -140,29 +140,29 @@ record Rested (now : ℕ) (s t : Stream) : Type 0 where
   drains : is_draining t.stage ≡ false
   asks : (later : ℕ) → now ≤ later → t.stage ≡ stages.Playing → IsBefore (requests_due t.feedback) later → AsksNone t.feedback later t.last t.receiver
 
-other_stage : (s t : Stream) (g : Stage) → t ≡ s → s.stage ≡ g → t.stage ≡ g
-other_stage s t g same is = ap (λ (x : Stream). x.stage) same ∙ is
+other_stage : (s t : StreamState) (g : Stage) → t ≡ s → s.stage ≡ g → t.stage ≡ g
+other_stage s t g same is = ap (λ (x : StreamState). x.stage) same ∙ is
 
-stayed : (now : ℕ) (s t : Stream) → t ≡ s → is_draining s.stage ≡ false → (s.stage ≡ stages.Playing → ⊥) → Rested now s t
+stayed : (now : ℕ) (s t : StreamState) → t ≡ s → is_draining s.stage ≡ false → (s.stage ≡ stages.Playing → ⊥) → Rested now s t
 stayed now s t same drains other = record {
-  receiver = ap (λ (x : Stream). x.receiver) same;
-  told_is = ap (λ (x : Stream). x.told) same;
-  stage_is = ap (λ (x : Stream). x.stage) same;
-  last_is = ap (λ (x : Stream). x.last) same;
-  drains = ap (λ (x : Stream). is_draining x.stage) same ∙ drains;
-  asks = λ later after plays before. absurd (other (sym (ap (λ (x : Stream). x.stage) same) ∙ plays));
+  receiver = ap (λ (x : StreamState). x.receiver) same;
+  told_is = ap (λ (x : StreamState). x.told) same;
+  stage_is = ap (λ (x : StreamState). x.stage) same;
+  last_is = ap (λ (x : StreamState). x.last) same;
+  drains = ap (λ (x : StreamState). is_draining x.stage) same ∙ drains;
+  asks = λ later after plays before. absurd (other (sym (ap (λ (x : StreamState). x.stage) same) ∙ plays));
 }
 
-asked : (o : Option Asking) (now : ℕ) (s t : Stream) → s.feedback ≡ o → s.stage ≡ stages.Playing → RequestsBy o now s steps.Nothing t → Rested now s t
+asked : (o : Option Asking) (now : ℕ) (s t : StreamState) → s.feedback ≡ o → s.stage ≡ stages.Playing → RequestsBy o now s steps.Nothing t → Rested now s t
 asked None now s t is plays got = record {
-  receiver = ap (λ (x : Stream). x.receiver) got.1;
-  told_is = ap (λ (x : Stream). x.told) got.1;
-  stage_is = ap (λ (x : Stream). x.stage) got.1;
-  last_is = ap (λ (x : Stream). x.last) got.1;
-  drains = ap (λ (x : Stream). is_draining x.stage) got.1 ∙ ap is_draining plays;
-  asks = λ later after playing before. subst (λ (o : Option Asking). AsksNone o later t.last t.receiver) (sym (ap (λ (x : Stream). x.feedback) got.1 ∙ is)) tt;
+  receiver = ap (λ (x : StreamState). x.receiver) got.1;
+  told_is = ap (λ (x : StreamState). x.told) got.1;
+  stage_is = ap (λ (x : StreamState). x.stage) got.1;
+  last_is = ap (λ (x : StreamState). x.last) got.1;
+  drains = ap (λ (x : StreamState). is_draining x.stage) got.1 ∙ ap is_draining plays;
+  asks = λ later after playing before. subst (λ (o : Option Asking). AsksNone o later t.last t.receiver) (sym (ap (λ (x : StreamState). x.feedback) got.1 ∙ is)) tt;
 }
-asked (Some a) now s t is plays got = subst (λ (x : Stream). Rested now s x) (sym got.after) (record {
+asked (Some a) now s t is plays got = subst (λ (x : StreamState). Rested now s x) (sym got.after) (record {
   receiver = refl;
   told_is = refl;
   stage_is = refl;
@@ -173,7 +173,7 @@ asked (Some a) now s t is plays got = subst (λ (x : Stream). Rested now s x) (s
       (subst (λ (told : Result (Option (Vec ℕ)) AllocError). Asks now (is_heard now s.last a) s.receiver a told got.asking) (told_none got.told got.answers) got.asks) after before;
 })
 
-rested : (g : Stage) (now : ℕ) (s t : Stream) → s.stage ≡ g → RestsBy g now s steps.Nothing t → Rested now s t
+rested : (g : Stage) (now : ℕ) (s t : StreamState) → s.stage ≡ g → RestsBy g now s steps.Nothing t → Rested now s t
 rested stages.Probation now s t is got = stayed now s t got.1 (ap is_draining is) (λ plays. let other : stages.Probation ≡ stages.Playing = sym is ∙ plays in absurd (cc))
 rested stages.Playing now s t is got = asked s.feedback now s t refl is got
 rested (stages.Leaving why at) now s t is got =
@@ -181,7 +181,7 @@ rested (stages.Leaving why at) now s t is got =
 rested (stages.Draining why) now s t is got = let other : steps.Nothing ≡ steps.Ended why = got.0 in absurd (cc)
 
 -- a stream that was asked: a pop without a unit, and then nothing
-record Asked (now : ℕ) (idle : ℕ) (s t : Stream) : Type 0 where
+record Asked (now : ℕ) (idle : ℕ) (s t : StreamState) : Type 0 where
   gated : PopsGated now s.receiver None t.receiver
   told_is : t.told ≡ s.told
   stage_is : t.stage ≡ s.stage
@@ -190,14 +190,14 @@ record Asked (now : ℕ) (idle : ℕ) (s t : Stream) : Type 0 where
   goes_on : end_of now idle s ≡ None
   asks : (later : ℕ) → now ≤ later → t.stage ≡ stages.Playing → IsBefore (requests_due t.feedback) later → AsksNone t.feedback later t.last t.receiver
 
-followed : (popped : Option (Result Release PacketError)) (now : ℕ) (s t : Stream) (r : Receiver) → PopsGated now s.receiver popped r → Follows popped now (record s { receiver = r }) steps.Nothing t
+followed : (popped : Option (Result Release PacketError)) (now : ℕ) (s t : StreamState) (r : Receiver) → PopsGated now s.receiver popped r → Follows popped now (record s { receiver = r }) steps.Nothing t
     → PopsGated now s.receiver None r × Rested now (record s { receiver = r }) t
 followed None now s t r pops got = (pops, rested s.stage now (record s { receiver = r }) t refl got)
 followed (Some unit) now s t r pops got = let other : steps.Nothing ≡ steps.Unit unit = got.0 in absurd (cc)
 
-drained : (o : Option Ending) (now : Ticks) (idle : ℕ) (s m t : Stream) → end_of now.0 idle s ≡ o → Drains o s m → Pops now m steps.Nothing t → Asked now.0 idle s t
+drained : (o : Option Ending) (now : Ticks) (idle : ℕ) (s m t : StreamState) → end_of now.0 idle s ≡ o → Drains o s m → Pops now m steps.Nothing t → Asked now.0 idle s t
 drained None now idle s m t is drains pops =
-    let first : Pops now s steps.Nothing t = subst (λ (x : Stream). Pops now x steps.Nothing t) drains pops in
+    let first : Pops now s steps.Nothing t = subst (λ (x : StreamState). Pops now x steps.Nothing t) drains pops in
     let it = followed first.popped now.0 s t first.receiver first.pops first.follows in
     record {
       gated = subst (λ (x : Receiver). PopsGated now.0 s.receiver None x) (sym it.1.receiver) it.0;
@@ -210,20 +210,20 @@ drained None now idle s m t is drains pops =
     }
 drained (Some why) now idle s m t is drains pops =
     let it = followed pops.popped now.0 m t pops.receiver pops.pops pops.follows in
-    let stage_is : t.stage ≡ stages.Draining why = it.1.stage_is ∙ ap (λ (x : Stream). x.stage) drains.2 in
+    let stage_is : t.stage ≡ stages.Draining why = it.1.stage_is ∙ ap (λ (x : StreamState). x.stage) drains.2 in
     let no : true ≡ false = sym (ap is_draining stage_is) ∙ it.1.drains in
     absurd (cc)
 
 -- a stream in probation, or one that was asked
-abbrev Went : ℕ → ℕ → Stream → Stream → Type 0
+abbrev Went : ℕ → ℕ → StreamState → StreamState → Type 0
 Went now idle s t = ((t ≡ s) × (is_probation s.stage ≡ true)) ⊎ (Asked now idle s t × (s.told ≡ true) × (is_probation s.stage ≡ false))
 
-went_by : (b told : Bool) (now : Ticks) (idle : ℕ) (s t : Stream) → is_probation s.stage ≡ b → s.told ≡ told → StepsBy b told now idle s steps.Nothing t → Went now.0 idle s t
+went_by : (b told : Bool) (now : Ticks) (idle : ℕ) (s t : StreamState) → is_probation s.stage ≡ b → s.told ≡ told → StepsBy b told now idle s steps.Nothing t → Went now.0 idle s t
 went_by true told now idle s t is told_is got = inl (got.1, is)
 went_by false false now idle s t is told_is got = let other : steps.Nothing ≡ steps.Begun = got.0 in absurd (cc)
 went_by false true now idle s t is told_is got = inr (drained (end_of now.0 idle s) now idle s got.0 t refl got.1 got.2, told_is, is)
 
-went : (now : Ticks) (idle : ℕ) (s t : Stream) → Steps now idle s steps.Nothing t → Went now.0 idle s t
+went : (now : Ticks) (idle : ℕ) (s t : StreamState) → Steps now idle s steps.Nothing t → Went now.0 idle s t
 went now idle s t got = went_by (is_probation s.stage) s.told now idle s t refl refl got
 
 -- ---- the step after it
@@ -257,7 +257,7 @@ not_due (stages.Leaving why at) later idle last deadline known drains before = (
 not_due (stages.Draining why) later idle last deadline known drains before = absurd (cc)
 
 -- a stream that was asked, and is asked again
-record AskedAgain (later : ℕ) (idle : ℕ) (t : Stream) : Type 0 where
+record AskedAgain (later : ℕ) (idle : ℕ) (t : StreamState) : Type 0 where
   told_is : t.told ≡ true
   known : is_probation t.stage ≡ false
   drains : is_draining t.stage ≡ false
@@ -265,7 +265,7 @@ record AskedAgain (later : ℕ) (idle : ℕ) (t : Stream) : Type 0 where
   pops : PopsNothing later t.receiver.packets
   asks : t.stage ≡ stages.Playing → AsksNone t.feedback later t.last t.receiver
 
-asked_again : (now later idle : ℕ) (s t : Stream) → Asked now idle s t → s.told ≡ true → is_probation s.stage ≡ false → length t.receiver.packets.buffer.held ≡ length s.receiver.packets.buffer.held
+asked_again : (now later idle : ℕ) (s t : StreamState) → Asked now idle s t → s.told ≡ true → is_probation s.stage ≡ false → length t.receiver.packets.buffer.held ≡ length s.receiver.packets.buffer.held
     → now ≤ later → later < 2 ^ 64 → IsBefore (due_of idle t) later → AskedAgain later idle t
 asked_again now later idle s t it told known same after few before =
     let told_is : t.told ≡ true = it.told_is ∙ told in
@@ -283,29 +283,29 @@ asked_again now later idle s t it told known same after few before =
       asks = λ plays. it.asks later after plays (subst (λ (g : Stage). IsBefore (request_deadline g t.feedback) later) plays both.1);
     }
 
-followed_quiet : (popped : Option (Result Release PacketError)) (now : ℕ) (t u : Stream) (r : Receiver) (step : Step) → popped ≡ None → r ≡ t.receiver → is_draining t.stage ≡ false
+followed_quiet : (popped : Option (Result Release PacketError)) (now : ℕ) (t u : StreamState) (r : Receiver) (step : Step) → popped ≡ None → r ≡ t.receiver → is_draining t.stage ≡ false
     → (t.stage ≡ stages.Playing → AsksNone t.feedback now t.last t.receiver) → Follows popped now (record t { receiver = r }) step u → IsQuietStep step
 followed_quiet None now t u r step none same drains asks got =
     rests_quiet t.stage now (record t { receiver = r }) u step drains
     (λ plays. subst (λ (x : Receiver). AsksNone t.feedback now t.last x) (sym same) (asks plays)) got
 followed_quiet (Some unit) now t u r step none same drains asks got = absurd (some_none unit none)
 
-popped_quiet : (later : Ticks) (idle : ℕ) (t u : Stream) (step : Step) → AskedAgain later.0 idle t → Pops later t step u → IsQuietStep step
+popped_quiet : (later : Ticks) (idle : ℕ) (t u : StreamState) (step : Step) → AskedAgain later.0 idle t → Pops later t step u → IsQuietStep step
 popped_quiet later idle t u step it pops =
     let same = gated_same later.0 t.receiver pops.receiver pops.popped it.pops pops.pops in
     followed_quiet pops.popped later.0 t u pops.receiver step same.0 same.1 it.drains it.asks pops.follows
 
-asked_quiet : (later : Ticks) (idle : ℕ) (t u : Stream) (step : Step) → AskedAgain later.0 idle t → Steps later idle t step u → IsQuietStep step
+asked_quiet : (later : Ticks) (idle : ℕ) (t u : StreamState) (step : Step) → AskedAgain later.0 idle t → Steps later idle t step u → IsQuietStep step
 asked_quiet later idle t u step it got =
     let plays : Plays later idle t step u =
     subst (λ (told : Bool). StepsBy false told later idle t step u) it.told_is (subst (λ (b : Bool). StepsBy b t.told later idle t step u) it.known got) in
     let stays : plays.0 ≡ t = subst (λ (o : Option Ending). Drains o t plays.0) it.goes_on plays.1 in
-    popped_quiet later idle t u step it (subst (λ (x : Stream). Pops later x step u) stays plays.2)
+    popped_quiet later idle t u step it (subst (λ (x : StreamState). Pops later x step u) stays plays.2)
 
-stays_quiet : (now later : Ticks) (idle : ℕ) (s t u : Stream) (step : Step) → Went now.0 idle s t → length t.receiver.packets.buffer.held ≡ length s.receiver.packets.buffer.held
+stays_quiet : (now later : Ticks) (idle : ℕ) (s t u : StreamState) (step : Step) → Went now.0 idle s t → length t.receiver.packets.buffer.held ≡ length s.receiver.packets.buffer.held
     → now.0 ≤ later.0 → later.0 < 2 ^ 64 → IsBefore (due_of idle t) later.0 → Steps later idle t step u → IsQuietStep step
 stays_quiet now later idle s t u step (inl still) same after few before got =
-    let probation : is_probation t.stage ≡ true = ap (λ (x : Stream). is_probation x.stage) still.0 ∙ still.1 in
+    let probation : is_probation t.stage ≡ true = ap (λ (x : StreamState). is_probation x.stage) still.0 ∙ still.1 in
     let nothing : StepsBy true t.told later idle t step u = subst (λ (b : Bool). StepsBy b t.told later idle t step u) probation got in
     nothing_quiet step nothing.0
 stays_quiet now later idle s t u step (inr it) same after few before got =
@@ -313,21 +313,21 @@ stays_quiet now later idle s t u step (inr it) same after few before got =
 
 -- ---- the streams
 
-went_few : (now idle : ℕ) (s t : Stream) → Went now idle s t → length t.receiver.packets.buffer.held ≤ length s.receiver.packets.buffer.held
-went_few now idle s t (inl still) = let same : length t.receiver.packets.buffer.held ≡ length s.receiver.packets.buffer.held = ap (λ (x : Stream). length x.receiver.packets.buffer.held) still.0 in omega (arith, same)
+went_few : (now idle : ℕ) (s t : StreamState) → Went now idle s t → length t.receiver.packets.buffer.held ≤ length s.receiver.packets.buffer.held
+went_few now idle s t (inl still) = let same : length t.receiver.packets.buffer.held ≡ length s.receiver.packets.buffer.held = ap (λ (x : StreamState). length x.receiver.packets.buffer.held) still.0 in omega (arith, same)
 went_few now idle s t (inr it) = gated_few now s.receiver t.receiver None it.0.gated
 
-went_told : (now idle : ℕ) (s t : Stream) → Went now idle s t → t.told ≡ s.told
-went_told now idle s t (inl still) = ap (λ (x : Stream). x.told) still.0
+went_told : (now idle : ℕ) (s t : StreamState) → Went now idle s t → t.told ≡ s.told
+went_told now idle s t (inl still) = ap (λ (x : StreamState). x.told) still.0
 went_told now idle s t (inr it) = it.0.told_is
 
-quiet_few : (now : Ticks) (idle : ℕ) (ss ts : List Stream) → AreQuiet now idle ss ts → held_in ts ≤ held_in ss
+quiet_few : (now : Ticks) (idle : ℕ) (ss ts : List StreamState) → AreQuiet now idle ss ts → held_in ts ≤ held_in ss
 quiet_few now idle [] [] got = omega arith
 quiet_few now idle [] (t ∷ ts) got = absurd got
 quiet_few now idle (s ∷ ss) [] got = absurd got
 quiet_few now idle (s ∷ ss) (t ∷ ts) got = omega (arith, went_few now.0 idle s t (went now idle s t got.0), quiet_few now idle ss ts got.1)
 
-quiet_told : (now : Ticks) (idle : ℕ) (ss ts : List Stream) → AreQuiet now idle ss ts → any_announced ts ≡ any_announced ss
+quiet_told : (now : Ticks) (idle : ℕ) (ss ts : List StreamState) → AreQuiet now idle ss ts → any_announced ts ≡ any_announced ss
 quiet_told now idle [] [] got = refl
 quiet_told now idle [] (t ∷ ts) got = absurd got
 quiet_told now idle (s ∷ ss) [] got = absurd got
@@ -335,7 +335,7 @@ quiet_told now idle (s ∷ ss) (t ∷ ts) got =
     ap (λ (b : Bool). b || any_announced ts) (went_told now.0 idle s t (went now idle s t got.0)) ∙ ap (λ (b : Bool). s.told || b) (quiet_told now idle ss ts got.1)
 
 -- each of the streams that were asked is quiet at a later time
-one_quiet : (now later : Ticks) (idle : ℕ) (ss front rest : List Stream) (t u : Stream) (step : Step) → AreQuiet now idle ss (front ++ t ∷ rest) → held_in (front ++ t ∷ rest) ≡ held_in ss
+one_quiet : (now later : Ticks) (idle : ℕ) (ss front rest : List StreamState) (t u : StreamState) (step : Step) → AreQuiet now idle ss (front ++ t ∷ rest) → held_in (front ++ t ∷ rest) ≡ held_in ss
     → now.0 ≤ later.0 → later.0 < 2 ^ 64 → IsBefore (due_in idle (front ++ t ∷ rest)) later.0 → Steps later idle t step u → IsQuietStep step
 one_quiet now later idle [] [] rest t u step are same after few before got = absurd are
 one_quiet now later idle [] (f ∷ fs) rest t u step are same after few before got = absurd are
@@ -347,7 +347,7 @@ one_quiet now later idle (s ∷ ss) (f ∷ fs) rest t u step are same after few 
     let held : held_in (fs ++ t ∷ rest) ≡ held_in ss = omega (arith, same, went_few now.0 idle s f (went now idle s f are.0), quiet_few now idle ss (fs ++ t ∷ rest) are.1) in
     one_quiet now later idle ss fs rest t u step are.1 held after few (earlier_both (due_of idle f) (due_in idle (fs ++ t ∷ rest)) later.0 before).1 got
 
-no_event : (s : Stream) (step : Step) → IsQuietStep step → IsNoEvent (event_of s step)
+no_event : (s : StreamState) (step : Step) → IsQuietStep step → IsNoEvent (event_of s step)
 no_event s steps.Begun quiet = absurd quiet
 no_event s (steps.Unit unit) quiet = absurd quiet
 no_event s (steps.Feedback (Ok packet)) quiet = absurd quiet
@@ -411,7 +411,7 @@ polled_report now s t port empty turn got =
     (subst (λ (packet : Option (Result (Vec ℕ) AllocError)). ReportsBy s.settings.feedback s.settings.tick_rate now.0 s.report_due port packet got.due got.port) none got.reports) in
     let streams : t.port.streams ≡ turn.0 = ap (λ (x : Session). x.port.streams) got.left ∙ (ap (λ (p : Port). p.streams) same ∙ ap (λ (p : Port). p.streams) turn.2) in
     record {
-      quiet = subst (λ (ts : List Stream). AreQuiet now s.settings.idle_timeout s.port.streams ts) (sym streams) turn.1;
+      quiet = subst (λ (ts : List StreamState). AreQuiet now s.settings.idle_timeout s.port.streams ts) (sym streams) turn.1;
       settings = ap (λ (x : Session). x.settings) got.left;
       waiting = ap (λ (x : Session). x.telephone.waiting) got.left ∙ empty;
     }
@@ -444,15 +444,15 @@ turns_none : (event : Option Event) (now later : Ticks) (s t u : Session) (port 
     → TakesTurn later t.settings.idle_timeout t.port event port → GoesOn event later.0 (record t { port = port }) answer u → IsNoEvent answer
 turns_none None now later s t u port answer it same after few due report turn got =
     let streams : port.streams ≡ turn.0 = ap (λ (p : Port). p.streams) turn.2 in
-    reports_none later t u port answer (subst (λ (ts : List Stream). AreQuiet later t.settings.idle_timeout t.port.streams ts) (sym streams) turn.1) report got
+    reports_none later t u port answer (subst (λ (ts : List StreamState). AreQuiet later t.settings.idle_timeout t.port.streams ts) (sym streams) turn.1) report got
 turns_none (Some event) now later s t u port answer it same after few due report turn got =
     let quiet : AreQuiet now t.settings.idle_timeout s.port.streams (turn.front ++ turn.stream ∷ turn.rest) =
-    subst (λ (ts : List Stream). AreQuiet now t.settings.idle_timeout s.port.streams ts) turn.there
+    subst (λ (ts : List StreamState). AreQuiet now t.settings.idle_timeout s.port.streams ts) turn.there
     (subst (λ (x : SessionSettings). AreQuiet now x.idle_timeout s.port.streams t.port.streams) (sym it.settings) it.quiet) in
     let step_quiet : IsQuietStep turn.step =
     one_quiet now later t.settings.idle_timeout s.port.streams turn.front turn.rest turn.stream turn.stepped turn.step quiet
-    (subst (λ (ts : List Stream). held_in ts ≡ held_in s.port.streams) turn.there same) after few
-    (subst (λ (ts : List Stream). IsBefore (due_in t.settings.idle_timeout ts) later.0) turn.there due) turn.steps in
+    (subst (λ (ts : List StreamState). held_in ts ≡ held_in s.port.streams) turn.there same) after few
+    (subst (λ (ts : List StreamState). IsBefore (due_in t.settings.idle_timeout ts) later.0) turn.there due) turn.steps in
     subst (λ (e : Option Event). IsNoEvent e) (sym got.0) (subst (λ (e : Option Event). IsNoEvent e) (sym turn.tells) (no_event turn.stepped turn.step step_quiet))
 
 again_none : (now later : Ticks) (s t u : Session) (answer : Option Event) → Polled now s t → held_in t.port.streams ≡ held_in s.port.streams → now.0 ≤ later.0 → later.0 < 2 ^ 64

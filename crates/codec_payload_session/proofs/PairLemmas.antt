@@ -6,21 +6,21 @@ use Rattle.codec_payload_session.specs.Ports.{IsPort, taken_in}
 use Rattle.codec_payload_session.specs.declared.formats.SessionSettings.{SessionSettings}
 use Rattle.codec_payload_session.specs.declared.formats.SsrcPair.{SsrcPair}
 use Rattle.codec_payload_session.specs.declared.session.ArrivalCounts.{ArrivalCounts}
-use Rattle.codec_payload_session.specs.declared.stream.Stream.{Stream}
+use Rattle.codec_payload_session.specs.declared.stream.StreamState.{StreamState}
 
 -- a stream that gets its retransmissions takes nothing
-taken_paired_if : (ssrc : ℕ) (pairs : List SsrcPair) (s : Stream) → (paired_if ssrc pairs s).taken ≡ s.taken
+taken_paired_if : (ssrc : ℕ) (pairs : List SsrcPair) (s : StreamState) → (paired_if ssrc pairs s).taken ≡ s.taken
 taken_paired_if ssrc pairs s = by_test (s.ssrc == ssrc)
   where
     by_test : (b : Bool) → (paired_when b pairs s).taken ≡ s.taken
     by_test true = refl
     by_test false = refl
 
-taken_paired : (ssrc : ℕ) (pairs : List SsrcPair) (ss : List Stream) → taken_in (paired_where ssrc pairs ss) ≡ taken_in ss
+taken_paired : (ssrc : ℕ) (pairs : List SsrcPair) (ss : List StreamState) → taken_in (paired_where ssrc pairs ss) ≡ taken_in ss
 taken_paired ssrc pairs [] = refl
 taken_paired ssrc pairs (x ∷ xs) = omega (arith, taken_paired_if ssrc pairs x, taken_paired ssrc pairs xs)
 
-length_paired : (ssrc : ℕ) (pairs : List SsrcPair) (ss : List Stream) → length (paired_where ssrc pairs ss) ≡ length ss
+length_paired : (ssrc : ℕ) (pairs : List SsrcPair) (ss : List StreamState) → length (paired_where ssrc pairs ss) ≡ length ss
 length_paired ssrc pairs [] = refl
 length_paired ssrc pairs (x ∷ xs) = ap suc (length_paired ssrc pairs xs)
 

@@ -5,7 +5,7 @@ use Rattle.codec_payload_rtcp.specs.RtcpPackets.{Packet, Sender}
 use Rattle.codec_payload_rtcp.specs.declared.packet.RtcpError.{RtcpError}
 use Rattle.codec_payload_session.specs.Reports.{clock_after, later_of, latest, noted, noted_in, noted_where, report_by}
 use Rattle.codec_payload_session.specs.declared.reports.SenderClock.{SenderClock}
-use Rattle.codec_payload_session.specs.declared.stream.Stream.{Stream}
+use Rattle.codec_payload_session.specs.declared.stream.StreamState.{StreamState}
 
 -- ---- packets one after another
 
@@ -13,26 +13,26 @@ later_clock : (now : Ticks) (a b : Option Sender) (c : Option SenderClock) → c
 later_clock now None b c = refl
 later_clock now (Some r) b c = refl
 
-noted_one : (now : Ticks) (p : Packet) (ps : List Packet) (s : Stream) → noted now (p ∷ ps) s ≡ noted now ps (noted now (p ∷ []) s)
+noted_one : (now : Ticks) (p : Packet) (ps : List Packet) (s : StreamState) → noted now (p ∷ ps) s ≡ noted now ps (noted now (p ∷ []) s)
 noted_one now p ps s = ap (λ (c : Option SenderClock). record s { sender_clock = c }) (later_clock now (latest s.ssrc ps) (report_by s.ssrc p) s.sender_clock)
 
 -- the first packet, and then the others
-pub noted_first : (now : Ticks) (p : Packet) (ps : List Packet) (ss : List Stream) → noted_where now ps (noted_where now (p ∷ []) ss) ≡ noted_where now (p ∷ ps) ss
+pub noted_first : (now : Ticks) (p : Packet) (ps : List Packet) (ss : List StreamState) → noted_where now ps (noted_where now (p ∷ []) ss) ≡ noted_where now (p ∷ ps) ss
 noted_first now p ps [] = refl
 noted_first now p ps (s ∷ ss) = rw (noted_one now p ps s, noted_first now p ps ss) refl
 
-pub noted_nothing : (now : Ticks) (ss : List Stream) → noted_where now [] ss ≡ ss
+pub noted_nothing : (now : Ticks) (ss : List StreamState) → noted_where now [] ss ≡ ss
 noted_nothing now [] = refl
-noted_nothing now (s ∷ ss) = ap (λ (l : List Stream). s ∷ l) (noted_nothing now ss)
+noted_nothing now (s ∷ ss) = ap (λ (l : List StreamState). s ∷ l) (noted_nothing now ss)
 
 -- another packet than a sender report
-pub noted_other : (now : Ticks) (p : Packet) (ss : List Stream) → ((ssrc : ℕ) → report_by ssrc p ≡ None) → noted_where now (p ∷ []) ss ≡ ss
+pub noted_other : (now : Ticks) (p : Packet) (ss : List StreamState) → ((ssrc : ℕ) → report_by ssrc p ≡ None) → noted_where now (p ∷ []) ss ≡ ss
 noted_other now p [] none = refl
 noted_other now p (s ∷ ss) none = rw (none s.ssrc, noted_other now p ss none) refl
 
 -- ---- the number of streams
 
-pub noted_length : (now : Ticks) (o : Result (List Packet) RtcpError) (ss : List Stream) → length (noted_in now o ss) ≡ length ss
+pub noted_length : (now : Ticks) (o : Result (List Packet) RtcpError) (ss : List StreamState) → length (noted_in now o ss) ≡ length ss
 noted_length now (Err e) ss = refl
 noted_length now (Ok ps) [] = refl
 noted_length now (Ok ps) (s ∷ ss) = ap suc (noted_length now (Ok ps) ss)

@@ -8,17 +8,17 @@ use Rattle.codec_payload_session.specs.Reporting.{Reports, ReportsBy, ReportsEac
 use Rattle.codec_payload_session.specs.declared.formats.FeedbackSettings.{FeedbackSettings}
 use Rattle.codec_payload_session.specs.declared.formats.SessionSettings.{SessionSettings}
 use Rattle.codec_payload_session.specs.declared.session.ArrivalCounts.{ArrivalCounts}
-use Rattle.codec_payload_session.specs.declared.stream.Stream.{Stream}
+use Rattle.codec_payload_session.specs.declared.stream.StreamState.{StreamState}
 
-taken_if : (b : Bool) (s : Stream) → (reported_if b s).taken ≡ s.taken
+taken_if : (b : Bool) (s : StreamState) → (reported_if b s).taken ≡ s.taken
 taken_if true s = refl
 taken_if false s = refl
 
-taken_reported : (ss : List Stream) → taken_in (all_reported ss) ≡ taken_in ss
+taken_reported : (ss : List StreamState) → taken_in (all_reported ss) ≡ taken_in ss
 taken_reported [] = refl
 taken_reported (s ∷ ss) = omega (arith, taken_if (is_reported s ss) s, taken_reported ss)
 
-length_reported : (ss : List Stream) → length (all_reported ss) ≡ length ss
+length_reported : (ss : List StreamState) → length (all_reported ss) ≡ length ss
 length_reported [] = refl
 length_reported (s ∷ ss) = ap suc (length_reported ss)
 

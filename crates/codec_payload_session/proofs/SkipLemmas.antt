@@ -12,13 +12,13 @@ use Rattle.codec_payload_stream.specs.Pops.{DropsUnits, PopsGated, PopsOnce, non
 use Rattle.codec_payload_stream.specs.Sessions.{Session as Receiver}
 use Rattle.codec_payload_session.specs.Quiet.{AsksNothing, IsBefore, IsKnown, IsQuiet, IsQuietUntil, MayRest, PopsNothing, Rests, RestsUntil, or_none, time_of}
 use Rattle.codec_payload_session.specs.Requests.{Asking, Asks, is_heard, requests_due}
-use Rattle.codec_payload_session.specs.Streams.{Drains, Plays, Pops, RequestsBy, RestsBy, Steps, StepsBy, Stream, earlier, end_by, is_probation, request_deadline, step_of, work_deadline}
+use Rattle.codec_payload_session.specs.Streams.{Drains, Plays, Pops, RequestsBy, RestsBy, Steps, StepsBy, StreamState, earlier, end_by, is_probation, request_deadline, step_of, work_deadline}
 use Rattle.codec_payload_session.specs.declared.stream.Ending.{Ending}
 use Rattle.codec_payload_session.specs.declared.stream.Ending.TheVariants as endings
 use Rattle.codec_payload_session.specs.declared.stream.Stage.{Stage}
 use Rattle.codec_payload_session.specs.declared.stream.Stage.TheVariants as stages
 use Rattle.codec_payload_session.specs.declared.stream.Step.TheVariants as steps
-use Rattle.codec_payload_session.specs.declared.stream.Stream.TheInside.{Inside}
+use Rattle.codec_payload_session.specs.declared.stream.StreamState.TheInside.{Inside}
 use Rattle.codec_payload_session.proofs.CalmLemmas.{asks_again}
 use Rattle.codec_payload_session.proofs.RestLemmas.{pops_again, pops_few}
 
@@ -63,7 +63,7 @@ nothing_popped now r pops = record {
 
 -- ---- a step that is not made
 
-asks_by : (o : Option Asking) (now : ℕ) (s : Stream) → s.feedback ≡ o → AsksNothing o now s.last s.receiver → RequestsBy o now s steps.Nothing s
+asks_by : (o : Option Asking) (now : ℕ) (s : StreamState) → s.feedback ≡ o → AsksNothing o now s.last s.receiver → RequestsBy o now s steps.Nothing s
 asks_by None now s is asks = (refl, refl)
 asks_by (Some a) now s is asks = record {
   told = Ok None;
@@ -79,10 +79,10 @@ known zero now work told stage last feedback r less quiet = absurd (omega (arith
 known (suc until) now work told stage last feedback r less quiet = quiet
 
 -- the time that a stream keeps is its own
-pub kept_work : (until : ℕ) (work : Option ℕ) (s : Stream) → 0 < until → IsQuietUntil until work s.told s.stage s.last s.feedback s.receiver → work ≡ work_deadline s
+pub kept_work : (until : ℕ) (work : Option ℕ) (s : StreamState) → 0 < until → IsQuietUntil until work s.told s.stage s.last s.feedback s.receiver → work ≡ work_deadline s
 kept_work until work s less quiet = (known until 0 work s.told s.stage s.last s.feedback s.receiver less quiet).work_is
 
-quiet_steps : (now : Ticks) (idle : ℕ) (s : Stream) → nat_le idle (now.0 - s.last) ≡ false → IsQuiet now.0 s.told s.stage s.last s.feedback s.receiver → Steps now idle s steps.Nothing s
+quiet_steps : (now : Ticks) (idle : ℕ) (s : StreamState) → nat_le idle (now.0 - s.last) ≡ false → IsQuiet now.0 s.told s.stage s.last s.feedback s.receiver → Steps now idle s steps.Nothing s
 quiet_steps now idle s awake quiet =
     let lasts : end_by now.0 idle s.last s.stage ≡ None =
     ap (λ (g : Stage). end_by now.0 idle s.last g) quiet.plays ∙ ap (λ (b : Bool). if b then Some endings.Timeout else None) awake in
@@ -94,7 +94,7 @@ quiet_steps now idle s awake quiet =
     (subst (λ (b : Bool). StepsBy false b now idle s steps.Nothing s) (sym quiet.is_told) plays)
 
 -- by the fields of the stream
-pub skips : (until : ℕ) (work : Option ℕ) (now : Ticks) (idle : ℕ) (s : Stream) → now.0 < until → now.0 - s.last < idle
+pub skips : (until : ℕ) (work : Option ℕ) (now : Ticks) (idle : ℕ) (s : StreamState) → now.0 < until → now.0 - s.last < idle
     → IsQuietUntil until work s.told s.stage s.last s.feedback s.receiver → Steps now idle s steps.Nothing s
 skips until work now idle s less awake quiet =
     quiet_steps now idle s (grind (arith, nat_tests)) ((known until now.0 work s.told s.stage s.last s.feedback s.receiver less quiet).quiet now.0 less)
@@ -102,7 +102,7 @@ skips until work now idle s less awake quiet =
 -- ---- when a stream is quiet
 
 -- what a stream that plays requested, and its receiver
-abbrev Asked : ℕ → Stream → Stream → Type 0
+abbrev Asked : ℕ → StreamState → StreamState → Type 0
 Asked now s t =
     (t.receiver ≡ s.receiver)
     × ((later : ℕ) → MayRest t.feedback now later t.last t.receiver → IsBefore (requests_due t.feedback) later → AsksNothing t.feedback later t.last t.receiver)
@@ -112,22 +112,22 @@ told_none (Ok None) is = refl
 told_none (Ok (Some packet)) is = absurd (cc)
 told_none (Err e) is = absurd (cc)
 
-asked_by : (o : Option Asking) (now : ℕ) (s t : Stream) → RequestsBy o now s steps.Nothing t → s.feedback ≡ o → Asked now s t
+asked_by : (o : Option Asking) (now : ℕ) (s t : StreamState) → RequestsBy o now s steps.Nothing t → s.feedback ≡ o → Asked now s t
 asked_by None now s t asked is = (
-  ap (λ (x : Stream). x.receiver) asked.1,
-  λ later may before. subst (λ (o : Option Asking). AsksNothing o later t.last t.receiver) (sym (ap (λ (x : Stream). x.feedback) asked.1 ∙ is)) tt,
+  ap (λ (x : StreamState). x.receiver) asked.1,
+  λ later may before. subst (λ (o : Option Asking). AsksNothing o later t.last t.receiver) (sym (ap (λ (x : StreamState). x.feedback) asked.1 ∙ is)) tt,
 )
-asked_by (Some a) now s t asked is = subst (λ (x : Stream). Asked now s x) (sym asked.after) (
+asked_by (Some a) now s t asked is = subst (λ (x : StreamState). Asked now s x) (sym asked.after) (
   refl,
   λ later may before.
       asks_again now later s.last s.receiver a asked.asking
       (subst (λ (told : Result (Option (Vec ℕ)) AllocError). Asks now (is_heard now s.last a) s.receiver a told asked.asking) (told_none asked.told asked.answers) asked.asks) may before,
 )
 
-stays : (s t : Stream) (stage : Stage) → t ≡ s → s.stage ≡ stage → t.stage ≡ stage
-stays s t stage same is = ap (λ (x : Stream). x.stage) same ∙ is
+stays : (s t : StreamState) (stage : Stage) → t ≡ s → s.stage ≡ stage → t.stage ≡ stage
+stays s t stage same is = ap (λ (x : StreamState). x.stage) same ∙ is
 
-rested_by : (g : Stage) (now : ℕ) (s t : Stream) → s.stage ≡ g → RestsBy g now s steps.Nothing t → t.stage ≡ stages.Playing → Asked now s t
+rested_by : (g : Stage) (now : ℕ) (s t : StreamState) → s.stage ≡ g → RestsBy g now s steps.Nothing t → t.stage ≡ stages.Playing → Asked now s t
 rested_by stages.Probation now s t is rests plays = let other : stages.Probation ≡ stages.Playing = sym (stays s t stages.Probation rests.1 is) ∙ plays in absurd (cc)
 rested_by stages.Playing now s t is rests plays = asked_by s.feedback now s t rests refl
 rested_by (stages.Leaving why at) now s t is rests plays =
@@ -153,7 +153,7 @@ time_kept (Some (suc n)) before =
     ap (λ (b : Bool). if b then None else Some (suc n)) other
 
 -- a stream that had no unit and nothing to request, and of which no packet left
-pub rests_until : (now until kept : ℕ) (work : Option ℕ) (r : Receiver) (s t : Stream) → PopsGated now r None s.receiver → RestsBy s.stage now s steps.Nothing t
+pub rests_until : (now until kept : ℕ) (work : Option ℕ) (r : Receiver) (s t : StreamState) → PopsGated now r None s.receiver → RestsBy s.stage now s steps.Nothing t
     → length t.receiver.packets.buffer.held ≡ length r.packets.buffer.held → work ≡ work_deadline t → kept ≡ or_none work → RestsUntil until now t
     → IsQuietUntil until (time_of kept) t.told t.stage t.last t.feedback t.receiver
 rests_until now until kept work r s t popped rests same work_is kept_is can = quiet_until until (time_of kept) t.told t.stage t.last t.feedback t.receiver (λ some. record {
@@ -176,7 +176,7 @@ rests_until now until kept work r s t popped rests same work_is kept_is can = qu
 -- ---- fields
 
 -- the value of these fields
-abbrev pub seen : Inside → Stream
+abbrev pub seen : Inside → StreamState
 seen s = record {
   ssrc = s.ssrc;
   format = s.format;

@@ -22,7 +22,7 @@ use Rattle.codec_payload_session.specs.declared.sort.Sorted.{Sorted}
 use Rattle.codec_payload_session.specs.declared.sort.Sorted.TheVariants as sorted
 use Rattle.codec_payload_session.specs.declared.stream.Ending.{Ending}
 use Rattle.codec_payload_session.specs.declared.stream.Ending.TheVariants as endings
-use Rattle.codec_payload_session.specs.declared.stream.Stream.{Stream}
+use Rattle.codec_payload_session.specs.declared.stream.StreamState.{StreamState}
 use Rattle.codec_payload_session.specs.declared.streams.Who.{Who}
 use Rattle.codec_payload_session.specs.declared.streams.Who.TheVariants as whos
 
@@ -32,7 +32,7 @@ sum_wrapped m n = (m + n) % 2 ^ 64
 -- the streams in the order in which they began, whether new streams are refused, and how many datagrams the removed streams
 -- took
 pub record Port : Type 0 where
-  pub streams : List Stream
+  pub streams : List StreamState
   pub finished : Bool
   pub ended : ℕ
 
@@ -80,10 +80,10 @@ abbrev pub includes : Who → ℕ → Bool
 includes whos.All ssrc = true
 includes (whos.Of own) ssrc = own == ssrc
 
-abbrev pub left_if : (ℕ → Bool) → Ending → ℕ → Stream → Stream
+abbrev pub left_if : (ℕ → Bool) → Ending → ℕ → StreamState → StreamState
 left_if who why at s = left_when (who s.ssrc) why at s
 
-abbrev pub left_where : (ℕ → Bool) → Ending → ℕ → List Stream → List Stream
+abbrev pub left_where : (ℕ → Bool) → Ending → ℕ → List StreamState → List StreamState
 left_where who why at ss = map (left_if who why at) ss
 
 -- ---- a datagram for a stream that exists
@@ -95,8 +95,8 @@ Arrives true arrival answer = IsErr answer
 
 -- the stream at a place receives it, and no other stream changes
 pub record Feeds (probation place : ℕ) (now : Ticks) (bytes : List ℕ) (p : Port) (answer : Result Arrival AllocError) (q : Port) : Type 0 where
-  pub stream : Stream
-  pub after : Stream
+  pub stream : StreamState
+  pub after : StreamState
   pub told : Result Outcome ReceiveError
   pub there : slice_get p.streams place ≡ Some stream
   pub takes : Takes now probation bytes stream told after
@@ -110,17 +110,17 @@ FeedsIf (Some place) arrival probation now bytes p answer q = Feeds probation pl
 
 -- ---- a datagram that begins a stream
 
-abbrev pub on_probation : Stream → Bool
+abbrev pub on_probation : StreamState → Bool
 on_probation s = is_probation s.stage
 
 -- the stream that is removed for a new one: if all places are taken, the first stream in probation
-abbrev pub leaving : ℕ → List Stream → Option ℕ
+abbrev pub leaving : ℕ → List StreamState → Option ℕ
 leaving most ss = if nat_lt (length ss) most then None else position on_probation ss
 
 abbrev pub has_place : ℕ → Port → Bool
 has_place most p = not p.finished && (nat_lt (length p.streams) most || is_some (position on_probation p.streams))
 
-abbrev pub taken_of : Option Stream → ℕ
+abbrev pub taken_of : Option StreamState → ℕ
 taken_of None = 0
 taken_of (Some s) = s.taken
 
@@ -132,13 +132,13 @@ abbrev pub without : Option ℕ → Port → Port
 without None p = p
 without (Some place) p = removed place p
 
-abbrev pub added : ℕ → Stream → Port → Port
+abbrev pub added : ℕ → StreamState → Port → Port
 added most s p = without (leaving most p.streams) (record p { streams = p.streams ++ s ∷ [] })
 
 -- a new stream receives the datagram, and is added
 pub record BeginsWith (settings : SessionSettings) (ssrc : ℕ) (f : Format) (now : Ticks) (bytes : List ℕ) (p : Port) (answer : Result Arrival AllocError) (q : Port) : Type 0 where
-  pub stream : Stream
-  pub after : Stream
+  pub stream : StreamState
+  pub after : StreamState
   pub told : Result Outcome ReceiveError
   pub begins : Begins settings ssrc f stream
   pub takes : Takes now settings.probation bytes stream told after
@@ -169,7 +169,7 @@ pub record TakesMedia (settings : SessionSettings) (ssrc : ℕ) (f : Format) (no
 
 -- ---- any datagram; RTCP ends the streams that its BYE names, and states clocks of streams by its sender reports
 
-abbrev pub has_ssrc : ℕ → Stream → Bool
+abbrev pub has_ssrc : ℕ → StreamState → Bool
 has_ssrc ssrc s = s.ssrc == ssrc
 
 abbrev pub TakesInAs : Sorted → SessionSettings → Ticks → List ℕ → Port → Result Arrival AllocError → Port → Type 0

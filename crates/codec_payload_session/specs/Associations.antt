@@ -21,7 +21,7 @@ use Rattle.codec_payload_session.specs.declared.formats.SessionSettings.{Session
 use Rattle.codec_payload_session.specs.declared.formats.SsrcPair.{SsrcPair}
 use Rattle.codec_payload_session.specs.declared.session.Arrival.{Arrival}
 use Rattle.codec_payload_session.specs.declared.session.Arrival.TheVariants as arrivals
-use Rattle.codec_payload_session.specs.declared.stream.Stream.{Stream}
+use Rattle.codec_payload_session.specs.declared.stream.StreamState.{StreamState}
 
 -- ---- the retransmission
 
@@ -59,34 +59,34 @@ is_at_most most (Some n) = nat_le n most
 
 -- a retransmission keeps the RTP time of its original packet. So the RTP time is at most 10 s from the clock of the stream's sender,
 -- by the stream's latest packet, either way round the 32 bits
-abbrev pub is_on_time : ℕ → ℕ → Stream → Bool
+abbrev pub is_on_time : ℕ → ℕ → StreamState → Bool
 is_on_time now rtp_time s = is_at_most (10 * s.format.spec.clock_rate) (transit_change s.receiver.reception now rtp_time)
 
 -- the stream plays, has the format of the retransmission, has requested its original number, is on time, and is in no pair
-abbrev pub may_be_of : List SsrcPair → ℕ → Unpaired → Stream → Bool
+abbrev pub may_be_of : List SsrcPair → ℕ → Unpaired → StreamState → Bool
 may_be_of pairs now u s =
     is_playing s.stage && (s.format.payload_type == u.payload_type) && has_requested u.number s.feedback && is_on_time now u.rtp_time s
     && not (has_pair s.ssrc pairs)
 
 -- the SSRC of the only stream in the list
-abbrev pub only_ssrc : List Stream → Option ℕ
+abbrev pub only_ssrc : List StreamState → Option ℕ
 only_ssrc [] = None
 only_ssrc (s ∷ []) = Some s.ssrc
 only_ssrc (s ∷ t ∷ ss) = None
 
 -- the SSRC of the stream, if exactly one fits
-abbrev pub owner_of : List SsrcPair → ℕ → Unpaired → List Stream → Option ℕ
+abbrev pub owner_of : List SsrcPair → ℕ → Unpaired → List StreamState → Option ℕ
 owner_of pairs now u ss = only_ssrc (filter (may_be_of pairs now u) ss)
 
 abbrev pub pair_with : Option ℕ → ℕ → Option SsrcPair
 pair_with ssrc retransmission = option_map (λ own. record { ssrc = own; retransmission = retransmission }) ssrc
 
-abbrev pub pair_of : Option Unpaired → List SsrcPair → ℕ → List Stream → Option SsrcPair
+abbrev pub pair_of : Option Unpaired → List SsrcPair → ℕ → List StreamState → Option SsrcPair
 pair_of None pairs now ss = None
 pair_of (Some u) pairs now ss = pair_with (owner_of pairs now u ss) u.ssrc
 
 -- the pair of the stream's SSRC and the datagram's, if the datagram is such a retransmission and exactly one stream fits
-abbrev pub pair_at : SessionSettings → ℕ → List ℕ → List Stream → Option SsrcPair
+abbrev pub pair_at : SessionSettings → ℕ → List ℕ → List StreamState → Option SsrcPair
 pair_at s now bytes ss = pair_of (unpaired_at s bytes) s.pairs.items now ss
 
 -- ---- the pair is added, and the datagram received

@@ -10,7 +10,7 @@ use Rattle.codec_payload_session.specs.declared.formats.Format.{Format}
 use Rattle.codec_payload_session.specs.declared.stream.Ending.TheVariants as endings
 use Rattle.codec_payload_session.specs.declared.stream.Stage.{Stage}
 use Rattle.codec_payload_session.specs.declared.stream.Stage.TheVariants as stages
-use Rattle.codec_payload_session.specs.declared.stream.Stream.{Stream}
+use Rattle.codec_payload_session.specs.declared.stream.StreamState.{StreamState}
 
 -- telephone events and comfort noise are sent in turn with audio, which goes on
 abbrev pub takes_turns : Codec → Bool
@@ -44,27 +44,27 @@ is_playing stages.Playing = true
 is_playing (stages.Leaving why at) = false
 is_playing (stages.Draining why) = false
 
-abbrev pub plays : ℕ → ℕ → Stream → Bool
+abbrev pub plays : ℕ → ℕ → StreamState → Bool
 plays ssrc payload_type s = is_of ssrc payload_type s && is_playing s.stage
 
 -- the sender goes on in this format: its stream is announced
-abbrev pub continues : ℕ → Format → List Stream → Bool
+abbrev pub continues : ℕ → Format → List StreamState → Bool
 continues ssrc f ss = not (takes_turns f.spec.codec) && is_some (position (plays ssrc f.payload_type) ss)
 
 -- the stream is of the same SSRC and kind and of another format, and took no datagram for `wait` ticks
-abbrev pub is_left_behind : ℕ → ℕ → ℕ → Format → Stream → Bool
+abbrev pub is_left_behind : ℕ → ℕ → ℕ → Format → StreamState → Bool
 is_left_behind now wait ssrc f s =
     (s.ssrc == ssrc) && not (s.format.payload_type == f.payload_type) && not (takes_turns s.format.spec.codec)
     && are_alike (is_video s.format.spec.codec) (is_video f.spec.codec) && is_playing s.stage && nat_le wait (now - s.last)
 
 -- the sender left one of the streams for this format
-abbrev pub any_left_behind : ℕ → ℕ → ℕ → Format → List Stream → Bool
+abbrev pub any_left_behind : ℕ → ℕ → ℕ → Format → List StreamState → Bool
 any_left_behind now wait ssrc f [] = false
 any_left_behind now wait ssrc f (s ∷ ss) = is_left_behind now wait ssrc f s || any_left_behind now wait ssrc f ss
 
-abbrev pub left_behind : ℕ → ℕ → ℕ → Format → Stream → Stream
+abbrev pub left_behind : ℕ → ℕ → ℕ → Format → StreamState → StreamState
 left_behind now wait ssrc f s = left_when (is_left_behind now wait ssrc f s) endings.Changed now s
 
-abbrev pub continued : Bool → ℕ → ℕ → ℕ → Format → List Stream → List Stream
+abbrev pub continued : Bool → ℕ → ℕ → ℕ → Format → List StreamState → List StreamState
 continued true now wait ssrc f ss = map (left_behind now wait ssrc f) ss
 continued false now wait ssrc f ss = ss

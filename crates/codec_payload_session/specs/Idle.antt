@@ -9,14 +9,14 @@ use Rattle.codec_payload_session.specs.Streams.{due_in, earlier}
 use Rattle.codec_payload_session.specs.Telephone.{due_before}
 use Rattle.codec_payload_session.specs.declared.session.Event.{Event}
 use Rattle.codec_payload_session.specs.declared.session.Event.TheVariants as events
-use Rattle.codec_payload_session.specs.declared.stream.Stream.{Stream}
+use Rattle.codec_payload_session.specs.declared.stream.StreamState.{StreamState}
 
 -- when a poll may have an event without a datagram: at once while telephone events wait, else the time of a stream or of the report
 abbrev pub next_of : Session → Option ℕ
 next_of s = due_before s.telephone (earlier (due_in s.settings.idle_timeout s.port.streams) (report_deadline s.report_due s.port.streams))
 
 -- how many packets the streams hold
-abbrev pub held_in : List Stream → ℕ
+abbrev pub held_in : List StreamState → ℕ
 held_in [] = 0
 held_in (s ∷ ss) = length s.receiver.packets.buffer.held + held_in ss
 

@@ -4,7 +4,7 @@ use Rattle.std.specs.Global.{Vec}
 use Rattle.codec_payload_session.specs.Formats.{retransmission_for}
 use Rattle.codec_payload_session.specs.Ports.{Session}
 use Rattle.codec_payload_session.specs.declared.formats.SsrcPair.{SsrcPair}
-use Rattle.codec_payload_session.specs.declared.stream.Stream.{Stream}
+use Rattle.codec_payload_session.specs.declared.stream.StreamState.{StreamState}
 
 -- ---- lists of pairs
 
@@ -23,20 +23,20 @@ without_pair ssrc pairs = filter (λ (pair : SsrcPair). not (pair.ssrc == ssrc))
 -- ---- streams
 
 -- the stream takes the retransmissions that its SSRC has by these pairs
-abbrev pub paired : List SsrcPair → Stream → Stream
+abbrev pub paired : List SsrcPair → StreamState → StreamState
 paired pairs s = record s {
   receiver = record s.receiver { stream = record s.receiver.stream { retransmission = retransmission_for s.ssrc s.format.retransmission pairs } };
 }
 
-abbrev pub paired_when : Bool → List SsrcPair → Stream → Stream
+abbrev pub paired_when : Bool → List SsrcPair → StreamState → StreamState
 paired_when true pairs s = paired pairs s
 paired_when false pairs s = s
 
 -- a stream of another SSRC does not change
-abbrev pub paired_if : ℕ → List SsrcPair → Stream → Stream
+abbrev pub paired_if : ℕ → List SsrcPair → StreamState → StreamState
 paired_if ssrc pairs s = paired_when (s.ssrc == ssrc) pairs s
 
-abbrev pub paired_where : ℕ → List SsrcPair → List Stream → List Stream
+abbrev pub paired_where : ℕ → List SsrcPair → List StreamState → List StreamState
 paired_where ssrc pairs ss = map (paired_if ssrc pairs) ss
 
 -- the session has these pairs from now on, and the streams of this SSRC take its retransmissions by them

@@ -18,7 +18,7 @@ use Rattle.codec_payload_session.specs.declared.session.ArrivalCounts.{ArrivalCo
 use Rattle.codec_payload_session.specs.declared.session.SessionCounts.{SessionCounts}
 use Rattle.codec_payload_session.specs.declared.stream.Ending.TheVariants as endings
 use Rattle.codec_payload_session.specs.declared.stream.StreamInfo.{StreamInfo}
-use Rattle.codec_payload_session.specs.declared.stream.Stream.{Stream}
+use Rattle.codec_payload_session.specs.declared.stream.StreamState.{StreamState}
 
 -- the settings, the streams, the counters of datagrams, the packets of telephone events that wait, and when the next report is due
 pub record Session : Type 0 where
@@ -51,7 +51,7 @@ counted_if (Ok arrival) c = counted arrival c
 counted_if (Err e) c = c
 
 -- how many datagrams the streams took
-abbrev pub taken_in : List Stream → ℕ
+abbrev pub taken_in : List StreamState → ℕ
 taken_in [] = 0
 taken_in (s ∷ ss) = s.taken + taken_in ss
 
@@ -98,7 +98,7 @@ waits_of ssrc payload_type limits s = record s { port = record s.port { streams 
 
 -- the stream at a place gives its block; no other stream changes
 pub record ReportsOn (place tick_rate now : ℕ) (p : Port) (answer : Option ReportBlock) (q : Port) : Type 0 where
-  pub stream : Stream
+  pub stream : StreamState
   pub there : slice_get p.streams place ≡ Some stream
   pub answers : answer ≡ block_of tick_rate now stream
   pub left : q ≡ record p { streams = slice_set p.streams place (reported_by stream) }
@@ -131,11 +131,11 @@ abbrev pub IsSum : SessionCounts → ℕ → Type 0
 IsSum c taken = c.received % 2 ^ 64 ≡ (c.rtcp + c.malformed + c.unknown + c.refused + c.unassociated + c.ended + taken) % 2 ^ 64
 
 -- the receiver of the stream at a place
-abbrev pub receiver_among : Option ℕ → List Stream → Option Receiver
+abbrev pub receiver_among : Option ℕ → List StreamState → Option Receiver
 receiver_among None streams = None
 receiver_among (Some place) streams = option_map (λ stream. stream.receiver) (slice_get streams place)
 
-abbrev pub MatchInfo : Option Stream → Option StreamInfo → Type 0
+abbrev pub MatchInfo : Option StreamState → Option StreamInfo → Type 0
 MatchInfo None None = Unit {0}
 MatchInfo None (Some i) = ⊥
 MatchInfo (Some s) None = ⊥

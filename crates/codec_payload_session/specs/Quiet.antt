@@ -4,7 +4,7 @@ use Rattle.codec_payload_jitter.specs.Missing.{missing_numbers}
 use Rattle.codec_payload_jitter.specs.Receiving.{PopsWith, Receiving, deadline_of, settled, waiting_at}
 use Rattle.codec_payload_stream.specs.Sessions.{Session as Receiver}
 use Rattle.codec_payload_session.specs.Requests.{Asking, Asks, is_heard}
-use Rattle.codec_payload_session.specs.Streams.{Stream, earlier, request_deadline, work_deadline}
+use Rattle.codec_payload_session.specs.Streams.{StreamState, earlier, request_deadline, work_deadline}
 use Rattle.codec_payload_session.specs.declared.stream.Stage.{Stage}
 use Rattle.codec_payload_session.specs.declared.stream.Stage.TheVariants as stages
 
@@ -63,7 +63,7 @@ MayRest None now later last r = Unit {0}
 MayRest (Some a) now later last r = (is_calm a r ≡ true) ⊎ (is_heard now last a ≡ true) × (is_heard later last a ≡ true)
 
 -- if the stream had nothing at `now`, it has nothing later
-pub record Rests (now later : ℕ) (s : Stream) : Type 0 where
+pub record Rests (now later : ℕ) (s : StreamState) : Type 0 where
   pub is_told : s.told ≡ true
   pub plays : s.stage ≡ stages.Playing
   pub few : later < 2 ^ 64
@@ -71,5 +71,5 @@ pub record Rests (now later : ℕ) (s : Stream) : Type 0 where
   pub asks : MayRest s.feedback now later s.last s.receiver
 
 -- the same for each time before `until`
-abbrev pub RestsUntil : ℕ → ℕ → Stream → Type 0
+abbrev pub RestsUntil : ℕ → ℕ → StreamState → Type 0
 RestsUntil until now s = (later : ℕ) → later < until → Rests now later s

@@ -13,20 +13,20 @@ use Rattle.codec_payload_session.specs.Reports.{block_of, reported_by}
 use Rattle.codec_payload_session.specs.Requests.{source_for}
 use Rattle.codec_payload_session.specs.Streams.{later}
 use Rattle.codec_payload_session.specs.declared.formats.FeedbackSettings.{FeedbackSettings}
-use Rattle.codec_payload_session.specs.declared.stream.Stream.{Stream}
+use Rattle.codec_payload_session.specs.declared.stream.StreamState.{StreamState}
 
 -- ---- the streams of a report
 
 -- a stream of the SSRC is announced
-abbrev pub has_announced : ℕ → List Stream → Bool
+abbrev pub has_announced : ℕ → List StreamState → Bool
 has_announced ssrc [] = false
 has_announced ssrc (s ∷ ss) = (s.told && (s.ssrc == ssrc)) || has_announced ssrc ss
 
 -- the stream is announced, and no later announced stream has its SSRC
-abbrev pub is_reported : Stream → List Stream → Bool
+abbrev pub is_reported : StreamState → List StreamState → Bool
 is_reported s later = s.told && not (has_announced s.ssrc later)
 
-abbrev pub is_first_reported : List Stream → Bool
+abbrev pub is_first_reported : List StreamState → Bool
 is_first_reported [] = false
 is_first_reported (s ∷ later) = is_reported s later
 
@@ -34,21 +34,21 @@ abbrev pub blocks_with : Option ReportBlock → List ReportBlock → List Report
 blocks_with None bs = bs
 blocks_with (Some b) bs = b ∷ bs
 
-abbrev pub blocks_if : Bool → ℕ → ℕ → Stream → List ReportBlock → List ReportBlock
+abbrev pub blocks_if : Bool → ℕ → ℕ → StreamState → List ReportBlock → List ReportBlock
 blocks_if true tick_rate now s bs = blocks_with (block_of tick_rate now s) bs
 blocks_if false tick_rate now s bs = bs
 
 -- the blocks about the reported streams that have one, in the order in which the streams began
-abbrev pub blocks_of : ℕ → ℕ → List Stream → List ReportBlock
+abbrev pub blocks_of : ℕ → ℕ → List StreamState → List ReportBlock
 blocks_of tick_rate now [] = []
 blocks_of tick_rate now (s ∷ ss) = blocks_if (is_reported s ss) tick_rate now s (blocks_of tick_rate now ss)
 
-abbrev pub reported_if : Bool → Stream → Stream
+abbrev pub reported_if : Bool → StreamState → StreamState
 reported_if true s = reported_by s
 reported_if false s = s
 
 -- the next report of each reported stream starts its fraction here
-abbrev pub all_reported : List Stream → List Stream
+abbrev pub all_reported : List StreamState → List StreamState
 all_reported [] = []
 all_reported (s ∷ ss) = reported_if (is_reported s ss) s ∷ all_reported ss
 
@@ -88,7 +88,7 @@ pub record IsReport (f : FeedbackSettings) (blocks : List ℕ) (bytes : List ℕ
 
 -- ---- when a report is sent
 
-abbrev pub any_announced : List Stream → Bool
+abbrev pub any_announced : List StreamState → Bool
 any_announced [] = false
 any_announced (s ∷ ss) = s.told || any_announced ss
 
@@ -97,7 +97,7 @@ is_time now None = false
 is_time now (Some at) = nat_le at now
 
 -- a report is due: its time has come, and a stream is announced
-abbrev pub is_report_due : ℕ → Option ℕ → List Stream → Bool
+abbrev pub is_report_due : ℕ → Option ℕ → List StreamState → Bool
 is_report_due now due ss = any_announced ss && is_time now due
 
 abbrev pub due_again : ℕ → ℕ → Option ℕ → Option ℕ
@@ -141,5 +141,5 @@ abbrev pub deadline_if : Bool → Option ℕ → Option ℕ
 deadline_if true due = due
 deadline_if false due = None
 
-abbrev pub report_deadline : Option ℕ → List Stream → Option ℕ
+abbrev pub report_deadline : Option ℕ → List StreamState → Option ℕ
 report_deadline due ss = deadline_if (any_announced ss) due

@@ -10,7 +10,7 @@ use Rattle.codec_payload_rtcp.specs.declared.packet.RtcpError.{RtcpError}
 use Rattle.codec_payload_stream.specs.Reports.{report_of, reported}
 use Rattle.codec_payload_stream.specs.declared.reports.ReceptionReport.{ReceptionReport}
 use Rattle.codec_payload_session.specs.declared.reports.SenderClock.{SenderClock}
-use Rattle.codec_payload_session.specs.declared.stream.Stream.{Stream}
+use Rattle.codec_payload_session.specs.declared.stream.StreamState.{StreamState}
 
 -- ---- the clock of a sender
 
@@ -67,34 +67,34 @@ clock_after now None clock = clock
 clock_after now (Some r) clock = Some (clock_of now r)
 
 -- the packets arrived at this time
-abbrev pub noted : Ticks → List Packet → Stream → Stream
+abbrev pub noted : Ticks → List Packet → StreamState → StreamState
 noted now ps s = record s { sender_clock = clock_after now (latest s.ssrc ps) s.sender_clock }
 
-abbrev pub noted_where : Ticks → List Packet → List Stream → List Stream
+abbrev pub noted_where : Ticks → List Packet → List StreamState → List StreamState
 noted_where now ps ss = map (noted now ps) ss
 
 -- a compound packet with a fault has no reports
-abbrev pub noted_in : Ticks → Result (List Packet) RtcpError → List Stream → List Stream
+abbrev pub noted_in : Ticks → Result (List Packet) RtcpError → List StreamState → List StreamState
 noted_in now (Ok ps) ss = noted_where now ps ss
 noted_in now (Err e) ss = ss
 
 -- the streams after a datagram of RTCP
-abbrev pub noted_at : Ticks → List ℕ → List Stream → List Stream
+abbrev pub noted_at : Ticks → List ℕ → List StreamState → List StreamState
 noted_at now bytes ss = noted_in now (compound_at false bytes) ss
 
 -- the clock of the stream, if it has this SSRC
-abbrev pub clocked_if : ℕ → SenderClock → Stream → Stream
+abbrev pub clocked_if : ℕ → SenderClock → StreamState → StreamState
 clocked_if ssrc clock s = if s.ssrc == ssrc then record s { sender_clock = Some clock } else s
 
-abbrev pub clocked_where : ℕ → SenderClock → List Stream → List Stream
+abbrev pub clocked_where : ℕ → SenderClock → List StreamState → List StreamState
 clocked_where ssrc clock ss = map (clocked_if ssrc clock) ss
 
-abbrev pub clock_in : Option Stream → Option SenderClock
+abbrev pub clock_in : Option StreamState → Option SenderClock
 clock_in None = None
 clock_in (Some s) = s.sender_clock
 
 -- the clock of the stream at a place
-abbrev pub clock_among : Option ℕ → List Stream → Option SenderClock
+abbrev pub clock_among : Option ℕ → List StreamState → Option SenderClock
 clock_among None ss = None
 clock_among (Some place) ss = clock_in (slice_get ss place)
 
@@ -123,9 +123,9 @@ block_about ssrc clock tick_rate now r = record {
 }
 
 -- the block about the sender of a stream; none if no packet of it arrived
-abbrev pub block_of : ℕ → ℕ → Stream → Option ReportBlock
+abbrev pub block_of : ℕ → ℕ → StreamState → Option ReportBlock
 block_of tick_rate now s = option_map (block_about s.ssrc s.sender_clock tick_rate now) (report_of s.receiver.reception)
 
 -- the next report starts its fraction here
-abbrev pub reported_by : Stream → Stream
+abbrev pub reported_by : StreamState → StreamState
 reported_by s = record s { receiver = record s.receiver { reception = reported s.receiver.reception } }

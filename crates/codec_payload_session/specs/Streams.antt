@@ -30,7 +30,7 @@ use Rattle.codec_payload_session.specs.declared.stream.StreamInfo.{StreamInfo}
 
 -- a stream, as contracts see it: its SSRC and format; its receiver; its stage; whether it was announced; how many datagrams it
 -- took, and how many of them were accepted; when the latest one arrived; what it requests; the clock of its sender
-pub record Stream : Type 0 where
+pub record StreamState : Type 0 where
   pub ssrc : ℕ
   pub format : Format
   pub receiver : Receiver
@@ -43,12 +43,12 @@ pub record Stream : Type 0 where
   pub sender_clock : Option SenderClock
 
 -- the stream has this SSRC and payload type
-abbrev pub is_of : ℕ → ℕ → Stream → Bool
+abbrev pub is_of : ℕ → ℕ → StreamState → Bool
 is_of ssrc payload_type s = (s.ssrc == ssrc) && (s.format.payload_type == payload_type)
 
 -- a stream without datagrams; its receiver is a new one with the stream's settings, nothing was requested, and no sender report
 -- arrived
-pub record Begins (settings : SessionSettings) (ssrc : ℕ) (f : Format) (s : Stream) : Type 0 where
+pub record Begins (settings : SessionSettings) (ssrc : ℕ) (f : Format) (s : StreamState) : Type 0 where
   pub ssrc_is : s.ssrc ≡ ssrc
   pub format : s.format ≡ f
   pub stage : s.stage ≡ stages.Probation
@@ -103,7 +103,7 @@ abbrev pub stage_after : ℕ → ℕ → Stage → Stage
 stage_after probation accepted stage = if is_probation stage && nat_le probation accepted then stages.Playing else stage
 
 -- one more datagram was received at this time
-abbrev pub heard : ℕ → ℕ → Bool → Stream → Stream
+abbrev pub heard : ℕ → ℕ → Bool → StreamState → StreamState
 heard now probation accepted s = record s {
   taken = next s.taken;
   last = now;
@@ -111,28 +111,28 @@ heard now probation accepted s = record s {
   stage = stage_after probation (accepted_after accepted s.accepted) s.stage;
 }
 
-abbrev pub heard_unless : Bool → ℕ → ℕ → Bool → Stream → Stream
+abbrev pub heard_unless : Bool → ℕ → ℕ → Bool → StreamState → StreamState
 heard_unless true now probation accepted s = s
 heard_unless false now probation accepted s = heard now probation accepted s
 
 -- frames wait for at most that time
-abbrev pub waiting_for : Option ℕ → Stream → Stream
+abbrev pub waiting_for : Option ℕ → StreamState → StreamState
 waiting_for None s = s
 waiting_for (Some wait) s = record s {
   receiver = record s.receiver { packets = record s.receiver.packets { wait_limits = record s.receiver.packets.wait_limits { max_wait = Some wait } } };
 }
 
 -- waiting follows the round trip
-abbrev pub following : Stream → Stream
+abbrev pub following : StreamState → StreamState
 following s = waiting_for (wait_by s.feedback) s
 
 -- the number of an accepted packet may answer a request, which measures the round trip
-abbrev pub received : ℕ → List ℕ → Bool → Receiver → Stream → Stream
+abbrev pub received : ℕ → List ℕ → Bool → Receiver → StreamState → StreamState
 received now bytes true r s = following (record s { receiver = r; feedback = heard_by now (number_at s.format bytes) s.feedback })
 received now bytes false r s = record s { receiver = r }
 
 -- the receiver receives the datagram; if memory runs out for it, nothing is counted
-abbrev pub Takes : Ticks → ℕ → List ℕ → Stream → Result Outcome ReceiveError → Stream → Type 0
+abbrev pub Takes : Ticks → ℕ → List ℕ → StreamState → Result Outcome ReceiveError → StreamState → Type 0
 Takes now probation bytes s answer t =
     (r : Receiver) × ReceivesBytes now bytes s.receiver answer r
     × (t ≡ heard_unless (is_no_memory answer) now.0 probation (is_accepted answer) (received now.0 bytes (is_accepted answer) r s))
@@ -146,22 +146,22 @@ stage_left why at stages.Playing = stages.Leaving why at
 stage_left why at (stages.Leaving first before) = stages.Leaving first (min before at)
 stage_left why at (stages.Draining first) = stages.Draining first
 
-abbrev pub left : Ending → ℕ → Stream → Stream
+abbrev pub left : Ending → ℕ → StreamState → StreamState
 left why at s = record s { stage = stage_left why at s.stage }
 
-abbrev pub left_when : Bool → Ending → ℕ → Stream → Stream
+abbrev pub left_when : Bool → Ending → ℕ → StreamState → StreamState
 left_when true why at s = left why at s
 left_when false why at s = s
 
 -- the wait limits of the stream are replaced, if it has this SSRC and payload type
-abbrev pub waiting_when : Bool → WaitLimits → Stream → Stream
+abbrev pub waiting_when : Bool → WaitLimits → StreamState → StreamState
 waiting_when true limits s = record s { receiver = record s.receiver { packets = record s.receiver.packets { wait_limits = limits } } }
 waiting_when false limits s = s
 
-abbrev pub waiting_if : ℕ → ℕ → WaitLimits → Stream → Stream
+abbrev pub waiting_if : ℕ → ℕ → WaitLimits → StreamState → StreamState
 waiting_if ssrc payload_type limits s = waiting_when (is_of ssrc payload_type s) limits s
 
-abbrev pub waiting_where : ℕ → ℕ → WaitLimits → List Stream → List Stream
+abbrev pub waiting_where : ℕ → ℕ → WaitLimits → List StreamState → List StreamState
 waiting_where ssrc payload_type limits ss = map (waiting_if ssrc payload_type limits) ss
 
 -- why the stream ends at this time, if it does
@@ -171,11 +171,11 @@ end_by now idle last stages.Playing = if nat_le idle (now - last) then Some endi
 end_by now idle last (stages.Leaving why at) = if nat_le at now then Some why else None
 end_by now idle last (stages.Draining why) = None
 
-abbrev pub end_of : ℕ → ℕ → Stream → Option Ending
+abbrev pub end_of : ℕ → ℕ → StreamState → Option Ending
 end_of now idle s = end_by now idle s.last s.stage
 
 -- the receiver is finished, so that pops wait for nothing
-abbrev pub Drains : Option Ending → Stream → Stream → Type 0
+abbrev pub Drains : Option Ending → StreamState → StreamState → Type 0
 Drains None s t = t ≡ s
 Drains (Some why) s t = (r : Receiver) × Finishes s.receiver r × (t ≡ record s { receiver = r; stage = stages.Draining why })
 
@@ -187,7 +187,7 @@ step_of (Ok None) = steps.Nothing
 step_of (Ok (Some packet)) = steps.Feedback (Ok packet)
 step_of (Err e) = steps.Feedback (Err e)
 
-pub record RequestsWith (now : ℕ) (a : Asking) (s : Stream) (answer : Step) (t : Stream) : Type 0 where
+pub record RequestsWith (now : ℕ) (a : Asking) (s : StreamState) (answer : Step) (t : StreamState) : Type 0 where
   pub told : Result (Option (Vec ℕ)) AllocError
   pub asking : Asking
   pub asks : Asks now (is_heard now s.last a) s.receiver a told asking
@@ -195,39 +195,39 @@ pub record RequestsWith (now : ℕ) (a : Asking) (s : Stream) (answer : Step) (t
   pub after : t ≡ record s { feedback = Some asking }
 
 -- a stream without settings of requests requests nothing
-abbrev pub RequestsBy : Option Asking → ℕ → Stream → Step → Stream → Type 0
+abbrev pub RequestsBy : Option Asking → ℕ → StreamState → Step → StreamState → Type 0
 RequestsBy None now s answer t = (answer ≡ steps.Nothing) × (t ≡ s)
 RequestsBy (Some a) now s answer t = RequestsWith now a s answer t
 
 -- a stream without a unit: while it plays it requests what it misses, and once it is drained it ends
-abbrev pub RestsBy : Stage → ℕ → Stream → Step → Stream → Type 0
+abbrev pub RestsBy : Stage → ℕ → StreamState → Step → StreamState → Type 0
 RestsBy stages.Probation now s answer t = (answer ≡ steps.Nothing) × (t ≡ s)
 RestsBy stages.Playing now s answer t = RequestsBy s.feedback now s answer t
 RestsBy (stages.Leaving why at) now s answer t = (answer ≡ steps.Nothing) × (t ≡ s)
 RestsBy (stages.Draining why) now s answer t = (answer ≡ steps.Ended why) × (t ≡ s)
 
-abbrev pub Follows : Option (Result Release PacketError) → ℕ → Stream → Step → Stream → Type 0
+abbrev pub Follows : Option (Result Release PacketError) → ℕ → StreamState → Step → StreamState → Type 0
 Follows None now s answer t = RestsBy s.stage now s answer t
 Follows (Some unit) now s answer t = (answer ≡ steps.Unit unit) × (t ≡ s)
 
 -- the answer of a pop of the stream's receiver; without a unit, what follows from the receiver after that pop
-pub record Pops (now : Ticks) (s : Stream) (answer : Step) (t : Stream) : Type 0 where
+pub record Pops (now : Ticks) (s : StreamState) (answer : Step) (t : StreamState) : Type 0 where
   pub popped : Option (Result Release PacketError)
   pub receiver : Receiver
   pub pops : PopsGated now.0 s.receiver popped receiver
   pub follows : Follows popped now.0 (record s { receiver = receiver }) answer t
 
 -- an announced stream ends first, if its time has come
-abbrev pub Plays : Ticks → ℕ → Stream → Step → Stream → Type 0
-Plays now idle s answer t = (mid : Stream) × Drains (end_of now.0 idle s) s mid × Pops now mid answer t
+abbrev pub Plays : Ticks → ℕ → StreamState → Step → StreamState → Type 0
+Plays now idle s answer t = (mid : StreamState) × Drains (end_of now.0 idle s) s mid × Pops now mid answer t
 
-abbrev pub StepsBy : Bool → Bool → Ticks → ℕ → Stream → Step → Stream → Type 0
+abbrev pub StepsBy : Bool → Bool → Ticks → ℕ → StreamState → Step → StreamState → Type 0
 StepsBy true told now idle s answer t = (answer ≡ steps.Nothing) × (t ≡ s)
 StepsBy false false now idle s answer t = (answer ≡ steps.Begun) × (t ≡ record s { told = true })
 StepsBy false true now idle s answer t = Plays now idle s answer t
 
 -- the next event of the stream: none in probation, and its beginning before all other events
-abbrev pub Steps : Ticks → ℕ → Stream → Step → Stream → Type 0
+abbrev pub Steps : Ticks → ℕ → StreamState → Step → StreamState → Type 0
 Steps now idle s answer t = StepsBy (is_probation s.stage) s.told now idle s answer t
 
 -- ---- deadlines
@@ -259,20 +259,20 @@ request_deadline (stages.Leaving why at) feedback = None
 request_deadline (stages.Draining why) feedback = None
 
 -- the time at which the stream may have a unit, or a request is due
-abbrev pub work_deadline : Stream → Option ℕ
+abbrev pub work_deadline : StreamState → Option ℕ
 work_deadline s = earlier (deadline_of s.receiver.packets) (request_deadline s.stage s.feedback)
 
 -- the time at which the stream may have an event without a datagram
-abbrev pub due_of : ℕ → Stream → Option ℕ
+abbrev pub due_of : ℕ → StreamState → Option ℕ
 due_of idle s = due_by idle s.told (work_deadline s) s.last s.stage
 
 -- the earliest of their times
-abbrev pub due_in : ℕ → List Stream → Option ℕ
+abbrev pub due_in : ℕ → List StreamState → Option ℕ
 due_in idle [] = None
 due_in idle (s ∷ ss) = earlier (due_of idle s) (due_in idle ss)
 
 -- the stream, as a caller sees it
-pub record IsInfo (s : Stream) (i : StreamInfo) : Type 0 where
+pub record IsInfo (s : StreamState) (i : StreamInfo) : Type 0 where
   pub ssrc_is : i.ssrc ≡ s.ssrc
   pub payload_type : i.payload_type ≡ s.format.payload_type
   pub stage : i.stage ≡ s.stage

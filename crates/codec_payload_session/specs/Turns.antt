@@ -7,11 +7,11 @@ use Rattle.codec_payload_session.specs.declared.session.Event.{Event}
 use Rattle.codec_payload_session.specs.declared.session.Event.TheVariants as events
 use Rattle.codec_payload_session.specs.declared.stream.Step.{Step}
 use Rattle.codec_payload_session.specs.declared.stream.Step.TheVariants as steps
-use Rattle.codec_payload_session.specs.declared.stream.Stream.{Stream}
+use Rattle.codec_payload_session.specs.declared.stream.StreamState.{StreamState}
 use Rattle.codec_payload_session.specs.declared.streams.Turn.{Turn}
 
 -- each of the streams was asked, and had no event
-abbrev pub AreQuiet : Ticks → ℕ → List Stream → List Stream → Type 0
+abbrev pub AreQuiet : Ticks → ℕ → List StreamState → List StreamState → Type 0
 AreQuiet now idle [] [] = Unit {0}
 AreQuiet now idle [] (t ∷ ts) = ⊥
 AreQuiet now idle (s ∷ ss) [] = ⊥
@@ -25,12 +25,12 @@ is_nothing (steps.Ended why) = false
 is_nothing steps.Nothing = true
 
 -- the streams before one had no event, this stream has one, and the streams after it were not asked
-pub record FirstSteps (now : Ticks) (idle : ℕ) (ss : List Stream) (turn : Turn) (ts : List Stream) : Type 0 where
-  pub front : List Stream
-  pub quiet : List Stream
-  pub stream : Stream
-  pub stepped : Stream
-  pub rest : List Stream
+pub record FirstSteps (now : Ticks) (idle : ℕ) (ss : List StreamState) (turn : Turn) (ts : List StreamState) : Type 0 where
+  pub front : List StreamState
+  pub quiet : List StreamState
+  pub stream : StreamState
+  pub stepped : StreamState
+  pub rest : List StreamState
   pub before : ss ≡ front ++ stream ∷ rest
   pub are_quiet : AreQuiet now idle front quiet
   pub place : turn.place ≡ length quiet
@@ -38,14 +38,14 @@ pub record FirstSteps (now : Ticks) (idle : ℕ) (ss : List Stream) (turn : Turn
   pub tells : is_nothing turn.step ≡ false
   pub after : ts ≡ quiet ++ stepped ∷ rest
 
-abbrev pub StepsFirst : Ticks → ℕ → List Stream → Option Turn → List Stream → Type 0
+abbrev pub StepsFirst : Ticks → ℕ → List StreamState → Option Turn → List StreamState → Type 0
 StepsFirst now idle ss None ts = AreQuiet now idle ss ts
 StepsFirst now idle ss (Some turn) ts = FirstSteps now idle ss turn ts
 
 -- ---- events
 
 -- the event of a stream; a unit with its RTP time, whether a decoder can show it, and whether it is a keyframe
-abbrev pub event_of : Stream → Step → Option Event
+abbrev pub event_of : StreamState → Step → Option Event
 event_of s steps.Begun = Some (events.Begun s.ssrc s.format.payload_type)
 event_of s (steps.Unit unit) = Some (events.Unit s.ssrc s.format.payload_type s.receiver.time s.receiver.gates.gate.shows s.receiver.gates.is_keyframe unit)
 event_of s (steps.Feedback packet) = Some (events.Feedback s.ssrc s.format.payload_type packet)
@@ -53,14 +53,14 @@ event_of s (steps.Ended why) = Some (events.Ended s.ssrc s.format.payload_type w
 event_of s steps.Nothing = None
 
 -- a stream that ended is removed
-abbrev pub kept_after : Step → Stream → List Stream → List Stream
+abbrev pub kept_after : Step → StreamState → List StreamState → List StreamState
 kept_after steps.Begun s rest = s ∷ rest
 kept_after (steps.Unit unit) s rest = s ∷ rest
 kept_after (steps.Feedback packet) s rest = s ∷ rest
 kept_after (steps.Ended why) s rest = rest
 kept_after steps.Nothing s rest = s ∷ rest
 
-abbrev pub ended_after : Step → Stream → ℕ → ℕ
+abbrev pub ended_after : Step → StreamState → ℕ → ℕ
 ended_after steps.Begun s ended = ended
 ended_after (steps.Unit unit) s ended = ended
 ended_after (steps.Feedback packet) s ended = ended
@@ -68,7 +68,7 @@ ended_after (steps.Ended why) s ended = sum_wrapped ended s.taken
 ended_after steps.Nothing s ended = ended
 
 -- the event of the stream at a place, and the streams after it
-abbrev pub told_by : Option Stream → Step → Option Event
+abbrev pub told_by : Option StreamState → Step → Option Event
 told_by None step = None
 told_by (Some s) step = event_of s step
 
@@ -81,11 +81,11 @@ after_step steps.Nothing place p = p
 
 -- the first stream with an event returns it; all streams before it are quiet
 pub record Tells (now : Ticks) (idle : ℕ) (before : Port) (event : Event) (after : Port) : Type 0 where
-  pub front : List Stream
-  pub quiet : List Stream
-  pub stream : Stream
-  pub stepped : Stream
-  pub rest : List Stream
+  pub front : List StreamState
+  pub quiet : List StreamState
+  pub stream : StreamState
+  pub stepped : StreamState
+  pub rest : List StreamState
   pub step : Step
   pub there : before.streams ≡ front ++ stream ∷ rest
   pub are_quiet : AreQuiet now idle front quiet
@@ -95,5 +95,5 @@ pub record Tells (now : Ticks) (idle : ℕ) (before : Port) (event : Event) (aft
 
 -- without an event all streams were quiet
 abbrev pub TakesTurn : Ticks → ℕ → Port → Option Event → Port → Type 0
-TakesTurn now idle before None after = (quiet : List Stream) × AreQuiet now idle before.streams quiet × (after ≡ record before { streams = quiet })
+TakesTurn now idle before None after = (quiet : List StreamState) × AreQuiet now idle before.streams quiet × (after ≡ record before { streams = quiet })
 TakesTurn now idle before (Some event) after = Tells now idle before event after

@@ -5,7 +5,7 @@ use Rattle.codec_payload_base.specs.declared.wire.Ticks.{Ticks}
 use Rattle.codec_payload_jitter.specs.declared.outcome.Outcome.{Outcome}
 use Rattle.codec_payload_stream.specs.declared.receiver.ReceiveError.{ReceiveError}
 use Rattle.codec_payload_session.specs.Arrivals.{Arrives, Port}
-use Rattle.codec_payload_session.specs.Streams.{Steps, Stream, Takes, is_no_memory}
+use Rattle.codec_payload_session.specs.Streams.{Steps, StreamState, Takes, is_no_memory}
 use Rattle.codec_payload_session.specs.Turns.{StepsFirst}
 use Rattle.codec_payload_session.specs.declared.session.Arrival.{Arrival}
 use Rattle.codec_payload_session.specs.declared.session.Arrival.TheVariants as arrivals
@@ -14,27 +14,27 @@ use Rattle.codec_payload_session.specs.declared.streams.Turn.{Turn}
 use Rattle.codec_payload_session.specs.declared.waking.Waking.{Waking}
 
 -- before `until` the stream has no event, and nothing changes, unless the idle timeout has passed since `since`
-pub record Sleeps (until since : ℕ) (s : Stream) : Type 0 where
+pub record Sleeps (until since : ℕ) (s : StreamState) : Type 0 where
   pub sleeps : (now : Ticks) (idle : ℕ) → now.0 < until → now.0 - since < idle → Steps now idle s steps.Nothing s
 
 -- the same for each of the streams
-abbrev pub AllSleep : ℕ → ℕ → List Stream → Type 0
+abbrev pub AllSleep : ℕ → ℕ → List StreamState → Type 0
 AllSleep until since [] = Unit {0}
 AllSleep until since (s ∷ ss) = Sleeps until since s × AllSleep until since ss
 
 -- the same for each of them except the one at a place
-abbrev pub OthersSleep : ℕ → ℕ → ℕ → List Stream → Type 0
+abbrev pub OthersSleep : ℕ → ℕ → ℕ → List StreamState → Type 0
 OthersSleep until since place [] = Unit {0}
 OthersSleep until since zero (s ∷ ss) = AllSleep until since ss
 OthersSleep until since (suc place) (s ∷ ss) = Sleeps until since s × OthersSleep until since place ss
 
 -- the bound applies to these streams
-pub record IsBound (w : Waking) (ss : List Stream) : Type 0 where
+pub record IsBound (w : Waking) (ss : List StreamState) : Type 0 where
   pub others : OthersSleep w.until w.since w.fed ss
 
 -- the bound says nothing: it applies to any streams
 pub record SaysNothing (w : Waking) : Type 0 where
-  pub bound : (ss : List Stream) → IsBound w ss
+  pub bound : (ss : List StreamState) → IsBound w ss
 
 -- the time comes before the bound
 pub record Holds (w : Waking) (now : Ticks) (idle : ℕ) : Type 0 where
@@ -43,12 +43,12 @@ pub record Holds (w : Waking) (now : Ticks) (idle : ℕ) : Type 0 where
 
 -- the first stream with an event makes its step, and only streams change
 pub record StepsPort (now : Ticks) (idle : ℕ) (p : Port) (turn : Option Turn) (q : Port) : Type 0 where
-  pub streams : List Stream
+  pub streams : List StreamState
   pub first : StepsFirst now idle p.streams turn streams
   pub left : q ≡ record p { streams = streams }
 
 -- the stream receives the datagram; if memory runs out for it, there is an error instead of an answer
-pub record FeedsOne (probation : ℕ) (now : Ticks) (bytes : List ℕ) (s : Stream) (answer : Result Arrival AllocError) (t : Stream) : Type 0 where
+pub record FeedsOne (probation : ℕ) (now : Ticks) (bytes : List ℕ) (s : StreamState) (answer : Result Arrival AllocError) (t : StreamState) : Type 0 where
   pub told : Result Outcome ReceiveError
   pub takes : Takes now probation bytes s told t
   pub arrives : Arrives (is_no_memory told) (arrivals.Stream s.ssrc s.format.payload_type told) answer

@@ -7,7 +7,7 @@ ghost use Rattle.codec_payload_session.specs.Associations.{AddsPair, TakesInBy, 
 use crate::formats::{Role, SessionSettings, SsrcPair};
 use crate::requests::{has_requested, original_number};
 use crate::session::Arrival;
-use crate::stream::{Stream, is_playing};
+use crate::stream::{StreamState, is_playing};
 use crate::streams::Streams;
 use codec_payload_base::wire::Ticks;
 use codec_payload_rtp::rtp::{RtpPacket, is_rtcp};
@@ -68,7 +68,7 @@ pub(crate) fn add_pair(
 /// Returns the pair to add for a datagram.
 fn pair_at(
     settings: &SessionSettings,
-    streams: &[Stream],
+    streams: &[StreamState],
     now: Ticks,
     datagram: &[u8],
 ) -> Option<SsrcPair>
@@ -117,7 +117,12 @@ fn unpaired_of(settings: &SessionSettings, packet: &RtpPacket<'_>) -> Option<Unp
 }
 
 /// Returns the SSRC of the stream of a retransmission, if exactly one fits.
-fn owner_of(streams: &[Stream], pairs: &[SsrcPair], now: Ticks, packet: Unpaired) -> Option<u32>
+fn owner_of(
+    streams: &[StreamState],
+    pairs: &[SsrcPair],
+    now: Ticks,
+    packet: Unpaired,
+) -> Option<u32>
     ensures { result ≡ owner_of pairs.now now.0 packet streams.now }
 {
     let mut owner = None;
@@ -133,7 +138,7 @@ fn owner_of(streams: &[Stream], pairs: &[SsrcPair], now: Ticks, packet: Unpaired
 }
 
 /// Returns whether the retransmission may be of this stream.
-fn may_be_of(stream: &Stream, pairs: &[SsrcPair], now: Ticks, packet: Unpaired) -> bool
+fn may_be_of(stream: &StreamState, pairs: &[SsrcPair], now: Ticks, packet: Unpaired) -> bool
     ensures { result ≡ may_be_of pairs.now now.0 packet stream.now }
 {
     is_playing(stream.stage)
@@ -144,7 +149,7 @@ fn may_be_of(stream: &Stream, pairs: &[SsrcPair], now: Ticks, packet: Unpaired) 
 }
 
 /// Returns whether the RTP time is near the clock of the stream's sender.
-fn is_on_time(stream: &Stream, now: Ticks, rtp_time: u32) -> bool
+fn is_on_time(stream: &StreamState, now: Ticks, rtp_time: u32) -> bool
     ensures { result ≡ is_on_time now.0 rtp_time stream.now }
 {
     match stream.receiver.transit_change(now, rtp_time) {

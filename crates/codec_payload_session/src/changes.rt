@@ -6,7 +6,7 @@ ghost use Rattle.codec_payload_session.specs.Changes.{any_left_behind, are_alike
 ghost use Rattle.codec_payload_session.specs.Formats.{is_video};
 
 use crate::formats::{Format, is_video};
-use crate::stream::Stream;
+use crate::stream::StreamState;
 use codec_payload_base::wire::Codec;
 
 /// Returns whether this codec is sent in turn with audio that goes on.
@@ -24,14 +24,14 @@ pub(crate) fn are_alike(one: Codec, other: Codec) -> bool
 }
 
 /// Returns whether the sender continues in this format: its stream is announced.
-pub(crate) fn continues(streams: &[Stream], ssrc: u32, format: &Format) -> bool
+pub(crate) fn continues(streams: &[StreamState], ssrc: u32, format: &Format) -> bool
     ensures { result ≡ continues ssrc format.now streams.now }
 {
     !takes_turns(format.spec.codec) && playing(streams, ssrc, format.payload_type).is_some()
 }
 
 /// Returns the place of the stream with this SSRC and payload type, if it plays.
-fn playing(streams: &[Stream], ssrc: u32, payload_type: u8) -> Option<usize>
+fn playing(streams: &[StreamState], ssrc: u32, payload_type: u8) -> Option<usize>
     ensures { result ≡ position (plays ssrc payload_type) streams.now }
 {
     streams.iter().position(|s| s.plays(ssrc, payload_type))
@@ -39,7 +39,7 @@ fn playing(streams: &[Stream], ssrc: u32, payload_type: u8) -> Option<usize>
 
 /// Returns whether the sender left a stream for this format, if its stream is announced.
 pub(crate) fn any_left_behind(
-    streams: &[Stream],
+    streams: &[StreamState],
     now: u64,
     wait: u64,
     ssrc: u32,
@@ -56,7 +56,7 @@ pub(crate) fn any_left_behind(
 }
 
 /// Ends the streams that the sender left for this format.
-pub(crate) fn leave_behind(streams: &mut [Stream], now: u64, wait: u64, of: (u32, Format))
+pub(crate) fn leave_behind(streams: &mut [StreamState], now: u64, wait: u64, of: (u32, Format))
     ensures { streams.new ≡ continued true now wait of.0 of.1 streams.old }
 {
     for place in 0..streams.len() {

@@ -7,13 +7,13 @@ ghost use Rattle.codec_payload_rtcp.specs.RtcpValues.{packet_of};
 ghost use Rattle.codec_payload_session.specs.Arrivals.{goodbye_at, left_where, named_in, say_goodbye, says_goodbye, source_at_front};
 ghost use Rattle.codec_payload_session.specs.declared.stream.Ending.TheVariants as endings;
 
-use crate::stream::{Ending, Stream};
+use crate::stream::{Ending, StreamState};
 use crate::streams::{Who, leave};
 use codec_payload_rtcp::compound::{CompoundRule, Packets, read_compound};
 use codec_payload_rtcp::packet::RtcpPacket;
 
 /// Ends the streams that a BYE of the compound packet names, at that time. The packet is read once, whatever its streams.
-pub(crate) fn leave_by_name(streams: &mut [Stream], compound: &[u8], at: u64)
+pub(crate) fn leave_by_name(streams: &mut [StreamState], compound: &[u8], at: u64)
     ensures { streams.new ≡ left_where (goodbye_at compound.now) endings.Bye at streams.old }
 {
     if let Ok(packets) = read_compound(CompoundRule::ReducedSize, compound) {
@@ -22,7 +22,7 @@ pub(crate) fn leave_by_name(streams: &mut [Stream], compound: &[u8], at: u64)
 }
 
 /// Ends the streams that a BYE among the packets names.
-fn leave_by_packets(streams: &mut [Stream], mut packets: Packets<'_>, at: u64)
+fn leave_by_packets(streams: &mut [StreamState], mut packets: Packets<'_>, at: u64)
     ensures { streams.new ≡ left_where (λ ssrc. say_goodbye ssrc (packets_left packets.entry)) endings.Bye at streams.old }
 {
     while let Some(packet) = packets.next() {
@@ -31,7 +31,7 @@ fn leave_by_packets(streams: &mut [Stream], mut packets: Packets<'_>, at: u64)
 }
 
 /// Ends the streams that the packet names, if it is a BYE.
-fn leave_by_packet(streams: &mut [Stream], packet: &RtcpPacket<'_>, at: u64)
+fn leave_by_packet(streams: &mut [StreamState], packet: &RtcpPacket<'_>, at: u64)
     ensures { streams.new ≡ left_where (λ ssrc. says_goodbye ssrc (packet_of packet.now)) endings.Bye at streams.old }
 {
     if let RtcpPacket::Goodbye(goodbye) = packet {
@@ -40,7 +40,7 @@ fn leave_by_packet(streams: &mut [Stream], packet: &RtcpPacket<'_>, at: u64)
 }
 
 /// Ends the streams of the SSRCs in the list.
-fn leave_each(streams: &mut [Stream], ssrcs: &[u8], at: u64)
+fn leave_each(streams: &mut [StreamState], ssrcs: &[u8], at: u64)
     ensures { streams.new ≡ left_where (named_in ssrcs.now) endings.Bye at streams.old }
 {
     let mut rest = ssrcs;

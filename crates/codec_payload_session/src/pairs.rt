@@ -5,7 +5,7 @@ ghost use Rattle.codec_payload_session.specs.Formats.{stream_of};
 ghost use Rattle.codec_payload_session.specs.Pairs.{is_apart, paired_where, with_pair, without_pair};
 
 use crate::formats::SsrcPair;
-use crate::stream::Stream;
+use crate::stream::StreamState;
 use std::alloc::{AllocError, Global};
 
 /// Returns the pairs and one more, which replaces those that have one of its SSRCs in the same place.
@@ -37,7 +37,7 @@ pub(crate) fn remove_pair(pairs: &mut Vec<SsrcPair>, ssrc: u32)
 }
 
 /// Gives the streams of this SSRC the retransmissions that they have by these pairs.
-pub(crate) fn pair(streams: &mut [Stream], ssrc: u32, pairs: &[SsrcPair])
+pub(crate) fn pair(streams: &mut [StreamState], ssrc: u32, pairs: &[SsrcPair])
     ensures { streams.new ≡ paired_where ssrc pairs.now streams.old }
 {
     for place in 0..streams.len() {

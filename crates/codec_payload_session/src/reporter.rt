@@ -12,7 +12,7 @@ ghost use Rattle.codec_payload_session.specs.Streams.{later};
 use crate::formats::{FeedbackSettings, SessionSettings};
 use crate::reports::block_about;
 use crate::requests::LONGEST_NAME;
-use crate::stream::Stream;
+use crate::stream::StreamState;
 use crate::streams::Streams;
 use crate::waking::Waking;
 use codec_payload_base::wire::{Frequency, Ticks};
@@ -82,7 +82,7 @@ impl Streams {
     }
 }
 
-impl Stream {
+impl StreamState {
     /// Returns the block that a report about the stream's sender has now, and changes nothing.
     fn peek_report(&self, now: Ticks, tick_rate: Frequency) -> Option<ReportBlock>
         ensures value { result ≡ block_of tick_rate now.0 self.now }
@@ -105,14 +105,14 @@ impl Stream {
 }
 
 /// Returns when the next report is due, if a stream is announced.
-pub(crate) fn report_deadline(streams: &[Stream], due: Option<u64>) -> Option<u64>
+pub(crate) fn report_deadline(streams: &[StreamState], due: Option<u64>) -> Option<u64>
     ensures { result ≡ report_deadline due streams.now }
 {
     if any_announced(streams) { due } else { None }
 }
 
 /// Returns whether a report is due: its time has come, and a stream is announced.
-fn is_report_due(streams: &[Stream], now: Ticks, due: Option<u64>) -> bool
+fn is_report_due(streams: &[StreamState], now: Ticks, due: Option<u64>) -> bool
     ensures { result ≡ is_report_due now.0 due streams.now }
 {
     any_announced(streams) && is_time(now, due)
@@ -129,7 +129,7 @@ fn is_time(now: Ticks, due: Option<u64>) -> bool
 }
 
 /// Returns when the next report is due if none is now: one interval after the first stream is announced.
-fn planned(streams: &[Stream], now: Ticks, interval: u64, due: Option<u64>) -> Option<u64>
+fn planned(streams: &[StreamState], now: Ticks, interval: u64, due: Option<u64>) -> Option<u64>
     ensures { result ≡ planned (any_announced streams.now) interval now.0 due }
 {
     if !any_announced(streams) {
@@ -164,7 +164,7 @@ fn due_after(
 }
 
 /// Returns whether a stream is announced.
-fn any_announced(streams: &[Stream]) -> bool
+fn any_announced(streams: &[StreamState]) -> bool
     ensures { result ≡ any_announced streams.now }
 {
     for stream in streams {
@@ -176,7 +176,7 @@ fn any_announced(streams: &[Stream]) -> bool
 }
 
 /// Returns whether a stream of the SSRC is announced.
-fn has_announced(streams: &[Stream], ssrc: u32) -> bool
+fn has_announced(streams: &[StreamState], ssrc: u32) -> bool
     ensures { result ≡ has_announced ssrc streams.now }
 {
     for stream in streams {
@@ -188,7 +188,7 @@ fn has_announced(streams: &[Stream], ssrc: u32) -> bool
 }
 
 /// Returns whether the stream at this place is reported: it is announced, and no later announced stream has its SSRC.
-fn is_reported(streams: &[Stream], place: usize) -> bool
+fn is_reported(streams: &[StreamState], place: usize) -> bool
     requires { place < length streams.now }
     ensures { result ≡ is_first_reported (drop place streams.now) }
 {
@@ -198,7 +198,7 @@ fn is_reported(streams: &[Stream], place: usize) -> bool
 
 /// Appends the blocks about all reported streams.
 fn append_blocks(
-    streams: &[Stream],
+    streams: &[StreamState],
     now: Ticks,
     tick_rate: Frequency,
     blocks: &mut Vec<u8>,
@@ -215,7 +215,7 @@ fn append_blocks(
 
 /// Appends the block about the stream, if it has one.
 fn append_block(
-    stream: &Stream,
+    stream: &StreamState,
     now: Ticks,
     tick_rate: Frequency,
     blocks: &mut Vec<u8>,
@@ -229,7 +229,7 @@ fn append_block(
 }
 
 /// Starts the fraction of the next report of each reported stream here.
-fn start_fractions(streams: &mut [Stream])
+fn start_fractions(streams: &mut [StreamState])
     ensures { streams.new ≡ all_reported streams.old }
 {
     for place in 0..streams.len() {

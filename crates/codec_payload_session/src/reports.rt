@@ -6,7 +6,7 @@ ghost use Rattle.codec_payload_rtcp.specs.RtcpReading.{compound_at, packets_left
 ghost use Rattle.codec_payload_rtcp.specs.RtcpValues.{packet_of, sender_of};
 ghost use Rattle.codec_payload_session.specs.Reports.{block_about, block_of, clock_of, clocked_if, clocked_where, delay_since, last_report, noted_in, noted_where, ntp_at, ntp_ticks, reported_by};
 
-use crate::stream::Stream;
+use crate::stream::StreamState;
 use codec_payload_base::wire::{Frequency, Ticks};
 use codec_payload_rtcp::compound::{CompoundRule, Packets, read_compound};
 use codec_payload_rtcp::items::ReportBlock;
@@ -46,7 +46,7 @@ impl SenderClock {
     }
 }
 
-impl Stream {
+impl StreamState {
     /// Returns the report block about the stream's sender, as of `now`. `None`: no packet arrived. The next report starts its
     /// fraction here.
     pub(crate) fn report(&mut self, now: Ticks, tick_rate: Frequency) -> Option<ReportBlock>
@@ -71,7 +71,7 @@ impl Stream {
 }
 
 /// Notes the sender reports of a compound packet that arrived at `now`, each for the streams of its SSRC.
-pub(crate) fn note_reports(streams: &mut [Stream], now: Ticks, compound: &[u8])
+pub(crate) fn note_reports(streams: &mut [StreamState], now: Ticks, compound: &[u8])
     ensures { streams.new ≡ noted_in now (compound_at false compound.now) streams.old }
 {
     if let Ok(packets) = read_compound(CompoundRule::ReducedSize, compound) {
@@ -80,7 +80,7 @@ pub(crate) fn note_reports(streams: &mut [Stream], now: Ticks, compound: &[u8])
 }
 
 /// Notes the sender reports among the packets.
-fn note_packets(streams: &mut [Stream], now: Ticks, mut packets: Packets<'_>)
+fn note_packets(streams: &mut [StreamState], now: Ticks, mut packets: Packets<'_>)
     ensures { streams.new ≡ noted_where now (packets_left packets.entry) streams.old }
 {
     while let Some(packet) = packets.next() {
@@ -89,7 +89,7 @@ fn note_packets(streams: &mut [Stream], now: Ticks, mut packets: Packets<'_>)
 }
 
 /// Notes the packet if it is a sender report.
-fn note_packet(streams: &mut [Stream], now: Ticks, packet: &RtcpPacket<'_>)
+fn note_packet(streams: &mut [StreamState], now: Ticks, packet: &RtcpPacket<'_>)
     ensures { streams.new ≡ noted_where now (packet_of packet.now ∷ []) streams.old }
 {
     if let RtcpPacket::SenderReport(report) = packet {
@@ -98,7 +98,7 @@ fn note_packet(streams: &mut [Stream], now: Ticks, packet: &RtcpPacket<'_>)
 }
 
 /// Replaces the clock of all streams of this SSRC.
-fn set_clocks(streams: &mut [Stream], ssrc: u32, clock: SenderClock)
+fn set_clocks(streams: &mut [StreamState], ssrc: u32, clock: SenderClock)
     ensures { streams.new ≡ clocked_where ssrc clock streams.old }
 {
     for place in 0..streams.len() {

@@ -73,7 +73,7 @@ pub struct StreamInfo {
 
 /// A stream of a session.
 #[derive(Debug, Drop)]
-pub(crate) struct Stream {
+pub(crate) struct StreamState {
     pub(crate) ssrc: u32,
     pub(crate) format: Format,
     pub(crate) receiver: Receiver,
@@ -95,10 +95,10 @@ pub(crate) struct Stream {
     work: u64,
 }
 
-impl Model for Stream {
-    ghost use Rattle.codec_payload_session.specs.Streams.{Stream};
+impl Model for StreamState {
+    ghost use Rattle.codec_payload_session.specs.Streams.{StreamState};
 
-    ghost Value = { Stream };
+    ghost Value = { StreamState };
 
     ghost use Rattle.codec_payload_session.specs.Quiet.{IsQuietUntil, time_of};
 
@@ -129,14 +129,14 @@ pub(crate) enum Step {
     Nothing,
 }
 
-impl Stream {
+impl StreamState {
     /// Creates a stream without datagrams. `None`: no receiver can be made by these settings.
     pub(crate) fn begin(
         alloc: Global,
         settings: &SessionSettings,
         ssrc: u32,
         format: &Format,
-    ) -> Result<Option<Stream>, AllocError>
+    ) -> Result<Option<StreamState>, AllocError>
         ensures { IfOk result (λ stream. IfSome stream (Begins settings.now ssrc format.now)) }
     {
         let Some(mut depacketizer) = CodecDepacketizer::from_codec(alloc, format.spec.codec) else {
@@ -149,7 +149,7 @@ impl Stream {
         let Ok(receiver) = Receiver::new(alloc, depacketizer, settings) else {
             return Ok(None);
         };
-        Ok(Some(Stream {
+        Ok(Some(StreamState {
             ssrc,
             format: *format,
             receiver,

@@ -23,7 +23,7 @@ use crate::pairs::{pair, with_pair};
 use crate::reports::note_reports;
 use crate::session::{Arrival, Event};
 use crate::sort::{Sorted, sort};
-use crate::stream::{Ending, Step, Stream, is_no_memory, is_nothing};
+use crate::stream::{Ending, Step, StreamState, is_no_memory, is_nothing};
 use crate::waking::{Waking, step_excepted};
 use codec_payload_base::wire::{Frequency, Ticks};
 use codec_payload_jitter::jitter::WaitLimits;
@@ -35,7 +35,7 @@ use std::marker::Model;
 #[derive(Debug, Drop)]
 pub(crate) struct Streams {
     pub(crate) alloc: Global,
-    pub(crate) list: Vec<Stream>,
+    pub(crate) list: Vec<StreamState>,
     /// Whether new streams are refused.
     pub(crate) finished: bool,
     /// How many datagrams the removed streams took.
@@ -204,7 +204,7 @@ impl Streams {
             return Ok(Arrival::Refused);
         }
         let (ssrc, format) = of;
-        let Some(mut stream) = Stream::begin(self.alloc, settings, ssrc, &format)? else {
+        let Some(mut stream) = StreamState::begin(self.alloc, settings, ssrc, &format)? else {
             return Ok(Arrival::Unknown);
         };
         let answer = stream.take(now, settings.probation, datagram);
@@ -227,7 +227,7 @@ impl Streams {
     }
 
     /// Adds a stream. If all places are taken, the first stream in probation is removed.
-    fn add(&mut self, max_streams: usize, stream: Stream) -> Result<(), AllocError>
+    fn add(&mut self, max_streams: usize, stream: StreamState) -> Result<(), AllocError>
         ensures ok { OnOk result (self.new ≡ added max_streams stream self.old) }
         ensures err { OnErr result (self.new ≡ self.old) }
     {
@@ -410,7 +410,7 @@ impl Streams {
 
 /// Passes a datagram to the stream.
 fn feed_one(
-    stream: &mut Stream,
+    stream: &mut StreamState,
     probation: u64,
     now: Ticks,
     datagram: &[u8],
@@ -430,7 +430,7 @@ fn feed_one(
 }
 
 /// Returns the place of the stream with this SSRC and payload type.
-pub(crate) fn place_of(streams: &[Stream], ssrc: u32, payload_type: u8) -> Option<usize>
+pub(crate) fn place_of(streams: &[StreamState], ssrc: u32, payload_type: u8) -> Option<usize>
     ensures value { result ≡ position (is_of ssrc payload_type) streams.now }
     ensures within { IfSome result (λ at. at < length streams.now) }
 {
@@ -438,7 +438,7 @@ pub(crate) fn place_of(streams: &[Stream], ssrc: u32, payload_type: u8) -> Optio
 }
 
 /// Returns the place of the first stream of this SSRC.
-fn place_of_ssrc(streams: &[Stream], ssrc: u32) -> Option<usize>
+fn place_of_ssrc(streams: &[StreamState], ssrc: u32) -> Option<usize>
     ensures value { result ≡ position (has_ssrc ssrc) streams.now }
     ensures within { IfSome result (λ at. at < length streams.now) }
 {
@@ -446,7 +446,7 @@ fn place_of_ssrc(streams: &[Stream], ssrc: u32) -> Option<usize>
 }
 
 /// Returns the place of the first stream in probation.
-fn on_probation(streams: &[Stream]) -> Option<usize>
+fn on_probation(streams: &[StreamState]) -> Option<usize>
     ensures value { result ≡ position on_probation streams.now }
     ensures within { IfSome result (λ at. at < length streams.now) }
 {
@@ -454,7 +454,7 @@ fn on_probation(streams: &[Stream]) -> Option<usize>
 }
 
 /// Returns the place of the stream that is removed for a new one.
-fn leaving(max_streams: usize, streams: &[Stream]) -> Option<usize>
+fn leaving(max_streams: usize, streams: &[StreamState]) -> Option<usize>
     ensures value { result ≡ leaving max_streams streams.now }
     ensures within { IfSome result (λ at. at < length streams.now) }
 {
@@ -466,7 +466,7 @@ fn leaving(max_streams: usize, streams: &[Stream]) -> Option<usize>
 }
 
 /// Asks the streams for an event, in order, until one has an event.
-fn step_first(streams: &mut [Stream], now: Ticks, idle_timeout: u64) -> Option<Turn>
+fn step_first(streams: &mut [StreamState], now: Ticks, idle_timeout: u64) -> Option<Turn>
     ensures { StepsFirst now idle_timeout streams.old result streams.new }
 {
     for place in 0..streams.len() {
@@ -479,7 +479,7 @@ fn step_first(streams: &mut [Stream], now: Ticks, idle_timeout: u64) -> Option<T
 }
 
 /// Ends these streams at that time.
-pub(crate) fn leave(streams: &mut [Stream], who: Who, why: Ending, at: u64)
+pub(crate) fn leave(streams: &mut [StreamState], who: Who, why: Ending, at: u64)
     ensures { streams.new ≡ left_where (includes who) why at streams.old }
 {
     for place in 0..streams.len() {
@@ -488,7 +488,7 @@ pub(crate) fn leave(streams: &mut [Stream], who: Who, why: Ending, at: u64)
 }
 
 /// Ends the stream at that time, if it is one of `who`.
-fn leave_if(stream: &mut Stream, who: Who, why: Ending, at: u64)
+fn leave_if(stream: &mut StreamState, who: Who, why: Ending, at: u64)
     ensures { stream.new ≡ left_if (includes who) why at stream.old }
 {
     let leaves = includes(who, stream.ssrc);
@@ -496,7 +496,12 @@ fn leave_if(stream: &mut Stream, who: Who, why: Ending, at: u64)
 }
 
 /// Replaces the wait limits of the stream with this SSRC and payload type.
-fn set_wait_limits(streams: &mut [Stream], ssrc: u32, payload_type: u8, wait_limits: WaitLimits)
+fn set_wait_limits(
+    streams: &mut [StreamState],
+    ssrc: u32,
+    payload_type: u8,
+    wait_limits: WaitLimits,
+)
     ensures { streams.new ≡ waiting_where ssrc payload_type wait_limits streams.old }
 {
     for place in 0..streams.len() {

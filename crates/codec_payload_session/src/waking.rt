@@ -5,7 +5,7 @@ ghost use Rattle.codec_payload_session.specs.Streams.{due_in, earlier};
 ghost use Rattle.codec_payload_session.specs.Turns.{StepsFirst};
 ghost use Rattle.codec_payload_session.specs.Waking.{AllSleep, Holds, IsBound, SaysNothing, or_max};
 
-use crate::stream::{Stream, earlier, is_nothing};
+use crate::stream::{StreamState, earlier, is_nothing};
 use crate::streams::Turn;
 use codec_payload_base::wire::Ticks;
 
@@ -32,7 +32,7 @@ impl Waking {
     }
 
     /// Returns the bound of these streams.
-    pub(crate) fn of(streams: &[Stream]) -> Waking
+    pub(crate) fn of(streams: &[StreamState]) -> Waking
         ensures { IsBound result streams.now }
     {
         let mut until = u64::MAX;
@@ -57,7 +57,7 @@ impl Waking {
     }
 
     /// Returns the bound of all streams except the one at this place.
-    pub(crate) fn except(self, place: usize, streams: &[Stream]) -> Waking
+    pub(crate) fn except(self, place: usize, streams: &[StreamState]) -> Waking
         requires { IsBound self streams.now }
         ensures bound { IsBound result streams.now }
         ensures place { result.fed ≡ place }
@@ -74,7 +74,7 @@ impl Waking {
     }
 
     /// Returns the bound of all streams.
-    fn with_fed(self, streams: &[Stream]) -> (u64, u64)
+    fn with_fed(self, streams: &[StreamState]) -> (u64, u64)
         requires { IsBound self streams.now }
         ensures { AllSleep result.0 result.1 streams.now }
     {
@@ -88,7 +88,7 @@ impl Waking {
 
 /// Asks the stream that is excepted for an event. The others have none.
 pub(crate) fn step_excepted(
-    streams: &mut [Stream],
+    streams: &mut [StreamState],
     waking: Waking,
     now: Ticks,
     idle_timeout: u64,
@@ -111,7 +111,7 @@ pub(crate) fn step_excepted(
 }
 
 /// Returns when a stream may have an event without a datagram.
-pub(crate) fn due_in(streams: &[Stream], idle_timeout: u64) -> Option<u64>
+pub(crate) fn due_in(streams: &[StreamState], idle_timeout: u64) -> Option<u64>
     ensures { result ≡ due_in idle_timeout streams.now }
 {
     let due = least_due(streams, idle_timeout);
@@ -123,7 +123,7 @@ pub(crate) fn due_in(streams: &[Stream], idle_timeout: u64) -> Option<u64>
 }
 
 /// Returns the same time, and 2^64 - 1 without one.
-fn least_due(streams: &[Stream], idle_timeout: u64) -> u64
+fn least_due(streams: &[StreamState], idle_timeout: u64) -> u64
     ensures { result ≡ or_max (due_in idle_timeout streams.now) }
 {
     let mut due = u64::MAX;
@@ -134,7 +134,7 @@ fn least_due(streams: &[Stream], idle_timeout: u64) -> u64
 }
 
 /// Returns the same time. It may be 2^64 - 1 itself.
-fn last_due(streams: &[Stream], idle_timeout: u64) -> Option<u64>
+fn last_due(streams: &[StreamState], idle_timeout: u64) -> Option<u64>
     ensures { result ≡ due_in idle_timeout streams.now }
 {
     let mut due = None;

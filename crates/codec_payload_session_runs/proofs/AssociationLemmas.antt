@@ -24,7 +24,7 @@ use Rattle.codec_payload_session.specs.declared.formats.SessionSettings.{Session
 use Rattle.codec_payload_session.specs.declared.formats.SsrcPair.{SsrcPair}
 use Rattle.codec_payload_session.specs.declared.session.Arrival.{Arrival}
 use Rattle.codec_payload_session.specs.declared.session.Arrival.TheVariants as arrivals
-use Rattle.codec_payload_session.specs.declared.stream.Stream.{Stream}
+use Rattle.codec_payload_session.specs.declared.stream.StreamState.{StreamState}
 use Rattle.codec_payload_session_runs.proofs.CallLemmas.{IsAboutPair, NamesNone, given_other, paired_goes, pairs_evolve}
 use Rattle.codec_payload_session_runs.proofs.FateLemmas.{AreApart, Evolves, GoAll, absent_at, evolves_all, of_same, same_sym}
 use Rattle.codec_payload_session_runs.proofs.StreamLemmas.{Goes, call_of, paired_fed_goes}
@@ -101,7 +101,7 @@ found_with (Some own) again pair is =
     let e : record { ssrc = own; retransmission = again } ≡ pair = cc in
     ap (λ (x : SsrcPair). x.retransmission) (sym e)
 
-pub found_pair : (s : SessionSettings) (now : ℕ) (bytes : List ℕ) (ss : List Stream) (pair : SsrcPair) → pair_at s now bytes ss ≡ Some pair → IsFound s bytes pair.retransmission
+pub found_pair : (s : SessionSettings) (now : ℕ) (bytes : List ℕ) (ss : List StreamState) (pair : SsrcPair) → pair_at s now bytes ss ≡ Some pair → IsFound s bytes pair.retransmission
 found_pair s now bytes ss pair got = by_kind (unpaired_at s bytes) refl got
   where
     by_kind : (o : Option _) → unpaired_at s bytes ≡ o → pair_of o s.pairs.items now ss ≡ Some pair → IsFound s bytes pair.retransmission
@@ -145,36 +145,36 @@ gets_ssrc s now datagram pair ps found = λ x is.
 
 -- ---- the streams: they get the pair, and at most one of them receives the datagram
 
-paired_ssrc : (b : Bool) (named : List SsrcPair) (s : Stream) → (paired_when b named s).ssrc ≡ s.ssrc
+paired_ssrc : (b : Bool) (named : List SsrcPair) (s : StreamState) → (paired_when b named s).ssrc ≡ s.ssrc
 paired_ssrc true named s = refl
 paired_ssrc false named s = refl
 
-paired_format : (b : Bool) (named : List SsrcPair) (s : Stream) → (paired_when b named s).format ≡ s.format
+paired_format : (b : Bool) (named : List SsrcPair) (s : StreamState) → (paired_when b named s).format ≡ s.format
 paired_format true named s = refl
 paired_format false named s = refl
 
-absent_paired : (a b ssrc : ℕ) (named : List SsrcPair) (ss : List Stream) → IsAbsent a b ss → IsAbsent a b (map (paired_if ssrc named) ss)
+absent_paired : (a b ssrc : ℕ) (named : List SsrcPair) (ss : List StreamState) → IsAbsent a b ss → IsAbsent a b (map (paired_if ssrc named) ss)
 absent_paired a b ssrc named [] absent = tt
 absent_paired a b ssrc named (s ∷ ss) absent = (
   of_same a b s (paired_if ssrc named s) (paired_ssrc (s.ssrc == ssrc) named s) (paired_format (s.ssrc == ssrc) named s) ∙ absent.0,
   absent_paired a b ssrc named ss absent.1,
 )
 
-others_paired : (c : Call) (ssrc : ℕ) (named : List SsrcPair) (a b : ℕ) (xs : List Stream) → IsAbsent a b xs
-    → ((z : Stream) → is_same z.ssrc z.format.payload_type a b ≡ false → Goes c z (paired_if ssrc named z)) → GoAll c xs (map (paired_if ssrc named) xs)
+others_paired : (c : Call) (ssrc : ℕ) (named : List SsrcPair) (a b : ℕ) (xs : List StreamState) → IsAbsent a b xs
+    → ((z : StreamState) → is_same z.ssrc z.format.payload_type a b ≡ false → Goes c z (paired_if ssrc named z)) → GoAll c xs (map (paired_if ssrc named) xs)
 others_paired c ssrc named a b [] absent others = tt
 others_paired c ssrc named a b (x ∷ xs) absent others =
     (others x (same_sym x.ssrc x.format.payload_type a b ∙ absent.0), others_paired c ssrc named a b xs absent.1 others)
 
-one_paired : (c : Call) (ssrc : ℕ) (named : List SsrcPair) (ss : List Stream) (place : ℕ) (x y : Stream) → slice_get (map (paired_if ssrc named) ss) place ≡ Some x → AreApart ss
-    → ((z : Stream) → paired_if ssrc named z ≡ x → Goes c z y)
-    → ((z : Stream) → is_same z.ssrc z.format.payload_type x.ssrc x.format.payload_type ≡ false → Goes c z (paired_if ssrc named z))
+one_paired : (c : Call) (ssrc : ℕ) (named : List SsrcPair) (ss : List StreamState) (place : ℕ) (x y : StreamState) → slice_get (map (paired_if ssrc named) ss) place ≡ Some x → AreApart ss
+    → ((z : StreamState) → paired_if ssrc named z ≡ x → Goes c z y)
+    → ((z : StreamState) → is_same z.ssrc z.format.payload_type x.ssrc x.format.payload_type ≡ false → Goes c z (paired_if ssrc named z))
     → GoAll c ss (slice_set (map (paired_if ssrc named) ss) place y)
 one_paired c ssrc named [] place x y there apart goes others = absurd (cc)
 one_paired c ssrc named (z ∷ zs) zero x y there apart goes others =
     let e : paired_if ssrc named z ≡ x = cc in
-    let ssrc_is : z.ssrc ≡ x.ssrc = sym (paired_ssrc (z.ssrc == ssrc) named z) ∙ ap (λ (w : Stream). w.ssrc) e in
-    let format : z.format ≡ x.format = sym (paired_format (z.ssrc == ssrc) named z) ∙ ap (λ (w : Stream). w.format) e in (
+    let ssrc_is : z.ssrc ≡ x.ssrc = sym (paired_ssrc (z.ssrc == ssrc) named z) ∙ ap (λ (w : StreamState). w.ssrc) e in
+    let format : z.format ≡ x.format = sym (paired_format (z.ssrc == ssrc) named z) ∙ ap (λ (w : StreamState). w.format) e in (
       goes z e,
       others_paired c ssrc named x.ssrc x.format.payload_type zs (subst₂ (λ (n : ℕ) (f : Format). IsAbsent n f.payload_type zs) ssrc_is format apart.0) others,
     )
@@ -183,33 +183,33 @@ one_paired c ssrc named (z ∷ zs) (suc i) x y there apart goes others = (
   one_paired c ssrc named zs i x y there apart.1 goes others,
 )
 
-feeds_paired : (given : SessionSettings) (probation place : ℕ) (now : Ticks) (datagram : Vec ℕ) (ssrc : ℕ) (named : List SsrcPair) (ss : List Stream) (p : Port) (answer : Result Arrival AllocError) (q : Port)
+feeds_paired : (given : SessionSettings) (probation place : ℕ) (now : Ticks) (datagram : Vec ℕ) (ssrc : ℕ) (named : List SsrcPair) (ss : List StreamState) (p : Port) (answer : Result Arrival AllocError) (q : Port)
     → p.streams ≡ paired_where ssrc named ss → IsAboutPair (calls.Receive now datagram) ssrc named → AreApart ss → Feeds probation place now datagram.items p answer q
     → Evolves given (call_of now datagram answer) ss q.streams
 feeds_paired given probation place now datagram ssrc named ss p answer q is about apart got =
     let c : Call = call_of now datagram answer in
-    let x : Stream = got.stream in
-    let there : slice_get (paired_where ssrc named ss) place ≡ Some x = subst (λ (zs : List Stream). slice_get zs place ≡ Some x) is got.there in
+    let x : StreamState = got.stream in
+    let there : slice_get (paired_where ssrc named ss) place ≡ Some x = subst (λ (zs : List StreamState). slice_get zs place ≡ Some x) is got.there in
     subst (λ (o : Port). Evolves given c ss o.streams) (sym got.left)
-    (subst (λ (zs : List Stream). Evolves given c ss (slice_set zs place got.after)) (sym is)
+    (subst (λ (zs : List StreamState). Evolves given c ss (slice_set zs place got.after)) (sym is)
     (evolves_all given c ss (slice_set (paired_where ssrc named ss) place got.after) (λ s t. refl)
     (one_paired c ssrc named ss place x got.after there apart
-    (λ (z : Stream) (e : paired_if ssrc named z ≡ x).
+    (λ (z : StreamState) (e : paired_if ssrc named z ≡ x).
     paired_fed_goes now datagram probation named (z.ssrc == ssrc) z got.told got.after answer (about z)
-    (subst (λ (w : Stream). Takes now probation datagram.items w got.told got.after) (sym e) got.takes)
-    (subst (λ (w : Stream). Arrives (is_no_memory got.told) (arrivals.Stream w.ssrc w.format.payload_type got.told) answer) (sym e) got.arrives))
-    (λ (z : Stream) (other : is_same z.ssrc z.format.payload_type x.ssrc x.format.payload_type ≡ false).
+    (subst (λ (w : StreamState). Takes now probation datagram.items w got.told got.after) (sym e) got.takes)
+    (subst (λ (w : StreamState). Arrives (is_no_memory got.told) (arrivals.Stream w.ssrc w.format.payload_type got.told) answer) (sym e) got.arrives))
+    (λ (z : StreamState) (other : is_same z.ssrc z.format.payload_type x.ssrc x.format.payload_type ≡ false).
     paired_goes c ssrc named (z.ssrc == ssrc) z refl about refl
     (given_other (is_no_memory got.told) now datagram.items z.ssrc z.format.payload_type x.ssrc x.format.payload_type got.told answer other got.arrives)))))
 
-stays_paired : (given : SessionSettings) (now : Ticks) (datagram : Vec ℕ) (ssrc : ℕ) (named : List SsrcPair) (ss : List Stream) (p : Port) (answer told : Result Arrival AllocError) (q : Port)
+stays_paired : (given : SessionSettings) (now : Ticks) (datagram : Vec ℕ) (ssrc : ℕ) (named : List SsrcPair) (ss : List StreamState) (p : Port) (answer told : Result Arrival AllocError) (q : Port)
     → p.streams ≡ paired_where ssrc named ss → IsAboutPair (calls.Receive now datagram) ssrc named → NamesNone told → answer ≡ told → q ≡ p
     → Evolves given (call_of now datagram answer) ss q.streams
 stays_paired given now datagram ssrc named ss p answer told q is about none same stays =
-    subst₂ (λ (a : Result Arrival AllocError) (zs : List Stream). Evolves given (call_of now datagram a) ss zs) (sym same) (sym (ap (λ (o : Port). o.streams) stays ∙ is))
+    subst₂ (λ (a : Result Arrival AllocError) (zs : List StreamState). Evolves given (call_of now datagram a) ss zs) (sym same) (sym (ap (λ (o : Port). o.streams) stays ∙ is))
     (pairs_evolve given (call_of now datagram told) ssrc named ss about (λ s t. refl) (λ s t. none now datagram.items s t))
 
-feeds_if_paired : (o : Option ℕ) (given : SessionSettings) (probation : ℕ) (now : Ticks) (datagram : Vec ℕ) (ssrc : ℕ) (named : List SsrcPair) (ss : List Stream) (p : Port) (answer : Result Arrival AllocError) (q : Port)
+feeds_if_paired : (o : Option ℕ) (given : SessionSettings) (probation : ℕ) (now : Ticks) (datagram : Vec ℕ) (ssrc : ℕ) (named : List SsrcPair) (ss : List StreamState) (p : Port) (answer : Result Arrival AllocError) (q : Port)
     → p.streams ≡ paired_where ssrc named ss → IsAboutPair (calls.Receive now datagram) ssrc named → AreApart ss
     → FeedsIf o arrivals.Unassociated probation now datagram.items p answer q → Evolves given (call_of now datagram answer) ss q.streams
 feeds_if_paired None given probation now datagram ssrc named ss p answer q is about apart got =
@@ -217,7 +217,7 @@ feeds_if_paired None given probation now datagram ssrc named ss p answer q is ab
 feeds_if_paired (Some place) given probation now datagram ssrc named ss p answer q is about apart got =
     feeds_paired given probation place now datagram ssrc named ss p answer q is about apart got
 
-again_paired : (o : Option ℕ) (payload_type : ℕ) (given settings : SessionSettings) (now : Ticks) (datagram : Vec ℕ) (ssrc : ℕ) (named : List SsrcPair) (ss : List Stream) (p : Port) (answer : Result Arrival AllocError) (q : Port)
+again_paired : (o : Option ℕ) (payload_type : ℕ) (given settings : SessionSettings) (now : Ticks) (datagram : Vec ℕ) (ssrc : ℕ) (named : List SsrcPair) (ss : List StreamState) (p : Port) (answer : Result Arrival AllocError) (q : Port)
     → p.streams ≡ paired_where ssrc named ss → IsAboutPair (calls.Receive now datagram) ssrc named → AreApart ss
     → TakesInAs (sorted_retransmission o payload_type) settings now datagram.items p answer q → Evolves given (call_of now datagram answer) ss q.streams
 again_paired None payload_type given settings now datagram ssrc named ss p answer q is about apart got =
@@ -227,7 +227,7 @@ again_paired (Some own) payload_type given settings now datagram ssrc named ss p
 
 -- ---- the datagram after the pair
 
-pub paired_evolves : (s : SessionSettings) (now : Ticks) (datagram : Vec ℕ) (pair : SsrcPair) (named : Vec SsrcPair) (ss : List Stream) (p : Port) (answer : Result Arrival AllocError) (q : Port)
+pub paired_evolves : (s : SessionSettings) (now : Ticks) (datagram : Vec ℕ) (pair : SsrcPair) (named : Vec SsrcPair) (ss : List StreamState) (p : Port) (answer : Result Arrival AllocError) (q : Port)
     → IsFound s datagram.items pair.retransmission → p.streams ≡ paired_where pair.ssrc (with_pair pair s.pairs.items) ss → AreApart ss
     → TakesIn (record s { pairs = named }) now datagram.items p answer q → Evolves s (call_of now datagram answer) ss q.streams
 paired_evolves s now datagram pair named ss p answer q found is apart got =
@@ -236,7 +236,7 @@ paired_evolves s now datagram pair named ss p answer q found is apart got =
     (subst (λ (d : _). TakesInAs d (record s { pairs = named }) now datagram.items p answer q) (sorted_found s named datagram.items pair.retransmission found) got)
 
 -- memory ran out for the datagram: the pair stays
-pub failed_paired : (s : SessionSettings) (now : Ticks) (datagram : Vec ℕ) (pair : SsrcPair) (answer : Result Arrival AllocError) (ss : List Stream) → IsFound s datagram.items pair.retransmission → IsErr answer
+pub failed_paired : (s : SessionSettings) (now : Ticks) (datagram : Vec ℕ) (pair : SsrcPair) (answer : Result Arrival AllocError) (ss : List StreamState) → IsFound s datagram.items pair.retransmission → IsErr answer
     → Evolves s (call_of now datagram answer) ss (paired_where pair.ssrc (with_pair pair s.pairs.items) ss)
 failed_paired s now datagram pair (Ok arrival) ss found fails = absurd (cc)
 failed_paired s now datagram pair (Err e) ss found fails =

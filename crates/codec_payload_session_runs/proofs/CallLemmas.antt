@@ -36,7 +36,7 @@ use Rattle.codec_payload_session.specs.declared.session.Event.{Event}
 use Rattle.codec_payload_session.specs.declared.session.Event.TheVariants as events
 use Rattle.codec_payload_session.specs.declared.stream.Ending.{Ending}
 use Rattle.codec_payload_session.specs.declared.stream.Ending.TheVariants as endings
-use Rattle.codec_payload_session.specs.declared.stream.Stream.{Stream}
+use Rattle.codec_payload_session.specs.declared.stream.StreamState.{StreamState}
 use Rattle.codec_payload_session_runs.proofs.AloneLemmas.{made_append, polled_first, pops_append, runs_append, shown_append}
 use Rattle.codec_payload_session_runs.proofs.FateLemmas.{AreApart, AreFates, AreKnown, BeginsNow, Evolves, GoAll, IsFate, IsSilent, ShowsNothing, absent_middle, all_fates, all_stay, evolves_all, evolves_map, evolves_same, fates_append, found_none, mapped_all, one_goes, others_go, present, present_all, present_append}
 use Rattle.codec_payload_session_runs.proofs.StreamLemmas.{Goes, HasPart, IsKnown, Keeps, Kind, Stepped, call_of, fed_goes, given_is, keeps_left, silent_goes, steps_stepped}
@@ -60,11 +60,11 @@ feeds_evolve : (given settings : SessionSettings) (place : ℕ) (now : Ticks) (d
     → Feeds settings.probation place now datagram.items p answer q → Evolves given (call_of now datagram answer) p.streams q.streams
 feeds_evolve given settings place now datagram p answer q apart got =
     let c : Call = call_of now datagram answer in
-    let x : Stream = got.stream in
+    let x : StreamState = got.stream in
     subst (λ (o : Port). Evolves given c p.streams o.streams) (sym got.left)
     (evolves_all given c p.streams (slice_set p.streams place got.after) (λ ssrc payload_type. refl)
     (one_goes c p.streams place x got.after got.there apart (fed_goes now datagram settings.probation x got.told got.after answer got.takes got.arrives)
-    (λ (z : Stream) (other : is_same z.ssrc z.format.payload_type x.ssrc x.format.payload_type ≡ false).
+    (λ (z : StreamState) (other : is_same z.ssrc z.format.payload_type x.ssrc x.format.payload_type ≡ false).
     silent_goes c z (given_other (is_no_memory got.told) now datagram.items z.ssrc z.format.payload_type x.ssrc x.format.payload_type got.told answer other got.arrives) refl)))
 
 -- an arrival that names no stream
@@ -84,39 +84,39 @@ feeds_if_evolve given (Some place) arrival settings now datagram p answer q none
 
 -- ---- receive: a stream begins, and may replace one in probation
 
-untold_by : (told : Bool) (x : Stream) → x.told ≡ told → IsKnown x → is_probation x.stage ≡ true → x.told ≡ false
+untold_by : (told : Bool) (x : StreamState) → x.told ≡ told → IsKnown x → is_probation x.stage ≡ true → x.told ≡ false
 untold_by true x is known probation = let no : is_probation x.stage ≡ false = known is in absurd (cc)
 untold_by false x is known probation = is
 
-abbrev all_but : ℕ → List Stream → List (Option Stream)
+abbrev all_but : ℕ → List StreamState → List (Option StreamState)
 all_but i [] = []
 all_but zero (x ∷ xs) = None ∷ all_stay xs
 all_but (suc i) (x ∷ xs) = Some x ∷ all_but i xs
 
-all_but_fates : (c : Call) (i : ℕ) (xs : List Stream) (d : Stream) → IsSilent c → GoAll c xs xs → AreKnown xs → i < length xs → on_probation (get_or xs i d) ≡ true → AreFates c xs (all_but i xs)
+all_but_fates : (c : Call) (i : ℕ) (xs : List StreamState) (d : StreamState) → IsSilent c → GoAll c xs xs → AreKnown xs → i < length xs → on_probation (get_or xs i d) ≡ true → AreFates c xs (all_but i xs)
 all_but_fates c i [] d silent go known within is = tt
 all_but_fates c zero (x ∷ xs) d silent go known within is =
     (inl (record { told = untold_by x.told x refl known.0 is; tells = silent x.ssrc x.format.payload_type }), all_fates c xs xs go.1)
 all_but_fates c (suc i) (x ∷ xs) d silent go known within is = (go.0, all_but_fates c i xs d silent go.1 known.1 (omega arith) is)
 
-all_but_present : (i : ℕ) (xs ys : List Stream) → i < length xs → remove (xs ++ ys) i ≡ present (all_but i xs) ++ ys
+all_but_present : (i : ℕ) (xs ys : List StreamState) → i < length xs → remove (xs ++ ys) i ≡ present (all_but i xs) ++ ys
 all_but_present i [] ys within = absurd (omega arith)
-all_but_present zero (x ∷ xs) ys within = ap (λ (zs : List Stream). zs ++ ys) (sym (present_all xs))
-all_but_present (suc i) (x ∷ xs) ys within = ap (λ (zs : List Stream). x ∷ zs) (all_but_present i xs ys (omega arith))
+all_but_present zero (x ∷ xs) ys within = ap (λ (zs : List StreamState). zs ++ ys) (sym (present_all xs))
+all_but_present (suc i) (x ∷ xs) ys within = ap (λ (zs : List StreamState). x ∷ zs) (all_but_present i xs ys (omega arith))
 
-appended_evolves : (given : SessionSettings) (c : Call) (p : Port) (y : Stream) → IsSilent c → GoAll c p.streams p.streams → BeginsNow given c p.streams y
+appended_evolves : (given : SessionSettings) (c : Call) (p : Port) (y : StreamState) → IsSilent c → GoAll c p.streams p.streams → BeginsNow given c p.streams y
     → Evolves given c p.streams (p.streams ++ y ∷ [])
 appended_evolves given c p y silent go begins = record {
   fates = all_stay p.streams;
   are_fates = all_fates c p.streams p.streams go;
   fresh = y ∷ [];
   are_fresh = begins;
-  left = ap (λ (zs : List Stream). zs ++ y ∷ []) (sym (present_all p.streams));
+  left = ap (λ (zs : List StreamState). zs ++ y ∷ []) (sym (present_all p.streams));
   silent = λ ssrc payload_type absent. silent ssrc payload_type;
 }
 
 -- the streams with a new one; an earlier stream may have been removed
-added_evolves : (given : SessionSettings) (c : Call) (b : Bool) (o : Option ℕ) (p : Port) (y : Stream) → IsSilent c → GoAll c p.streams p.streams → AreKnown p.streams
+added_evolves : (given : SessionSettings) (c : Call) (b : Bool) (o : Option ℕ) (p : Port) (y : StreamState) → IsSilent c → GoAll c p.streams p.streams → AreKnown p.streams
     → BeginsNow given c p.streams y → position on_probation p.streams ≡ o → Evolves given c p.streams (without (cond b None o) (record p { streams = p.streams ++ y ∷ [] })).streams
 added_evolves given c true o p y silent go known begins place = appended_evolves given c p y silent go begins
 added_evolves given c false None p y silent go known begins place = appended_evolves given c p y silent go begins
@@ -136,8 +136,8 @@ begins_evolve : (settings : SessionSettings) (ssrc : ℕ) (f : Format) (now : Ti
     → Evolves settings (call_of now datagram answer) p.streams q.streams
 begins_evolve settings ssrc f now datagram p answer q none known got =
     let c : Call = call_of now datagram answer in
-    let x : Stream = got.stream in
-    let y : Stream = got.after in
+    let x : StreamState = got.stream in
+    let y : StreamState = got.after in
     let absent : IsAbsent ssrc f.payload_type p.streams = found_none ssrc f.payload_type p.streams none in
     let names : answer ≡ Ok (arrivals.Stream x.ssrc x.format.payload_type got.told) =
     got.answers ∙ ap₂ (λ (s : ℕ) (g : Format). Ok (arrivals.Stream s g.payload_type got.told)) (sym got.begins.ssrc_is) (sym got.begins.format) in
@@ -156,7 +156,7 @@ begins_evolve settings ssrc f now datagram p answer q none known got =
       absent = subst₂ (λ (s : ℕ) (g : Format). IsAbsent s g.payload_type p.streams) (sym ssrc_is) (sym format) absent;
     } in
     let go : GoAll c p.streams p.streams = others_go c ssrc f.payload_type p.streams absent
-    (λ (z : Stream) (other : is_same z.ssrc z.format.payload_type ssrc f.payload_type ≡ false).
+    (λ (z : StreamState) (other : is_same z.ssrc z.format.payload_type ssrc f.payload_type ≡ false).
     silent_goes c z (given_other false now datagram.items z.ssrc z.format.payload_type ssrc f.payload_type got.told answer other got.answers) refl) in
     subst (λ (o : Port). Evolves settings c p.streams o.streams) (sym got.left)
     (added_evolves settings c (nat_lt (length p.streams) settings.max_streams) (position on_probation p.streams) p y (λ s t. refl) go known begins refl)
@@ -178,9 +178,9 @@ begins_or_feeds_evolve None settings ssrc f now datagram p answer q none apart k
 begins_or_feeds_evolve (Some place) settings ssrc f now datagram p answer q there apart known got = feeds_evolve settings settings place now datagram p answer q apart got
 
 -- streams that their sender left
-continued_evolves : (b : Bool) (given : SessionSettings) (c : Call) (now wait ssrc : ℕ) (f : Format) (ss ts : List Stream) → Evolves given c ss ts → Evolves given c ss (continued b now wait ssrc f ts)
+continued_evolves : (b : Bool) (given : SessionSettings) (c : Call) (now wait ssrc : ℕ) (f : Format) (ss ts : List StreamState) → Evolves given c ss ts → Evolves given c ss (continued b now wait ssrc f ts)
 continued_evolves true given c now wait ssrc f ss ts got =
-    evolves_map given c (left_behind now wait ssrc f) ss ts (λ (s : Stream). keeps_left (is_left_behind now wait ssrc f s) endings.Changed now s) got
+    evolves_map given c (left_behind now wait ssrc f) ss ts (λ (s : StreamState). keeps_left (is_left_behind now wait ssrc f s) endings.Changed now s) got
 continued_evolves false given c now wait ssrc f ss ts got = got
 
 media_evolves : (settings : SessionSettings) (ssrc : ℕ) (f : Format) (now : Ticks) (datagram : Vec ℕ) (p : Port) (answer : Result Arrival AllocError) (q : Port)
@@ -193,15 +193,15 @@ media_evolves settings ssrc f now datagram p answer q apart known got =
 
 -- ---- receive: RTCP
 
-noted_keeps : (now : Ticks) (ps : List Packet) (s : Stream) → Keeps s (noted now ps s)
+noted_keeps : (now : Ticks) (ps : List Packet) (s : StreamState) → Keeps s (noted now ps s)
 noted_keeps now ps s = record { ssrc_is = refl; format = refl; told = refl; receiver = refl; stage = λ is. is }
 
-noted_evolves : (given : SessionSettings) (c : Call) (now : Ticks) (o : Result (List Packet) RtcpError) (ss ts : List Stream) → Evolves given c ss ts → Evolves given c ss (noted_in now o ts)
+noted_evolves : (given : SessionSettings) (c : Call) (now : Ticks) (o : Result (List Packet) RtcpError) (ss ts : List StreamState) → Evolves given c ss ts → Evolves given c ss (noted_in now o ts)
 noted_evolves given c now (Ok ps) ss ts got = evolves_map given c (noted now ps) ss ts (noted_keeps now ps) got
 noted_evolves given c now (Err e) ss ts got = got
 
-left_evolves : (given : SessionSettings) (c : Call) (who : ℕ → Bool) (why : Ending) (at : ℕ) (ss ts : List Stream) → Evolves given c ss ts → Evolves given c ss (map (left_if who why at) ts)
-left_evolves given c who why at ss ts got = evolves_map given c (left_if who why at) ss ts (λ (s : Stream). keeps_left (who s.ssrc) why at s) got
+left_evolves : (given : SessionSettings) (c : Call) (who : ℕ → Bool) (why : Ending) (at : ℕ) (ss ts : List StreamState) → Evolves given c ss ts → Evolves given c ss (map (left_if who why at) ts)
+left_evolves given c who why at ss ts got = evolves_map given c (left_if who why at) ss ts (λ (s : StreamState). keeps_left (who s.ssrc) why at s) got
 
 -- ---- receive
 
@@ -266,7 +266,7 @@ pub receive_evolves : (settings : SessionSettings) (now : Ticks) (datagram : Vec
 receive_evolves settings now datagram p answer q apart known got = bytes_evolve (is_rtcp datagram.items) settings now datagram p answer q apart known refl got
 
 -- memory ran out: nothing has changed
-pub failed_evolves : (settings : SessionSettings) (now : Ticks) (datagram : Vec ℕ) (answer : Result Arrival AllocError) (ss : List Stream) → IsErr answer → Evolves settings (call_of now datagram answer) ss ss
+pub failed_evolves : (settings : SessionSettings) (now : Ticks) (datagram : Vec ℕ) (answer : Result Arrival AllocError) (ss : List StreamState) → IsErr answer → Evolves settings (call_of now datagram answer) ss ss
 failed_evolves settings now datagram (Ok arrival) ss fails = absurd (cc)
 failed_evolves settings now datagram (Err e) ss fails = evolves_same settings (call_of now datagram (Err e)) ss (λ s t. refl) (λ s t. refl)
 
@@ -276,11 +276,11 @@ abbrev poll_of : Ticks → Option Event → Call
 poll_of now event = record { step = calls.Poll now; answer = answers.Polled event }
 
 -- the event is not of the stream
-abbrev IsOther : Ticks → Option Event → Stream → Type 0
+abbrev IsOther : Ticks → Option Event → StreamState → Type 0
 IsOther now event x = (events_by x.ssrc x.format.payload_type event ≡ []) × (released_by x.ssrc x.format.payload_type now event ≡ [])
 
 -- a stream that was asked and has no event
-quiet_goes : (now : Ticks) (event : Option Event) (kept : List Stream → List Stream) (x y : Stream) → IsOther now event x → Stepped now x None kept y → Goes (poll_of now event) x y
+quiet_goes : (now : Ticks) (event : Option Event) (kept : List StreamState → List StreamState) (x y : StreamState) → IsOther now event x → Stepped now x None kept y → Goes (poll_of now event) x y
 quiet_goes now event kept x y other s = record {
   has = record { ssrc_is = s.ssrc_is; format = s.format; part = s.part; alone = s.alone; is_part = record { made = s.made; one_pop = s.one_pop; pair_first = polled_first now s.part s.made; shows = s.shows ∙ sym other.1 } };
   tells = by_kind s.kind;
@@ -291,14 +291,14 @@ quiet_goes now event kept x y other s = record {
     by_kind (inl stays) = subst (λ (es : List Event). AreOfOne x.told es y.told) (sym other.0) stays.0
     by_kind (inr ends) = let none : [] ≡ events.Ended x.ssrc x.format.payload_type ends.0 ∷ [] = ends.2 in absurd (cc)
 
-quiet_go : (now : Ticks) (idle : ℕ) (event : Option Event) (xs ys : List Stream) → ((x : Stream) → IsOther now event x) → AreQuiet now idle xs ys → GoAll (poll_of now event) xs ys
+quiet_go : (now : Ticks) (idle : ℕ) (event : Option Event) (xs ys : List StreamState) → ((x : StreamState) → IsOther now event x) → AreQuiet now idle xs ys → GoAll (poll_of now event) xs ys
 quiet_go now idle event [] [] other got = tt
 quiet_go now idle event [] (y ∷ ys) other got = absurd got
 quiet_go now idle event (x ∷ xs) [] other got = absurd got
 quiet_go now idle event (x ∷ xs) (y ∷ ys) other got = (quiet_goes now event _ x y (other x) (steps_stepped now idle x _ y got.0), quiet_go now idle event xs ys other got.1)
 
 -- a stream is reported at the end of a poll
-reported_goes : (now : Ticks) (event : Option Event) (x y : Stream) (b : Bool) → Goes (poll_of now event) x y → Goes (poll_of now event) x (reported_if b y)
+reported_goes : (now : Ticks) (event : Option Event) (x y : StreamState) (b : Bool) → Goes (poll_of now event) x y → Goes (poll_of now event) x (reported_if b y)
 reported_goes now event x y false goes = goes
 reported_goes now event x y true goes = record {
   has = record {
@@ -320,15 +320,15 @@ reported_goes now event x y true goes = record {
     made : AreMadeBy (calls.Poll now) (goes.has.part ++ reports ∷ [])
     made = made_append (calls.Poll now) goes.has.part (reports ∷ []) goes.has.is_part.made (tt, tt)
 
-pub reported_go : (now : Ticks) (event : Option Event) (xs ys : List Stream) → GoAll (poll_of now event) xs ys → GoAll (poll_of now event) xs (all_reported ys)
+pub reported_go : (now : Ticks) (event : Option Event) (xs ys : List StreamState) → GoAll (poll_of now event) xs ys → GoAll (poll_of now event) xs (all_reported ys)
 reported_go now event [] [] go = tt
 reported_go now event [] (y ∷ ys) go = absurd go
 reported_go now event (x ∷ xs) [] go = absurd go
 reported_go now event (x ∷ xs) (y ∷ ys) go = (reported_goes now event x y (is_reported y ys) go.0, reported_go now event xs ys go.1)
 
 -- the streams in front of the one with an event, and those after it
-front_go : (now : Ticks) (idle : ℕ) (event : Event) (front quiet : List Stream) (x : Stream) (rest : List Stream) → AreApart (front ++ x ∷ rest)
-    → ((z : Stream) → is_same z.ssrc z.format.payload_type x.ssrc x.format.payload_type ≡ false → IsOther now (Some event) z) → AreQuiet now idle front quiet
+front_go : (now : Ticks) (idle : ℕ) (event : Event) (front quiet : List StreamState) (x : StreamState) (rest : List StreamState) → AreApart (front ++ x ∷ rest)
+    → ((z : StreamState) → is_same z.ssrc z.format.payload_type x.ssrc x.format.payload_type ≡ false → IsOther now (Some event) z) → AreQuiet now idle front quiet
     → GoAll (poll_of now (Some event)) front quiet
 front_go now idle event [] [] x rest apart others got = tt
 front_go now idle event [] (y ∷ ys) x rest apart others got = absurd got
@@ -338,40 +338,40 @@ front_go now idle event (z ∷ zs) (y ∷ ys) x rest apart others got = (
   front_go now idle event zs ys x rest apart.1 others got.1,
 )
 
-rest_absent : (front : List Stream) (x : Stream) (rest : List Stream) → AreApart (front ++ x ∷ rest) → IsAbsent x.ssrc x.format.payload_type rest
+rest_absent : (front : List StreamState) (x : StreamState) (rest : List StreamState) → AreApart (front ++ x ∷ rest) → IsAbsent x.ssrc x.format.payload_type rest
 rest_absent [] x rest apart = apart.0
 rest_absent (z ∷ zs) x rest apart = rest_absent zs x rest apart.1
 
 -- the fate of the stream with the event
-fate_of : (now : Ticks) (event : Event) (kept : List Stream → List Stream) (x y : Stream) → Stepped now x (Some event) kept y
-    → (f : Option Stream) × IsFate (poll_of now (Some event)) x f × ((rest : List Stream) → kept rest ≡ present (f ∷ all_stay rest))
+fate_of : (now : Ticks) (event : Event) (kept : List StreamState → List StreamState) (x y : StreamState) → Stepped now x (Some event) kept y
+    → (f : Option StreamState) × IsFate (poll_of now (Some event)) x f × ((rest : List StreamState) → kept rest ≡ present (f ∷ all_stay rest))
 fate_of now event kept x y s = by_kind s.kind
   where
     has : HasPart (poll_of now (Some event)) x y
     has = record { ssrc_is = s.ssrc_is; format = s.format; part = s.part; alone = s.alone; is_part = record { made = s.made; one_pop = s.one_pop; pair_first = polled_first now s.part s.made; shows = s.shows } }
 
     by_kind : Kind x.told y.told x.ssrc x.format.payload_type (Some event) kept y
-        → (f : Option Stream) × IsFate (poll_of now (Some event)) x f × ((rest : List Stream) → kept rest ≡ present (f ∷ all_stay rest))
+        → (f : Option StreamState) × IsFate (poll_of now (Some event)) x f × ((rest : List StreamState) → kept rest ≡ present (f ∷ all_stay rest))
     by_kind (inl stays) =
-        (Some y, record { has = has; tells = stays.0; known = s.known }, λ rest. stays.1 rest ∙ ap (λ (zs : List Stream). y ∷ zs) (sym (present_all rest)))
+        (Some y, record { has = has; tells = stays.0; known = s.known }, λ rest. stays.1 rest ∙ ap (λ (zs : List StreamState). y ∷ zs) (sym (present_all rest)))
     by_kind (inr ends) = (None, inr (record { after = y; why = ends.0; has = has; told = ends.1; tells = ends.2 }), λ rest. ends.3 rest ∙ sym (present_all rest))
 
 pub tells_evolve : (given : SessionSettings) (now : Ticks) (idle : ℕ) (p : Port) (event : Event) (q : Port) → AreApart p.streams → TakesTurn now idle p (Some event) q
     → Evolves given (poll_of now (Some event)) p.streams q.streams
 tells_evolve given now idle p event q apart got =
     let c : Call = poll_of now (Some event) in
-    let x : Stream = got.stream in
-    let y : Stream = got.stepped in
-    let kept : List Stream → List Stream = λ rest. kept_after got.step y rest in
+    let x : StreamState = got.stream in
+    let y : StreamState = got.stepped in
+    let kept : List StreamState → List StreamState = λ rest. kept_after got.step y rest in
     let s : Stepped now x (Some event) kept y = subst (λ (o : Option Event). Stepped now x o kept y) (sym got.tells) (steps_stepped now idle x got.step y got.steps) in
     let here : AreApart (got.front ++ x ∷ got.rest) = subst AreApart got.there apart in
-    let others : (z : Stream) → is_same z.ssrc z.format.payload_type x.ssrc x.format.payload_type ≡ false → IsOther now (Some event) z =
+    let others : (z : StreamState) → is_same z.ssrc z.format.payload_type x.ssrc x.format.payload_type ≡ false → IsOther now (Some event) z =
     λ z other. s.own z.ssrc z.format.payload_type other in
     let fate = fate_of now event kept x y s in
     let first : AreFates c got.front (all_stay got.quiet) = all_fates c got.front got.quiet (front_go now idle event got.front got.quiet x got.rest here others got.are_quiet) in
     let last : AreFates c got.rest (all_stay got.rest) = all_fates c got.rest got.rest
     (others_go c x.ssrc x.format.payload_type got.rest (rest_absent got.front x got.rest here) (λ z other. silent_goes c z (others z other).1 (others z other).0)) in
-    subst₂ (λ (ss : List Stream) (o : Port). Evolves given c ss o.streams) (sym got.there) (sym got.left)
+    subst₂ (λ (ss : List StreamState) (o : Port). Evolves given c ss o.streams) (sym got.there) (sym got.left)
     (record {
       fates = all_stay got.quiet ++ fate.0 ∷ all_stay got.rest;
       are_fates = fates_append c got.front (all_stay got.quiet) (x ∷ got.rest) (fate.0 ∷ all_stay got.rest) first (fate.1, last);
@@ -379,15 +379,15 @@ tells_evolve given now idle p event q apart got =
       are_fresh = tt;
       left = sym (append-nil (present (all_stay got.quiet ++ fate.0 ∷ all_stay got.rest))
           ∙ (present_append (all_stay got.quiet) (fate.0 ∷ all_stay got.rest)
-          ∙ ap₂ (λ (a b : List Stream). a ++ b) (present_all got.quiet) (sym (fate.2 got.rest))));
+          ∙ ap₂ (λ (a b : List StreamState). a ++ b) (present_all got.quiet) (sym (fate.2 got.rest))));
       silent = λ ssrc payload_type absent. (s.own ssrc payload_type (absent_middle ssrc payload_type got.front x got.rest absent)).0;
     })
 
-pub quiet_evolves : (given : SessionSettings) (now : Ticks) (idle : ℕ) (event : Option Event) (ss ts : List Stream) → ((x : Stream) → IsOther now event x) → IsSilent (poll_of now event)
+pub quiet_evolves : (given : SessionSettings) (now : Ticks) (idle : ℕ) (event : Option Event) (ss ts : List StreamState) → ((x : StreamState) → IsOther now event x) → IsSilent (poll_of now event)
     → AreQuiet now idle ss ts → Evolves given (poll_of now event) ss ts
 quiet_evolves given now idle event ss ts other silent got = evolves_all given (poll_of now event) ss ts silent (quiet_go now idle event ss ts other got)
 
-pub reported_evolves : (given : SessionSettings) (now : Ticks) (idle : ℕ) (event : Option Event) (ss ts : List Stream) → ((x : Stream) → IsOther now event x) → IsSilent (poll_of now event)
+pub reported_evolves : (given : SessionSettings) (now : Ticks) (idle : ℕ) (event : Option Event) (ss ts : List StreamState) → ((x : StreamState) → IsOther now event x) → IsSilent (poll_of now event)
     → AreQuiet now idle ss ts → Evolves given (poll_of now event) ss (all_reported ts)
 reported_evolves given now idle event ss ts other silent got =
     evolves_all given (poll_of now event) ss (all_reported ts) silent (reported_go now event ss ts (quiet_go now idle event ss ts other got))
@@ -397,15 +397,15 @@ reported_evolves given now idle event ss ts other silent got =
 abbrev plain_call : SessionStep → StepAnswer → Call
 plain_call step answer = record { step = step; answer = answer }
 
-pub end_evolves : (given : SessionSettings) (now : Ticks) (ssrc : ℕ) (who : ℕ → Bool) (ss : List Stream) → Evolves given (plain_call (calls.End now ssrc) answers.Done) ss (map (left_if who endings.Told now.0) ss)
+pub end_evolves : (given : SessionSettings) (now : Ticks) (ssrc : ℕ) (who : ℕ → Bool) (ss : List StreamState) → Evolves given (plain_call (calls.End now ssrc) answers.Done) ss (map (left_if who endings.Told now.0) ss)
 end_evolves given now ssrc who ss =
     left_evolves given (plain_call (calls.End now ssrc) answers.Done) who endings.Told now.0 ss ss (evolves_same given (plain_call (calls.End now ssrc) answers.Done) ss (λ s t. refl) (λ s t. refl))
 
-pub finish_evolves : (given : SessionSettings) (now : Ticks) (who : ℕ → Bool) (ss : List Stream) → Evolves given (plain_call (calls.Finish now) answers.Done) ss (map (left_if who endings.Told now.0) ss)
+pub finish_evolves : (given : SessionSettings) (now : Ticks) (who : ℕ → Bool) (ss : List StreamState) → Evolves given (plain_call (calls.Finish now) answers.Done) ss (map (left_if who endings.Told now.0) ss)
 finish_evolves given now who ss =
     left_evolves given (plain_call (calls.Finish now) answers.Done) who endings.Told now.0 ss ss (evolves_same given (plain_call (calls.Finish now) answers.Done) ss (λ s t. refl) (λ s t. refl))
 
-waiting_goes : (ssrc payload_type : ℕ) (limits : WaitLimits) (b : Bool) (s : Stream) → Goes (plain_call (calls.SetWaitLimits ssrc payload_type limits) answers.Done) s (waiting_when b limits s)
+waiting_goes : (ssrc payload_type : ℕ) (limits : WaitLimits) (b : Bool) (s : StreamState) → Goes (plain_call (calls.SetWaitLimits ssrc payload_type limits) answers.Done) s (waiting_when b limits s)
 waiting_goes ssrc payload_type limits false s = silent_goes (plain_call (calls.SetWaitLimits ssrc payload_type limits) answers.Done) s refl refl
 waiting_goes ssrc payload_type limits true s = record {
   has = record {
@@ -419,18 +419,18 @@ waiting_goes ssrc payload_type limits true s = record {
   known = λ known. known;
 }
 
-pub waits_evolve : (given : SessionSettings) (ssrc payload_type : ℕ) (limits : WaitLimits) (ss : List Stream)
+pub waits_evolve : (given : SessionSettings) (ssrc payload_type : ℕ) (limits : WaitLimits) (ss : List StreamState)
     → Evolves given (plain_call (calls.SetWaitLimits ssrc payload_type limits) answers.Done) ss (map (waiting_if ssrc payload_type limits) ss)
 waits_evolve given ssrc payload_type limits ss =
     let c : Call = plain_call (calls.SetWaitLimits ssrc payload_type limits) answers.Done in
     evolves_all given c ss (map (waiting_if ssrc payload_type limits) ss) (λ s t. refl)
-    (mapped_all c (waiting_if ssrc payload_type limits) ss (λ (s : Stream). waiting_goes ssrc payload_type limits (is_of ssrc payload_type s) s))
+    (mapped_all c (waiting_if ssrc payload_type limits) ss (λ (s : StreamState). waiting_goes ssrc payload_type limits (is_of ssrc payload_type s) s))
 
 -- a call that gives the streams of an SSRC their retransmissions by these pairs
 abbrev pub IsAboutPair : SessionStep → ℕ → List SsrcPair → Type 0
-IsAboutPair step ssrc named = (s : Stream) → (s.ssrc == ssrc) ≡ true → IsMadeBy step (pairs (retransmission_for s.ssrc s.format.retransmission named))
+IsAboutPair step ssrc named = (s : StreamState) → (s.ssrc == ssrc) ≡ true → IsMadeBy step (pairs (retransmission_for s.ssrc s.format.retransmission named))
 
-pub paired_goes : (c : Call) (ssrc : ℕ) (named : List SsrcPair) (b : Bool) (s : Stream) → (s.ssrc == ssrc) ≡ b → IsAboutPair c.step ssrc named → events_in s.ssrc s.format.payload_type c.answer ≡ []
+pub paired_goes : (c : Call) (ssrc : ℕ) (named : List SsrcPair) (b : Bool) (s : StreamState) → (s.ssrc == ssrc) ≡ b → IsAboutPair c.step ssrc named → events_in s.ssrc s.format.payload_type c.answer ≡ []
     → shown_in s.ssrc s.format.payload_type c ≡ [] → Goes c s (paired_when b named s)
 paired_goes c ssrc named false s is about silent nothing = silent_goes c s nothing silent
 paired_goes c ssrc named true s is about silent nothing = record {
@@ -445,14 +445,14 @@ paired_goes c ssrc named true s is about silent nothing = record {
   known = λ known. known;
 }
 
-pub pairs_evolve : (given : SessionSettings) (c : Call) (ssrc : ℕ) (named : List SsrcPair) (ss : List Stream) → IsAboutPair c.step ssrc named → IsSilent c → ShowsNothing c → Evolves given c ss (map (paired_if ssrc named) ss)
+pub pairs_evolve : (given : SessionSettings) (c : Call) (ssrc : ℕ) (named : List SsrcPair) (ss : List StreamState) → IsAboutPair c.step ssrc named → IsSilent c → ShowsNothing c → Evolves given c ss (map (paired_if ssrc named) ss)
 pairs_evolve given c ssrc named ss about silent nothing =
-    evolves_all given c ss (map (paired_if ssrc named) ss) silent (mapped_all c (paired_if ssrc named) ss (λ (s : Stream). paired_goes c ssrc named (s.ssrc == ssrc) s refl about (silent s.ssrc s.format.payload_type) (nothing s.ssrc s.format.payload_type)))
+    evolves_all given c ss (map (paired_if ssrc named) ss) silent (mapped_all c (paired_if ssrc named) ss (λ (s : StreamState). paired_goes c ssrc named (s.ssrc == ssrc) s refl about (silent s.ssrc s.format.payload_type) (nothing s.ssrc s.format.payload_type)))
 
 abbrev report_call : Ticks → ℕ → ℕ → Option ReportBlock → Call
 report_call now ssrc payload_type block = plain_call (calls.Report now ssrc payload_type) (answers.Reported block)
 
-one_reported : (now : Ticks) (ssrc payload_type : ℕ) (block : Option ReportBlock) (s : Stream) → Goes (report_call now ssrc payload_type block) s (reported_by s)
+one_reported : (now : Ticks) (ssrc payload_type : ℕ) (block : Option ReportBlock) (s : StreamState) → Goes (report_call now ssrc payload_type block) s (reported_by s)
 one_reported now ssrc payload_type block s = record {
   has = record {
     ssrc_is = refl;
@@ -475,4 +475,4 @@ report_evolves (Some place) given now ssrc payload_type tick_rate p block q apar
     subst (λ (o : Port). Evolves given c p.streams o.streams) (sym got.left)
     (evolves_all given c p.streams (slice_set p.streams place (reported_by got.stream)) (λ s t. refl)
     (one_goes c p.streams place got.stream (reported_by got.stream) got.there apart (one_reported now ssrc payload_type block got.stream)
-    (λ (z : Stream) (other : is_same z.ssrc z.format.payload_type got.stream.ssrc got.stream.format.payload_type ≡ false). silent_goes c z refl refl)))
+    (λ (z : StreamState) (other : is_same z.ssrc z.format.payload_type got.stream.ssrc got.stream.format.payload_type ≡ false). silent_goes c z refl refl)))

@@ -21,7 +21,7 @@ use Rattle.codec_payload_session.specs.declared.session.Arrival.{Arrival}
 use Rattle.codec_payload_session.specs.declared.session.Event.{Event}
 use Rattle.codec_payload_session.specs.declared.session.Event.TheVariants as events
 use Rattle.codec_payload_session.specs.declared.stream.Ending.{Ending}
-use Rattle.codec_payload_session.specs.declared.stream.Stream.{Stream}
+use Rattle.codec_payload_session.specs.declared.stream.StreamState.{StreamState}
 use Rattle.codec_payload_session_runs.proofs.AloneLemmas.{events_more, one_append, order_append, projects_more, projects_shown, runs_append}
 use Rattle.codec_payload_session_runs.proofs.AssociationLemmas.{IsFound, failed_paired, found_pair, paired_evolves}
 use Rattle.codec_payload_session_runs.proofs.CallLemmas.{end_evolves, failed_evolves, finish_evolves, pairs_evolve, quiet_evolves, receive_evolves, report_evolves, reported_evolves, tells_evolve, waits_evolve}
@@ -41,7 +41,7 @@ record Moves (c : Call) (s t : Session) : Type 0 where
   evolves : Evolves s.settings c s.port.streams t.port.streams
   others : t.settings ≡ record s.settings { pairs = t.settings.pairs }
 
-abbrev with_pairs : Session → Vec SsrcPair → List Stream → Session
+abbrev with_pairs : Session → Vec SsrcPair → List StreamState → Session
 with_pairs s named streams = record s { settings = record s.settings { pairs = named }; port = record s.port { streams = streams } }
 
 abbrev call_of : SessionStep → StepAnswer → Call
@@ -68,24 +68,24 @@ by_streams : (o : Option FeedbackSettings) (tick_rate now : ℕ) (due : Option �
 by_streams None tick_rate now due p answer next q got = inl (ap (λ (o : Port). o.streams) got.2)
 by_streams (Some f) tick_rate now due p answer next q got = each_streams f.report_interval f tick_rate now due p answer next q got
 
-quiet_or_reported : (packet : Option (Result (Vec ℕ) AllocError)) (given : SessionSettings) (now : Ticks) (idle : ℕ) (ss ts us : List Stream) → AreQuiet now idle ss ts → (us ≡ ts) ⊎ (us ≡ all_reported ts)
+quiet_or_reported : (packet : Option (Result (Vec ℕ) AllocError)) (given : SessionSettings) (now : Ticks) (idle : ℕ) (ss ts us : List StreamState) → AreQuiet now idle ss ts → (us ≡ ts) ⊎ (us ≡ all_reported ts)
     → Evolves given (call_of (calls.Poll now) (answers.Polled (report_event packet))) ss us
 quiet_or_reported None given now idle ss ts us got (inl same) =
-    subst (λ (zs : List Stream). Evolves given (call_of (calls.Poll now) (answers.Polled None)) ss zs) (sym same) (quiet_evolves given now idle None ss ts (λ x. (refl, refl)) (λ s t. refl) got)
+    subst (λ (zs : List StreamState). Evolves given (call_of (calls.Poll now) (answers.Polled None)) ss zs) (sym same) (quiet_evolves given now idle None ss ts (λ x. (refl, refl)) (λ s t. refl) got)
 quiet_or_reported None given now idle ss ts us got (inr same) =
-    subst (λ (zs : List Stream). Evolves given (call_of (calls.Poll now) (answers.Polled None)) ss zs) (sym same) (reported_evolves given now idle None ss ts (λ x. (refl, refl)) (λ s t. refl) got)
+    subst (λ (zs : List StreamState). Evolves given (call_of (calls.Poll now) (answers.Polled None)) ss zs) (sym same) (reported_evolves given now idle None ss ts (λ x. (refl, refl)) (λ s t. refl) got)
 quiet_or_reported (Some packet) given now idle ss ts us got (inl same) =
-    subst (λ (zs : List Stream). Evolves given (call_of (calls.Poll now) (answers.Polled (Some (events.Report packet)))) ss zs) (sym same)
+    subst (λ (zs : List StreamState). Evolves given (call_of (calls.Poll now) (answers.Polled (Some (events.Report packet)))) ss zs) (sym same)
     (quiet_evolves given now idle (Some (events.Report packet)) ss ts (λ x. (refl, refl)) (λ s t. refl) got)
 quiet_or_reported (Some packet) given now idle ss ts us got (inr same) =
-    subst (λ (zs : List Stream). Evolves given (call_of (calls.Poll now) (answers.Polled (Some (events.Report packet)))) ss zs) (sym same)
+    subst (λ (zs : List StreamState). Evolves given (call_of (calls.Poll now) (answers.Polled (Some (events.Report packet)))) ss zs) (sym same)
     (reported_evolves given now idle (Some (events.Report packet)) ss ts (λ x. (refl, refl)) (λ s t. refl) got)
 
 turn_moves : (o : Option Event) (now : Ticks) (s : Session) (port : Port) (event : Option Event) (t : Session) → AreApart s.port.streams → TakesTurn now s.settings.idle_timeout s.port o port
     → GoesOn o now.0 (record s { port = port }) event t → Moves (call_of (calls.Poll now) (answers.Polled event)) s t
 turn_moves None now s port event t apart turn got =
     let streams : port.streams ≡ turn.0 = ap (λ (p : Port). p.streams) turn.2 in
-    let quiet : AreQuiet now s.settings.idle_timeout s.port.streams port.streams = subst (λ (zs : List Stream). AreQuiet now s.settings.idle_timeout s.port.streams zs) (sym streams) turn.1 in
+    let quiet : AreQuiet now s.settings.idle_timeout s.port.streams port.streams = subst (λ (zs : List StreamState). AreQuiet now s.settings.idle_timeout s.port.streams zs) (sym streams) turn.1 in
     subst₂ (λ (e : Option Event) (z : Session). Moves (call_of (calls.Poll now) (answers.Polled e)) s z) (sym got.answers) (sym got.left)
     (record {
       evolves = quiet_or_reported got.packet s.settings now s.settings.idle_timeout s.port.streams port.streams got.port.streams quiet
@@ -182,7 +182,7 @@ starts_more : (ssrc payload_type : ℕ) (cs ds : List Call) → StartsWithDatagr
 starts_more ssrc payload_type [] ds starts = absurd starts
 starts_more ssrc payload_type (c ∷ cs) ds starts = starts
 
-alone_more : (settings : SessionSettings) (cs : List Call) (c : Call) (x y : Stream) → IsAlone settings cs x.ssrc x.format x.told x.receiver → HasPart c x y
+alone_more : (settings : SessionSettings) (cs : List Call) (c : Call) (x y : StreamState) → IsAlone settings cs x.ssrc x.format x.told x.receiver → HasPart c x y
     → AreOfOne x.told (events_in x.ssrc x.format.payload_type c.answer) y.told → IsAlone settings (cs ++ c ∷ []) y.ssrc y.format y.told y.receiver
 alone_more settings cs c x y got has tells =
     let projects : Projects x.ssrc x.format.payload_type (got.during ++ c ∷ []) (got.own ++ has.part) = projects_more x.ssrc x.format.payload_type got.during c got.own has.part got.projects has.is_part in
@@ -206,10 +206,10 @@ alone_more settings cs c x y got has tells =
           (one_append (events_of x.ssrc x.format.payload_type got.during) (events_in x.ssrc x.format.payload_type c.answer) false x.told y.told got.tells tells);
     })
 
-alone_fresh : (settings : SessionSettings) (cs : List Call) (c : Call) (reached : Session) (y : Stream) → Runs cs (new_session settings) reached
+alone_fresh : (settings : SessionSettings) (cs : List Call) (c : Call) (reached : Session) (y : StreamState) → Runs cs (new_session settings) reached
     → reached.settings ≡ record settings { pairs = reached.settings.pairs } → BeginsNow reached.settings c reached.port.streams y → IsAlone settings (cs ++ c ∷ []) y.ssrc y.format y.told y.receiver
 alone_fresh settings cs c reached y run others got =
-    let x : Stream = got.fresh in
+    let x : StreamState = got.fresh in
     let has : HasPart c x y = got.goes.has in
     let is_part : IsPart y.ssrc y.format.payload_type c has.part = subst₂ (λ (s : ℕ) (f : Format). IsPart s f.payload_type c has.part) (sym has.ssrc_is) (sym has.format) has.is_part in
     let projects : Projects y.ssrc y.format.payload_type (c ∷ []) has.part = (has.part, [], sym (append-nil has.part), is_part, refl) in
@@ -234,14 +234,14 @@ alone_fresh settings cs c reached y run others got =
       tells = subst₂ (λ (b : Bool) (es : List Event). AreOfOne b es y.told) untold (sym (append-nil (events_in y.ssrc y.format.payload_type c.answer))) first;
     }
 
-alone_fates : (settings : SessionSettings) (cs : List Call) (c : Call) (ss : List Stream) (fs : List (Option Stream)) → AreFates c ss fs → EachIsAlone settings cs ss → EachIsAlone settings (cs ++ c ∷ []) (present fs)
+alone_fates : (settings : SessionSettings) (cs : List Call) (c : Call) (ss : List StreamState) (fs : List (Option StreamState)) → AreFates c ss fs → EachIsAlone settings cs ss → EachIsAlone settings (cs ++ c ∷ []) (present fs)
 alone_fates settings cs c [] [] are alone = tt
 alone_fates settings cs c [] (f ∷ fs) are alone = absurd are
 alone_fates settings cs c (x ∷ xs) [] are alone = absurd are
 alone_fates settings cs c (x ∷ xs) (Some y ∷ fs) are alone = (alone_more settings cs c x y alone.0 are.0.has are.0.tells, alone_fates settings cs c xs fs are.1 alone.1)
 alone_fates settings cs c (x ∷ xs) (None ∷ fs) are alone = alone_fates settings cs c xs fs are.1 alone.1
 
-each_append : (settings : SessionSettings) (cs : List Call) (ss ts : List Stream) → EachIsAlone settings cs ss → EachIsAlone settings cs ts → EachIsAlone settings cs (ss ++ ts)
+each_append : (settings : SessionSettings) (cs : List Call) (ss ts : List StreamState) → EachIsAlone settings cs ss → EachIsAlone settings cs ts → EachIsAlone settings cs (ss ++ ts)
 each_append settings cs [] ts a b = b
 each_append settings cs (s ∷ ss) ts a b = (a.0, each_append settings cs ss ts a.1 b)
 
@@ -256,13 +256,13 @@ pub record Reached (settings : SessionSettings) (cs : List Call) (s : Session) :
   pub order : TellsInOrder cs s.port.streams
 
 -- streams that began are apart from the others, and not announced
-fresh_keeps : (settings : SessionSettings) (cs : List Call) (c : Call) (reached : Session) (fs : List (Option Stream)) (fresh : List Stream) → Runs cs (new_session settings) reached
+fresh_keeps : (settings : SessionSettings) (cs : List Call) (c : Call) (reached : Session) (fs : List (Option StreamState)) (fresh : List StreamState) → Runs cs (new_session settings) reached
     → reached.settings ≡ record settings { pairs = reached.settings.pairs } → AreFates c reached.port.streams fs → AreFresh reached.settings c reached.port.streams fresh → AreApart (present fs) → AreKnown (present fs) → EachIsAlone settings (cs ++ c ∷ []) (present fs)
     → AreApart (present fs ++ fresh) × AreKnown (present fs ++ fresh) × EachIsAlone settings (cs ++ c ∷ []) (present fs ++ fresh)
 fresh_keeps settings cs c reached fs [] run others are fresh apart known alone = (
   subst AreApart (sym (append-nil (present fs))) apart,
   subst AreKnown (sym (append-nil (present fs))) known,
-  subst (λ (zs : List Stream). EachIsAlone settings (cs ++ c ∷ []) zs) (sym (append-nil (present fs))) alone,
+  subst (λ (zs : List StreamState). EachIsAlone settings (cs ++ c ∷ []) zs) (sym (append-nil (present fs))) alone,
 )
 fresh_keeps settings cs c reached fs (y ∷ []) run others are fresh apart known alone = (
   apart_more (present fs) y apart (absent_fates c y.ssrc y.format.payload_type reached.port.streams fs are fresh.absent),
@@ -282,7 +282,7 @@ reached_more settings cs c s t got does =
       others = m.others ∙ ap (λ (g : SessionSettings). record g { pairs = t.settings.pairs }) got.others;
       apart = subst AreApart (sym e.left) all.0;
       known = subst AreKnown (sym e.left) all.1;
-      alone = subst (λ (zs : List Stream). EachIsAlone settings (cs ++ c ∷ []) zs) (sym e.left) all.2;
+      alone = subst (λ (zs : List StreamState). EachIsAlone settings (cs ++ c ∷ []) zs) (sym e.left) all.2;
       order = λ ssrc payload_type.
           subst (λ (es : List Event). AreInOrder false es (is_announced ssrc payload_type t.port.streams)) (sym (events_more ssrc payload_type cs c))
           (order_append (events_of ssrc payload_type cs) (events_in ssrc payload_type c.answer) false (is_announced ssrc payload_type s.port.streams) (is_announced ssrc payload_type t.port.streams)
@@ -303,10 +303,10 @@ reached settings cs t run = reached_later settings cs [] (new_session settings) 
 
 -- ---- streams that ended
 
-ended_same : (ssrc payload_type : ℕ) (x : Stream) → is_of ssrc payload_type x ≡ true → is_same x.ssrc x.format.payload_type ssrc payload_type ≡ true
+ended_same : (ssrc payload_type : ℕ) (x : StreamState) → is_of ssrc payload_type x ≡ true → is_same x.ssrc x.format.payload_type ssrc payload_type ≡ true
 ended_same ssrc payload_type x is = same_sym x.ssrc x.format.payload_type ssrc payload_type ∙ is
 
-ended_fate : (settings : SessionSettings) (before : List Call) (now : Ticks) (ssrc payload_type : ℕ) (why : Ending) (x : Stream) (f : Option Stream) → IsFate (ending_poll now ssrc payload_type why) x f
+ended_fate : (settings : SessionSettings) (before : List Call) (now : Ticks) (ssrc payload_type : ℕ) (why : Ending) (x : StreamState) (f : Option StreamState) → IsFate (ending_poll now ssrc payload_type why) x f
     → is_of ssrc payload_type x ≡ true → IsAlone settings before x.ssrc x.format x.told x.receiver → EndedAlone settings before now ssrc payload_type why
 ended_fate settings before now ssrc payload_type why x (Some y) fate is alone =
     absurd (subst (λ (b : Bool). AreOfOne x.told (one_event b (events.Ended ssrc payload_type why)) y.told) (ended_same ssrc payload_type x is) fate.tells)
@@ -328,13 +328,13 @@ ended_fate settings before now ssrc payload_type why x None (inr ends) is alone 
       no_unit = ends.has.is_part.shows;
     }
 
-ended_test : (b : Bool) (settings : SessionSettings) (before : List Call) (now : Ticks) (ssrc payload_type : ℕ) (why : Ending) (x : Stream) (f : Option Stream) → is_of ssrc payload_type x ≡ b
+ended_test : (b : Bool) (settings : SessionSettings) (before : List Call) (now : Ticks) (ssrc payload_type : ℕ) (why : Ending) (x : StreamState) (f : Option StreamState) → is_of ssrc payload_type x ≡ b
     → IsFate (ending_poll now ssrc payload_type why) x f → IsAlone settings before x.ssrc x.format x.told x.receiver
     → (is_of ssrc payload_type x ≡ false → EndedAlone settings before now ssrc payload_type why) → EndedAlone settings before now ssrc payload_type why
 ended_test true settings before now ssrc payload_type why x f is fate alone later = ended_fate settings before now ssrc payload_type why x f fate is alone
 ended_test false settings before now ssrc payload_type why x f is fate alone later = later is
 
-ended_among : (settings : SessionSettings) (before : List Call) (now : Ticks) (ssrc payload_type : ℕ) (why : Ending) (ss : List Stream) (fs : List (Option Stream))
+ended_among : (settings : SessionSettings) (before : List Call) (now : Ticks) (ssrc payload_type : ℕ) (why : Ending) (ss : List StreamState) (fs : List (Option StreamState))
     → AreFates (ending_poll now ssrc payload_type why) ss fs → EachIsAlone settings before ss
     → (IsAbsent ssrc payload_type ss → events_in ssrc payload_type (ending_poll now ssrc payload_type why).answer ≡ []) → EndedAlone settings before now ssrc payload_type why
 ended_among settings before now ssrc payload_type why [] [] are alone silent =

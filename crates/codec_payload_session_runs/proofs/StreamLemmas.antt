@@ -24,7 +24,7 @@ use Rattle.codec_payload_session.specs.declared.session.Event.TheVariants as eve
 use Rattle.codec_payload_session.specs.declared.stream.Ending.{Ending}
 use Rattle.codec_payload_session.specs.declared.stream.Stage.{Stage}
 use Rattle.codec_payload_session.specs.declared.stream.Stage.TheVariants as stages
-use Rattle.codec_payload_session.specs.declared.stream.Stream.{Stream}
+use Rattle.codec_payload_session.specs.declared.stream.StreamState.{StreamState}
 use Rattle.codec_payload_session_runs.proofs.AloneLemmas.{made_append, pops_append, runs_append, shown_append}
 use Rattle.codec_payload_session_runs.specs.Lives.{AreMadeBy, AreOfOne, HasNoPair, HasSsrcOf, IsPart, ReceiverCall, RunsAlone, events_by, events_in, finishes, given_by, is_same, many_pops, one_call, one_event, pairs, pops, receives, released_by, shown, shown_in, waits, with_shown}
 use Rattle.codec_payload_session_runs.specs.SessionRuns.{Call}
@@ -32,11 +32,11 @@ use Rattle.codec_payload_session_runs.specs.declared.run.SessionStep.TheVariants
 use Rattle.codec_payload_session_runs.specs.declared.run.StepAnswer.TheVariants as answers
 
 -- an announced stream is not in probation
-abbrev pub IsKnown : Stream → Type 0
+abbrev pub IsKnown : StreamState → Type 0
 IsKnown s = s.told ≡ true → is_probation s.stage ≡ false
 
 -- the same stream before and after a call, and what the call made of its receiver
-pub record HasPart (c : Call) (x y : Stream) : Type 0 where
+pub record HasPart (c : Call) (x y : StreamState) : Type 0 where
   pub ssrc_is : y.ssrc ≡ x.ssrc
   pub format : y.format ≡ x.format
   pub part : List ReceiverCall
@@ -44,14 +44,14 @@ pub record HasPart (c : Call) (x y : Stream) : Type 0 where
   pub is_part : IsPart x.ssrc x.format.payload_type c part
 
 -- and the stream stays
-pub record Goes (c : Call) (x y : Stream) : Type 0 where
+pub record Goes (c : Call) (x y : StreamState) : Type 0 where
   pub has : HasPart c x y
   pub tells : AreOfOne x.told (events_in x.ssrc x.format.payload_type c.answer) y.told
   pub known : IsKnown x → IsKnown y
 
 -- ---- streams that a call does not ask
 
-pub silent_goes : (c : Call) (x : Stream) → shown_in x.ssrc x.format.payload_type c ≡ [] → events_in x.ssrc x.format.payload_type c.answer ≡ [] → Goes c x x
+pub silent_goes : (c : Call) (x : StreamState) → shown_in x.ssrc x.format.payload_type c ≡ [] → events_in x.ssrc x.format.payload_type c.answer ≡ [] → Goes c x x
 silent_goes c x shows tells = record {
   has = record { ssrc_is = refl; format = refl; part = []; alone = refl; is_part = record { made = tt; one_pop = omega arith; pair_first = tt; shows = sym shows } };
   tells = subst (λ (es : List Event). AreOfOne x.told es x.told) (sym tells) refl;
@@ -59,14 +59,14 @@ silent_goes c x shows tells = record {
 }
 
 -- the receiver and the announcement stay, and the stream does not go back to probation
-pub record Keeps (x y : Stream) : Type 0 where
+pub record Keeps (x y : StreamState) : Type 0 where
   pub ssrc_is : y.ssrc ≡ x.ssrc
   pub format : y.format ≡ x.format
   pub told : y.told ≡ x.told
   pub receiver : y.receiver ≡ x.receiver
   pub stage : is_probation x.stage ≡ false → is_probation y.stage ≡ false
 
-pub keeps_after : (c : Call) (x y z : Stream) → Goes c x y → Keeps y z → Goes c x z
+pub keeps_after : (c : Call) (x y z : StreamState) → Goes c x y → Keeps y z → Goes c x z
 keeps_after c x y z goes keeps = record {
   has = record {
     ssrc_is = keeps.ssrc_is ∙ goes.has.ssrc_is;
@@ -85,7 +85,7 @@ stage_left_is why at stages.Playing = refl
 stage_left_is why at (stages.Leaving first before) = refl
 stage_left_is why at (stages.Draining first) = refl
 
-pub keeps_left : (b : Bool) (why : Ending) (at : ℕ) (s : Stream) → Keeps s (left_when b why at s)
+pub keeps_left : (b : Bool) (why : Ending) (at : ℕ) (s : StreamState) → Keeps s (left_when b why at s)
 keeps_left true why at s = record { ssrc_is = refl; format = refl; told = refl; receiver = refl; stage = λ is. stage_left_is why at s.stage }
 keeps_left false why at s = record { ssrc_is = refl; format = refl; told = refl; receiver = refl; stage = λ is. is }
 
@@ -98,7 +98,7 @@ same_is ssrc payload_type =
     ap (λ (x : Bool). x && (payload_type == payload_type)) a ∙ b
 
 -- what a datagram makes of a stream, after its receiver received it
-record Heard (now : Ticks) (datagram : Vec ℕ) (ssrc : ℕ) (f : Format) (told : Bool) (stage : Stage) (r : Receiver) (y : Stream) : Type 0 where
+record Heard (now : Ticks) (datagram : Vec ℕ) (ssrc : ℕ) (f : Format) (told : Bool) (stage : Stage) (r : Receiver) (y : StreamState) : Type 0 where
   ssrc_is : y.ssrc ≡ ssrc
   format : y.format ≡ f
   told_is : y.told ≡ told
@@ -110,7 +110,7 @@ record Heard (now : Ticks) (datagram : Vec ℕ) (ssrc : ℕ) (f : Format) (told 
   no_pair : HasNoPair more
   hidden : shown more ≡ []
 
-waiting_heard : (now : Ticks) (datagram : Vec ℕ) (o : Option ℕ) (s : Stream) → Heard now datagram s.ssrc s.format s.told s.stage s.receiver (waiting_for o s)
+waiting_heard : (now : Ticks) (datagram : Vec ℕ) (o : Option ℕ) (s : StreamState) → Heard now datagram s.ssrc s.format s.told s.stage s.receiver (waiting_for o s)
 waiting_heard now datagram None s = record { ssrc_is = refl; format = refl; told_is = refl; stage_is = λ is. is; more = []; run = refl; made = tt; no_pop = refl; no_pair = tt; hidden = refl }
 waiting_heard now datagram (Some wait) s = record {
   ssrc_is = refl;
@@ -125,7 +125,7 @@ waiting_heard now datagram (Some wait) s = record {
   hidden = refl;
 }
 
-received_heard : (accepted : Bool) (now : Ticks) (datagram : Vec ℕ) (r : Receiver) (s : Stream)
+received_heard : (accepted : Bool) (now : Ticks) (datagram : Vec ℕ) (r : Receiver) (s : StreamState)
     → Heard now datagram s.ssrc s.format s.told s.stage r (received now.0 datagram.items accepted r s)
 received_heard true now datagram r s =
     waiting_heard now datagram (wait_by (heard_by now.0 (number_at s.format datagram.items) s.feedback))
@@ -138,7 +138,7 @@ stage_after_is probation accepted stages.Playing is = refl
 stage_after_is probation accepted (stages.Leaving why at) is = refl
 stage_after_is probation accepted (stages.Draining why) is = refl
 
-unless_heard : (b : Bool) (now : Ticks) (datagram : Vec ℕ) (probation : ℕ) (accepted : Bool) (ssrc : ℕ) (f : Format) (told : Bool) (stage : Stage) (r : Receiver) (s : Stream)
+unless_heard : (b : Bool) (now : Ticks) (datagram : Vec ℕ) (probation : ℕ) (accepted : Bool) (ssrc : ℕ) (f : Format) (told : Bool) (stage : Stage) (r : Receiver) (s : StreamState)
     → Heard now datagram ssrc f told stage r s → Heard now datagram ssrc f told stage r (heard_unless b now.0 probation accepted s)
 unless_heard true now datagram probation accepted ssrc f told stage r s got = got
 unless_heard false now datagram probation accepted ssrc f told stage r s got = record {
@@ -154,10 +154,10 @@ unless_heard false now datagram probation accepted ssrc f told stage r s got = r
   hidden = got.hidden;
 }
 
-takes_heard : (now : Ticks) (datagram : Vec ℕ) (probation : ℕ) (x : Stream) (told : Result Outcome ReceiveError) (y : Stream) → (got : Takes now probation datagram.items x told y)
+takes_heard : (now : Ticks) (datagram : Vec ℕ) (probation : ℕ) (x : StreamState) (told : Result Outcome ReceiveError) (y : StreamState) → (got : Takes now probation datagram.items x told y)
     → Heard now datagram x.ssrc x.format x.told x.stage got.0 y
 takes_heard now datagram probation x told y got =
-    subst (λ (z : Stream). Heard now datagram x.ssrc x.format x.told x.stage got.0 z) (sym got.2)
+    subst (λ (z : StreamState). Heard now datagram x.ssrc x.format x.told x.stage got.0 z) (sym got.2)
     (unless_heard (is_no_memory told) now datagram probation (is_accepted told) x.ssrc x.format x.told x.stage got.0 (received now.0 datagram.items (is_accepted told) got.0 x)
     (received_heard (is_accepted told) now datagram got.0 x))
 
@@ -172,7 +172,7 @@ given_is false now bytes ssrc payload_type told answer is =
 given_is true now bytes ssrc payload_type told (Ok arrival) is = absurd (cc)
 given_is true now bytes ssrc payload_type told (Err e) is = refl
 
-pub fed_goes : (now : Ticks) (datagram : Vec ℕ) (probation : ℕ) (x : Stream) (told : Result Outcome ReceiveError) (y : Stream) (answer : Result Arrival AllocError)
+pub fed_goes : (now : Ticks) (datagram : Vec ℕ) (probation : ℕ) (x : StreamState) (told : Result Outcome ReceiveError) (y : StreamState) (answer : Result Arrival AllocError)
     → Takes now probation datagram.items x told y → Arrives (is_no_memory told) (arrivals.Stream x.ssrc x.format.payload_type told) answer → Goes (call_of now datagram answer) x y
 fed_goes now datagram probation x told y answer got arrives =
     let h : Heard now datagram x.ssrc x.format x.told x.stage got.0 y = takes_heard now datagram probation x told y got in
@@ -195,12 +195,12 @@ fed_goes now datagram probation x told y answer got arrives =
     }
 
 -- the same for a stream that first gets the SSRC of its retransmissions
-pub paired_fed_goes : (now : Ticks) (datagram : Vec ℕ) (probation : ℕ) (named : List SsrcPair) (b : Bool) (x : Stream) (told : Result Outcome ReceiveError) (y : Stream) (answer : Result Arrival AllocError)
+pub paired_fed_goes : (now : Ticks) (datagram : Vec ℕ) (probation : ℕ) (named : List SsrcPair) (b : Bool) (x : StreamState) (told : Result Outcome ReceiveError) (y : StreamState) (answer : Result Arrival AllocError)
     → (b ≡ true → HasSsrcOf datagram.items (retransmission_for x.ssrc x.format.retransmission named)) → Takes now probation datagram.items (paired_when b named x) told y
     → Arrives (is_no_memory told) (arrivals.Stream (paired_when b named x).ssrc (paired_when b named x).format.payload_type told) answer → Goes (call_of now datagram answer) x y
 paired_fed_goes now datagram probation named false x told y answer names got arrives = fed_goes now datagram probation x told y answer got arrives
 paired_fed_goes now datagram probation named true x told y answer names got arrives =
-    let z : Stream = paired named x in
+    let z : StreamState = paired named x in
     let h : Heard now datagram x.ssrc x.format x.told x.stage got.0 y = takes_heard now datagram probation z told y got in
     record {
       has = record {
@@ -223,10 +223,10 @@ paired_fed_goes now datagram probation named true x told y answer names got arri
 -- ---- a poll
 
 -- what the event of a stream says of it: the stream stays, or it is removed. `kept` puts the stream back in front of the others
-abbrev pub Kind : (told after : Bool) (ssrc payload_type : ℕ) → Option Event → (List Stream → List Stream) → Stream → Type 0
+abbrev pub Kind : (told after : Bool) (ssrc payload_type : ℕ) → Option Event → (List StreamState → List StreamState) → StreamState → Type 0
 Kind told after ssrc payload_type event kept y =
-    AreOfOne told (events_by ssrc payload_type event) after × ((rest : List Stream) → kept rest ≡ y ∷ rest)
-    ⊎ ((why : Ending) × (told ≡ true) × (events_by ssrc payload_type event ≡ events.Ended ssrc payload_type why ∷ []) × ((rest : List Stream) → kept rest ≡ rest))
+    AreOfOne told (events_by ssrc payload_type event) after × ((rest : List StreamState) → kept rest ≡ y ∷ rest)
+    ⊎ ((why : Ending) × (told ≡ true) × (events_by ssrc payload_type event ≡ events.Ended ssrc payload_type why ∷ []) × ((rest : List StreamState) → kept rest ≡ rest))
 
 -- the event is of no other stream
 abbrev pub IsOwn : Ticks → ℕ → ℕ → Option Event → Type 0
@@ -234,7 +234,7 @@ IsOwn now ssrc payload_type event =
     (s p : ℕ) → is_same s p ssrc payload_type ≡ false → (events_by s p event ≡ []) × (released_by s p now event ≡ [])
 
 -- what a poll makes of a stream that it asks
-pub record Stepped (now : Ticks) (x : Stream) (event : Option Event) (kept : List Stream → List Stream) (y : Stream) : Type 0 where
+pub record Stepped (now : Ticks) (x : StreamState) (event : Option Event) (kept : List StreamState → List StreamState) (y : StreamState) : Type 0 where
   pub ssrc_is : y.ssrc ≡ x.ssrc
   pub format : y.format ≡ x.format
   pub part : List ReceiverCall
@@ -246,7 +246,7 @@ pub record Stepped (now : Ticks) (x : Stream) (event : Option Event) (kept : Lis
   pub kind : Kind x.told y.told x.ssrc x.format.payload_type event kept y
   pub known : IsKnown x → IsKnown y
 
-record Drained (now : Ticks) (x y : Stream) : Type 0 where
+record Drained (now : Ticks) (x y : StreamState) : Type 0 where
   ssrc_is : y.ssrc ≡ x.ssrc
   format : y.format ≡ x.format
   told_is : y.told ≡ x.told
@@ -257,19 +257,19 @@ record Drained (now : Ticks) (x y : Stream) : Type 0 where
   no_pop : many_pops part ≡ 0
   hidden : shown part ≡ []
 
-drained : (now : Ticks) (o : Option Ending) (x y : Stream) → Drains o x y → Drained now x y
-drained now None x y got = subst (λ (z : Stream). Drained now x z) (sym got)
+drained : (now : Ticks) (o : Option Ending) (x y : StreamState) → Drains o x y → Drained now x y
+drained now None x y got = subst (λ (z : StreamState). Drained now x z) (sym got)
     (record { ssrc_is = refl; format = refl; told_is = refl; stage_is = λ is. is; part = []; alone = refl; made = tt; no_pop = refl; hidden = refl })
-drained now (Some why) x y got = subst (λ (z : Stream). Drained now x z) (sym got.2)
+drained now (Some why) x y got = subst (λ (z : StreamState). Drained now x z) (sym got.2)
     (record { ssrc_is = refl; format = refl; told_is = refl; stage_is = λ is. refl; part = finishes ∷ []; alone = (got.0, got.1, refl); made = (tt, tt); no_pop = refl; hidden = refl })
 
 -- what follows a pop of an announced stream
-record Told (now : Ticks) (ssrc payload_type : ℕ) (popped : Option (Result Release PacketError)) (event : Option Event) (kept : List Stream → List Stream) (y : Stream) : Type 0 where
+record Told (now : Ticks) (ssrc payload_type : ℕ) (popped : Option (Result Release PacketError)) (event : Option Event) (kept : List StreamState → List StreamState) (y : StreamState) : Type 0 where
   shows : shown (pops now popped ∷ []) ≡ released_by ssrc payload_type now event
   own : IsOwn now ssrc payload_type event
   kind : Kind true true ssrc payload_type event kept y
 
-record Followed (now : Ticks) (popped : Option (Result Release PacketError)) (m : Stream) (event : Option Event) (kept : List Stream → List Stream) (y : Stream) : Type 0 where
+record Followed (now : Ticks) (popped : Option (Result Release PacketError)) (m : StreamState) (event : Option Event) (kept : List StreamState → List StreamState) (y : StreamState) : Type 0 where
   ssrc_is : y.ssrc ≡ m.ssrc
   format : y.format ≡ m.format
   told_is : y.told ≡ m.told
@@ -277,16 +277,16 @@ record Followed (now : Ticks) (popped : Option (Result Release PacketError)) (m 
   receiver : y.receiver ≡ m.receiver
   tells : Told now y.ssrc y.format.payload_type popped event kept y
 
-abbrev stays_with : Stream → List Stream → List Stream
+abbrev stays_with : StreamState → List StreamState → List StreamState
 stays_with y rest = y ∷ rest
 
-abbrev is_removed : List Stream → List Stream
+abbrev is_removed : List StreamState → List StreamState
 is_removed rest = rest
 
-nothing_told : (now : Ticks) (y : Stream) → Told now y.ssrc y.format.payload_type None None (stays_with y) y
+nothing_told : (now : Ticks) (y : StreamState) → Told now y.ssrc y.format.payload_type None None (stays_with y) y
 nothing_told now y = record { shows = refl; own = λ s p other. (refl, refl); kind = inl (refl, λ rest. refl) }
 
-feedback_told : (now : Ticks) (packet : Result (Vec ℕ) AllocError) (y : Stream)
+feedback_told : (now : Ticks) (packet : Result (Vec ℕ) AllocError) (y : StreamState)
     → Told now y.ssrc y.format.payload_type None (Some (events.Feedback y.ssrc y.format.payload_type packet)) (stays_with y) y
 feedback_told now packet y =
     let same : is_same y.ssrc y.format.payload_type y.ssrc y.format.payload_type ≡ true = same_is y.ssrc y.format.payload_type in
@@ -297,7 +297,7 @@ feedback_told now packet y =
       kind = inl (subst (λ (b : Bool). AreOfOne true (one_event b event) true) (sym same) (refl, refl), λ rest. refl);
     }
 
-ended_told : (now : Ticks) (why : Ending) (y : Stream) → Told now y.ssrc y.format.payload_type None (Some (events.Ended y.ssrc y.format.payload_type why)) is_removed y
+ended_told : (now : Ticks) (why : Ending) (y : StreamState) → Told now y.ssrc y.format.payload_type None (Some (events.Ended y.ssrc y.format.payload_type why)) is_removed y
 ended_told now why y =
     let same : is_same y.ssrc y.format.payload_type y.ssrc y.format.payload_type ≡ true = same_is y.ssrc y.format.payload_type in
     let event : Event = events.Ended y.ssrc y.format.payload_type why in
@@ -307,7 +307,7 @@ ended_told now why y =
       kind = inr (why, refl, ap (λ (b : Bool). one_event b event) same, λ rest. refl);
     }
 
-unit_told : (now : Ticks) (unit : Result Release PacketError) (y : Stream)
+unit_told : (now : Ticks) (unit : Result Release PacketError) (y : StreamState)
     → Told now y.ssrc y.format.payload_type (Some unit) (Some (events.Unit y.ssrc y.format.payload_type y.receiver.time y.receiver.gates.gate.shows y.receiver.gates.is_keyframe unit)) (stays_with y) y
 unit_told now unit y =
     let same : is_same y.ssrc y.format.payload_type y.ssrc y.format.payload_type ≡ true = same_is y.ssrc y.format.payload_type in
@@ -318,22 +318,22 @@ unit_told now unit y =
       kind = inl (subst (λ (b : Bool). AreOfOne true (one_event b event) true) (sym same) (refl, refl), λ rest. refl);
     }
 
-same_followed : (now : Ticks) (popped : Option (Result Release PacketError)) (m : Stream) (event : Option Event) (kept : List Stream → List Stream)
+same_followed : (now : Ticks) (popped : Option (Result Release PacketError)) (m : StreamState) (event : Option Event) (kept : List StreamState → List StreamState)
     → Told now m.ssrc m.format.payload_type popped event kept m → Followed now popped m event kept m
 same_followed now popped m event kept tells = record { ssrc_is = refl; format = refl; told_is = refl; stage_is = refl; receiver = refl; tells = tells }
 
 -- by the packet of the requests, if there is one
-asked_told : (told : Result (Option (Vec ℕ)) AllocError) (now : Ticks) (y : Stream) → Told now y.ssrc y.format.payload_type None (event_of y (step_of told)) (λ (rest : List Stream). kept_after (step_of told) y rest) y
+asked_told : (told : Result (Option (Vec ℕ)) AllocError) (now : Ticks) (y : StreamState) → Told now y.ssrc y.format.payload_type None (event_of y (step_of told)) (λ (rest : List StreamState). kept_after (step_of told) y rest) y
 asked_told (Ok None) now y = nothing_told now y
 asked_told (Ok (Some packet)) now y = feedback_told now (Ok packet) y
 asked_told (Err e) now y = feedback_told now (Err e) y
 
-requests_followed : (o : Option Asking) (now : Ticks) (m : Stream) (step : _) (y : Stream) → RequestsBy o now.0 m step y → Followed now None m (event_of y step) (λ (rest : List Stream). kept_after step y rest) y
+requests_followed : (o : Option Asking) (now : Ticks) (m : StreamState) (step : _) (y : StreamState) → RequestsBy o now.0 m step y → Followed now None m (event_of y step) (λ (rest : List StreamState). kept_after step y rest) y
 requests_followed None now m step y got =
-    subst₂ (λ (st : _) (z : Stream). Followed now None m (event_of z st) (λ (rest : List Stream). kept_after st z rest) z) (sym got.0) (sym got.1)
+    subst₂ (λ (st : _) (z : StreamState). Followed now None m (event_of z st) (λ (rest : List StreamState). kept_after st z rest) z) (sym got.0) (sym got.1)
     (same_followed now None m None (stays_with m) (nothing_told now m))
 requests_followed (Some a) now m step y got =
-    subst₂ (λ (st : _) (z : Stream). Followed now None m (event_of z st) (λ (rest : List Stream). kept_after st z rest) z) (sym got.answers) (sym got.after)
+    subst₂ (λ (st : _) (z : StreamState). Followed now None m (event_of z st) (λ (rest : List StreamState). kept_after st z rest) z) (sym got.answers) (sym got.after)
     (record {
       ssrc_is = refl;
       format = refl;
@@ -343,38 +343,38 @@ requests_followed (Some a) now m step y got =
       tells = asked_told got.told now (record m { feedback = Some got.asking });
     })
 
-rests_followed : (stage : Stage) (now : Ticks) (m : Stream) (step : _) (y : Stream) → RestsBy stage now.0 m step y → Followed now None m (event_of y step) (λ (rest : List Stream). kept_after step y rest) y
+rests_followed : (stage : Stage) (now : Ticks) (m : StreamState) (step : _) (y : StreamState) → RestsBy stage now.0 m step y → Followed now None m (event_of y step) (λ (rest : List StreamState). kept_after step y rest) y
 rests_followed stages.Probation now m step y got =
-    subst₂ (λ (st : _) (z : Stream). Followed now None m (event_of z st) (λ (rest : List Stream). kept_after st z rest) z) (sym got.0) (sym got.1)
+    subst₂ (λ (st : _) (z : StreamState). Followed now None m (event_of z st) (λ (rest : List StreamState). kept_after st z rest) z) (sym got.0) (sym got.1)
     (same_followed now None m None (stays_with m) (nothing_told now m))
 rests_followed stages.Playing now m step y got = requests_followed m.feedback now m step y got
 rests_followed (stages.Leaving why at) now m step y got =
-    subst₂ (λ (st : _) (z : Stream). Followed now None m (event_of z st) (λ (rest : List Stream). kept_after st z rest) z) (sym got.0) (sym got.1)
+    subst₂ (λ (st : _) (z : StreamState). Followed now None m (event_of z st) (λ (rest : List StreamState). kept_after st z rest) z) (sym got.0) (sym got.1)
     (same_followed now None m None (stays_with m) (nothing_told now m))
 rests_followed (stages.Draining why) now m step y got =
-    subst₂ (λ (st : _) (z : Stream). Followed now None m (event_of z st) (λ (rest : List Stream). kept_after st z rest) z) (sym got.0) (sym got.1)
+    subst₂ (λ (st : _) (z : StreamState). Followed now None m (event_of z st) (λ (rest : List StreamState). kept_after st z rest) z) (sym got.0) (sym got.1)
     (same_followed now None m (Some (events.Ended m.ssrc m.format.payload_type why)) is_removed (ended_told now why m))
 
-followed : (popped : Option (Result Release PacketError)) (now : Ticks) (m : Stream) (step : _) (y : Stream) → Follows popped now.0 m step y
-    → Followed now popped m (event_of y step) (λ (rest : List Stream). kept_after step y rest) y
+followed : (popped : Option (Result Release PacketError)) (now : Ticks) (m : StreamState) (step : _) (y : StreamState) → Follows popped now.0 m step y
+    → Followed now popped m (event_of y step) (λ (rest : List StreamState). kept_after step y rest) y
 followed None now m step y got = rests_followed m.stage now m step y got
 followed (Some unit) now m step y got =
-    subst₂ (λ (st : _) (z : Stream). Followed now (Some unit) m (event_of z st) (λ (rest : List Stream). kept_after st z rest) z) (sym got.0) (sym got.1)
+    subst₂ (λ (st : _) (z : StreamState). Followed now (Some unit) m (event_of z st) (λ (rest : List StreamState). kept_after st z rest) z) (sym got.0) (sym got.1)
     (same_followed now (Some unit) m _ (stays_with m) (unit_told now unit m))
 
-plays_stepped : (now : Ticks) (idle : ℕ) (x : Stream) (step : _) (y : Stream) → is_probation x.stage ≡ false → x.told ≡ true → Plays now idle x step y
-    → Stepped now x (event_of y step) (λ (rest : List Stream). kept_after step y rest) y
+plays_stepped : (now : Ticks) (idle : ℕ) (x : StreamState) (step : _) (y : StreamState) → is_probation x.stage ≡ false → x.told ≡ true → Plays now idle x step y
+    → Stepped now x (event_of y step) (λ (rest : List StreamState). kept_after step y rest) y
 plays_stepped now idle x step y plays told got =
     let d : Drained now x got.0 = drained now (end_of now.0 idle x) x got.0 got.1 in
-    let f : Followed now got.2.popped (record got.0 { receiver = got.2.receiver }) (event_of y step) (λ (rest : List Stream). kept_after step y rest) y =
+    let f : Followed now got.2.popped (record got.0 { receiver = got.2.receiver }) (event_of y step) (λ (rest : List StreamState). kept_after step y rest) y =
     followed got.2.popped now (record got.0 { receiver = got.2.receiver }) step y got.2.follows in
     let own : List ReceiverCall = pops now got.2.popped ∷ [] in
     let told_after : y.told ≡ true = f.told_is ∙ (d.told_is ∙ told) in
     let stage_after : is_probation y.stage ≡ false = ap (λ (s : Stage). is_probation s) f.stage_is ∙ d.stage_is plays in
     let ssrc_is : y.ssrc ≡ x.ssrc = f.ssrc_is ∙ d.ssrc_is in
     let format : y.format ≡ x.format = f.format ∙ d.format in
-    let tells : Told now x.ssrc x.format.payload_type got.2.popped (event_of y step) (λ (rest : List Stream). kept_after step y rest) y =
-    subst₂ (λ (s : ℕ) (g : Format). Told now s g.payload_type got.2.popped (event_of y step) (λ (rest : List Stream). kept_after step y rest) y) ssrc_is format f.tells in
+    let tells : Told now x.ssrc x.format.payload_type got.2.popped (event_of y step) (λ (rest : List StreamState). kept_after step y rest) y =
+    subst₂ (λ (s : ℕ) (g : Format). Told now s g.payload_type got.2.popped (event_of y step) (λ (rest : List StreamState). kept_after step y rest) y) ssrc_is format f.tells in
     record {
       ssrc_is = ssrc_is;
       format = format;
@@ -384,12 +384,12 @@ plays_stepped now idle x step y plays told got =
       one_pop = omega (arith, pops_append d.part own, d.no_pop);
       shows = shown_append d.part own ∙ (ap (λ (cs : List ReceiverCall). cs ++ shown own) d.hidden ∙ tells.shows);
       own = tells.own;
-      kind = subst₂ (λ (a b : Bool). Kind a b x.ssrc x.format.payload_type (event_of y step) (λ (rest : List Stream). kept_after step y rest) y) (sym told) (sym told_after) tells.kind;
+      kind = subst₂ (λ (a b : Bool). Kind a b x.ssrc x.format.payload_type (event_of y step) (λ (rest : List StreamState). kept_after step y rest) y) (sym told) (sym told_after) tells.kind;
       known = λ known is. stage_after;
     }
 
 -- an event with the beginning of a stream
-begun_stepped : (now : Ticks) (x : Stream) → x.told ≡ false → is_probation x.stage ≡ false
+begun_stepped : (now : Ticks) (x : StreamState) → x.told ≡ false → is_probation x.stage ≡ false
     → Stepped now x (Some (events.Begun x.ssrc x.format.payload_type)) (stays_with (record x { told = true })) (record x { told = true })
 begun_stepped now x told stage_is =
     let same : is_same x.ssrc x.format.payload_type x.ssrc x.format.payload_type ≡ true = same_is x.ssrc x.format.payload_type in
@@ -407,7 +407,7 @@ begun_stepped now x told stage_is =
       known = λ known is. stage_is;
     }
 
-still_stepped : (now : Ticks) (x : Stream) → Stepped now x None (stays_with x) x
+still_stepped : (now : Ticks) (x : StreamState) → Stepped now x None (stays_with x) x
 still_stepped now x = record {
   ssrc_is = refl;
   format = refl;
@@ -421,13 +421,13 @@ still_stepped now x = record {
   known = λ known. known;
 }
 
-by_stepped : (b told : Bool) (now : Ticks) (idle : ℕ) (x : Stream) (step : _) (y : Stream) → is_probation x.stage ≡ b → x.told ≡ told → StepsBy b told now idle x step y
-    → Stepped now x (event_of y step) (λ (rest : List Stream). kept_after step y rest) y
+by_stepped : (b told : Bool) (now : Ticks) (idle : ℕ) (x : StreamState) (step : _) (y : StreamState) → is_probation x.stage ≡ b → x.told ≡ told → StepsBy b told now idle x step y
+    → Stepped now x (event_of y step) (λ (rest : List StreamState). kept_after step y rest) y
 by_stepped true told now idle x step y stage_is told_is got =
-    subst₂ (λ (st : _) (z : Stream). Stepped now x (event_of z st) (λ (rest : List Stream). kept_after st z rest) z) (sym got.0) (sym got.1) (still_stepped now x)
+    subst₂ (λ (st : _) (z : StreamState). Stepped now x (event_of z st) (λ (rest : List StreamState). kept_after st z rest) z) (sym got.0) (sym got.1) (still_stepped now x)
 by_stepped false false now idle x step y stage_is told_is got =
-    subst₂ (λ (st : _) (z : Stream). Stepped now x (event_of z st) (λ (rest : List Stream). kept_after st z rest) z) (sym got.0) (sym got.1) (begun_stepped now x told_is stage_is)
+    subst₂ (λ (st : _) (z : StreamState). Stepped now x (event_of z st) (λ (rest : List StreamState). kept_after st z rest) z) (sym got.0) (sym got.1) (begun_stepped now x told_is stage_is)
 by_stepped false true now idle x step y stage_is told_is got = plays_stepped now idle x step y stage_is told_is got
 
-pub steps_stepped : (now : Ticks) (idle : ℕ) (x : Stream) (step : _) (y : Stream) → Steps now idle x step y → Stepped now x (event_of y step) (λ (rest : List Stream). kept_after step y rest) y
+pub steps_stepped : (now : Ticks) (idle : ℕ) (x : StreamState) (step : _) (y : StreamState) → Steps now idle x step y → Stepped now x (event_of y step) (λ (rest : List StreamState). kept_after step y rest) y
 steps_stepped now idle x step y got = by_stepped (is_probation x.stage) x.told now idle x step y refl refl got

@@ -22,7 +22,7 @@ use Rattle.codec_payload_session.specs.declared.session.Arrival.TheVariants as a
 use Rattle.codec_payload_session.specs.declared.session.Event.{Event}
 use Rattle.codec_payload_session.specs.declared.session.Event.TheVariants as events
 use Rattle.codec_payload_session.specs.declared.stream.Ending.{Ending}
-use Rattle.codec_payload_session.specs.declared.stream.Stream.{Stream}
+use Rattle.codec_payload_session.specs.declared.stream.StreamState.{StreamState}
 use Rattle.codec_payload_session_runs.specs.SessionRuns.{Call, Runs}
 use Rattle.codec_payload_session_runs.specs.declared.run.SessionStep.{SessionStep}
 use Rattle.codec_payload_session_runs.specs.declared.run.SessionStep.TheVariants as steps
@@ -267,7 +267,7 @@ AreOfOne told (events.Report packet ∷ es) after = ⊥
 -- ---- streams
 
 -- no stream has this SSRC and payload type
-abbrev pub IsAbsent : ℕ → ℕ → List Stream → Type 0
+abbrev pub IsAbsent : ℕ → ℕ → List StreamState → Type 0
 IsAbsent ssrc payload_type [] = Unit {0}
 IsAbsent ssrc payload_type (s ∷ ss) = (is_of ssrc payload_type s ≡ false) × IsAbsent ssrc payload_type ss
 
@@ -285,7 +285,7 @@ pub record IsAlone (settings : SessionSettings) (calls : List Call) (ssrc : ℕ)
   pub reaches : Runs before (new_session settings) reached
   pub absent : IsAbsent ssrc f.payload_type reached.port.streams
   pub pairs_alone : reached.settings ≡ record settings { pairs = reached.settings.pairs }
-  pub fresh : Stream
+  pub fresh : StreamState
   pub begins : Begins reached.settings ssrc f fresh
   pub own : List ReceiverCall
   pub alone : RunsAlone own fresh.receiver r
@@ -293,17 +293,17 @@ pub record IsAlone (settings : SessionSettings) (calls : List Call) (ssrc : ℕ)
   pub shows : shown own ≡ shown_of ssrc f.payload_type during
   pub tells : AreOfOne false (events_of ssrc f.payload_type during) told
 
-abbrev pub EachIsAlone : SessionSettings → List Call → List Stream → Type 0
+abbrev pub EachIsAlone : SessionSettings → List Call → List StreamState → Type 0
 EachIsAlone settings calls [] = Unit {0}
 EachIsAlone settings calls (s ∷ ss) = IsAlone settings calls s.ssrc s.format s.told s.receiver × EachIsAlone settings calls ss
 
 -- whether a stream with this SSRC and payload type is announced
-abbrev pub is_announced : ℕ → ℕ → List Stream → Bool
+abbrev pub is_announced : ℕ → ℕ → List StreamState → Bool
 is_announced ssrc payload_type [] = false
 is_announced ssrc payload_type (s ∷ ss) = if is_of ssrc payload_type s then s.told else is_announced ssrc payload_type ss
 
 -- the events of each SSRC and payload type are in order
-abbrev pub TellsInOrder : List Call → List Stream → Type 0
+abbrev pub TellsInOrder : List Call → List StreamState → Type 0
 TellsInOrder calls ss = (ssrc payload_type : ℕ) → AreInOrder false (events_of ssrc payload_type calls) (is_announced ssrc payload_type ss)
 
 -- the stream that ended with the poll after these calls: until then it was alone, and the poll made no unit of it

@@ -9,9 +9,9 @@ ghost use Rattle.codec_payload_jitter.specs.OwnReceiving.{OwnStores};
 ghost use Rattle.codec_payload_stream.specs.Kinds.{carrier_of};
 ghost use Rattle.codec_payload_stream.specs.Sessions.{RecoversAll, all_carried, block_seen, carried, copied};
 
-use crate::datagram::{RedPacket, Stream};
+use crate::datagram::{RedPacket, StreamKinds};
 use crate::seen_times::{SeenTime, SeenTimes};
-use codec_payload_base::wire::{RtpHeader as Header, SeqNo, Ticks};
+use codec_payload_base::wire::{RtpHeader, SeqNo, Ticks};
 use codec_payload_codec::codec::Depacketizer;
 use codec_payload_jitter::jitter::JitterBuffer;
 use codec_payload_red::red::RedBlock;
@@ -21,13 +21,13 @@ use std::collections::VecDeque;
 /// A packet from a redundant block, with its payload copied.
 #[derive(Debug, Drop)]
 pub(crate) struct BlockCopy {
-    header: Header,
+    header: RtpHeader,
     payload: Vec<u8>,
 }
 
 /// The packets of the redundant blocks, in the order of the block headers.
 pub(crate) fn copy_blocks(
-    stream: &Stream,
+    stream: &StreamKinds,
     red: &RedPacket<'_>,
 ) -> Result<VecDeque<BlockCopy>, AllocError>
     ensures { IfOk result (λ copies. (now : Ticks) → map (copied now) copies.items ≡ all_carried stream.now now (carrier_of red.now)) }
@@ -37,7 +37,7 @@ pub(crate) fn copy_blocks(
 
 /// Copies the packets of the redundant blocks, in order.
 fn copy_each(
-    stream: &Stream,
+    stream: &StreamKinds,
     red: &RedPacket<'_>,
     blocks: &[RedBlock<'_>],
 ) -> Result<VecDeque<BlockCopy>, AllocError>
@@ -57,7 +57,7 @@ fn copy_each(
 
 /// Returns the packet of a redundant block, if the block carries one.
 fn copy_block(
-    stream: &Stream,
+    stream: &StreamKinds,
     red: &RedPacket<'_>,
     block: &RedBlock<'_>,
 ) -> Result<Option<BlockCopy>, AllocError>

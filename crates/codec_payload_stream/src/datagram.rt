@@ -17,12 +17,12 @@ use crate::receiver::Retransmission;
 use crate::reports::ReceptionStatistics;
 use crate::seen_times::{SeenTime, SeenTimes};
 use codec_payload_base::error::PacketError;
-use codec_payload_base::wire::{ExtensionValues, Pt, RtpHeader as Header, Ticks};
+use codec_payload_base::wire::{ExtensionValues, Pt, RtpHeader, Ticks};
 use codec_payload_buffer::buffer::PackedHeader;
 use codec_payload_codec::codec::Depacketizer;
 use codec_payload_jitter::jitter::{JitterBuffer, Outcome};
 use codec_payload_red::red::{Recovered, RedBlock, RedDecoder, RedReceiver};
-use codec_payload_rtp::rtp::{RtpError, RtpHeader, RtpPacket, is_rtcp};
+use codec_payload_rtp::rtp::{PacketHeader, RtpError, RtpPacket, is_rtcp};
 use codec_payload_rtp::values::ExtensionIds;
 use std::alloc::{AllocError, Global};
 use std::marker::Model;
@@ -41,7 +41,7 @@ pub(crate) enum Malformation {
 /// A RED packet. A retransmitted one has the original sequence number and SSRC in its header.
 #[derive(Debug, Drop)]
 pub(crate) struct RedPacket<'a> {
-    pub(crate) header: RtpHeader<'a>,
+    pub(crate) header: PacketHeader<'a>,
     pub(crate) receiver: RedReceiver,
     primary: RedBlock<'a>,
     pub(crate) older: Vec<RedBlock<'a>>,
@@ -51,7 +51,7 @@ pub(crate) struct RedPacket<'a> {
 #[derive(Clone, Copy, Debug)]
 pub(crate) struct SentAgain<'a> {
     /// The header of the retransmission.
-    header: RtpHeader<'a>,
+    header: PacketHeader<'a>,
     /// The original sequence number.
     number: u16,
     /// The original SSRC.
@@ -107,7 +107,7 @@ impl Taken {
 
 /// The settings by which a stream recognises its datagrams.
 #[derive(Debug, Drop)]
-pub(crate) struct Stream {
+pub(crate) struct StreamKinds {
     pub(crate) alloc: Global,
     pub(crate) payload_type: u8,
     pub(crate) no_media: Vec<u8>,
@@ -116,7 +116,7 @@ pub(crate) struct Stream {
     pub(crate) ids: ExtensionIds,
 }
 
-impl Model for Stream {
+impl Model for StreamKinds {
     ghost use Rattle.codec_payload_stream.specs.Kinds.{Kinds};
 
     ghost Value = { Kinds };
@@ -153,7 +153,7 @@ fn is_other(known: Option<u32>, ssrc: u32) -> bool
 }
 
 /// Returns whether the packet is a retransmission.
-fn is_sent_again(retransmission: Option<Retransmission>, header: &RtpHeader<'_>) -> bool
+fn is_sent_again(retransmission: Option<Retransmission>, header: &PacketHeader<'_>) -> bool
     ensures { result ≡ is_sent_again retransmission (header_of header.now) }
 {
     match retransmission {
@@ -239,7 +239,7 @@ fn red_kind<'a>(
 fn read_red<'a>(
     alloc: Global,
     receiver: RedReceiver,
-    header: RtpHeader<'a>,
+    header: PacketHeader<'a>,
     payload: &'a [u8],
 ) -> Result<Option<RedPacket<'a>>, PacketError>
     ensures ok { IfOk result (λ red. option_map carrier_of red ≡ option_map (carrier_with receiver (header_of header.entry)) (red_at payload.now)) }
@@ -275,7 +275,7 @@ fn is_the_type(given: Option<u8>, payload_type: u8) -> bool
 fn red_again_of(
     retransmission: Option<Retransmission>,
     red: Option<RedStream>,
-    header: &RtpHeader<'_>,
+    header: &PacketHeader<'_>,
 ) -> Option<RedReceiver>
     ensures { result ≡ red_again_of retransmission red (header_of header.now) }
 {
@@ -289,10 +289,14 @@ fn red_again_of(
 }
 
 /// Returns the header of the original packet of a retransmission, which has this number.
-fn repeated_header<'a>(known: Option<u32>, header: RtpHeader<'a>, number: u16) -> RtpHeader<'a>
+fn repeated_header<'a>(
+    known: Option<u32>,
+    header: PacketHeader<'a>,
+    number: u16,
+) -> PacketHeader<'a>
     ensures { header_of result ≡ repeated_header known (header_of header.entry) number }
 {
-    RtpHeader {
+    PacketHeader {
         sequence_number: number,
         ssrc: ssrc_or(known, header.ssrc),
         ..header
@@ -323,7 +327,7 @@ fn red_again_kind<'a>(
     }
 }
 
-impl Stream {
+impl StreamKinds {
     /// Sorts a datagram, for a stream with this SSRC, if it is known.
     #[inline(always)]
     pub(crate) fn sort<'a>(
@@ -430,10 +434,10 @@ impl Stream {
 
     /// Returns the header of a packet, with the fields that payloads of the stream have.
     #[inline(always)]
-    fn header_for(&self, header: &RtpHeader<'_>) -> Header
+    fn header_for(&self, header: &PacketHeader<'_>) -> RtpHeader
         ensures { result ≡ header_for self.now (header_of header.now) }
     {
-        Header {
+        RtpHeader {
             payload_type: Pt::new_with_value(self.payload_type),
             sequence_number: header.sequence_number,
             timestamp: header.timestamp,
@@ -445,7 +449,7 @@ impl Stream {
 
     /// Returns the same header, packed. Allocates only for rare values.
     #[inline(always)]
-    fn packed_header_for(&self, header: &RtpHeader<'_>) -> Result<PackedHeader, AllocError>
+    fn packed_header_for(&self, header: &PacketHeader<'_>) -> Result<PackedHeader, AllocError>
         ensures { IfOk result (λ packed. packed ≡ header_for self.now (header_of header.now)) }
     {
         if header.extension.is_some() {
@@ -466,7 +470,7 @@ impl Stream {
         &self,
         packets: &mut JitterBuffer<B>,
         now: Ticks,
-        header: &RtpHeader<'_>,
+        header: &PacketHeader<'_>,
         payload: &[u8],
     ) -> Result<Outcome, PacketError>
         ensures ok { IfOk result (λ outcome. Receives (record { now = now; header = header_for self.now (header_of header.now); bytes = payload.now }) packets.old outcome packets.new) }
@@ -544,10 +548,10 @@ impl Stream {
     }
 
     /// Returns the header of a packet from a redundant block.
-    pub(crate) fn block_header(&self, ssrc: u32, recovered: &Recovered<'_>) -> Header
+    pub(crate) fn block_header(&self, ssrc: u32, recovered: &Recovered<'_>) -> RtpHeader
         ensures { result ≡ block_header self.now ssrc (recovered_of recovered.now) }
     {
-        Header {
+        RtpHeader {
             payload_type: Pt::new_with_value(self.payload_type),
             sequence_number: (recovered.seq_no.0 % 65_536) as u16,
             timestamp: recovered.rtp_time,

@@ -17,7 +17,7 @@ use Rattle.codec_payload_jitter.specs.NotedTimes.{AreTimesOf}
 use Rattle.codec_payload_jitter.specs.Receiving.{Receiving}
 use Rattle.codec_payload_jitter.specs.Numbers.{Numbering, answer_for, numbering_after}
 use Rattle.codec_payload_jitter.specs.declared.numbers.Extended.TheVariants as extended
-use Rattle.codec_payload_sender.specs.declared.sender.Stream.{Stream}
+use Rattle.codec_payload_sender.specs.declared.sender.Outgoing.{Outgoing}
 use Rattle.codec_payload_stream.specs.Kinds.{Kinds}
 use Rattle.codec_payload_stream.specs.Sessions.{Session, ended}
 use Rattle.codec_payload_wire.proofs.ReceivingLemmas.{AllNumbered, IsListening, KeepsLimits, finishes_as, keeps_then, pops_as, pushes_copy, wait_same}
@@ -36,7 +36,7 @@ Brings at_end (steps.Pop now ∷ later) events = (wait : Option ℕ) × (rest : 
 Brings at_end (steps.Finish ∷ later) events = Brings true later events
 
 -- the packet of a datagram
-pub packet_at_index : (stream : Stream) (first : ℕ) (packets : List Packet) (datagrams : List (List ℕ)) (k : ℕ) (bytes : List ℕ) → AreDatagrams stream packets datagrams
+pub packet_at_index : (stream : Outgoing) (first : ℕ) (packets : List Packet) (datagrams : List (List ℕ)) (k : ℕ) (bytes : List ℕ) → AreDatagrams stream packets datagrams
     → AreNumbered first packets → slice_get datagrams k ≡ Some bytes
     → (q : Packet) × (slice_get packets k ≡ Some q) × ReadsAs stream q bytes × (q.number ≡ first + k)
 packet_at_index stream first [] [] k bytes are numbered there = absurd (cc)
@@ -76,10 +76,10 @@ numbering_through first n [] = n
 numbering_through first n (k ∷ ks) = numbering_through first (numbering_after n ((first + k) % 2 ^ 16)) ks
 
 -- each push has the values of its packet
-abbrev pub AllHaveValues : ExtensionIds → Stream → List Packet → List Event → Type 0
+abbrev pub AllHaveValues : ExtensionIds → Outgoing → List Packet → List Event → Type 0
 AllHaveValues ids stream packets events = (k : ℕ) (meta : RtpMeta) → IsIn (Arrives k meta) events → HasValuesOf ids stream packets k meta
 
-pub values_with : (ids : ExtensionIds) (stream : Stream) (packets : List Packet) (events : List Event) (k : ℕ) (meta : RtpMeta) → HasValuesOf ids stream packets k meta
+pub values_with : (ids : ExtensionIds) (stream : Outgoing) (packets : List Packet) (events : List Event) (k : ℕ) (meta : RtpMeta) → HasValuesOf ids stream packets k meta
     → AllHaveValues ids stream packets events → AllHaveValues ids stream packets (Arrives k meta ∷ events)
 values_with ids stream packets events k meta one rest j m is = elim is [
   | inl here ↦
@@ -89,12 +89,12 @@ values_with ids stream packets events k meta one rest j m is = elim is [
   | inr later ↦ rest j m later
 ]
 
-pub values_asked : (ids : ExtensionIds) (stream : Stream) (packets : List Packet) (events : List Event) (wait : Option ℕ)
+pub values_asked : (ids : ExtensionIds) (stream : Outgoing) (packets : List Packet) (events : List Event) (wait : Option ℕ)
     → AllHaveValues ids stream packets events → AllHaveValues ids stream packets (Asked wait ∷ events)
 values_asked ids stream packets events wait rest j m is = elim is [ inl here ↦ absurd (cc) | inr later ↦ rest j m later ]
 
 -- what is known of the metadata of a packet, apart from its delivery
-abbrev pub IsRead : ExtensionIds → Stream → List Packet → ℕ → Packet → RtpMeta → Type 0
+abbrev pub IsRead : ExtensionIds → Outgoing → List Packet → ℕ → Packet → RtpMeta → Type 0
 IsRead ids stream packets k q meta = Tells stream.clock_rate q meta × HasValuesOf ids stream packets k meta
 
 -- a log of these steps, from this stretch on, with these answers and this buffer in the end
@@ -111,7 +111,7 @@ turn_at None s t a pops = ([], (refl, pops.0, pops.1))
 turn_at (Some h) s t a pops = (pops.1.0, (pops.0, pops.1.1))
 
 -- the events of the buffer for these steps
-pub record IsMet (r : Receiving) (stream : Stream) (packets : List Packet) (all_steps : List DatagramStep) (s : Session) (answers : List Answer) (t : Session) : Type 0 where
+pub record IsMet (r : Receiving) (stream : Outgoing) (packets : List Packet) (all_steps : List DatagramStep) (s : Session) (answers : List Answer) (t : Session) : Type 0 where
   pub events : List Event
   pub meets : Meets stream.clock_rate packets events s.packets.buffer answers t.packets.buffer
   pub brings : Brings s.packets.ended all_steps events
@@ -119,14 +119,14 @@ pub record IsMet (r : Receiving) (stream : Stream) (packets : List Packet) (all_
   pub logs : (w : Stretch) → w.now ≡ s.packets.buffer → HasLog (IsRead s.stream.ids stream packets) packets r s.packets.ended all_steps w answers t.packets.buffer
 
 -- the same, and what the receiver is in the end
-pub record IsMetOn (again : Option RetransmissionStream) (time_of : ℕ → ℕ) (first : ℕ) (r : Receiving) (stream : Stream) (packets : List Packet) (all_steps : List DatagramStep) (s : Session) (answers : List Answer) (t : Session) : Type 0 where
+pub record IsMetOn (again : Option RetransmissionStream) (time_of : ℕ → ℕ) (first : ℕ) (r : Receiving) (stream : Outgoing) (packets : List Packet) (all_steps : List DatagramStep) (s : Session) (answers : List Answer) (t : Session) : Type 0 where
   pub met : IsMet r stream packets all_steps s answers t
   pub listening : IsListening again stream t
   pub times : AreTimesOf time_of t.packets.noted
   pub through : t.packets.numbering ≡ numbering_through first s.packets.numbering (delivered all_steps)
   pub kinds : t.stream ≡ s.stream
 
-module _ (again : Option RetransmissionStream) (stream : Stream) (types : (stream.payload_type < 64) ⊎ (95 < stream.payload_type)) (first : ℕ) (packets : List Packet) (datagrams : List (List ℕ))
+module _ (again : Option RetransmissionStream) (stream : Outgoing) (types : (stream.payload_type < 64) ⊎ (95 < stream.payload_type)) (first : ℕ) (packets : List Packet) (datagrams : List (List ℕ))
     (are : AreDatagrams stream packets datagrams) (numbered : AreNumbered first packets) (r : Receiving) where
   pub met_by : (time_of : ℕ → ℕ) (all_steps : List DatagramStep) (s t : Session) (answers : List Answer) → IsListening again stream s → KeepsLimits r s.packets
       → AllNumbered first s.packets.numbering (delivered all_steps) → AllTimed time_of first packets (delivered all_steps) → AreTimesOf time_of s.packets.noted

@@ -12,7 +12,7 @@ use Rattle.codec_payload_rtp.specs.RtpReading.{◌>>=◌, behind_fixed, cut, ext
 use Rattle.codec_payload_rtp.specs.declared.rtp.RtpError.{RtpError}
 use Rattle.codec_payload_rtp.specs.declared.rtp.RtpError.TheVariants as errors
 use Rattle.codec_payload_sender.specs.Datagrams.{header_with}
-use Rattle.codec_payload_sender.specs.declared.sender.Stream.{Stream}
+use Rattle.codec_payload_sender.specs.declared.sender.Outgoing.{Outgoing}
 use Rattle.codec_payload_stream.specs.Kinds.{Again, Kinds, Original, WithMedia, again_read, datagram_at, is_other, is_sent_again}
 use Rattle.codec_payload_stream.specs.declared.receiver.Retransmission.{Retransmission}
 use Rattle.codec_payload_wire.specs.Releases.{ReadsAs, is_sent_again_by}
@@ -81,15 +81,15 @@ is_no_rtcp bytes p reads (inl low) = false_from_ne_true (is_rtcp bytes) (λ rtcp
 is_no_rtcp bytes p reads (inr high) = false_from_ne_true (is_rtcp bytes) (λ rtcp. let types = packet_types bytes p reads rtcp in omega (arith, types.1, high))
 
 -- the packet that a datagram reads as
-abbrev pub packet_at : Stream → Packet → rtp.Packet
+abbrev pub packet_at : Outgoing → Packet → rtp.Packet
 packet_at stream q = record { header = header_with stream (record { marker = q.marker; number = q.number % 2 ^ 16; time = q.rtp_time }) q.ext_vals; payload = q.payload; padding = 0 }
 
-again_same : (r : Option Retransmission) (stream : Stream) (q : Packet) → is_sent_again r (packet_at stream q).header ≡ is_sent_again_by r stream
+again_same : (r : Option Retransmission) (stream : Outgoing) (q : Packet) → is_sent_again r (packet_at stream q).header ≡ is_sent_again_by r stream
 again_same None stream q = refl
 again_same (Some r) stream q = refl
 
 -- it is a packet with media of the stream
-pub datagram_is : (kinds : Kinds) (ssrc : Option ℕ) (stream : Stream) (q : Packet) (bytes : List ℕ)
+pub datagram_is : (kinds : Kinds) (ssrc : Option ℕ) (stream : Outgoing) (q : Packet) (bytes : List ℕ)
     → ReadsAs stream q bytes → kinds.payload_type ≡ stream.payload_type → (stream.payload_type < 64) ⊎ (95 < stream.payload_type) → is_other ssrc stream.ssrc ≡ false
     → is_sent_again_by kinds.retransmission stream ≡ false
     → datagram_at kinds ssrc bytes ≡ WithMedia (packet_at stream q)
@@ -100,10 +100,10 @@ datagram_is kinds ssrc stream q bytes reads payload_type types own not_again =
     rw (no_rtcp, reads, again, own, media) refl
 
 -- a retransmission of the packet, under a number of the stream of retransmissions
-abbrev pub header_again : RetransmissionStream → ℕ → Stream → Packet → Header
+abbrev pub header_again : RetransmissionStream → ℕ → Outgoing → Packet → Header
 header_again again next stream q = record (packet_at stream q).header { payload_type = again.payload_type; sequence_number = next; ssrc = again.ssrc }
 
-abbrev pub original_at : RetransmissionStream → ℕ → Stream → Packet → Original
+abbrev pub original_at : RetransmissionStream → ℕ → Outgoing → Packet → Original
 original_at again next stream q = record { header = header_again again next stream q; number = q.number % 2 ^ 16; ssrc = stream.ssrc; bytes = q.payload }
 
 again_reads : (known : Option ℕ) (h : Header) (n ssrc : ℕ) (bytes : List ℕ) → n < 65536 → known ≡ Some ssrc
@@ -112,7 +112,7 @@ again_reads known h n ssrc bytes small is =
     let number : n / 256 % 256 * 256 + n % 256 ≡ n = omega (arith, small) in
     rw (is, number) refl
 
-retransmission_reads : (again : RetransmissionStream) (next : ℕ) (stream : Stream) (q : Packet) (datagram bytes : List ℕ) → ReadsAs stream q datagram
+retransmission_reads : (again : RetransmissionStream) (next : ℕ) (stream : Outgoing) (q : Packet) (datagram bytes : List ℕ) → ReadsAs stream q datagram
     → IsRetransmission again next datagram bytes
     → rtp_at bytes ≡ Ok (record { header = header_again again next stream q; payload = to_be_bytes w16 (q.number % 2 ^ 16) ++ q.payload; padding = 0 })
 retransmission_reads again next stream q datagram bytes reads is =
@@ -124,7 +124,7 @@ retransmission_reads again next stream q datagram bytes reads is =
     })) (sym same) is.reads
 
 -- a receiver that knows the stream of retransmissions reads the packet again
-pub again_is : (kinds : Kinds) (ssrc : Option ℕ) (again : RetransmissionStream) (next : ℕ) (stream : Stream) (q : Packet) (datagram bytes : List ℕ)
+pub again_is : (kinds : Kinds) (ssrc : Option ℕ) (again : RetransmissionStream) (next : ℕ) (stream : Outgoing) (q : Packet) (datagram bytes : List ℕ)
     → ReadsAs stream q datagram → IsRetransmission again next datagram bytes → ssrc ≡ Some stream.ssrc
     → kinds.retransmission ≡ Some (record { ssrc = again.ssrc; payload_type = again.payload_type }) → (again.payload_type < 64) ⊎ (95 < again.payload_type)
     → datagram_at kinds ssrc bytes ≡ Again (original_at again next stream q)

@@ -27,7 +27,7 @@ use Rattle.codec_payload_jitter.specs.declared.numbers.Extended.{Extended}
 use Rattle.codec_payload_jitter.specs.declared.numbers.Extended.TheVariants as extended
 use Rattle.codec_payload_jitter.specs.declared.outcome.Outcome.{Outcome}
 use Rattle.codec_payload_jitter.specs.declared.outcome.PacketCounters.{PacketCounters}
-use Rattle.codec_payload_sender.specs.declared.sender.Stream.{Stream}
+use Rattle.codec_payload_sender.specs.declared.sender.Outgoing.{Outgoing}
 use Rattle.codec_payload_stream.specs.Kinds.{Again, Datagram, Kinds, WithMedia, datagram_at, header_for, is_other}
 use Rattle.codec_payload_stream.specs.Choice.{is_silent, origin_of, verdict_of}
 use Rattle.codec_payload_stream.specs.Sessions.{Finishes, Heard, Hears, ReceivesBy, ReceivesBytes, Session, SettlesOn, TakesAgain, TakesMedia, ended, first_waiting, is_none_of, is_open, is_repeat, packet_seen}
@@ -52,7 +52,7 @@ AllNumbered first s (k ∷ ks) = (answer_for s ((first + k) % 2 ^ 16) ≡ extend
 
 -- a receiver of the stream and of its retransmissions, without numbers without media, without blocks of RED, and without an
 -- announced restart
-pub record IsListening (again : Option RetransmissionStream) (stream : Stream) (s : Session) : Type 0 where
+pub record IsListening (again : Option RetransmissionStream) (stream : Outgoing) (s : Session) : Type 0 where
   pub payload_type : s.stream.payload_type ≡ stream.payload_type
   pub named : s.named ≡ Some stream.ssrc
   pub ssrc : s.ssrc ≡ Some stream.ssrc
@@ -96,7 +96,7 @@ heard_at_once ssrc now bytes s t receipt is_named delivers = by_case delivers.1
     by_case (inr got) = absurd (delivers.0 got.0)
 
 -- its SSRC is the same
-pub same_ssrc : (stream : Stream) (s : Session) → s.ssrc ≡ Some stream.ssrc → is_other s.ssrc stream.ssrc ≡ false
+pub same_ssrc : (stream : Outgoing) (s : Session) → s.ssrc ≡ Some stream.ssrc → is_other s.ssrc stream.ssrc ≡ false
 same_ssrc stream s is = ap (λ (o : Option ℕ). is_other o stream.ssrc) is ∙ ap not (eq-eqb stream.ssrc stream.ssrc refl)
 
 -- at the end of the stream no packet waits for the choice
@@ -106,7 +106,7 @@ finishes_at ssrc s t is finishes =
     let stays : SettlesOn None finishes.0 s finishes.1 = subst (λ (o : Option Candidate). SettlesOn o finishes.0 s finishes.1) none finishes.2 in
     finishes.3 ∙ ap ended stays.1
 
-pub finishes_as : (again : Option RetransmissionStream) (stream : Stream) (s t : Session) → IsListening again stream s → Finishes s t → t ≡ ended s
+pub finishes_as : (again : Option RetransmissionStream) (stream : Outgoing) (s t : Session) → IsListening again stream s → Finishes s t → t ≡ ended s
 finishes_as again stream s t listening finishes = finishes_at stream.ssrc s t listening.ssrc finishes
 
 -- the limits of the receiver stay
@@ -182,7 +182,7 @@ takes_in_again time_of n a r t outcome running of_codec is times time receives =
     (went_in time_of n a r here.0 t outcome (counted_in_again here.0.counters outcome) here.0.kept (extended.Number n) of_codec times time here.1 here.2)
 
 -- a copy of a datagram of the sender is a push of its packet, by this answer
-pub record IsPushedBy (e : Extended) (again : Option RetransmissionStream) (time_of : ℕ → ℕ) (stream : Stream) (now : Ticks) (q : Packet) (s t : Session) : Type 0 where
+pub record IsPushedBy (e : Extended) (again : Option RetransmissionStream) (time_of : ℕ → ℕ) (stream : Outgoing) (now : Ticks) (q : Packet) (s t : Session) : Type 0 where
   pub times : AreTimesOf time_of t.packets.noted
   pub meta : RtpMeta
   pub tells : Tells stream.clock_rate q meta
@@ -196,15 +196,15 @@ pub record IsPushedBy (e : Extended) (again : Option RetransmissionStream) (time
   pub ended : t.packets.ended ≡ s.packets.ended
 
 -- the same for a packet within the windows
-abbrev pub IsPushed : Option RetransmissionStream → (ℕ → ℕ) → Stream → Ticks → Packet → Session → Session → Type 0
+abbrev pub IsPushed : Option RetransmissionStream → (ℕ → ℕ) → Outgoing → Ticks → Packet → Session → Session → Type 0
 IsPushed again time_of stream now q s t = IsPushedBy (answer_for s.packets.numbering (q.number % 2 ^ 16)) again time_of stream now q s t
 
 -- the packet on arrival
-abbrev pub arrival_at : Stream → Ticks → Packet → Session → Arrival
+abbrev pub arrival_at : Outgoing → Ticks → Packet → Session → Arrival
 arrival_at stream now q s = record { now = now; header = header_for s.stream (packet_at stream q).header; bytes = q.payload }
 
 -- the jitter buffer has stored the packet, and the rest of the receiver is as before, as far as the stream is concerned
-pub record HasStored (e : Extended) (time_of : ℕ → ℕ) (stream : Stream) (now : Ticks) (q : Packet) (s t : Session) : Type 0 where
+pub record HasStored (e : Extended) (time_of : ℕ → ℕ) (stream : Outgoing) (now : Ticks) (q : Packet) (s t : Session) : Type 0 where
   pub takes : TakesIn time_of e q.number (arrival_at stream now q s) s.packets t.packets
   pub kinds : t.stream ≡ s.stream
   pub named : t.named ≡ s.named
@@ -216,7 +216,7 @@ pub record HasStored (e : Extended) (time_of : ℕ → ℕ) (stream : Stream) (n
 abbrev pub calmed : Session → Session
 calmed s = record s { packets = record s.packets { is_restarting = false } }
 
-pub still_calm : (again : Option RetransmissionStream) (stream : Stream) (s : Session) → IsListening again stream s → IsListening again stream (calmed s)
+pub still_calm : (again : Option RetransmissionStream) (stream : Outgoing) (s : Session) → IsListening again stream s → IsListening again stream (calmed s)
 still_calm again stream s listening = record {
   payload_type = listening.payload_type;
   named = listening.named;
@@ -231,7 +231,7 @@ still_calm again stream s listening = record {
   heard = listening.heard;
 }
 
-pub stored_is_pushed : (e : Extended) (again : Option RetransmissionStream) (time_of : ℕ → ℕ) (stream : Stream) (now : Ticks) (q : Packet) (s t : Session) → IsListening again stream (calmed s)
+pub stored_is_pushed : (e : Extended) (again : Option RetransmissionStream) (time_of : ℕ → ℕ) (stream : Outgoing) (now : Ticks) (q : Packet) (s t : Session) → IsListening again stream (calmed s)
     → HasStored e time_of stream now q s t → IsPushedBy e again time_of stream now q s t
 stored_is_pushed e again time_of stream now q s t listening has =
     let one = has.takes in
@@ -275,7 +275,7 @@ not_repeated s time low none =
     ap (λ (b : Bool). (is_some s.stream.red && b) && would_store s.packets low) (none time) ∙ ap (λ (b : Bool). b && would_store s.packets low) (and_false (is_some s.stream.red))
 
 -- a datagram of the sender
-pushes : (again : Option RetransmissionStream) (time_of : ℕ → ℕ) (stream : Stream) (now : Ticks) (q : Packet) (bytes : List ℕ) (s t : Session) (receipt : Receipt) → (stream.payload_type < 64)
+pushes : (again : Option RetransmissionStream) (time_of : ℕ → ℕ) (stream : Outgoing) (now : Ticks) (q : Packet) (bytes : List ℕ) (s t : Session) (receipt : Receipt) → (stream.payload_type < 64)
     ⊎ (95 < stream.payload_type) → IsListening again stream s → ReadsAs stream q bytes
     → answer_for s.packets.numbering (q.number % 2 ^ 16) ≡ extended.Number q.number → AreTimesOf time_of s.packets.noted → q.rtp_time ≡ time_of q.number
     → Delivers now bytes s receipt t → IsPushed again time_of stream now q s t
@@ -301,7 +301,7 @@ pushes again time_of stream now q bytes s t receipt types listening reads number
     })
 
 -- a retransmission of it
-pushes_again : (again : RetransmissionStream) (next : ℕ) (time_of : ℕ → ℕ) (stream : Stream) (now : Ticks) (q : Packet) (datagram bytes : List ℕ) (s t : Session) (receipt : Receipt)
+pushes_again : (again : RetransmissionStream) (next : ℕ) (time_of : ℕ → ℕ) (stream : Outgoing) (now : Ticks) (q : Packet) (datagram bytes : List ℕ) (s t : Session) (receipt : Receipt)
     → IsListening (Some again) stream s → ReadsAs stream q datagram → IsRetransmission again next datagram bytes
     → answer_for s.packets.numbering (q.number % 2 ^ 16) ≡ extended.Number q.number → AreTimesOf time_of s.packets.noted → q.rtp_time ≡ time_of q.number
     → Delivers now bytes s receipt t → IsPushed (Some again) time_of stream now q s t
@@ -328,7 +328,7 @@ pushes_again again next time_of stream now q datagram bytes s t receipt listenin
     })
 
 -- any copy of it
-pub pushes_copy : (again : Option RetransmissionStream) (time_of : ℕ → ℕ) (stream : Stream) (now : Ticks) (q : Packet) (datagram bytes : List ℕ) (s t : Session) (receipt : Receipt)
+pub pushes_copy : (again : Option RetransmissionStream) (time_of : ℕ → ℕ) (stream : Outgoing) (now : Ticks) (q : Packet) (datagram bytes : List ℕ) (s t : Session) (receipt : Receipt)
     → (stream.payload_type < 64) ⊎ (95 < stream.payload_type) → IsListening again stream s → ReadsAs stream q datagram → IsCopy again datagram bytes
     → answer_for s.packets.numbering (q.number % 2 ^ 16) ≡ extended.Number q.number → AreTimesOf time_of s.packets.noted → q.rtp_time ≡ time_of q.number
     → Delivers now bytes s receipt t → IsPushed again time_of stream now q s t
@@ -353,7 +353,7 @@ pop_stays s t answer of_codec not_memory pops =
     (pop_exactly [] 0 (c s) (c t) [] (answer ∷ []) refl of_codec (refl, answer, t, refl, not_memory, pops, refl)).1
 
 -- a pop of the receiver is one of its buffer
-pub record IsPopped (again : Option RetransmissionStream) (stream : Stream) (now : Ticks) (answer : Answer) (s t : Session) : Type 0 where
+pub record IsPopped (again : Option RetransmissionStream) (stream : Outgoing) (now : Ticks) (answer : Answer) (s t : Session) : Type 0 where
   pub wait : Option ℕ
   pub at_end : s.packets.ended ≡ true → wait ≡ Some 0
   pub pops : PopsWaiting wait s.packets.buffer answer t.packets.buffer
@@ -410,7 +410,7 @@ pub waits_for_nothing : (r : Receiving) (now : ℕ) → r.ended ≡ true → wai
 waits_for_nothing r now at_end =
     ap (λ (b : Bool). cond b (Some 0) (cond (is_starting r) None (Some (most_held_back r.wait_limits.hold_back)))) (or_left r.ended _ at_end)
 
-pub pops_as : (again : Option RetransmissionStream) (stream : Stream) (now : Ticks) (answer : Answer) (s t : Session) → IsListening again stream s → answer ≢ Some (Err faults.OutOfMemory)
+pub pops_as : (again : Option RetransmissionStream) (stream : Outgoing) (now : Ticks) (answer : Answer) (s t : Session) → IsListening again stream s → answer ≢ Some (Err faults.OutOfMemory)
     → PopsUnit now s answer t → IsPopped again stream now answer s t
 pops_as again stream now answer s t listening not_memory gated =
     let popped : PopsOnce now.0 s answer t = pops_at_once now.0 s answer t listening.drops_none gated in

@@ -24,7 +24,7 @@ use Rattle.codec_payload_rtp.specs.RtpPackets.{Header, is_rtcp}
 use Rattle.codec_payload_rtp.specs.RtpReading.{rtp_at}
 use Rattle.codec_payload_runs.specs.RedSchedule.{all_remembered, remembered}
 use Rattle.codec_payload_send.specs.Packets.{Packet}
-use Rattle.codec_payload_sender.specs.declared.sender.Stream.{Stream}
+use Rattle.codec_payload_sender.specs.declared.sender.Outgoing.{Outgoing}
 use Rattle.codec_payload_stream.specs.Kinds.{Carrier, InRed, Kinds, carrier_with, datagram_at, is_other, is_sent_again, red_again_of, red_of}
 use Rattle.codec_payload_stream.specs.Sessions.{all_carried, block_arrival}
 use Rattle.codec_payload_stream.specs.declared.datagram.RedStream.{RedStream}
@@ -35,7 +35,7 @@ use Rattle.codec_payload_wire.specs.RedRuns.{WritesAll}
 use Rattle.codec_payload_wire.specs.Releases.{AreDatagrams, ReadsAs}
 
 -- the datagrams as a writer remembers them
-pub entries_are : (stream : Stream) (packets : List Packet) (datagrams : List (List ℕ)) → AreDatagrams stream packets datagrams → entries_in datagrams ≡ all_remembered packets
+pub entries_are : (stream : Outgoing) (packets : List Packet) (datagrams : List (List ℕ)) → AreDatagrams stream packets datagrams → entries_in datagrams ≡ all_remembered packets
 entries_are stream [] [] are = refl
 entries_are stream [] (d ∷ ds) are = absurd are
 entries_are stream (q ∷ qs) [] are = absurd are
@@ -46,7 +46,7 @@ entries_are stream (q ∷ qs) (d ∷ ds) are =
 -- Written datagrams
 
 -- a written datagram: its packet, and the writer before it
-pub record IsWritten (stream : Stream) (packets : List Packet) (w : Writer) (k : ℕ) (bytes : List ℕ) : Type 0 where
+pub record IsWritten (stream : Outgoing) (packets : List Packet) (w : Writer) (k : ℕ) (bytes : List ℕ) : Type 0 where
   pub packet : Packet
   pub there : slice_get packets k ≡ Some packet
   pub before : Writer
@@ -54,7 +54,7 @@ pub record IsWritten (stream : Stream) (packets : List Packet) (w : Writer) (k :
   pub before_is : before ≡ record w { red = sender_at w.red (all_remembered packets) k }
   pub in_red : IsInRed before (packet_at stream packet) bytes after
 
-one_written : (stream : Stream) (w : Writer) (q : Packet) (d out : List ℕ) (t : Writer) → w.media_type ≡ stream.payload_type → ReadsAs stream q d → Writes w d out t
+one_written : (stream : Outgoing) (w : Writer) (q : Packet) (d out : List ℕ) (t : Writer) → w.media_type ≡ stream.payload_type → ReadsAs stream q d → Writes w d out t
     → IsInRed w (packet_at stream q) out t
 one_written stream w q d out t media reads one =
     let same : packet_at stream q ≡ one.packet = ok_is (packet_at stream q) one.packet (sym reads ∙ one.read) in
@@ -63,7 +63,7 @@ one_written stream w q d out t media reads one =
     let own : eqb stream.payload_type w.media_type ≡ true = eq-eqb stream.payload_type w.media_type (sym media) in
     subst (λ (b : Bool). WritesPacket b w (packet_at stream q) d out t) own written
 
-pub written_at : (stream : Stream) (packets : List Packet) (w : Writer) (ds outs : List (List ℕ)) (t : Writer) (k : ℕ) (bytes : List ℕ) → w.media_type ≡ stream.payload_type
+pub written_at : (stream : Outgoing) (packets : List Packet) (w : Writer) (ds outs : List (List ℕ)) (t : Writer) (k : ℕ) (bytes : List ℕ) → w.media_type ≡ stream.payload_type
     → AreDatagrams stream packets ds → WritesAll w ds outs t → slice_get outs k ≡ Some bytes → IsWritten stream packets w k bytes
 written_at stream [] w [] outs t k bytes media are writes there =
     let none : slice_get {X = List ℕ} [] k ≡ Some bytes = subst (λ (os : List (List ℕ)). slice_get os k ≡ Some bytes) writes.0 there in absurd (cc)
@@ -97,7 +97,7 @@ written_at stream (q ∷ qs) w (d ∷ ds) outs t (suc k) bytes media are writes 
 -- The datagram
 
 -- what a receiver finds in it
-abbrev pub carrier_at : Receiver → Stream → Writer → Packet → Carrier
+abbrev pub carrier_at : Receiver → Outgoing → Writer → Packet → Carrier
 carrier_at receiver stream w q = carrier_with receiver (record (packet_at stream q).header { payload_type = w.red_type }) (wrapped w.red q.payload q.rtp_time w.budget)
 
 not_sent_again : (r : Option Retransmission) (h : Header) → is_ssrc_of r h.ssrc ≡ false → is_sent_again r h ≡ false
@@ -109,14 +109,14 @@ not_red_again None red h other = refl
 not_red_again (Some r) None h other = refl
 not_red_again (Some r) (Some red) h other = rw other refl
 
-pub record IsRedFor (stream : Stream) (w : Writer) (kinds : Kinds) (red : RedStream) : Type 0 where
+pub record IsRedFor (stream : Outgoing) (w : Writer) (kinds : Kinds) (red : RedStream) : Type 0 where
   pub used : kinds.red ≡ Some red
   pub red_type : red.payload_type ≡ w.red_type
   pub other_type : eqb w.red_type kinds.payload_type ≡ false
   pub not_rtcp : (w.red_type < 64) ⊎ (95 < w.red_type)
   pub not_again : is_ssrc_of kinds.retransmission stream.ssrc ≡ false
 
-pub red_datagram_is : (kinds : Kinds) (ssrc : Option ℕ) (stream : Stream) (red : RedStream) (w : Writer) (q : Packet) (bytes : List ℕ) (after : Writer)
+pub red_datagram_is : (kinds : Kinds) (ssrc : Option ℕ) (stream : Outgoing) (red : RedStream) (w : Writer) (q : Packet) (bytes : List ℕ) (after : Writer)
     → IsRedFor stream w kinds red → is_accepted w.red.distances ≡ true → length q.payload < w.budget → is_other ssrc stream.ssrc ≡ false
     → IsInRed w (packet_at stream q) bytes after → datagram_at kinds ssrc bytes ≡ InRed (carrier_at red.receiver stream w q)
 red_datagram_is kinds ssrc stream red w q bytes after is accepted room own in_red =
@@ -266,7 +266,7 @@ module _ (packets : List Packet) (w : Writer) (first k : ℕ) (now : Ticks) (kin
       by_found later (Some x) found = let one = found_is red x found others all in (one.0, later one.1)
 
 -- all blocks of a written datagram
-pub blocks_are : (stream : Stream) (packets : List Packet) (w : Writer) (first k : ℕ) (now : Ticks) (kinds : Kinds) (receiver : Receiver) (q : Packet)
+pub blocks_are : (stream : Outgoing) (packets : List Packet) (w : Writer) (first k : ℕ) (now : Ticks) (kinds : Kinds) (receiver : Receiver) (q : Packet)
     → IsRecoverable w.red receiver w.budget (all_remembered packets) → slice_get packets k ≡ Some q → q.number ≡ first + k
     → AreBlocks packets w first k now (all_carried kinds now (carrier_at receiver stream (record w { red = sender_at w.red (all_remembered packets) k }) q))
 blocks_are stream packets w first k now kinds receiver q given there number =
@@ -329,7 +329,7 @@ kept_earlier w sent j k kept = by_distance kept.distance kept.back kept.is_level
     by_distance (suc d) back found = omega (arith, back)
 
 -- an arrival with the time of the packet
-pub kept_carried : (stream : Stream) (packets : List Packet) (w : Writer) (first k j : ℕ) (now : Ticks) (kinds : Kinds) (receiver : Receiver) (q p : Packet)
+pub kept_carried : (stream : Outgoing) (packets : List Packet) (w : Writer) (first k j : ℕ) (now : Ticks) (kinds : Kinds) (receiver : Receiver) (q p : Packet)
     → IsRecoverable w.red receiver w.budget (all_remembered packets) → slice_get packets k ≡ Some q → q.number ≡ first + k → IsKeptIn w.red w.budget (all_remembered packets) j k
     → slice_get packets j ≡ Some p
     → (a : Arrival) × IsIn a (all_carried kinds now (carrier_at receiver stream (record w { red = sender_at w.red (all_remembered packets) k }) q)) × (a.header.timestamp ≡ p.rtp_time)

@@ -34,7 +34,7 @@ use Rattle.codec_payload_runs.specs.Schedule.{Answer}
 use Rattle.codec_payload_runs.specs.SentStream.{packets_of}
 use Rattle.codec_payload_send.specs.Packets.{AreNumbered, Packet}
 use Rattle.codec_payload_rtp.specs.RtpPackets.{Header}
-use Rattle.codec_payload_sender.specs.declared.sender.Stream.{Stream}
+use Rattle.codec_payload_sender.specs.declared.sender.Outgoing.{Outgoing}
 use Rattle.codec_payload_stream.proofs.PopLemmas.{drops_stay, pops_at_once}
 use Rattle.codec_payload_stream.specs.Choice.{is_silent, origin_of, verdict_of}
 use Rattle.codec_payload_stream.specs.Kinds.{Carrier, Datagram, InRed, Kinds, datagram_at, header_for, is_other}
@@ -152,7 +152,7 @@ block_number s g i m at below near apart some is =
 -- Receiving
 
 -- a jitter buffer of the stream, with these windows and noted times
-pub record IsSteady (stream : Stream) (forward backward : ℕ) (time_of : ℕ → ℕ) (r : Receiving) : Type 0 where
+pub record IsSteady (stream : Outgoing) (forward backward : ℕ) (time_of : ℕ → ℕ) (r : Receiving) : Type 0 where
   pub rate : r.rate ≡ stream.clock_rate
   pub running : r.is_restarting ≡ false
   pub of_codec : is_built_in_depacketizer r.buffer.depacketizer ≡ true
@@ -161,7 +161,7 @@ pub record IsSteady (stream : Stream) (forward backward : ℕ) (time_of : ℕ �
   pub times : AreTimesOf time_of r.noted
 
 -- a receiver of the stream
-pub record IsTuned (stream : Stream) (kinds : Kinds) (forward backward : ℕ) (time_of : ℕ → ℕ) (s : Session) : Type 0 where
+pub record IsTuned (stream : Outgoing) (kinds : Kinds) (forward backward : ℕ) (time_of : ℕ → ℕ) (s : Session) : Type 0 where
   pub kinds_are : s.stream ≡ kinds
   pub named : s.named ≡ Some stream.ssrc
   pub ssrc : s.ssrc ≡ Some stream.ssrc
@@ -176,7 +176,7 @@ second P b x y taken known = subst (λ (c : Bool). P (cond c x y)) taken known
 -- sender, writer and receiver fit
 pub record RedSide : Type 1 where
   pub c : Setting
-  pub stream : Stream
+  pub stream : Outgoing
   pub writer : Writer
   pub datagrams : List (List ℕ)
   pub entries : entries_in datagrams ≡ all_remembered (packets_of c.units)
@@ -194,7 +194,7 @@ pub record RedSide : Type 1 where
   pub each : (k : ℕ) (bytes : List ℕ) → slice_get written k ≡ Some bytes → IsWritten stream (packets_of c.units) writer k bytes
 
 module _ (l : RedSide) where
-  abbrev stream : Stream
+  abbrev stream : Outgoing
   stream = l.stream
 
   abbrev w : Writer

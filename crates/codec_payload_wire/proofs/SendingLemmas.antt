@@ -22,7 +22,7 @@ use Rattle.codec_payload_runs.specs.declared.run.Step.{Step}
 use Rattle.codec_payload_rtp.specs.RtpPackets.{Header}
 use Rattle.codec_payload_sender.specs.Datagrams.{IsSentAt, header_at, header_with}
 use Rattle.codec_payload_sender.specs.Senders.{Refuses, Sending, Sends}
-use Rattle.codec_payload_sender.specs.declared.sender.Stream.{Stream}
+use Rattle.codec_payload_sender.specs.declared.sender.Outgoing.{Outgoing}
 use Rattle.codec_payload_wire.proofs.Courses.{DeliversCopy, Proceeds}
 use Rattle.codec_payload_wire.specs.Releases.{AreDatagrams, ReadsAs, sending_steps}
 use Rattle.codec_payload_base.specs.declared.wire.Ticks.{Ticks}
@@ -33,14 +33,14 @@ use Rattle.codec_payload_wire.specs.declared.run.SentSample.{SentSample}
 
 -- Lists of packets
 
-pub datagrams_append : (stream : Stream) (ps : List Packet) (ds : List (List ℕ)) (qs : List Packet) (es : List (List ℕ))
+pub datagrams_append : (stream : Outgoing) (ps : List Packet) (ds : List (List ℕ)) (qs : List Packet) (es : List (List ℕ))
     → AreDatagrams stream ps ds → AreDatagrams stream qs es → AreDatagrams stream (ps ++ qs) (ds ++ es)
 datagrams_append stream [] [] qs es here more = more
 datagrams_append stream [] (d ∷ ds) qs es here more = absurd here
 datagrams_append stream (p ∷ ps) [] qs es here more = absurd here
 datagrams_append stream (p ∷ ps) (d ∷ ds) qs es here more = (here.0, datagrams_append stream ps ds qs es here.1 more)
 
-pub same_count : (stream : Stream) (ps : List Packet) (ds : List (List ℕ)) → AreDatagrams stream ps ds → length ps ≡ length ds
+pub same_count : (stream : Outgoing) (ps : List Packet) (ds : List (List ℕ)) → AreDatagrams stream ps ds → length ps ≡ length ds
 same_count stream [] [] are = refl
 same_count stream [] (d ∷ ds) are = absurd are
 same_count stream (p ∷ ps) [] are = absurd are
@@ -77,22 +77,22 @@ last_is : (place : ℕ) (payloads : List (List ℕ)) → eqb (place + 1) (place 
 last_is place [] = eq-eqb (place + 1) (place + 1 + 0) (omega arith)
 last_is place (payload ∷ payloads) = ne_eqb (place + 1) (place + 1 + suc (length payloads)) (λ e. omega (arith, e))
 
-abbrev headed : Stream → Bool → ℕ → ℕ → ExtensionValues → Header
+abbrev headed : Outgoing → Bool → ℕ → ℕ → ExtensionValues → Header
 headed stream marker number time values = header_with stream (record { marker = marker; number = number; time = time }) values
 
 -- headers of the same fields, for any next number
-same_header : (sending stream : Stream) (m m' : Bool) (n n' t t' : ℕ) (values values' : ExtensionValues) → sending ≡ record stream { number = sending.number }
+same_header : (sending stream : Outgoing) (m m' : Bool) (n n' t t' : ℕ) (values values' : ExtensionValues) → sending ≡ record stream { number = sending.number }
     → m ≡ m' → n ≡ n' → t ≡ t' → values ≡ values'
     → headed sending m n t values ≡ headed stream m' n' t' values'
 same_header sending stream m m' n n' t t' values values' kept e1 e2 e3 e4 =
-    ap (λ (x : Stream). headed x m n t values) kept
+    ap (λ (x : Outgoing). headed x m n t values) kept
     ∙ (ap (λ (b : Bool). headed stream b n t values) e1
     ∙ (ap (λ (k : ℕ). headed stream m' k t values) e2
     ∙ (ap (λ (k : ℕ). headed stream m' n' k values) e3
     ∙ ap (λ (v : ExtensionValues). headed stream m' n' t' v) e4)))
 
 -- the datagrams of a sample, from a place on, read as its packets
-sent_reads : (sending stream : Stream) (packetizer : PacketizerState) (sample : Sample) (count number place : ℕ) (payloads datagrams : List (List ℕ))
+sent_reads : (sending stream : Outgoing) (packetizer : PacketizerState) (sample : Sample) (count number place : ℕ) (payloads datagrams : List (List ℕ))
     → sending ≡ record stream { number = sending.number } → is_built_in packetizer ≡ true → length datagrams ≡ length payloads → place + length payloads ≡ count
     → number + length payloads < 2 ^ 64 → number % 2 ^ 16 ≡ (sending.number + place) % 2 ^ 16
     → ((i : ℕ) → i < length payloads → IsSentAt sending packetizer (sent_sample sample) count (place + i) (slice_index_or payloads i []) (slice_index_or datagrams i []))
@@ -109,7 +109,7 @@ sent_reads sending stream packetizer sample count number place (payload ∷ payl
     ∙ ap (λ (b : Bool). marker_of packetizer b || (talk_spurt_of packetizer && sample.start_of_talk_spurt)) (ap (eqb (place + 1)) all ∙ last_is place payloads) in
     let header : header_at sending (sent_sample sample) place count first.marker ≡ headed stream q.marker (q.number % 2 ^ 16) q.rtp_time q.ext_vals =
     same_header sending stream first.marker q.marker ((sending.number + place) % 2 ^ 16) (q.number % 2 ^ 16) _ q.rtp_time _ q.ext_vals kept marker (sym low)
-    (ap (λ (x : Stream). rtp_time_at x.clock_rate sample.rtp_time) kept) (ap (stripped sample.ext_vals place) all) in
+    (ap (λ (x : Outgoing). rtp_time_at x.clock_rate sample.rtp_time) kept) (ap (stripped sample.ext_vals place) all) in
     let reads : ReadsAs stream q d = first.reads ∙ ap (λ (h : Header). Ok (record { header = h; payload = payload; padding = 0 })) header in
     let next : (number + 1) % 2 ^ 64 ≡ number + 1 = omega arith in (
       reads,
@@ -123,7 +123,7 @@ abbrev pub running : State → ℕ → ℕ → Sending → List Packet → RunSt
 running buffer first clock_rate s packets = run_state (record { packetizer = s.packetizer; clock_rate = clock_rate }) buffer (record { first = first; packets = packets })
 
 -- the sender's datagrams so far are these packets
-pub record IsAt (stream : Stream) (budget start : ℕ) (s : Sending) (datagrams : List (List ℕ)) (packets : List Packet) : Type 0 where
+pub record IsAt (stream : Outgoing) (budget start : ℕ) (s : Sending) (datagrams : List (List ℕ)) (packets : List Packet) : Type 0 where
   pub mtu : s.mtu ≡ budget
   pub built_in : is_built_in s.packetizer ≡ true
   pub kept : s.stream ≡ record stream { number = s.stream.number }
@@ -133,14 +133,14 @@ pub record IsAt (stream : Stream) (budget start : ℕ) (s : Sending) (datagrams 
   pub few : length packets < 2 ^ 63
 
 -- a sample was sent, also by the payloader
-pub record SendsBoth (buffer : State) (stream : Stream) (budget start place : ℕ) (sample : Sample) (s t : Sending) (after : List (List ℕ)) (packets : List Packet) : Type 0 where
+pub record SendsBoth (buffer : State) (stream : Outgoing) (budget start place : ℕ) (sample : Sample) (s t : Sending) (after : List (List ℕ)) (packets : List Packet) : Type 0 where
   pub more : List Packet
   pub entry : Sent
   pub sends : core.SendsIt place budget sample (running buffer start stream.clock_rate s packets) entry (running buffer start stream.clock_rate t (packets ++ more))
   pub at : IsAt stream budget start t after (packets ++ more)
 
 -- a sample for which the packetizer gave payloads
-sent_both : (buffer : State) (stream : Stream) (budget start place : ℕ) (sample : Sample) (s t : Sending) (before after : List (List ℕ)) (packets : List Packet)
+sent_both : (buffer : State) (stream : Outgoing) (budget start place : ℕ) (sample : Sample) (s t : Sending) (before after : List (List ℕ)) (packets : List Packet)
     → start < 2 ^ 63 → IsAt stream budget start s before packets → after ≡ before ++ t.datagrams → length after < 2 ^ 63 → Sends s (sent_sample sample) t
     → SendsBoth buffer stream budget start place sample s t after packets
 sent_both buffer stream budget start place sample s t before after packets small at gained few sends =
@@ -183,7 +183,7 @@ sent_both buffer stream budget start place sample s t before after packets small
         mtu = ap (λ (x : Sending). x.mtu) sends.left ∙ at.mtu;
         built_in = built_in;
         kept = ap (λ (x : Sending). x.stream) sends.left
-            ∙ (ap (λ (x : Stream). record x { number = after_number }) at.kept
+            ∙ (ap (λ (x : Outgoing). record x { number = after_number }) at.kept
             ∙ ap (λ (n : ℕ). record stream { number = n }) (sym goes_on));
         number = omega (arith, goes_on, at.number, all, count);
         reads = subst (AreDatagrams stream (packets ++ more)) (sym gained) (datagrams_append stream packets before more t.datagrams at.reads reads);
@@ -198,7 +198,7 @@ refused_as (Ok packets) fault not_memory lands = absurd (not_memory lands)
 refused_as (Err other) fault not_memory lands = let same : fault ≡ other = cc in ap (λ (f : PacketError). Err f) (sym same)
 
 -- a sample that the packetizer refused
-refused_both : (buffer : State) (stream : Stream) (budget start place : ℕ) (sample : Sample) (fault : PacketError) (s t : Sending) (before after : List (List ℕ)) (packets : List Packet)
+refused_both : (buffer : State) (stream : Outgoing) (budget start place : ℕ) (sample : Sample) (fault : PacketError) (s t : Sending) (before after : List (List ℕ)) (packets : List Packet)
     → IsAt stream budget start s before packets → after ≡ before ++ t.datagrams → fault ≢ faults.OutOfMemory → Refuses s (sent_sample sample) fault t
     → SendsBoth buffer stream budget start place sample s t after packets
 refused_both buffer stream budget start place sample fault s t before after packets at gained not_memory refuses =
@@ -236,7 +236,7 @@ refused_both buffer stream budget start place sample fault s t before after pack
       };
     }
 
-one_sample : (buffer : State) (stream : Stream) (budget start place : ℕ) (sample : Sample) (fault : Option PacketError) (s t : Sending) (before after : List (List ℕ)) (packets : List Packet)
+one_sample : (buffer : State) (stream : Outgoing) (budget start place : ℕ) (sample : Sample) (fault : Option PacketError) (s t : Sending) (before after : List (List ℕ)) (packets : List Packet)
     → start < 2 ^ 63 → IsAt stream budget start s before packets → after ≡ before ++ t.datagrams → length after < 2 ^ 63 → SendsOrRefuses (sent_sample sample) s fault t
     → SendsBoth buffer stream budget start place sample s t after packets
 one_sample buffer stream budget start place sample None s t before after packets small at gained few sends = sent_both buffer stream budget start place sample s t
@@ -247,13 +247,13 @@ one_sample buffer stream budget start place sample (Some fault) s t before after
 -- Whole runs
 
 -- over a run a payloader sends packets, and the datagrams read as these packets
-pub record SendsRun (buffer : State) (stream : Stream) (budget start place : ℕ) (samples : List Sample) (all_steps : List DatagramStep) (s t : Wire) (packets : List Packet) : Type 0 where
+pub record SendsRun (buffer : State) (stream : Outgoing) (budget start place : ℕ) (samples : List Sample) (all_steps : List DatagramStep) (s t : Wire) (packets : List Packet) : Type 0 where
   pub all : List Packet
   pub entries : List Sent
   pub runs : core.Runs samples place (sending_steps budget all_steps) (running buffer start stream.clock_rate s.sending packets) entries [] (running buffer start stream.clock_rate t.sending all)
   pub at : IsAt stream budget start t.sending t.datagrams all
 
-module _ (buffer : State) (stream : Stream) (budget start : ℕ) (small : start < 2 ^ 63) (samples : List Sample) where
+module _ (buffer : State) (stream : Outgoing) (budget start : ℕ) (small : start < 2 ^ 63) (samples : List Sample) where
   abbrev Goes : ℕ → List DatagramStep → Wire → Wire → List Packet → Type 0
   Goes place all_steps s t packets = SendsRun buffer stream budget start place samples all_steps s t packets
 

@@ -19,7 +19,7 @@ use Rattle.codec_payload_jitter.specs.declared.outcome.Outcome.{Outcome}
 use Rattle.codec_payload_runs.specs.Arrivals.{Arrives, Asked, Event, Meets, PopsWaiting}
 use Rattle.codec_payload_runs.specs.Schedule.{Answer}
 use Rattle.codec_payload_send.specs.Packets.{AreNumbered, Packet}
-use Rattle.codec_payload_sender.specs.declared.sender.Stream.{Stream}
+use Rattle.codec_payload_sender.specs.declared.sender.Outgoing.{Outgoing}
 use Rattle.codec_payload_stream.proofs.BlockTimeLemmas.{new_has_no_block, packet_has_no_block}
 use Rattle.codec_payload_stream.proofs.PopLemmas.{drops_stay, pops_at_once}
 use Rattle.codec_payload_stream.specs.Kinds.{Datagram, Kinds, WithMedia, datagram_at, under}
@@ -43,7 +43,7 @@ use Rattle.codec_payload_wire.specs.declared.run.DatagramStep.TheVariants as ste
 -- Announcements
 
 -- a receiver of the stream that waits for the first packet after an announced restart
-pub record IsTold (stream : Stream) (s : Session) : Type 0 where
+pub record IsTold (stream : Outgoing) (s : Session) : Type 0 where
   pub calm : IsListening None stream (calmed s)
   pub waiting : s.packets.is_restarting ≡ true
   pub kept : s.packets.kept ≡ None
@@ -69,7 +69,7 @@ pub told_kinds : (ssrc : Option ℕ) (s : Session) → (told ssrc s).stream ≡ 
 told_kinds None s = refl
 told_kinds (Some ssrc) s = ap (λ (o : Option Retransmission). record s.stream { retransmission = o }) (same_under s.stream.retransmission)
 
-pub is_told : (ssrc : Option ℕ) (kinds : Kinds) (named : Option ℕ) (rate : ℕ) (stream : Stream) (s : Session) → IsResting kinds named rate s → name_in true ssrc named ≡ Some stream.ssrc
+pub is_told : (ssrc : Option ℕ) (kinds : Kinds) (named : Option ℕ) (rate : ℕ) (stream : Outgoing) (s : Session) → IsResting kinds named rate s → name_in true ssrc named ≡ Some stream.ssrc
     → kinds.payload_type ≡ stream.payload_type → is_sent_again_by kinds.retransmission stream ≡ false → rate ≡ stream.clock_rate → IsTold stream (told ssrc s)
 is_told None kinds named rate stream s resting is payload_type not_again clock = record {
   calm = record {
@@ -155,7 +155,7 @@ takes_first time_of n a r t outcome waiting none of_codec is times time receives
     first_as time_of n a e r mid t outcome none of_codec is times time (subst (λ (x : Extended). ReceivesAs x a r outcome mid) answer receives.1)
     (receives.2 ∙ ap (λ (x : Extended). numbered r x low mid) answer)
 
-pub pushes_first : (time_of : ℕ → ℕ) (stream : Stream) (now : Ticks) (q : Packet) (bytes : List ℕ) (s t : Session) (receipt : Receipt) → (stream.payload_type < 64) ⊎ (95 < stream.payload_type)
+pub pushes_first : (time_of : ℕ → ℕ) (stream : Outgoing) (now : Ticks) (q : Packet) (bytes : List ℕ) (s t : Session) (receipt : Receipt) → (stream.payload_type < 64) ⊎ (95 < stream.payload_type)
     → IsTold stream s → ReadsAs stream q bytes → number_in (answer_anew s.packets.numbering (q.number % 2 ^ 16)) ≡ Some q.number
     → AreTimesOf time_of s.packets.noted → q.rtp_time ≡ time_of q.number → Delivers now bytes s receipt t
     → IsPushedBy (answer_anew s.packets.numbering (q.number % 2 ^ 16)) None time_of stream now q s t
@@ -182,13 +182,13 @@ pushes_first time_of stream now q bytes s t receipt types is_told reads numbered
     })
 
 -- a copy without retransmissions is the datagram
-reads_copy : (stream : Stream) (q : Packet) (datagram bytes : List ℕ) → IsCopy None datagram bytes → ReadsAs stream q datagram → ReadsAs stream q bytes
+reads_copy : (stream : Outgoing) (q : Packet) (datagram bytes : List ℕ) → IsCopy None datagram bytes → ReadsAs stream q datagram → ReadsAs stream q bytes
 reads_copy stream q datagram bytes (inl same) reads = subst (ReadsAs stream q) (sym same) reads
 reads_copy stream q datagram bytes (inr repeated) reads = subst (ReadsAs stream q) (sym repeated.1) reads
 
 -- Pops before the first packet
 
-record IsPoppedTold (stream : Stream) (now : Ticks) (answer : Answer) (s t : Session) : Type 0 where
+record IsPoppedTold (stream : Outgoing) (now : Ticks) (answer : Answer) (s t : Session) : Type 0 where
   wait : Option ℕ
   at_end : s.packets.ended ≡ true → wait ≡ Some 0
   pops : PopsWaiting wait s.packets.buffer answer t.packets.buffer
@@ -198,7 +198,7 @@ record IsPoppedTold (stream : Stream) (now : Ticks) (answer : Answer) (s t : Ses
   kinds : t.stream ≡ s.stream
   ended : t.packets.ended ≡ s.packets.ended
 
-pops_told : (stream : Stream) (now : Ticks) (answer : Answer) (s t : Session) → IsTold stream s → answer ≢ Some (Err faults.OutOfMemory) → PopsUnit now s answer t → IsPoppedTold stream now answer s t
+pops_told : (stream : Outgoing) (now : Ticks) (answer : Answer) (s t : Session) → IsTold stream s → answer ≢ Some (Err faults.OutOfMemory) → PopsUnit now s answer t → IsPoppedTold stream now answer s t
 pops_told stream now answer s t is_told not_memory gated =
     let listening : IsListening None stream (calmed s) = is_told.calm in
     let popped : PopsOnce now.0 s answer t = pops_at_once now.0 s answer t listening.drops_none gated in
@@ -248,7 +248,7 @@ numbering_begun first s [] = s
 numbering_begun first s (k ∷ ks) = numbering_through first (begun_with s ((first + k) % 2 ^ 16)) ks
 
 -- the events of the buffer for the steps of a part, and what the receiver is in the end
-pub record IsHeard (time_of : ℕ → ℕ) (stream : Stream) (packets : List Packet) (all_steps : List DatagramStep) (s : Session) (answers : List Answer) (t : Session) (numbering : Numbering) : Type 0 where
+pub record IsHeard (time_of : ℕ → ℕ) (stream : Outgoing) (packets : List Packet) (all_steps : List DatagramStep) (s : Session) (answers : List Answer) (t : Session) (numbering : Numbering) : Type 0 where
   pub events : List Event
   pub meets : Meets stream.clock_rate packets events s.packets.buffer answers t.packets.buffer
   pub brings : Brings s.packets.ended all_steps events
@@ -259,7 +259,7 @@ pub record IsHeard (time_of : ℕ → ℕ) (stream : Stream) (packets : List Pac
   pub calm : IsListening None stream (calmed t)
 
 -- without a restart
-pub heard_on : (time_of : ℕ → ℕ) (first : ℕ) (stream : Stream) (packets : List Packet) (all_steps : List DatagramStep) (s : Session) (answers : List Answer) (t : Session)
+pub heard_on : (time_of : ℕ → ℕ) (first : ℕ) (stream : Outgoing) (packets : List Packet) (all_steps : List DatagramStep) (s : Session) (answers : List Answer) (t : Session)
     → IsMetOn None time_of first s.packets stream packets all_steps s answers t
     → IsHeard time_of stream packets all_steps s answers t (numbering_through first s.packets.numbering (delivered all_steps))
 heard_on time_of first stream packets all_steps s answers t on = record {
@@ -273,7 +273,7 @@ heard_on time_of first stream packets all_steps s answers t on = record {
   calm = still_calm None stream t on.listening;
 }
 
-module _ (stream : Stream) (types : (stream.payload_type < 64) ⊎ (95 < stream.payload_type)) (first : ℕ) (packets : List Packet) (datagrams : List (List ℕ))
+module _ (stream : Outgoing) (types : (stream.payload_type < 64) ⊎ (95 < stream.payload_type)) (first : ℕ) (packets : List Packet) (datagrams : List (List ℕ))
     (are : AreDatagrams stream packets datagrams) (numbered : AreNumbered first packets) where
   abbrev Heard : (ℕ → ℕ) → List DatagramStep → Session → List Answer → Session → Type 0
   Heard time_of all_steps s answers t = IsHeard time_of stream packets all_steps s answers t (numbering_begun first s.packets.numbering (delivered all_steps))

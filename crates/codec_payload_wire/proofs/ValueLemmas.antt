@@ -19,7 +19,7 @@ use Rattle.codec_payload_runs.specs.Headline.{ArePushesBy, packets_before}
 use Rattle.codec_payload_runs.specs.RunUnits.{IsWholeAt}
 use Rattle.codec_payload_runs.specs.SentStream.{AllEndWithTail, EndsWithTail, SentUnit, packets_of}
 use Rattle.codec_payload_send.specs.Packets.{Packet}
-use Rattle.codec_payload_sender.specs.declared.sender.Stream.{Stream}
+use Rattle.codec_payload_sender.specs.declared.sender.Outgoing.{Outgoing}
 use Rattle.codec_payload_wire.specs.Releases.{IsDelivery, values_read}
 use Rattle.codec_payload_wire.specs.declared.run.DatagramStep.{DatagramStep}
 
@@ -79,7 +79,7 @@ end_at kind [] place u ends is = absurd (cc)
 end_at kind (v ∷ us) zero u ends is = let same : v ≡ u = cc in subst (λ (x : SentUnit). EndsWithTail kind x.packets) same ends.0
 end_at kind (v ∷ us) (suc place) u ends is = end_at kind us place u ends.1 is
 
-module _ (ids : ExtensionIds) (stream : Stream) (packets : List Packet) (received : List DatagramStep) (same : ids ≡ stream.ids) (fit : ids_fit stream.ids ≡ true)
+module _ (ids : ExtensionIds) (stream : Outgoing) (packets : List Packet) (received : List DatagramStep) (same : ids ≡ stream.ids) (fit : ids_fit stream.ids ≡ true)
     (values : ExtensionValues) (fits : FitsValues values) where
   abbrev Known : ℕ → Packet → RtpMeta → Type 0
   Known = IsDelivery ids stream packets received
@@ -132,7 +132,7 @@ module _ (ids : ExtensionIds) (stream : Stream) (packets : List Packet) (receive
       }
 
 -- a release that is a whole unit has the values of that unit
-pub has_values : (ids : ExtensionIds) (stream : Stream) (received : List DatagramStep) (kind : DepacketizerKind) (splits : Bool) (units : List SentUnit) (all : List ExtensionValues)
+pub has_values : (ids : ExtensionIds) (stream : Outgoing) (received : List DatagramStep) (kind : DepacketizerKind) (splits : Bool) (units : List SentUnit) (all : List ExtensionValues)
     → AllEndWithTail kind units → AllCarry all units → ids ≡ stream.ids → ids_fit stream.ids ≡ true → (place : ℕ) (r : Release)
     → IsWholeAt (IsDelivery ids stream (packets_of units) received) splits units place r
     → (values : ExtensionValues) × (slice_get all place ≡ Some values) × (FitsValues values → AreValues r.metas (values_told stream.ids values))

@@ -18,7 +18,7 @@ use Rattle.codec_payload_runs.specs.SentStream.{AllEndWithTail, SentUnit, packet
 use Rattle.codec_payload_send.specs.Packets.{Packet}
 use Rattle.codec_payload_send.specs.Sending.{Sample}
 use Rattle.codec_payload_sender.specs.Senders.{Sending}
-use Rattle.codec_payload_sender.specs.declared.sender.Stream.{Stream}
+use Rattle.codec_payload_sender.specs.declared.sender.Outgoing.{Outgoing}
 use Rattle.codec_payload_stream.specs.Sessions.{Session}
 use Rattle.codec_payload_stream.specs.declared.receiver.RedSettings.{RedSettings}
 use Rattle.codec_payload_stream.specs.declared.receiver.Retransmission.{Retransmission}
@@ -44,12 +44,12 @@ abbrev pub Carries : Writer → List (List ℕ) → ℕ → ℕ → Type 0
 Carries w sent carrier k = (k ≡ carrier) ⊎ IsKeptIn w.red w.budget (entries_in sent) k carrier
 
 -- marker and values in the metadata of a packet: of the packet, if it came with its own datagram. A block has neither
-abbrev pub HasHeaderOf : Bool → ExtensionIds → Stream → Packet → RtpMeta → Type 0
+abbrev pub HasHeaderOf : Bool → ExtensionIds → Outgoing → Packet → RtpMeta → Type 0
 HasHeaderOf true ids stream q meta = (meta.header.marker ≡ q.marker) × (meta.header.ext_vals ≡ values_read ids stream q.ext_vals)
 HasHeaderOf false ids stream q meta = (meta.header.marker ≡ false) × (meta.header.ext_vals ≡ no_values)
 
 -- the metadata of a packet: a datagram that carries it was delivered at its time of arrival
-pub record IsRedDelivery (ids : ExtensionIds) (stream : Stream) (w : Writer) (sent : List (List ℕ)) (all_steps : List DatagramStep) (k : ℕ) (q : Packet) (meta : RtpMeta) : Type 0 where
+pub record IsRedDelivery (ids : ExtensionIds) (stream : Outgoing) (w : Writer) (sent : List (List ℕ)) (all_steps : List DatagramStep) (k : ℕ) (q : Packet) (meta : RtpMeta) : Type 0 where
   pub carrier : ℕ
   pub delivers : Contains all_steps (steps.Deliver carrier meta.received)
   pub carries : Carries w sent carrier k

@@ -26,7 +26,7 @@ use Rattle.codec_payload_rtp.specs.RtpReading.{rtp_at}
 use Rattle.codec_payload_rtp.specs.declared.values.ExtensionIds.{ExtensionIds}
 use Rattle.codec_payload_sender.specs.Datagrams.{header_with}
 use Rattle.codec_payload_sender.specs.Senders.{Sending}
-use Rattle.codec_payload_sender.specs.declared.sender.Stream.{Stream}
+use Rattle.codec_payload_sender.specs.declared.sender.Outgoing.{Outgoing}
 use Rattle.codec_payload_stream.specs.UnitGates.{drops_units}
 use Rattle.codec_payload_stream.specs.Sessions.{Session, session_by}
 use Rattle.codec_payload_stream.specs.declared.receiver.Retransmission.{Retransmission}
@@ -47,12 +47,12 @@ sending_steps mtu (steps.Pop now ∷ later) = sending_steps mtu later
 sending_steps mtu (steps.Finish ∷ later) = sending_steps mtu later
 
 -- the datagram reads as this packet of the stream: its payload, marker, time and values, and the low bits of its number
-abbrev pub ReadsAs : Stream → Packet → List ℕ → Type 0
+abbrev pub ReadsAs : Outgoing → Packet → List ℕ → Type 0
 ReadsAs stream q datagram =
     rtp_at datagram ≡ Ok (record { header = header_with stream (record { marker = q.marker; number = q.number % 2 ^ 16; time = q.rtp_time }) q.ext_vals; payload = q.payload; padding = 0 })
 
 -- each datagram reads as its packet
-abbrev pub AreDatagrams : Stream → List Packet → List (List ℕ) → Type 0
+abbrev pub AreDatagrams : Outgoing → List Packet → List (List ℕ) → Type 0
 AreDatagrams stream [] [] = Unit {0}
 AreDatagrams stream (q ∷ packets) (datagram ∷ datagrams) = ReadsAs stream q datagram × AreDatagrams stream packets datagrams
 AreDatagrams stream [] (datagram ∷ datagrams) = ⊥
@@ -90,15 +90,15 @@ delivered (steps.Pop now ∷ later) = delivered later
 delivered (steps.Finish ∷ later) = delivered later
 
 -- the extension values that a receiver with these ids reads in a packet of the stream that was sent with `values`
-abbrev pub values_read : ExtensionIds → Stream → ExtensionValues → ExtensionValues
+abbrev pub values_read : ExtensionIds → Outgoing → ExtensionValues → ExtensionValues
 values_read ids stream values = values_in ids (elements_of (extension_for (elements_for stream.ids values)))
 
 -- the metadata has the extension values of the packet with this index, as a receiver with these ids reads them
-abbrev pub HasValuesOf : ExtensionIds → Stream → List Packet → ℕ → RtpMeta → Type 0
+abbrev pub HasValuesOf : ExtensionIds → Outgoing → List Packet → ℕ → RtpMeta → Type 0
 HasValuesOf ids stream packets k meta = (q : Packet) × (slice_get packets k ≡ Some q) × (meta.header.ext_vals ≡ values_read ids stream q.ext_vals)
 
 -- the metadata of a packet: its datagram was delivered at its time of arrival, and has its number, time, marker and values
-abbrev pub IsDelivery : ExtensionIds → Stream → List Packet → List DatagramStep → ℕ → Packet → RtpMeta → Type 0
+abbrev pub IsDelivery : ExtensionIds → Outgoing → List Packet → List DatagramStep → ℕ → Packet → RtpMeta → Type 0
 IsDelivery ids stream packets all_steps k q meta =
     Contains all_steps (steps.Deliver k meta.received) × Tells stream.clock_rate q meta × HasValuesOf ids stream packets k meta
 
@@ -133,7 +133,7 @@ AreDeliveredBefore before (steps.Finish ∷ later) answers = AreDeliveredBefore 
 -- Premises
 
 -- packets of the sender are not retransmissions
-abbrev pub is_sent_again_by : Option Retransmission → Stream → Bool
+abbrev pub is_sent_again_by : Option Retransmission → Outgoing → Bool
 is_sent_again_by None stream = false
 is_sent_again_by (Some r) stream = (r.ssrc == stream.ssrc) && (r.payload_type == stream.payload_type)
 

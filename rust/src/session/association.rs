@@ -7,7 +7,7 @@ use crate::rtp::packet::{RtpPacket, is_rtcp};
 use crate::session::formats::{Role, SessionSettings, SsrcPair};
 use crate::session::requests::{has_requested, original_number};
 use crate::session::sessions::Arrival;
-use crate::session::stream::{Stream, is_playing};
+use crate::session::stream::{StreamState, is_playing};
 use crate::session::streams::Streams;
 use crate::wire::Ticks;
 
@@ -60,7 +60,7 @@ pub(crate) fn add_pair(
 /// Returns the pair to add for a datagram.
 fn pair_at(
     settings: &SessionSettings,
-    streams: &[Stream],
+    streams: &[StreamState],
     now: Ticks,
     datagram: &[u8],
 ) -> Option<SsrcPair> {
@@ -103,7 +103,12 @@ fn unpaired_of(settings: &SessionSettings, packet: &RtpPacket<'_>) -> Option<Unp
 }
 
 /// Returns the SSRC of the stream of a retransmission, if exactly one fits.
-fn owner_of(streams: &[Stream], pairs: &[SsrcPair], now: Ticks, packet: Unpaired) -> Option<u32> {
+fn owner_of(
+    streams: &[StreamState],
+    pairs: &[SsrcPair],
+    now: Ticks,
+    packet: Unpaired,
+) -> Option<u32> {
     let mut owner = None;
     for stream in streams {
         if may_be_of(stream, pairs, now, packet) {
@@ -117,7 +122,7 @@ fn owner_of(streams: &[Stream], pairs: &[SsrcPair], now: Ticks, packet: Unpaired
 }
 
 /// Returns whether the retransmission may be of this stream.
-fn may_be_of(stream: &Stream, pairs: &[SsrcPair], now: Ticks, packet: Unpaired) -> bool {
+fn may_be_of(stream: &StreamState, pairs: &[SsrcPair], now: Ticks, packet: Unpaired) -> bool {
     is_playing(stream.stage)
         && stream.format.payload_type == packet.payload_type
         && has_requested(&stream.feedback, packet.number)
@@ -126,7 +131,7 @@ fn may_be_of(stream: &Stream, pairs: &[SsrcPair], now: Ticks, packet: Unpaired) 
 }
 
 /// Returns whether the RTP time is near the clock of the stream's sender.
-fn is_on_time(stream: &Stream, now: Ticks, rtp_time: u32) -> bool {
+fn is_on_time(stream: &StreamState, now: Ticks, rtp_time: u32) -> bool {
     match stream.receiver.transit_change(now, rtp_time) {
         Some(distance) => {
             u64::from(distance) <= LARGEST_DISTANCE * u64::from(stream.format.spec.clock_rate.get())

@@ -3,7 +3,7 @@
 //! A sender that continues in another format: its earlier stream leaves.
 
 use crate::session::formats::{Format, is_video};
-use crate::session::stream::Stream;
+use crate::session::stream::StreamState;
 use crate::wire::Codec;
 
 /// Returns whether this codec is sent in turn with audio that goes on.
@@ -17,18 +17,18 @@ pub(crate) fn are_alike(one: Codec, other: Codec) -> bool {
 }
 
 /// Returns whether the sender continues in this format: its stream is announced.
-pub(crate) fn continues(streams: &[Stream], ssrc: u32, format: &Format) -> bool {
+pub(crate) fn continues(streams: &[StreamState], ssrc: u32, format: &Format) -> bool {
     !takes_turns(format.spec.codec) && playing(streams, ssrc, format.payload_type).is_some()
 }
 
 /// Returns the place of the stream with this SSRC and payload type, if it plays.
-fn playing(streams: &[Stream], ssrc: u32, payload_type: u8) -> Option<usize> {
+fn playing(streams: &[StreamState], ssrc: u32, payload_type: u8) -> Option<usize> {
     streams.iter().position(|s| s.plays(ssrc, payload_type))
 }
 
 /// Returns whether the sender left a stream for this format, if its stream is announced.
 pub(crate) fn any_left_behind(
-    streams: &[Stream],
+    streams: &[StreamState],
     now: u64,
     wait: u64,
     ssrc: u32,
@@ -43,7 +43,7 @@ pub(crate) fn any_left_behind(
 }
 
 /// Ends the streams that the sender left for this format.
-pub(crate) fn leave_behind(streams: &mut [Stream], now: u64, wait: u64, of: (u32, Format)) {
+pub(crate) fn leave_behind(streams: &mut [StreamState], now: u64, wait: u64, of: (u32, Format)) {
     for place in 0..streams.len() {
         streams[place].leave_behind(now, wait, of.0, &of.1);
     }

@@ -4,32 +4,32 @@
 
 use crate::rtcp::compound::{CompoundRule, Packets, read_compound};
 use crate::rtcp::packet::RtcpPacket;
-use crate::session::stream::{Ending, Stream};
+use crate::session::stream::{Ending, StreamState};
 use crate::session::streams::{Who, leave};
 
 /// Ends the streams that a BYE of the compound packet names, at that time. The packet is read once, whatever its streams.
-pub(crate) fn leave_by_name(streams: &mut [Stream], compound: &[u8], at: u64) {
+pub(crate) fn leave_by_name(streams: &mut [StreamState], compound: &[u8], at: u64) {
     if let Ok(packets) = read_compound(CompoundRule::ReducedSize, compound) {
         leave_by_packets(streams, packets, at);
     }
 }
 
 /// Ends the streams that a BYE among the packets names.
-fn leave_by_packets(streams: &mut [Stream], mut packets: Packets<'_>, at: u64) {
+fn leave_by_packets(streams: &mut [StreamState], mut packets: Packets<'_>, at: u64) {
     while let Some(packet) = packets.next() {
         leave_by_packet(streams, &packet, at);
     }
 }
 
 /// Ends the streams that the packet names, if it is a BYE.
-fn leave_by_packet(streams: &mut [Stream], packet: &RtcpPacket<'_>, at: u64) {
+fn leave_by_packet(streams: &mut [StreamState], packet: &RtcpPacket<'_>, at: u64) {
     if let RtcpPacket::Goodbye(goodbye) = packet {
         leave_each(streams, goodbye.ssrcs, at);
     }
 }
 
 /// Ends the streams of the SSRCs in the list.
-fn leave_each(streams: &mut [Stream], ssrcs: &[u8], at: u64) {
+fn leave_each(streams: &mut [StreamState], ssrcs: &[u8], at: u64) {
     let mut rest = ssrcs;
     while let Some((ssrc, others)) = front_source(rest) {
         leave(streams, Who::Of(ssrc), Ending::Bye, at);

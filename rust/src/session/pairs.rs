@@ -4,7 +4,7 @@
 
 use crate::memory::{AllocError, TryVec};
 use crate::session::formats::SsrcPair;
-use crate::session::stream::Stream;
+use crate::session::stream::StreamState;
 use alloc::vec::Vec;
 
 /// Returns the pairs and one more, which replaces those that have one of its SSRCs in the same place.
@@ -26,7 +26,7 @@ pub(crate) fn remove_pair(pairs: &mut Vec<SsrcPair>, ssrc: u32) {
 }
 
 /// Gives the streams of this SSRC the retransmissions that they have by these pairs.
-pub(crate) fn pair(streams: &mut [Stream], ssrc: u32, pairs: &[SsrcPair]) {
+pub(crate) fn pair(streams: &mut [StreamState], ssrc: u32, pairs: &[SsrcPair]) {
     for place in 0..streams.len() {
         streams[place].pair_if(ssrc, pairs);
     }

@@ -10,7 +10,7 @@ use crate::rtcp::writing::write_cname;
 use crate::session::formats::{FeedbackSettings, SessionSettings};
 use crate::session::reports::block_about;
 use crate::session::requests::LONGEST_NAME;
-use crate::session::stream::Stream;
+use crate::session::stream::StreamState;
 use crate::session::streams::Streams;
 use crate::session::waking::Waking;
 use crate::wire::{Frequency, Ticks};
@@ -69,7 +69,7 @@ impl Streams {
     }
 }
 
-impl Stream {
+impl StreamState {
     /// Returns the block that a report about the stream's sender has now, and changes nothing.
     fn peek_report(&self, now: Ticks, tick_rate: Frequency) -> Option<ReportBlock> {
         match self.receiver.peek_report() {
@@ -93,12 +93,12 @@ impl Stream {
 }
 
 /// Returns when the next report is due, if a stream is announced.
-pub(crate) fn report_deadline(streams: &[Stream], due: Option<u64>) -> Option<u64> {
+pub(crate) fn report_deadline(streams: &[StreamState], due: Option<u64>) -> Option<u64> {
     if any_announced(streams) { due } else { None }
 }
 
 /// Returns whether a report is due: its time has come, and a stream is announced.
-fn is_report_due(streams: &[Stream], now: Ticks, due: Option<u64>) -> bool {
+fn is_report_due(streams: &[StreamState], now: Ticks, due: Option<u64>) -> bool {
     any_announced(streams) && is_time(now, due)
 }
 
@@ -111,7 +111,7 @@ fn is_time(now: Ticks, due: Option<u64>) -> bool {
 }
 
 /// Returns when the next report is due if none is now: one interval after the first stream is announced.
-fn planned(streams: &[Stream], now: Ticks, interval: u64, due: Option<u64>) -> Option<u64> {
+fn planned(streams: &[StreamState], now: Ticks, interval: u64, due: Option<u64>) -> Option<u64> {
     if !any_announced(streams) {
         return None;
     }
@@ -140,7 +140,7 @@ fn due_after(
 }
 
 /// Returns whether a stream is announced.
-fn any_announced(streams: &[Stream]) -> bool {
+fn any_announced(streams: &[StreamState]) -> bool {
     for stream in streams {
         if stream.told {
             return true;
@@ -150,7 +150,7 @@ fn any_announced(streams: &[Stream]) -> bool {
 }
 
 /// Returns whether a stream of the SSRC is announced.
-fn has_announced(streams: &[Stream], ssrc: u32) -> bool {
+fn has_announced(streams: &[StreamState], ssrc: u32) -> bool {
     for stream in streams {
         if stream.told && stream.ssrc == ssrc {
             return true;
@@ -160,14 +160,14 @@ fn has_announced(streams: &[Stream], ssrc: u32) -> bool {
 }
 
 /// Returns whether the stream at this place is reported: it is announced, and no later announced stream has its SSRC.
-fn is_reported(streams: &[Stream], place: usize) -> bool {
+fn is_reported(streams: &[StreamState], place: usize) -> bool {
     let stream = &streams[place];
     stream.told && !has_announced(&streams[place + 1..], stream.ssrc)
 }
 
 /// Appends the blocks about all reported streams.
 fn append_blocks(
-    streams: &[Stream],
+    streams: &[StreamState],
     now: Ticks,
     tick_rate: Frequency,
     blocks: &mut Vec<u8>,
@@ -182,7 +182,7 @@ fn append_blocks(
 
 /// Appends the block about the stream, if it has one.
 fn append_block(
-    stream: &Stream,
+    stream: &StreamState,
     now: Ticks,
     tick_rate: Frequency,
     blocks: &mut Vec<u8>,
@@ -194,7 +194,7 @@ fn append_block(
 }
 
 /// Starts the fraction of the next report of each reported stream here.
-fn start_fractions(streams: &mut [Stream]) {
+fn start_fractions(streams: &mut [StreamState]) {
     for place in 0..streams.len() {
         let is_reported = is_reported(streams, place);
         streams[place].start_fraction(is_reported);

@@ -6,7 +6,7 @@
 use crate::rtcp::compound::{CompoundRule, Packets, read_compound};
 use crate::rtcp::items::ReportBlock;
 use crate::rtcp::packet::{RtcpPacket, SenderReport};
-use crate::session::stream::Stream;
+use crate::session::stream::StreamState;
 use crate::stream::reports::ReceptionReport;
 use crate::wire::{Frequency, Ticks};
 
@@ -41,7 +41,7 @@ impl SenderClock {
     }
 }
 
-impl Stream {
+impl StreamState {
     /// Returns the report block about the stream's sender, as of `now`. `None`: no packet arrived. The next report starts its
     /// fraction here.
     pub(crate) fn report(&mut self, now: Ticks, tick_rate: Frequency) -> Option<ReportBlock> {
@@ -66,28 +66,28 @@ impl Stream {
 }
 
 /// Notes the sender reports of a compound packet that arrived at `now`, each for the streams of its SSRC.
-pub(crate) fn note_reports(streams: &mut [Stream], now: Ticks, compound: &[u8]) {
+pub(crate) fn note_reports(streams: &mut [StreamState], now: Ticks, compound: &[u8]) {
     if let Ok(packets) = read_compound(CompoundRule::ReducedSize, compound) {
         note_packets(streams, now, packets);
     }
 }
 
 /// Notes the sender reports among the packets.
-fn note_packets(streams: &mut [Stream], now: Ticks, mut packets: Packets<'_>) {
+fn note_packets(streams: &mut [StreamState], now: Ticks, mut packets: Packets<'_>) {
     while let Some(packet) = packets.next() {
         note_packet(streams, now, &packet);
     }
 }
 
 /// Notes the packet if it is a sender report.
-fn note_packet(streams: &mut [Stream], now: Ticks, packet: &RtcpPacket<'_>) {
+fn note_packet(streams: &mut [StreamState], now: Ticks, packet: &RtcpPacket<'_>) {
     if let RtcpPacket::SenderReport(report) = packet {
         set_clocks(streams, report.ssrc, clock_of(now, report));
     }
 }
 
 /// Replaces the clock of all streams of this SSRC.
-fn set_clocks(streams: &mut [Stream], ssrc: u32, clock: SenderClock) {
+fn set_clocks(streams: &mut [StreamState], ssrc: u32, clock: SenderClock) {
     for place in 0..streams.len() {
         streams[place].set_clock_if(ssrc, clock);
     }

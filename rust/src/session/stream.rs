@@ -64,7 +64,7 @@ pub struct StreamInfo {
 
 /// A stream of a session.
 #[derive(Debug)]
-pub(crate) struct Stream {
+pub(crate) struct StreamState {
     pub(crate) ssrc: u32,
     pub(crate) format: Format,
     pub(crate) receiver: Receiver,
@@ -97,13 +97,13 @@ pub(crate) enum Step {
     Nothing,
 }
 
-impl Stream {
+impl StreamState {
     /// Creates a stream without datagrams. `None`: no receiver can be made by these settings.
     pub(crate) fn begin(
         settings: &SessionSettings,
         ssrc: u32,
         format: &Format,
-    ) -> Result<Option<Stream>, AllocError> {
+    ) -> Result<Option<StreamState>, AllocError> {
         let Some(mut depacketizer) = CodecDepacketizer::from_codec(format.spec.codec) else {
             return Ok(None);
         };
@@ -114,7 +114,7 @@ impl Stream {
         let Ok(receiver) = Receiver::new(depacketizer, settings) else {
             return Ok(None);
         };
-        Ok(Some(Stream {
+        Ok(Some(StreamState {
             ssrc,
             format: *format,
             receiver,

@@ -12,7 +12,7 @@ use crate::session::pairs::{pair, with_pair};
 use crate::session::reports::note_reports;
 use crate::session::sessions::{Arrival, Event};
 use crate::session::sort::{Sorted, sort};
-use crate::session::stream::{Ending, Step, Stream, is_no_memory, is_nothing};
+use crate::session::stream::{Ending, Step, StreamState, is_no_memory, is_nothing};
 use crate::session::waking::{Waking, step_excepted};
 use crate::wire::{Frequency, Ticks};
 use alloc::vec::Vec;
@@ -20,7 +20,7 @@ use alloc::vec::Vec;
 /// The streams of a session.
 #[derive(Debug)]
 pub(crate) struct Streams {
-    pub(crate) list: Vec<Stream>,
+    pub(crate) list: Vec<StreamState>,
     /// Whether new streams are refused.
     pub(crate) finished: bool,
     /// How many datagrams the removed streams took.
@@ -157,7 +157,7 @@ impl Streams {
             return Ok(Arrival::Refused);
         }
         let (ssrc, format) = of;
-        let Some(mut stream) = Stream::begin(settings, ssrc, &format)? else {
+        let Some(mut stream) = StreamState::begin(settings, ssrc, &format)? else {
             return Ok(Arrival::Unknown);
         };
         let answer = stream.take(now, settings.probation, datagram);
@@ -178,7 +178,7 @@ impl Streams {
     }
 
     /// Adds a stream. If all places are taken, the first stream in probation is removed.
-    fn add(&mut self, max_streams: usize, stream: Stream) -> Result<(), AllocError> {
+    fn add(&mut self, max_streams: usize, stream: StreamState) -> Result<(), AllocError> {
         let place = leaving(max_streams, &self.list);
         self.waking = Waking::unknown();
         self.list.try_push(stream)?;
@@ -324,7 +324,7 @@ impl Streams {
 
 /// Passes a datagram to the stream.
 fn feed_one(
-    stream: &mut Stream,
+    stream: &mut StreamState,
     probation: u64,
     now: Ticks,
     datagram: &[u8],
@@ -342,22 +342,22 @@ fn feed_one(
 }
 
 /// Returns the place of the stream with this SSRC and payload type.
-pub(crate) fn place_of(streams: &[Stream], ssrc: u32, payload_type: u8) -> Option<usize> {
+pub(crate) fn place_of(streams: &[StreamState], ssrc: u32, payload_type: u8) -> Option<usize> {
     streams.iter().position(|s| s.is_of(ssrc, payload_type))
 }
 
 /// Returns the place of the first stream of this SSRC.
-fn place_of_ssrc(streams: &[Stream], ssrc: u32) -> Option<usize> {
+fn place_of_ssrc(streams: &[StreamState], ssrc: u32) -> Option<usize> {
     streams.iter().position(|s| s.ssrc == ssrc)
 }
 
 /// Returns the place of the first stream in probation.
-fn on_probation(streams: &[Stream]) -> Option<usize> {
+fn on_probation(streams: &[StreamState]) -> Option<usize> {
     streams.iter().position(|s| s.is_on_probation())
 }
 
 /// Returns the place of the stream that is removed for a new one.
-fn leaving(max_streams: usize, streams: &[Stream]) -> Option<usize> {
+fn leaving(max_streams: usize, streams: &[StreamState]) -> Option<usize> {
     if streams.len() < max_streams {
         None
     } else {
@@ -366,7 +366,7 @@ fn leaving(max_streams: usize, streams: &[Stream]) -> Option<usize> {
 }
 
 /// Asks the streams for an event, in order, until one has an event.
-fn step_first(streams: &mut [Stream], now: Ticks, idle_timeout: u64) -> Option<Turn> {
+fn step_first(streams: &mut [StreamState], now: Ticks, idle_timeout: u64) -> Option<Turn> {
     for place in 0..streams.len() {
         let step = streams[place].step(now, idle_timeout);
         if !is_nothing(&step) {
@@ -377,20 +377,25 @@ fn step_first(streams: &mut [Stream], now: Ticks, idle_timeout: u64) -> Option<T
 }
 
 /// Ends these streams at that time.
-pub(crate) fn leave(streams: &mut [Stream], who: Who, why: Ending, at: u64) {
+pub(crate) fn leave(streams: &mut [StreamState], who: Who, why: Ending, at: u64) {
     for place in 0..streams.len() {
         leave_if(&mut streams[place], who, why, at);
     }
 }
 
 /// Ends the stream at that time, if it is one of `who`.
-fn leave_if(stream: &mut Stream, who: Who, why: Ending, at: u64) {
+fn leave_if(stream: &mut StreamState, who: Who, why: Ending, at: u64) {
     let leaves = includes(who, stream.ssrc);
     stream.leave_if(leaves, why, at);
 }
 
 /// Replaces the wait limits of the stream with this SSRC and payload type.
-fn set_wait_limits(streams: &mut [Stream], ssrc: u32, payload_type: u8, wait_limits: WaitLimits) {
+fn set_wait_limits(
+    streams: &mut [StreamState],
+    ssrc: u32,
+    payload_type: u8,
+    wait_limits: WaitLimits,
+) {
     for place in 0..streams.len() {
         streams[place].wait_if(ssrc, payload_type, wait_limits);
     }

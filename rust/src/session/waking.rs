@@ -2,7 +2,7 @@
 
 //! Until when the streams of a session have no event, so that a poll asks only the stream that got a datagram.
 
-use crate::session::stream::{Stream, earlier, is_nothing};
+use crate::session::stream::{StreamState, earlier, is_nothing};
 use crate::session::streams::Turn;
 use crate::wire::Ticks;
 
@@ -27,7 +27,7 @@ impl Waking {
     }
 
     /// Returns the bound of these streams.
-    pub(crate) fn of(streams: &[Stream]) -> Waking {
+    pub(crate) fn of(streams: &[StreamState]) -> Waking {
         let mut until = u64::MAX;
         let mut since = u64::MAX;
         for stream in streams {
@@ -48,7 +48,7 @@ impl Waking {
     }
 
     /// Returns the bound of all streams except the one at this place.
-    pub(crate) fn except(self, place: usize, streams: &[Stream]) -> Waking {
+    pub(crate) fn except(self, place: usize, streams: &[StreamState]) -> Waking {
         if self.fed == place {
             return self;
         }
@@ -61,7 +61,7 @@ impl Waking {
     }
 
     /// Returns the bound of all streams.
-    fn with_fed(self, streams: &[Stream]) -> (u64, u64) {
+    fn with_fed(self, streams: &[StreamState]) -> (u64, u64) {
         if self.fed >= streams.len() {
             return (self.until, self.since);
         }
@@ -72,7 +72,7 @@ impl Waking {
 
 /// Asks the stream that is excepted for an event. The others have none.
 pub(crate) fn step_excepted(
-    streams: &mut [Stream],
+    streams: &mut [StreamState],
     waking: Waking,
     now: Ticks,
     idle_timeout: u64,
@@ -90,7 +90,7 @@ pub(crate) fn step_excepted(
 }
 
 /// Returns when a stream may have an event without a datagram.
-pub(crate) fn due_in(streams: &[Stream], idle_timeout: u64) -> Option<u64> {
+pub(crate) fn due_in(streams: &[StreamState], idle_timeout: u64) -> Option<u64> {
     let due = least_due(streams, idle_timeout);
     if due < u64::MAX {
         Some(due)
@@ -100,7 +100,7 @@ pub(crate) fn due_in(streams: &[Stream], idle_timeout: u64) -> Option<u64> {
 }
 
 /// Returns the same time, and 2^64 - 1 without one.
-fn least_due(streams: &[Stream], idle_timeout: u64) -> u64 {
+fn least_due(streams: &[StreamState], idle_timeout: u64) -> u64 {
     let mut due = u64::MAX;
     for stream in streams {
         due = due.min(stream.due_or_max(idle_timeout));
@@ -109,7 +109,7 @@ fn least_due(streams: &[Stream], idle_timeout: u64) -> u64 {
 }
 
 /// Returns the same time. It may be 2^64 - 1 itself.
-fn last_due(streams: &[Stream], idle_timeout: u64) -> Option<u64> {
+fn last_due(streams: &[StreamState], idle_timeout: u64) -> Option<u64> {
     let mut due = None;
     for stream in streams {
         due = earlier(due, stream.due(idle_timeout));

@@ -6,22 +6,22 @@ use crate::codec::Depacketizer;
 use crate::jitter::jitter_buffer::JitterBuffer;
 use crate::memory::{AllocError, TryQueue, TryVec};
 use crate::red::RedBlock;
-use crate::stream::datagram::{RedPacket, Stream};
+use crate::stream::datagram::{RedPacket, StreamKinds};
 use crate::stream::seen_times::{SeenTime, SeenTimes};
-use crate::wire::{RtpHeader as Header, SeqNo, Ticks};
+use crate::wire::{RtpHeader, SeqNo, Ticks};
 use alloc::collections::VecDeque;
 use alloc::vec::Vec;
 
 /// A packet from a redundant block, with its payload copied.
 #[derive(Debug)]
 pub(crate) struct BlockCopy {
-    header: Header,
+    header: RtpHeader,
     payload: Vec<u8>,
 }
 
 /// The packets of the redundant blocks, in the order of the block headers.
 pub(crate) fn copy_blocks(
-    stream: &Stream,
+    stream: &StreamKinds,
     red: &RedPacket<'_>,
 ) -> Result<VecDeque<BlockCopy>, AllocError> {
     copy_each(stream, red, &red.older)
@@ -29,7 +29,7 @@ pub(crate) fn copy_blocks(
 
 /// Copies the packets of the redundant blocks, in order.
 fn copy_each(
-    stream: &Stream,
+    stream: &StreamKinds,
     red: &RedPacket<'_>,
     blocks: &[RedBlock<'_>],
 ) -> Result<VecDeque<BlockCopy>, AllocError> {
@@ -47,7 +47,7 @@ fn copy_each(
 
 /// Returns the packet of a redundant block, if the block carries one.
 fn copy_block(
-    stream: &Stream,
+    stream: &StreamKinds,
     red: &RedPacket<'_>,
     block: &RedBlock<'_>,
 ) -> Result<Option<BlockCopy>, AllocError> {

@@ -14,7 +14,7 @@ use crate::stream::blocks::{copy_blocks, recover_all};
 use crate::stream::receiver::Retransmission;
 use crate::stream::reports::ReceptionStatistics;
 use crate::stream::seen_times::{SeenTime, SeenTimes};
-use crate::wire::{ExtensionValues, Pt, RtpHeader as Header, Ticks};
+use crate::wire::{ExtensionValues, Pt, RtpHeader, Ticks};
 use alloc::vec::Vec;
 
 /// The reason why a datagram is malformed.
@@ -95,7 +95,7 @@ impl Taken {
 
 /// The settings by which a stream recognises its datagrams.
 #[derive(Debug)]
-pub(crate) struct Stream {
+pub(crate) struct StreamKinds {
     pub(crate) payload_type: u8,
     pub(crate) no_media: Vec<u8>,
     pub(crate) red: Option<RedStream>,
@@ -264,7 +264,7 @@ fn red_again_kind<'a>(
     }
 }
 
-impl Stream {
+impl StreamKinds {
     /// Sorts a datagram, for a stream with this SSRC, if it is known.
     #[inline(always)]
     pub(crate) fn sort<'a>(
@@ -354,8 +354,8 @@ impl Stream {
 
     /// Returns the header of a packet, with the fields that payloads of the stream have.
     #[inline(always)]
-    fn header_for(&self, header: &PacketHeader<'_>) -> Header {
-        Header {
+    fn header_for(&self, header: &PacketHeader<'_>) -> RtpHeader {
+        RtpHeader {
             payload_type: Pt::new_with_value(self.payload_type),
             sequence_number: header.sequence_number,
             timestamp: header.timestamp,
@@ -445,8 +445,8 @@ impl Stream {
     }
 
     /// Returns the header of a packet from a redundant block.
-    pub(crate) fn block_header(&self, ssrc: u32, recovered: &Recovered<'_>) -> Header {
-        Header {
+    pub(crate) fn block_header(&self, ssrc: u32, recovered: &Recovered<'_>) -> RtpHeader {
+        RtpHeader {
             payload_type: Pt::new_with_value(self.payload_type),
             sequence_number: (recovered.seq_no.0 % 65_536) as u16,
             timestamp: recovered.rtp_time,

@@ -20,7 +20,7 @@ use crate::rtp::values::ExtensionIds;
 use crate::stream::answers::is_out_of_memory;
 use crate::stream::checks::{packets_at_once, red_of, retransmission_fits};
 use crate::stream::choice::{Choice, Origin, Verdict};
-use crate::stream::datagram::{Datagram, Stream};
+use crate::stream::datagram::{Datagram, StreamKinds};
 use crate::stream::gated::{follow, follow_into, gate_for};
 use crate::stream::reports::{ReceptionReport, ReceptionStatistics};
 use crate::stream::seen_times::SeenTimes;
@@ -207,7 +207,7 @@ pub(crate) struct Arrived {
 /// counted: see [`Receiver::counters`].
 #[derive(Debug)]
 pub struct Receiver<B = NoBox> {
-    stream: Stream,
+    stream: StreamKinds,
     /// The SSRC that the settings name.
     named: Option<u32>,
     ssrc: Option<u32>,
@@ -261,7 +261,7 @@ impl<B: Depacketizer> Receiver<B> {
         let packets = JitterBuffer::over(numbers, buffer, clock_rate, wait_limits);
         let at_once = packets_at_once(&red);
         Ok(Receiver {
-            stream: Stream {
+            stream: StreamKinds {
                 payload_type: settings.payload_type,
                 no_media: settings.no_media,
                 red,

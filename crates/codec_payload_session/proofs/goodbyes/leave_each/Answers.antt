@@ -1,7 +1,7 @@
 use Rattle.std.proofs.Common.{◌∙◌, ◌||◌, List, Some, ap, sym}
 use Rattle.codec_payload_session.specs.Arrivals.{includes, left_where, named_in}
 use Rattle.codec_payload_session.specs.declared.stream.Ending.TheVariants as endings
-use Rattle.codec_payload_session.specs.declared.stream.Stream.{Stream}
+use Rattle.codec_payload_session.specs.declared.stream.StreamState.{StreamState}
 use Rattle.codec_payload_session.specs.declared.streams.Who.TheVariants as whos
 use Rattle.codec_payload_session.proofs.GoodbyeLemmas.{left_either, left_nobody, left_same}
 use Rattle.codec_payload_session.proofs.SourceLemmas.{named_nowhere, names_more, sources_fewer}
@@ -12,7 +12,7 @@ loop-ssrc-smaller c = sources_fewer c.loop-ssrc.rest.now (c.in-Some.ssrc, c.in-S
 
 pub loop-ssrc-preserved : goal.loop-ssrc-preserved
 loop-ssrc-preserved c =
-    ap (λ (ss : List Stream). left_where (named_in c.in-Some.others.now) endings.Bye c.args.at ss) c.leave.ensures
+    ap (λ (ss : List StreamState). left_where (named_in c.in-Some.others.now) endings.Bye c.args.at ss) c.leave.ensures
     ∙ left_either (includes (whos.Of c.in-Some.ssrc)) (named_in c.in-Some.others.now) endings.Bye c.args.at c.loop-ssrc.streams
     ∙ sym (left_same (named_in c.loop-ssrc.rest.now) (λ ssrc. includes (whos.Of c.in-Some.ssrc) ssrc || named_in c.in-Some.others.now ssrc) endings.Bye c.args.at c.loop-ssrc.streams
     (λ ssrc. names_more ssrc c.loop-ssrc.rest.now (Some (c.in-Some.ssrc, c.in-Some.others.now)) c.in-Some.ensures))

@@ -1,11 +1,11 @@
 use Rattle.std.proofs.Common.{◌≡◌, ◌∙◌, List, ap, false, sym}
 use Rattle.codec_payload_session.specs.Changes.{any_left_behind, continues}
-use Rattle.codec_payload_session.specs.declared.stream.Stream.{Stream}
+use Rattle.codec_payload_session.specs.declared.stream.StreamState.{StreamState}
 use Rattle.codec_payload_session.proofs.ChangeLemmas.{none_left}
 use Rattle.codec_payload_session.proofs.streams.Streams.leave_behind.Goals as goal
 
 pub returns-then-not-has_left_behind : goal.returns-then-not-has_left_behind
 returns-then-not-has_left_behind c =
     let none : any_left_behind c.args.now c.args.wait c.args.ssrc c.args.format.now c.args.self.now.streams ≡ false = sym c.has_left_behind.ensures ∙ c.if-not-has_left_behind.true in
-    ap (λ (l : List Stream). record c.args.self.now { streams = l })
+    ap (λ (l : List StreamState). record c.args.self.now { streams = l })
     (sym (none_left (continues c.args.ssrc c.args.format.now c.args.self.now.streams) c.args.now c.args.wait c.args.ssrc c.args.format.now c.args.self.now.streams none))

@@ -3,7 +3,7 @@ use Rattle.codec_payload_codec.specs.Depacketizers.{DepacketizerState, depacketi
 use Rattle.codec_payload_jitter.specs.declared.waiting.WaitLimits.{WaitLimits}
 use Rattle.codec_payload_stream.specs.Sessions.{session_by}
 use Rattle.codec_payload_session.specs.Requests.{feedback_by}
-use Rattle.codec_payload_session.proofs.stream.Stream.begin.Goals as goal
+use Rattle.codec_payload_session.proofs.stream.StreamState.begin.Goals as goal
 
 pub returns : goal.returns
 returns c = record {

@@ -2,8 +2,8 @@ use Rattle.std.proofs.Common.{◌∙◌, ap}
 use Rattle.codec_payload_buffer.specs.Steps.{State}
 use Rattle.codec_payload_jitter.proofs.OwnLemmas.{stores_none, stores_then}
 use Rattle.codec_payload_jitter.specs.Receiving.{Receiving}
-use Rattle.codec_payload_stream.proofs.datagram.Stream.take.Goals as goal
-use Rattle.codec_payload_stream.proofs.datagram.Stream.take.Goals.{in-OtherStream, in-NoMedia+in_ok-push_no_media-in-NoMedia, in-Media+in_ok-outcome-in-Media, in-SentAgain+in_ok-outcome-in-SentAgain, in-Nothing, in-Rtcp, in-Rtcp-2}
+use Rattle.codec_payload_stream.proofs.datagram.StreamKinds.take.Goals as goal
+use Rattle.codec_payload_stream.proofs.datagram.StreamKinds.take.Goals.{in-OtherStream, in-NoMedia+in_ok-push_no_media-in-NoMedia, in-Media+in_ok-outcome-in-Media, in-SentAgain+in_ok-outcome-in-SentAgain, in-Nothing, in-Rtcp, in-Rtcp-2}
 
 pub returns-clause-own : goal.returns-clause-own
 returns-clause-own g c = λ other.

@@ -3,7 +3,7 @@ use Rattle.codec_payload_stream.specs.Reports.{reported}
 use Rattle.codec_payload_stream.specs.Sessions.{Session as Receiver}
 use Rattle.codec_payload_session.specs.Quiet.{IsQuietUntil, time_of}
 use Rattle.codec_payload_session.proofs.StillLemmas.{quiet_stays}
-use Rattle.codec_payload_session.proofs.stream.Stream.start_fraction.Goals as goal
+use Rattle.codec_payload_session.proofs.stream.StreamState.report.Goals as goal
 
 pub invariant_of-self : goal.invariant_of-self
 invariant_of-self c =

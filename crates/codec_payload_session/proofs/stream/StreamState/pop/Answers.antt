@@ -1,40 +1,40 @@
 use Rattle.std.proofs.Common.{◌≡◌, ◌∙◌, None, Some, arith, length, refl, subst, sym}
 use Rattle.std.proofs.lemmas.Bool.Decides.{nat_tests}
 use Rattle.codec_payload_session.specs.Quiet.{RestsUntil}
-use Rattle.codec_payload_session.specs.Streams.{Pops, RestsBy, Stream, work_deadline}
+use Rattle.codec_payload_session.specs.Streams.{Pops, RestsBy, StreamState, work_deadline}
 use Rattle.codec_payload_session.specs.declared.stream.Step.{Step}
 use Rattle.codec_payload_session.specs.declared.stream.Step.TheVariants as steps
 use Rattle.codec_payload_session.proofs.QuietLemmas.{nothing_is}
 use Rattle.codec_payload_session.proofs.SkipLemmas.{rests_until, seen}
-use Rattle.codec_payload_session.proofs.stream.Stream.pop.Goals as goal
+use Rattle.codec_payload_session.proofs.stream.StreamState.pop.Goals as goal
 
 pub invariant_of-self-then-held : goal.invariant_of-self-then-held
 invariant_of-self-then-held c =
-    let s : Stream = record (seen c.self.inside) { receiver = c.pop.new.self } in
-    let t : Stream = seen c.self-in-None.inside in
+    let s : StreamState = record (seen c.self.inside) { receiver = c.pop.new.self } in
+    let t : StreamState = seen c.self-in-None.inside in
     let nothing : c.rest-step.result ≡ steps.Nothing = nothing_is c.rest-step.result (sym c.is_nothing.ensures ∙ c.if-is_nothing.true) in
-    let rests : RestsBy s.stage c.args.now.0 s c.rest-step.result t = subst (λ (x : Stream). RestsBy s.stage c.args.now.0 s c.rest-step.result x) (sym c.self-in-None.view_is) c.rest-step.ensures in
+    let rests : RestsBy s.stage c.args.now.0 s c.rest-step.result t = subst (λ (x : StreamState). RestsBy s.stage c.args.now.0 s c.rest-step.result x) (sym c.self-in-None.view_is) c.rest-step.ensures in
     let same : length t.receiver.packets.buffer.held ≡ length c.self.inside.receiver.packets.buffer.held = grind (arith, nat_tests, c.if-held.true, c.held.ensures, c.held-held.ensures) in
-    let work : c.find_work-work.result ≡ work_deadline t = subst (λ (x : Stream). c.find_work-work.result ≡ work_deadline x) (sym c.self-in-None.view_is) c.find_work-work.ensures in
-    let rest : RestsUntil c.quiet_time-until.result c.args.now.0 t = subst (λ (x : Stream). RestsUntil c.quiet_time-until.result c.args.now.0 x) (sym c.self-in-None.view_is) c.quiet_time-until.ensures in
+    let work : c.find_work-work.result ≡ work_deadline t = subst (λ (x : StreamState). c.find_work-work.result ≡ work_deadline x) (sym c.self-in-None.view_is) c.find_work-work.ensures in
+    let rest : RestsUntil c.quiet_time-until.result c.args.now.0 t = subst (λ (x : StreamState). RestsUntil c.quiet_time-until.result c.args.now.0 x) (sym c.self-in-None.view_is) c.quiet_time-until.ensures in
     rests_until c.args.now.0 c.quiet_time-until.result c.or_none-kept.result c.find_work-work.result c.self.inside.receiver s t c.in-None.ensures.pops
     (subst (λ (x : Step). RestsBy s.stage c.args.now.0 s x t) nothing rests) same work c.or_none-kept.ensures rest
 
 pub returns-in-Some : goal.returns-in-Some
 returns-in-Some c =
-    let t : Stream = record (seen c.self.inside) { receiver = c.pop.new.self } in
-    subst (λ (s : Stream). Pops c.args.now s (steps.Unit c.in-Some.unit) t) c.self.view_is
+    let t : StreamState = record (seen c.self.inside) { receiver = c.pop.new.self } in
+    subst (λ (s : StreamState). Pops c.args.now s (steps.Unit c.in-Some.unit) t) c.self.view_is
     (record { popped = Some c.in-Some.unit; receiver = c.pop.new.self; pops = c.in-Some.ensures.pops; follows = (refl, refl) })
 
 pub returns-then-held : goal.returns-then-held
 returns-then-held c =
-    let s : Stream = record (seen c.self.inside) { receiver = c.pop.new.self } in
-    let t : Stream = seen c.self-in-None.inside in
-    let rests : RestsBy s.stage c.args.now.0 s c.rest-step.result t = subst (λ (x : Stream). RestsBy s.stage c.args.now.0 s c.rest-step.result x) (sym c.self-in-None.view_is) c.rest-step.ensures in
-    subst (λ (x : Stream). Pops c.args.now x c.rest-step.result t) c.self.view_is
+    let s : StreamState = record (seen c.self.inside) { receiver = c.pop.new.self } in
+    let t : StreamState = seen c.self-in-None.inside in
+    let rests : RestsBy s.stage c.args.now.0 s c.rest-step.result t = subst (λ (x : StreamState). RestsBy s.stage c.args.now.0 s c.rest-step.result x) (sym c.self-in-None.view_is) c.rest-step.ensures in
+    subst (λ (x : StreamState). Pops c.args.now x c.rest-step.result t) c.self.view_is
     (record { popped = None; receiver = c.pop.new.self; pops = c.in-None.ensures.pops; follows = rests })
 
 pub returns-else-is_nothing : goal.returns-else-is_nothing
 returns-else-is_nothing c =
-    subst (λ (x : Stream). Pops c.args.now x c.rest-step.result c.rest-step.new.self) c.self.view_is
+    subst (λ (x : StreamState). Pops c.args.now x c.rest-step.result c.rest-step.new.self) c.self.view_is
     (record { popped = None; receiver = c.pop.new.self; pops = c.in-None.ensures.pops; follows = c.rest-step.ensures })

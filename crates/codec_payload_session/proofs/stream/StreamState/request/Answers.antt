@@ -1,14 +1,14 @@
 use Rattle.std.proofs.Common.{◌≡◌, Option, Some, arith, refl, subst}
 use Rattle.codec_payload_session.specs.Requests.{Asking}
-use Rattle.codec_payload_session.specs.Streams.{RequestsBy, Stream}
+use Rattle.codec_payload_session.specs.Streams.{RequestsBy, StreamState}
 use Rattle.codec_payload_session.proofs.SkipLemmas.{seen}
-use Rattle.codec_payload_session.proofs.stream.Stream.request.Goals as goal
+use Rattle.codec_payload_session.proofs.stream.StreamState.request.Goals as goal
 
 pub returns-in-Some : goal.returns-in-Some
 returns-in-Some c =
-    let s : Stream = seen c.self.inside in
-    let t : Stream = record s { feedback = Some c.take_due.new.self } in
+    let s : StreamState = seen c.self.inside in
+    let t : StreamState = record s { feedback = Some c.take_due.new.self } in
     let asked : RequestsBy (Some c.in-Some.feedback) c.args.now.0 s c.step_of.result t =
     record { told = c.take_due.result; asking = c.take_due.new.self; asks = c.take_due.ensures; answers = c.step_of.ensures; after = refl } in
     let is : Some c.in-Some.feedback ≡ s.feedback = grind (arith, c.in-Some.is, c.in-Some.feedback-is) in
-    subst (λ (x : Stream). RequestsBy x.feedback c.args.now.0 x c.step_of.result t) c.self.view_is (subst (λ (o : Option Asking). RequestsBy o c.args.now.0 s c.step_of.result t) is asked)
+    subst (λ (x : StreamState). RequestsBy x.feedback c.args.now.0 x c.step_of.result t) c.self.view_is (subst (λ (o : Option Asking). RequestsBy o c.args.now.0 s c.step_of.result t) is asked)
