@@ -27,7 +27,7 @@ fn append_payload(payload: &[u8], out: &mut Vec<u8>) -> Result<(), PacketError> 
     Ok(())
 }
 
-/// Appends each payload as it is; each payload is a unit.
+/// Appends each payload as it is; each payload is a unit. The depacketizer of Opus, G.711, G.722 and Null.
 #[derive(Clone, Debug, Default, PartialEq, Eq)]
 pub struct PlainDepacketizer;
 

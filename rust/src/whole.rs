@@ -8,7 +8,8 @@ use crate::memory::TryVec;
 use crate::payloads::{PayloadWriter, Payloads};
 use alloc::vec::Vec;
 
-/// Sends each frame in one packet. `MARKS_TALKSPURT` says whether the start of a talk spurt is marked.
+/// Sends each frame in one packet: the packetizer of comfort noise and telephone events. `MARKS_TALKSPURT` says whether the start
+/// of a talk spurt is marked.
 #[derive(Debug)]
 pub struct WholePacketizer<const MARKS_TALKSPURT: bool> {}
 

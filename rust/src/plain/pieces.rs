@@ -8,7 +8,7 @@ use crate::interface::Packetizer;
 use crate::payloads::Payloads;
 use alloc::vec::Vec;
 
-/// Cuts frames into pieces of MTU bytes. Opus, G.711 and G.722 are sent so.
+/// Cuts frames into pieces of MTU bytes: the packetizer of Opus, G.711 and G.722.
 #[derive(Clone, Debug, Default, Copy)]
 pub struct PiecesPacketizer;
 

@@ -11,7 +11,7 @@ use codec_payload_base::interface::Packetizer;
 use codec_payload_base::payloads::Payloads;
 use std::alloc::Global;
 
-/// Cuts frames into pieces of MTU bytes. Opus, G.711 and G.722 are sent so.
+/// Cuts frames into pieces of MTU bytes: the packetizer of Opus, G.711 and G.722.
 #[derive(Clone, Debug, Default, Drop)]
 pub struct PiecesPacketizer {}
 
