@@ -49,9 +49,9 @@ mod tests {
 
     #[test]
     fn bytes_go_through() {
-        let packets = packetize(&mut OpusPacketizer, 1_200, &[1, 2, 3]).unwrap();
+        let packets = packetize(&mut OpusPacketizer {}, 1_200, &[1, 2, 3]).unwrap();
         let mut buffer: DepacketizingBuffer =
-            DepacketizingBuffer::new(CodecDepacketizer::Opus(OpusDepacketizer), 0);
+            DepacketizingBuffer::new(CodecDepacketizer::Opus(OpusDepacketizer {}), 0);
         let meta = RtpMeta::of(SeqNo(1), MediaTime::from_90khz(0), Pt::from(96), Ticks(0));
         push(&mut buffer, meta, packets[0].clone()).unwrap();
         assert_eq!(

@@ -10,15 +10,46 @@ mod comfort_noise;
 mod g7xx;
 mod null;
 mod opus;
+mod pieces;
 
 use crate::error::PacketError;
+use crate::interface::{CodecExtra, Depacketizer};
+pub use crate::whole::WholePacketizer;
 pub use comfort_noise::{ComfortNoiseDepacketizer, ComfortNoisePacketizer};
 pub use g7xx::{G7xxPacketizer, G711Depacketizer, G711Packetizer, G722Packetizer};
 pub use null::{NullDepacketizer, NullPacketizer};
 pub use opus::{OpusDepacketizer, OpusPacketizer};
+pub use pieces::PiecesPacketizer;
 
 /// Appends a payload that carries itself.
 fn append_payload(payload: &[u8], out: &mut Vec<u8>) -> Result<(), PacketError> {
     out.try_extend(payload)?;
     Ok(())
+}
+
+/// Appends each payload as it is; each payload is a unit. The depacketizer of Opus, G.711, G.722 and Null.
+#[derive(Clone, Debug, Default, PartialEq, Eq)]
+pub struct PlainDepacketizer;
+
+impl Depacketizer for PlainDepacketizer {
+    fn out_size_hint(&self, packets_size: usize) -> Option<usize> {
+        Some(packets_size)
+    }
+
+    fn depacketize(
+        &mut self,
+        packet: &[u8],
+        out: &mut Vec<u8>,
+        _codec_extra: &mut CodecExtra,
+    ) -> Result<(), PacketError> {
+        append_payload(packet, out)
+    }
+
+    fn is_partition_head(&self, _packet: &[u8]) -> bool {
+        true
+    }
+
+    fn is_partition_tail(&self, _marker: bool, _packet: &[u8]) -> bool {
+        true
+    }
 }

@@ -3,11 +3,10 @@
 //! Telephone events (RFC 4733; docs/FORMATS.md, "Telephone events").
 
 use crate::error::PacketError;
-use crate::interface::{CodecExtra, Depacketizer, Packetizer, REPORT_SIZE};
+use crate::interface::{CodecExtra, Depacketizer, REPORT_SIZE};
 pub use crate::interface::{TelephoneEvent, TelephoneEvents, duration_from_units};
 use crate::memory::TryVec;
-use crate::payloads::Payloads;
-use crate::whole::{send_whole, write_whole};
+use crate::whole::WholePacketizer;
 use crate::wire::Frequency;
 use alloc::vec::Vec;
 
@@ -19,41 +18,9 @@ fn first_report(payload: &[u8], rate: Frequency) -> Option<TelephoneEvent> {
     TelephoneEvent::parse(payload, rate)
 }
 
-/// Sends the reports of a frame in one packet.
-#[derive(Debug)]
-pub struct TelephoneEventPacketizer;
-
-impl Packetizer for TelephoneEventPacketizer {
-    /// The frame in one packet; its bytes are not interpreted. An empty frame gives no packets. `ErrPayloadTooLarge`: the frame is
-    /// longer than `mtu` bytes. Each byte is copied once.
-    fn packetize(&mut self, mtu: usize, b: &[u8]) -> Result<Vec<Vec<u8>>, PacketError> {
-        send_whole(mtu, b)
-    }
-
-    fn packetize_into(
-        &mut self,
-        mtu: usize,
-        b: &[u8],
-        out: &mut Payloads,
-    ) -> Result<(), PacketError> {
-        out.clear();
-        let answer = write_whole(mtu, b, out);
-        out.settle(answer)
-    }
-
-    fn is_marker(&mut self, _data: &[u8], _previous: Option<&[u8]>, _last: bool) -> bool {
-        false
-    }
-
-    /// The first packet of an event is marked (RFC 4733, section 2.2.2): its sample starts a talk spurt.
-    fn marks_talkspurt(&self) -> bool {
-        true
-    }
-
-    fn nackable(&self) -> bool {
-        false
-    }
-}
+/// Sends the reports of a frame in one packet; its bytes are not interpreted. The first packet of an event is marked (RFC 4733,
+/// section 2.2.2): its sample starts a talk spurt.
+pub type TelephoneEventPacketizer = WholePacketizer<true>;
 
 /// Gives the first report of each payload; each payload is a unit.
 #[derive(Debug)]

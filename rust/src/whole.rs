@@ -3,9 +3,46 @@
 //! Comfort noise, telephone events, AMR-WB and Null: a frame sent whole, in one packet (docs/FORMATS.md, the section of each).
 
 use crate::error::PacketError;
+use crate::interface::Packetizer;
 use crate::memory::TryVec;
-use crate::payloads::PayloadWriter;
+use crate::payloads::{PayloadWriter, Payloads};
 use alloc::vec::Vec;
+
+/// Sends each frame in one packet: the packetizer of comfort noise and telephone events. `MARKS_TALKSPURT` says whether the start
+/// of a talk spurt is marked.
+#[derive(Debug)]
+pub struct WholePacketizer<const MARKS_TALKSPURT: bool> {}
+
+impl<const MARKS_TALKSPURT: bool> Packetizer for WholePacketizer<MARKS_TALKSPURT> {
+    /// The frame in one packet. An empty one gives no packets; one longer than `mtu` bytes is refused with
+    /// `ErrPayloadTooLarge`. Each byte is copied once.
+    fn packetize(&mut self, mtu: usize, b: &[u8]) -> Result<Vec<Vec<u8>>, PacketError> {
+        send_whole(mtu, b)
+    }
+
+    fn packetize_into(
+        &mut self,
+        mtu: usize,
+        b: &[u8],
+        out: &mut Payloads,
+    ) -> Result<(), PacketError> {
+        out.clear();
+        let answer = write_whole(mtu, b, out);
+        out.settle(answer)
+    }
+
+    fn is_marker(&mut self, _data: &[u8], _previous: Option<&[u8]>, _last: bool) -> bool {
+        false
+    }
+
+    fn marks_talkspurt(&self) -> bool {
+        MARKS_TALKSPURT
+    }
+
+    fn nackable(&self) -> bool {
+        false
+    }
+}
 
 /// The frame in one packet, or `ErrPayloadTooLarge` if it is longer than `mtu` bytes. Each byte is copied once.
 pub(crate) fn send_whole(mtu: usize, frame: &[u8]) -> Result<Vec<Vec<u8>>, PacketError> {

@@ -97,7 +97,7 @@ fn senders_and_red() {
 #[test]
 fn pops() {
     let mut buffer: DepacketizingBuffer =
-        DepacketizingBuffer::new(CodecDepacketizer::Opus(OpusDepacketizer), 0);
+        DepacketizingBuffer::new(CodecDepacketizer::Opus(OpusDepacketizer {}), 0);
     for number in 0..40 {
         let meta = RtpMeta::of(
             SeqNo(number),

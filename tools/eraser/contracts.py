@@ -9,7 +9,7 @@ from tokens import Refused, angles, close, elements, plain, tokens
 
 # What types derive in Rust in addition: their `clone` cannot fail, and `str0m` derives these.
 MORE = {"PacketError": ["Clone", "Copy"], "Depacketized": ["Clone"], "RedundantBlock": ["Clone", "PartialEq", "Eq"], "Vp9Depacketizer": ["Clone"],
-        "OutgoingPacket": ["Clone"], "G7xxPacketizer": ["Copy"], "OpusPacketizer": ["Copy"], "Vp8Packetizer": ["Copy"],
+        "OutgoingPacket": ["Clone"], "PiecesPacketizer": ["Copy"], "Vp8Packetizer": ["Copy"],
         "Vp8DescriptorError": ["Copy"], "Vp8PatchError": ["Copy"]}
 
 # What Rattle derives as Rust does, and `Drop`, which Rust does by itself.

@@ -56,9 +56,9 @@ impl CodecDepacketizer {
     pub fn from_codec(codec: Codec) -> Option<Self> {
         match codec {
             Codec::PCMU | Codec::PCMA | Codec::G722 => {
-                Some(CodecDepacketizer::G711(G711Depacketizer))
+                Some(CodecDepacketizer::G711(G711Depacketizer {}))
             }
-            Codec::Opus => Some(CodecDepacketizer::Opus(OpusDepacketizer)),
+            Codec::Opus => Some(CodecDepacketizer::Opus(OpusDepacketizer {})),
             Codec::CN => Some(CodecDepacketizer::ComfortNoise(ComfortNoiseDepacketizer)),
             Codec::Tele => Some(CodecDepacketizer::Tele(
                 TelephoneEventDepacketizer::default(),
@@ -67,7 +67,7 @@ impl CodecDepacketizer {
             Codec::Vp9 => Some(CodecDepacketizer::Vp9(Vp9Depacketizer::new())),
             Codec::Av1 => Some(CodecDepacketizer::Av1(Av1Depacketizer::new())),
             Codec::AmrWb => Some(CodecDepacketizer::AmrWb(AmrWbDepacketizer::default())),
-            Codec::Null => Some(CodecDepacketizer::Null(NullDepacketizer)),
+            Codec::Null => Some(CodecDepacketizer::Null(NullDepacketizer {})),
             _ => None,
         }
     }

@@ -66,9 +66,9 @@ impl CodecPacketizer {
         match codec {
             Codec::PCMU | Codec::PCMA => Some(CodecPacketizer::G711(G711Packetizer {})),
             Codec::G722 => Some(CodecPacketizer::G722(G722Packetizer {})),
-            Codec::Opus => Some(CodecPacketizer::Opus(OpusPacketizer)),
-            Codec::CN => Some(CodecPacketizer::ComfortNoise(ComfortNoisePacketizer)),
-            Codec::Tele => Some(CodecPacketizer::Tele(TelephoneEventPacketizer)),
+            Codec::Opus => Some(CodecPacketizer::Opus(OpusPacketizer {})),
+            Codec::CN => Some(CodecPacketizer::ComfortNoise(ComfortNoisePacketizer {})),
+            Codec::Tele => Some(CodecPacketizer::Tele(TelephoneEventPacketizer {})),
             Codec::Vp8 => Some(CodecPacketizer::Vp8(Vp8Packetizer::default())),
             Codec::Vp9 => Some(CodecPacketizer::Vp9(Vp9Packetizer::with_mode(
                 mode, first_id,

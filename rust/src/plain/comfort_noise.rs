@@ -3,47 +3,13 @@
 //! Comfort noise (RFC 3389; docs/FORMATS.md, "Comfort noise").
 
 use crate::error::PacketError;
-use crate::interface::{CodecExtra, Depacketizer, Packetizer};
-use crate::payloads::Payloads;
+use crate::interface::{CodecExtra, Depacketizer};
 use crate::plain::append_payload;
-use crate::whole::{send_whole, write_whole};
+use crate::whole::WholePacketizer;
 use alloc::vec::Vec;
 
-/// Sends the level and the spectrum of the noise in one packet.
-#[derive(Debug)]
-pub struct ComfortNoisePacketizer;
-
-impl Packetizer for ComfortNoisePacketizer {
-    /// The frame in one packet. An empty one gives no packets; one longer than `mtu` bytes is refused with
-    /// `ErrPayloadTooLarge`. Each byte is copied once.
-    fn packetize(&mut self, mtu: usize, b: &[u8]) -> Result<Vec<Vec<u8>>, PacketError> {
-        send_whole(mtu, b)
-    }
-
-    fn packetize_into(
-        &mut self,
-        mtu: usize,
-        b: &[u8],
-        out: &mut Payloads,
-    ) -> Result<(), PacketError> {
-        out.clear();
-        let answer = write_whole(mtu, b, out);
-        out.settle(answer)
-    }
-
-    /// Never, even if a talk spurt starts: comfort noise is not talk.
-    fn is_marker(&mut self, _data: &[u8], _previous: Option<&[u8]>, _last: bool) -> bool {
-        false
-    }
-
-    fn marks_talkspurt(&self) -> bool {
-        false
-    }
-
-    fn nackable(&self) -> bool {
-        false
-    }
-}
+/// Sends the level and the spectrum of the noise in one packet, which is never marked: comfort noise is not talk.
+pub type ComfortNoisePacketizer = WholePacketizer<false>;
 
 /// Appends each payload as it is; each payload is a unit.
 #[derive(Debug)]

@@ -2,16 +2,13 @@
 
 //! G.711 and G.722 (RFC 3551; docs/FORMATS.md, "Opus, G.711, G.722").
 
-use crate::described::{send_pieces, write_pieces};
-use crate::error::PacketError;
-use crate::interface::{CodecExtra, Depacketizer, Packetizer};
-use crate::payloads::Payloads;
-use crate::plain::append_payload;
-use alloc::vec::Vec;
+use crate::plain::{PiecesPacketizer, PlainDepacketizer};
 
 /// Cuts frames of G.711 or G.722 into pieces of MTU bytes (RFC 3551, sections 4.5.2 and 4.5.14).
-#[derive(Clone, Debug, Default, Copy)]
-pub struct G7xxPacketizer;
+///
+/// All pieces of a frame get the RTP time of the frame, but a receiver takes the time of a packet as the time of its first
+/// sample (RFC 3551, section 4.1). Choose an MTU above the longest frame.
+pub type G7xxPacketizer = PiecesPacketizer;
 
 /// Cuts frames of G.711 (μ-law or A-law).
 pub type G711Packetizer = G7xxPacketizer;
@@ -19,63 +16,5 @@ pub type G711Packetizer = G7xxPacketizer;
 /// Cuts frames of G.722.
 pub type G722Packetizer = G7xxPacketizer;
 
-impl Packetizer for G7xxPacketizer {
-    /// The frame in pieces of `mtu` bytes, the last with the rest. An empty frame, or an MTU of 0, gives no packets.
-    /// Each byte is copied once.
-    ///
-    /// All pieces of a frame get the RTP time of the frame, but a receiver takes the time of a packet as the time of its first
-    /// sample (RFC 3551, section 4.1). Choose an MTU above the longest frame.
-    fn packetize(&mut self, mtu: usize, b: &[u8]) -> Result<Vec<Vec<u8>>, PacketError> {
-        send_pieces(mtu, b)
-    }
-
-    fn packetize_into(
-        &mut self,
-        mtu: usize,
-        b: &[u8],
-        out: &mut Payloads,
-    ) -> Result<(), PacketError> {
-        out.clear();
-        let answer = write_pieces(mtu, b, out);
-        out.settle(answer)
-    }
-
-    fn is_marker(&mut self, _data: &[u8], _previous: Option<&[u8]>, _last: bool) -> bool {
-        false
-    }
-
-    fn marks_talkspurt(&self) -> bool {
-        true
-    }
-
-    fn nackable(&self) -> bool {
-        false
-    }
-}
-
 /// Appends each payload of G.711 or G.722; each payload is a unit.
-#[derive(Clone, Debug, Default, PartialEq, Eq)]
-pub struct G711Depacketizer;
-
-impl Depacketizer for G711Depacketizer {
-    fn out_size_hint(&self, packets_size: usize) -> Option<usize> {
-        Some(packets_size)
-    }
-
-    fn depacketize(
-        &mut self,
-        packet: &[u8],
-        out: &mut Vec<u8>,
-        _codec_extra: &mut CodecExtra,
-    ) -> Result<(), PacketError> {
-        append_payload(packet, out)
-    }
-
-    fn is_partition_head(&self, _packet: &[u8]) -> bool {
-        true
-    }
-
-    fn is_partition_tail(&self, _marker: bool, _packet: &[u8]) -> bool {
-        true
-    }
-}
+pub type G711Depacketizer = PlainDepacketizer;

@@ -3,10 +3,10 @@
 //! Null: payloads that carry whatever they are given (docs/FORMATS.md, "Null").
 
 use crate::error::PacketError;
-use crate::interface::{CodecExtra, Depacketizer, Packetizer};
+use crate::interface::Packetizer;
 use crate::memory::TryVec;
 use crate::payloads::Payloads;
-use crate::plain::append_payload;
+use crate::plain::PlainDepacketizer;
 use crate::whole::write_one;
 use alloc::vec::Vec;
 
@@ -47,28 +47,4 @@ impl Packetizer for NullPacketizer {
 }
 
 /// Appends each payload as it is; each payload is a unit.
-#[derive(Debug)]
-pub struct NullDepacketizer;
-
-impl Depacketizer for NullDepacketizer {
-    fn out_size_hint(&self, packets_size: usize) -> Option<usize> {
-        Some(packets_size)
-    }
-
-    fn depacketize(
-        &mut self,
-        packet: &[u8],
-        out: &mut Vec<u8>,
-        _codec_extra: &mut CodecExtra,
-    ) -> Result<(), PacketError> {
-        append_payload(packet, out)
-    }
-
-    fn is_partition_head(&self, _packet: &[u8]) -> bool {
-        true
-    }
-
-    fn is_partition_tail(&self, _marker: bool, _packet: &[u8]) -> bool {
-        true
-    }
-}
+pub type NullDepacketizer = PlainDepacketizer;

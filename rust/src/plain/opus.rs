@@ -2,71 +2,10 @@
 
 //! Opus (RFC 7587; docs/FORMATS.md, "Opus, G.711, G.722").
 
-use crate::described::{send_pieces, write_pieces};
-use crate::error::PacketError;
-use crate::interface::{CodecExtra, Depacketizer, Packetizer};
-use crate::payloads::Payloads;
-use crate::plain::append_payload;
-use alloc::vec::Vec;
+use crate::plain::{PiecesPacketizer, PlainDepacketizer};
 
 /// Cuts Opus frames into pieces of MTU bytes (RFC 7587 has one frame a payload: choose an MTU above the longest frame).
-#[derive(Clone, Debug, Default, Copy)]
-pub struct OpusPacketizer;
+pub type OpusPacketizer = PiecesPacketizer;
 
-impl Packetizer for OpusPacketizer {
-    /// The frame in pieces of `mtu` bytes, the last with the rest. An empty frame, or an MTU of 0, gives no packets.
-    /// Each byte is copied once.
-    fn packetize(&mut self, mtu: usize, b: &[u8]) -> Result<Vec<Vec<u8>>, PacketError> {
-        send_pieces(mtu, b)
-    }
-
-    fn packetize_into(
-        &mut self,
-        mtu: usize,
-        b: &[u8],
-        out: &mut Payloads,
-    ) -> Result<(), PacketError> {
-        out.clear();
-        let answer = write_pieces(mtu, b, out);
-        out.settle(answer)
-    }
-
-    fn is_marker(&mut self, _data: &[u8], _previous: Option<&[u8]>, _last: bool) -> bool {
-        false
-    }
-
-    fn marks_talkspurt(&self) -> bool {
-        true
-    }
-
-    fn nackable(&self) -> bool {
-        false
-    }
-}
-
-/// Appends each payload; each payload is a unit.
-#[derive(Clone, Debug, Default, PartialEq, Eq)]
-pub struct OpusDepacketizer;
-
-impl Depacketizer for OpusDepacketizer {
-    fn out_size_hint(&self, packets_size: usize) -> Option<usize> {
-        Some(packets_size)
-    }
-
-    fn depacketize(
-        &mut self,
-        packet: &[u8],
-        out: &mut Vec<u8>,
-        _codec_extra: &mut CodecExtra,
-    ) -> Result<(), PacketError> {
-        append_payload(packet, out)
-    }
-
-    fn is_partition_head(&self, _packet: &[u8]) -> bool {
-        true
-    }
-
-    fn is_partition_tail(&self, _marker: bool, _packet: &[u8]) -> bool {
-        true
-    }
-}
+/// Appends each payload of Opus; each payload is a unit.
+pub type OpusDepacketizer = PlainDepacketizer;

@@ -32,10 +32,10 @@ pub fn sent(format: Format, mtu: usize, frame: &[u8]) -> Result<Vec<Vec<u8>>, Pa
         Format::AmrWb { octet_align } => {
             packetize(&mut AmrWbPacketizer { octet_align }, mtu, frame)
         }
-        Format::ComfortNoise => packetize(&mut ComfortNoisePacketizer, mtu, frame),
-        Format::Telephone => packetize(&mut TelephoneEventPacketizer, mtu, frame),
-        Format::Opus => packetize(&mut OpusPacketizer, mtu, frame),
-        Format::G711 => packetize(&mut G7xxPacketizer, mtu, frame),
+        Format::ComfortNoise => packetize(&mut ComfortNoisePacketizer {}, mtu, frame),
+        Format::Telephone => packetize(&mut TelephoneEventPacketizer {}, mtu, frame),
+        Format::Opus => packetize(&mut OpusPacketizer {}, mtu, frame),
+        Format::G711 => packetize(&mut G7xxPacketizer {}, mtu, frame),
         Format::Null => packetize(&mut NullPacketizer, mtu, frame),
     }
 }
@@ -61,15 +61,15 @@ pub fn assert_received_as(
             assert_received(name, &mut depacketizer, payload, wanted)
         }
         Format::Opus => {
-            let mut depacketizer = OpusDepacketizer;
+            let mut depacketizer = OpusDepacketizer {};
             assert_received(name, &mut depacketizer, payload, wanted)
         }
         Format::G711 => {
-            let mut depacketizer = G711Depacketizer;
+            let mut depacketizer = G711Depacketizer {};
             assert_received(name, &mut depacketizer, payload, wanted)
         }
         Format::Null => {
-            let mut depacketizer = NullDepacketizer;
+            let mut depacketizer = NullDepacketizer {};
             assert_received(name, &mut depacketizer, payload, wanted)
         }
     }

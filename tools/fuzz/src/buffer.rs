@@ -42,7 +42,7 @@ pub fn buffer(input: &mut Input) {
         1 + usize::from(input.byte() % 20),
     );
     let mut buffer: DepacketizingBuffer = DepacketizingBuffer::with_limit(
-        CodecDepacketizer::Opus(OpusDepacketizer),
+        CodecDepacketizer::Opus(OpusDepacketizer {}),
         hold_back,
         limit,
     );

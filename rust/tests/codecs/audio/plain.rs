@@ -112,7 +112,7 @@ fn frames_and_payloads() -> Result<(), Fail> {
 /// Comfort noise has no marker, and starts no talk spurt.
 #[test]
 fn cn_one_packet_no_marker() {
-    let mut packetizer = ComfortNoisePacketizer;
+    let mut packetizer = ComfortNoisePacketizer {};
     assert!(!packetizer.is_marker(&NOISE, None, true));
     assert!(!packetizer.marks_talkspurt());
 }
