@@ -27,8 +27,10 @@ use crate::error::PacketError;
 use crate::interface::CodecExtra;
 use crate::wire::{SeqNo, Ticks};
 use alloc::collections::VecDeque;
-use ends::{evict, place_at, row_with};
-use frames::{CompleteFrame, frame_of, mend_first, note};
+use ends::{evict, is_new_end, place_at, row_with};
+use frames::{
+    CompleteFrame, CompleteFrames, drop_first, frame_of, mend_first, note, reserve_known,
+};
 use held_packet::{HeldPacket, Packet};
 pub use known::PackedMeta;
 use known::are_plain;
@@ -57,8 +59,7 @@ pub struct DepacketizingBuffer<B = NoBox> {
     packets: VecDeque<HeldPacket>,
     /// Memory blocks of packets that have left, for later packets.
     spare: Vec<One<Packet>>,
-    /// The complete frames, in order.
-    complete_frames: VecDeque<CompleteFrame>,
+    complete: CompleteFrames,
     /// The cutoff: the highest number whose packets are late.
     cutoff: Option<u64>,
     /// Whether a packet was evicted since the latest released unit.
@@ -93,7 +94,10 @@ impl<B: Depacketizer> DepacketizingBuffer<B> {
         DepacketizingBuffer {
             packets: VecDeque::new(),
             spare: Vec::new(),
-            complete_frames: VecDeque::new(),
+            complete: CompleteFrames {
+                ready: 0,
+                known: VecDeque::new(),
+            },
             cutoff: None,
             evicted: false,
             contiguity: Contiguity::of(&depacketizer),
@@ -152,14 +156,15 @@ impl<B: Depacketizer> DepacketizingBuffer<B> {
         let head = self.depacketizer.is_partition_head(&data);
         let tail = self.depacketizer.is_partition_tail(meta.marker(), &data);
         self.packets.try_room(1)?;
-        self.complete_frames.try_room(1)?;
+        reserve_known(&mut self.complete.known, 1)?;
         let entry = hold(&mut self.spare, Packet::of(meta, data, head, tail))?;
         let row = row_with(&self.packets, place, row_of_packet(&entry));
+        let is_new = is_new_end(&self.packets, place, &entry, &row);
         place_at(&mut self.packets, place, entry, row);
-        note(&mut self.complete_frames, frame_of(&row));
+        note(&mut self.complete, frame_of(&row), is_new);
         if self.packets.len() > self.limit {
             let (number, before, after) = evict(&mut self.packets, &mut self.spare);
-            mend_first(&mut self.complete_frames, before, after);
+            mend_first(&mut self.complete, before, after, &self.packets);
             self.cutoff = Some(number);
             self.evicted = true;
         }
@@ -219,7 +224,7 @@ impl<B: Depacketizer> DepacketizingBuffer<B> {
 
     /// Returns the number of complete frames, due or not. Allocates nothing; the cost does not grow with the number of packets.
     pub fn ready(&self) -> usize {
-        self.complete_frames.len()
+        self.complete.ready
     }
 
     /// Returns how many complete frames a frame behind a gap waits for.
@@ -230,7 +235,7 @@ impl<B: Depacketizer> DepacketizingBuffer<B> {
     /// Returns the time at which the last packet of the first complete frame arrived, or `None` if no frame is complete.
     #[inline(always)]
     pub fn ready_since(&self) -> Option<Ticks> {
-        let frame = *self.complete_frames.front()?;
+        let frame = self.complete.first()?;
         received_at(&self.packets, frame.last)
     }
 
@@ -262,8 +267,8 @@ impl<B: Depacketizer> DepacketizingBuffer<B> {
     /// Returns the frame that is due, if there is one.
     #[inline(always)]
     fn due(&self) -> Option<CompleteFrame> {
-        let frame = *self.complete_frames.front()?;
-        if starts_next(self.cutoff, frame.first) || self.complete_frames.len() > self.hold_back {
+        let frame = self.complete.first()?;
+        if starts_next(self.cutoff, frame.first) || self.complete.ready > self.hold_back {
             Some(frame)
         } else {
             None
@@ -314,9 +319,8 @@ impl<B: Depacketizer> DepacketizingBuffer<B> {
     #[inline(always)]
     fn leave(&mut self, frame: CompleteFrame, count: usize) {
         drop_front(&mut self.packets, &mut self.spare, count);
-        self.complete_frames.pop_front();
         give_back(&mut self.packets);
-        give_back(&mut self.complete_frames);
+        drop_first(&mut self.complete, &self.packets);
         self.cutoff = Some(frame.last);
     }
 }
