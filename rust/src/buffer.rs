@@ -81,7 +81,8 @@ impl<B: Depacketizer> DepacketizingBuffer<B> {
     /// Creates an empty buffer with room for `limit` packets, 1 to 65,536. Allocates nothing.
     ///
     /// Memory grows with the held packets, and shrinks again: a queue that is at most a quarter full shrinks to twice its
-    /// contents, or to 64 entries. The buffer keeps at most 16 memory blocks of 128 bytes for later packets, without payloads.
+    /// contents, or to 64 entries. The buffer keeps at most 16 memory blocks of 128 bytes for later packets, without payloads,
+    /// and a list of the lowest 64 complete frames at most.
     ///
     /// A sender chooses the numbers of its packets. A packet far from both ends of the held numbers moves up to half of all
     /// entries ([`DepacketizingBuffer::push`]), so choose `limit` no larger than reordering needs.
@@ -115,9 +116,9 @@ impl<B: Depacketizer> DepacketizingBuffer<B> {
     /// allocation. If the queues are full, it allocates queues of twice the size.
     ///
     /// The cost does not grow with the number of held packets if packets arrive in order, in reverse order, or near either end
-    /// of the held numbers. Far from both ends the entries of the shorter side move, up to half of all: 16 bytes for each
-    /// packet, and at most 16 more if each packet is a frame. Payloads never move, and no list of packets is walked. An
-    /// eviction may search for the next packet that begins a unit; this inspects each packet at most twice over its lifetime.
+    /// of the held numbers. Far from both ends the entries of the shorter side move, 16 bytes for each packet, up to half of
+    /// all. Payloads and frames never move, and no list of packets is walked. An eviction may search for the next packet that
+    /// begins a unit; this inspects each packet at most twice over its lifetime. An eviction may read frames, as a pop does.
     ///
     /// # Errors
     ///
@@ -178,8 +179,9 @@ impl<B: Depacketizer> DepacketizingBuffer<B> {
     /// frame. A unit of layered VP9 that lost the packets of its base layer is released as complete, without its front. It
     /// counts as contiguous if it is the first unit of the stream.
     ///
-    /// The cost depends on the packets that leave, and not on the packets that stay. If packets below a frame leave with it,
-    /// the frame is found by a binary search.
+    /// The cost depends on the packets that leave. If packets below a frame leave with it, the frame is found by a binary search.
+    /// Once the listed frames have left, the next ones, at most 64, are read from the packets, up to the last packet of the last
+    /// of them. So packets that are no frame are read once in 64 frames, at most.
     ///
     /// # Errors
     ///

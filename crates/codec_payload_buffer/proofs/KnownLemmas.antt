@@ -1,12 +1,12 @@
 -- The lowest of all frames: after one more was noted, and after the first has left.
-use Rattle.std.proofs.Common.{◌≡◌, ℕ, zero, suc, ◌<◌, ◌≤◌, ◌+◌, ◌-◌, [], ◌∷◌, ◌++◌, ◌||◌, List, length, get_or, take, drop, refl, ap, sym, ◌∙◌, arith, Bool, true, false, cond, Option, Some, None, ltb, leb, eqb}
-use Rattle.std.specs.Prelude.{slice_set, IfSome, not}
+use Rattle.std.proofs.Common.{◌≡◌, ℕ, zero, suc, ◌<◌, ◌≤◌, ◌+◌, ◌-◌, [], ◌∷◌, ◌++◌, ◌||◌, List, length, get_or, take, drop, refl, ap, sym, ◌∙◌, arith, Bool, true, false, cond, ltb, leb, eqb}
+use Rattle.std.specs.Prelude.{not}
 use Rattle.std.specs.List.{insert}
 use Rattle.std.proofs.lemmas.Bool.Decides.{nat_tests}
 use Rattle.std.proofs.lemmas.List.{take-append-drop, take-append-le, length-take}
 use Rattle.std.proofs.Math.Seq.{take-append_seam, take-length}
 use Rattle.codec_payload_buffer.specs.KnownFrames.{AreKept, has_end}
-use Rattle.codec_payload_buffer.specs.Rows.{noted, noted_if, frame_place, first_mended, EndsAbove, EndsRise}
+use Rattle.codec_payload_buffer.specs.Rows.{noted, frame_place, EndsAbove, EndsRise}
 use Rattle.codec_payload_buffer.specs.declared.buffer.frames.CompleteFrame.{CompleteFrame}
 use Rattle.codec_payload_codec.proofs.CaseLemmas.{by_test}
 use Rattle.codec_payload_buffer.proofs.FramePlaces.{frames_by_end, end_from_point, frame_place_within}
@@ -145,27 +145,3 @@ kept_same f all known new ready is_new rise kept new_is is_false lowest some = r
   lowest = lowest;
   some = λ l. some;
 }
-
--- The first frame
-
-pub kept_rest : (f : CompleteFrame) (fs known rest : List CompleteFrame) (ready left : ℕ) → AreKept (f ∷ fs) ready known → rest ≡ drop 1 known → left + 1 ≡ ready → (0 < left → 0 < length rest) → AreKept fs left rest
-kept_rest f fs [] rest ready left kept is one some = let none = kept.some (omega (arith, kept.count)) in absurd (omega (arith, none))
-kept_rest f fs (k ∷ ks) rest ready left kept is one some = record {
-  count = omega (arith, kept.count, one);
-  lowest = is ∙ ap (drop 1) kept.lowest ∙ ap (λ (xs : List CompleteFrame). take (length xs) fs) (sym is);
-  some = some;
-}
-
-pub kept_replaced : (g : CompleteFrame) (all known : List CompleteFrame) (ready : ℕ) → AreKept all ready known → 0 < length all → AreKept (g ∷ drop 1 all) ready (slice_set known 0 g)
-kept_replaced g [] known ready kept some = absurd (omega arith)
-kept_replaced g (a ∷ bs) [] ready kept some = let none = kept.some (omega (arith, kept.count)) in absurd (omega (arith, none))
-kept_replaced g (a ∷ bs) (k ∷ ks) ready kept some = record {
-  count = kept.count;
-  lowest = ap (λ (xs : List CompleteFrame). g ∷ xs) (ap (drop 1) kept.lowest);
-  some = λ l. omega arith;
-}
-
--- there is a first frame
-pub kept_first : (all : List CompleteFrame) → 0 < length all → (f : CompleteFrame) × (all ≡ f ∷ drop 1 all)
-kept_first [] some = absurd (omega arith)
-kept_first (f ∷ fs) some = (f, refl)

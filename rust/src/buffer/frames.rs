@@ -51,6 +51,7 @@ impl CompleteFrames {
 }
 
 /// Returns the place of the first known frame that ends at this number or above.
+#[inline(always)]
 fn find_end(known: &VecDeque<CompleteFrame>, last: u64) -> usize {
     place_of_number(known, last)
 }

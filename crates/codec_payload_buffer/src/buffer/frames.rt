@@ -63,6 +63,7 @@ impl CompleteFrames {
 }
 
 /// Returns the place of the first known frame that ends at this number or above.
+#[inline(always)]
 fn find_end(known: &VecDeque<CompleteFrame>, last: u64) -> usize
     requires { EndsRise known.now.items }
     ensures { result ≡ frame_place last known.now.items }

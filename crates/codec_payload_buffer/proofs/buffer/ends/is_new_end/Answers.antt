@@ -1,8 +1,7 @@
-use Rattle.std.proofs.Common.{◌≡◌, ◌∙◌, ◌<◌, ◌≤◌, ◌+◌, ◌-◌, refl, ap, sym, arith, length, map, Bool, true, false}
+use Rattle.std.proofs.Common.{◌≡◌, ◌∙◌, ◌<◌, refl, ap, sym, arith, Bool, true, false}
 use Rattle.std.specs.Prelude.{not}
 use Rattle.std.specs.Option.{is_some}
 use Rattle.std.specs.List.{insert}
-use Rattle.codec_payload_buffer.specs.Held.{held_of}
 use Rattle.codec_payload_buffer.proofs.RowEnds.{row_is_placed}
 use Rattle.codec_payload_buffer.proofs.ToldFrames.{new_end_here, new_end_there}
 use Rattle.codec_payload_buffer.proofs.buffer.ends.is_new_end.Goals as goal

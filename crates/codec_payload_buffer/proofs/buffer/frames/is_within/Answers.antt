@@ -1,4 +1,4 @@
-use Rattle.std.proofs.Common.{◌≡◌, ◌∙◌, ◌-◌, refl, ap, arith, get_or, length, ◌<◌}
+use Rattle.std.proofs.Common.{◌∙◌, ◌-◌, refl, ap, arith, get_or, length, ◌<◌}
 use Rattle.codec_payload_buffer.proofs.KnownLemmas.{within_known}
 use Rattle.codec_payload_buffer.proofs.buffer.frames.is_within.Goals as goal
 

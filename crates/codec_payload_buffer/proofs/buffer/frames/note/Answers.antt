@@ -1,4 +1,3 @@
-use Rattle.std.proofs.Common.{◌≡◌, refl}
 use Rattle.codec_payload_buffer.proofs.KnownLemmas.{kept_new, kept_same}
 use Rattle.codec_payload_buffer.proofs.buffer.frames.note.Goals as goal
 

@@ -1,4 +1,4 @@
-use Rattle.std.proofs.Common.{◌≡◌, ◌∙◌, ◌<◌, ◌+◌, ap, sym, arith, length, length-append, map}
+use Rattle.std.proofs.Common.{◌≡◌, ◌∙◌, ap, arith, length, length-append, map}
 use Rattle.std.specs.VecDeque.Iter.{deque_iter_rest}
 use Rattle.codec_payload_buffer.specs.Frames.{frames}
 use Rattle.codec_payload_buffer.specs.Held.{held_of}

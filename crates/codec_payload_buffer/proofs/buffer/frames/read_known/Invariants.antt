@@ -1,4 +1,4 @@
-use Rattle.std.proofs.Common.{◌≡◌, ◌≤◌, ◌++◌, length, map}
+use Rattle.std.proofs.Common.{◌≡◌, ◌≤◌, ◌++◌, length}
 use Rattle.std.specs.VecDeque.{deque_capacity}
 use Rattle.std.specs.VecDeque.Iter.{deque_iter_rest}
 use Rattle.codec_payload_buffer.specs.KnownFrames.{frames_told}
