@@ -27,8 +27,10 @@ use crate::error::PacketError;
 use crate::interface::CodecExtra;
 use crate::wire::{SeqNo, Ticks};
 use alloc::collections::VecDeque;
-use ends::{evict, place_at, row_with};
-use frames::{CompleteFrame, frame_of, mend_first, note};
+use ends::{evict, is_new_end, place_at, row_with};
+use frames::{
+    CompleteFrame, CompleteFrames, drop_first, frame_of, mend_first, note, reserve_known,
+};
 use held_packet::{HeldPacket, Packet};
 pub use known::PackedMeta;
 use known::are_plain;
@@ -57,8 +59,7 @@ pub struct DepacketizingBuffer<B = NoBox> {
     packets: VecDeque<HeldPacket>,
     /// Memory blocks of packets that have left, for later packets.
     spare: Vec<One<Packet>>,
-    /// The complete frames, in order.
-    complete_frames: VecDeque<CompleteFrame>,
+    complete: CompleteFrames,
     /// The cutoff: the highest number whose packets are late.
     cutoff: Option<u64>,
     /// Whether a packet was evicted since the latest released unit.
@@ -80,7 +81,8 @@ impl<B: Depacketizer> DepacketizingBuffer<B> {
     /// Creates an empty buffer with room for `limit` packets, 1 to 65,536. Allocates nothing.
     ///
     /// Memory grows with the held packets, and shrinks again: a queue that is at most a quarter full shrinks to twice its
-    /// contents, or to 64 entries. The buffer keeps at most 16 memory blocks of 128 bytes for later packets, without payloads.
+    /// contents, or to 64 entries. The buffer keeps at most 16 memory blocks of 128 bytes for later packets, without payloads,
+    /// and a list of the lowest 64 complete frames at most.
     ///
     /// A sender chooses the numbers of its packets. A packet far from both ends of the held numbers moves up to half of all
     /// entries ([`DepacketizingBuffer::push`]), so choose `limit` no larger than reordering needs.
@@ -93,7 +95,10 @@ impl<B: Depacketizer> DepacketizingBuffer<B> {
         DepacketizingBuffer {
             packets: VecDeque::new(),
             spare: Vec::new(),
-            complete_frames: VecDeque::new(),
+            complete: CompleteFrames {
+                ready: 0,
+                known: VecDeque::new(),
+            },
             cutoff: None,
             evicted: false,
             contiguity: Contiguity::of(&depacketizer),
@@ -111,9 +116,9 @@ impl<B: Depacketizer> DepacketizingBuffer<B> {
     /// allocation. If the queues are full, it allocates queues of twice the size.
     ///
     /// The cost does not grow with the number of held packets if packets arrive in order, in reverse order, or near either end
-    /// of the held numbers. Far from both ends the entries of the shorter side move, up to half of all: 16 bytes for each
-    /// packet, and at most 16 more if each packet is a frame. Payloads never move, and no list of packets is walked. An
-    /// eviction may search for the next packet that begins a unit; this inspects each packet at most twice over its lifetime.
+    /// of the held numbers. Far from both ends the entries of the shorter side move, 16 bytes for each packet, up to half of
+    /// all. Payloads and frames never move, and no list of packets is walked. An eviction may search for the next packet that
+    /// begins a unit; this inspects each packet at most twice over its lifetime. An eviction may read frames, as a pop does.
     ///
     /// # Errors
     ///
@@ -152,14 +157,15 @@ impl<B: Depacketizer> DepacketizingBuffer<B> {
         let head = self.depacketizer.is_partition_head(&data);
         let tail = self.depacketizer.is_partition_tail(meta.marker(), &data);
         self.packets.try_room(1)?;
-        self.complete_frames.try_room(1)?;
+        reserve_known(&mut self.complete.known, 1)?;
         let entry = hold(&mut self.spare, Packet::of(meta, data, head, tail))?;
         let row = row_with(&self.packets, place, row_of_packet(&entry));
+        let is_new = is_new_end(&self.packets, place, &entry, &row);
         place_at(&mut self.packets, place, entry, row);
-        note(&mut self.complete_frames, frame_of(&row));
+        note(&mut self.complete, frame_of(&row), is_new);
         if self.packets.len() > self.limit {
             let (number, before, after) = evict(&mut self.packets, &mut self.spare);
-            mend_first(&mut self.complete_frames, before, after);
+            mend_first(&mut self.complete, before, after, &self.packets);
             self.cutoff = Some(number);
             self.evicted = true;
         }
@@ -173,8 +179,9 @@ impl<B: Depacketizer> DepacketizingBuffer<B> {
     /// frame. A unit of layered VP9 that lost the packets of its base layer is released as complete, without its front. It
     /// counts as contiguous if it is the first unit of the stream.
     ///
-    /// The cost depends on the packets that leave, and not on the packets that stay. If packets below a frame leave with it,
-    /// the frame is found by a binary search.
+    /// The cost depends on the packets that leave. If packets below a frame leave with it, the frame is found by a binary search.
+    /// Once the listed frames have left, the next ones, at most 64, are read from the packets, up to the last packet of the last
+    /// of them. So packets that are no frame are read once in 64 frames, at most.
     ///
     /// # Errors
     ///
@@ -219,7 +226,7 @@ impl<B: Depacketizer> DepacketizingBuffer<B> {
 
     /// Returns the number of complete frames, due or not. Allocates nothing; the cost does not grow with the number of packets.
     pub fn ready(&self) -> usize {
-        self.complete_frames.len()
+        self.complete.ready
     }
 
     /// Returns how many complete frames a frame behind a gap waits for.
@@ -230,7 +237,7 @@ impl<B: Depacketizer> DepacketizingBuffer<B> {
     /// Returns the time at which the last packet of the first complete frame arrived, or `None` if no frame is complete.
     #[inline(always)]
     pub fn ready_since(&self) -> Option<Ticks> {
-        let frame = *self.complete_frames.front()?;
+        let frame = self.complete.first()?;
         received_at(&self.packets, frame.last)
     }
 
@@ -262,8 +269,8 @@ impl<B: Depacketizer> DepacketizingBuffer<B> {
     /// Returns the frame that is due, if there is one.
     #[inline(always)]
     fn due(&self) -> Option<CompleteFrame> {
-        let frame = *self.complete_frames.front()?;
-        if starts_next(self.cutoff, frame.first) || self.complete_frames.len() > self.hold_back {
+        let frame = self.complete.first()?;
+        if starts_next(self.cutoff, frame.first) || self.complete.ready > self.hold_back {
             Some(frame)
         } else {
             None
@@ -314,9 +321,8 @@ impl<B: Depacketizer> DepacketizingBuffer<B> {
     #[inline(always)]
     fn leave(&mut self, frame: CompleteFrame, count: usize) {
         drop_front(&mut self.packets, &mut self.spare, count);
-        self.complete_frames.pop_front();
         give_back(&mut self.packets);
-        give_back(&mut self.complete_frames);
+        drop_first(&mut self.complete, &self.packets);
         self.cutoff = Some(frame.last);
     }
 }

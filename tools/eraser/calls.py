@@ -10,7 +10,7 @@ HINTS = {}
 
 FALLIBLE = {"push": "try_push", "push_front": "try_push_front", "push_back": "try_push_back", "extend_from_slice": "try_extend",
             "resize": "try_resize", "insert": "try_insert", "reserve": "try_room", "reserve_exact": "try_exact",
-            "shrink_to": "shrink_if_possible", "push_reserved": "push"}
+            "shrink_to": "shrink_if_possible", "push_reserved": "push", "push_back_reserved": "push_back"}
 TRAIT = {"Vec": "TryVec", "VecDeque": "TryQueue"}
 STD = COLLECTIONS
 

@@ -1,5 +1,5 @@
 -- The rows of packets, as noted in the packets at their ends.
-use Rattle.std.proofs.Common.{◌≡◌, ◌≢◌, ℕ, zero, suc, ◌<◌, ◌≤◌, ◌+◌, ◌-◌, ◌&&◌, [], ◌∷◌, List, length, get_or, map, drop, refl, ap, sym, ◌∙◌, arith, Bool, true, false, cond, Option, Some, None, ltb, eqb, inl, inr, ◌⊎◌, add-one}
+use Rattle.std.proofs.Common.{◌≡◌, ◌≢◌, ℕ, ◌<◌, ◌≤◌, ◌+◌, ◌-◌, [], ◌∷◌, List, get_or, refl, ap, ◌∙◌, arith, true, false, cond, Option, Some, None, ltb, eqb, inl, inr, ◌⊎◌, add-one}
 use Rattle.std.proofs.lemmas.Bool.Decides.{nat_tests}
 use Rattle.codec_payload_buffer.specs.Held.{Held, Rises, AllAbove, has_number}
 use Rattle.codec_payload_buffer.specs.Scan.{place_of}
@@ -7,7 +7,7 @@ use Rattle.codec_payload_buffer.specs.Rows.{row_of, meet, joined, join_if, put_b
 use Rattle.codec_payload_buffer.specs.Ends.{Mark, mark_at, IsTold, AreTold, next_of, previous_of, ahead, behind}
 use Rattle.codec_payload_buffer.specs.declared.buffer.rows.Row.{Row}
 use Rattle.codec_payload_codec.proofs.CaseLemmas.{by_test}
-use Rattle.codec_payload_buffer.proofs.RowListLemmas.{meet_parts, no_meet_before, Outside, rows_above, rows_rise}
+use Rattle.codec_payload_buffer.proofs.RowListLemmas.{meet_parts, no_meet_before, Outside, rows_above}
 
 -- The places of the ends of a row
 

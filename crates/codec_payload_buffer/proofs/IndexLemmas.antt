@@ -1,10 +1,9 @@
 -- The rows and frames of packets: with one more packet, without the lowest packet, and without the packets up to a frame's end.
-use Rattle.std.proofs.Common.{◌≡◌, ◌≢◌, ℕ, ◌<◌, ◌≤◌, ◌+◌, [], ◌∷◌, List, length, drop, refl, ap, sym, ◌∙◌, arith, Bool, true, false, cond, Option, Some, None, ltb, eqb, inl, inr, ◌⊎◌, add-one}
-use Rattle.std.specs.Prelude.{IfSome}
+use Rattle.std.proofs.Common.{◌≡◌, ◌≢◌, ℕ, ◌<◌, ◌≤◌, ◌+◌, [], ◌∷◌, List, drop, refl, ap, sym, ◌∙◌, arith, Bool, true, false, cond, Option, Some, None, ltb, eqb, inl, inr, ◌⊎◌, add-one}
 use Rattle.std.proofs.lemmas.Bool.Decides.{nat_tests}
-use Rattle.codec_payload_buffer.specs.Held.{Held, Rises, AllAbove, has_number, placed, above, TakesLowest}
+use Rattle.codec_payload_buffer.specs.Held.{Held, Rises, AllAbove, has_number, placed, above}
 use Rattle.codec_payload_buffer.specs.Frames.{frames, start_or_here}
-use Rattle.codec_payload_buffer.specs.Rows.{row_of, meet, or_else, joined, put_before, rows, frame_in, frame_of_row, with_frame, row_frames, row_placed}
+use Rattle.codec_payload_buffer.specs.Rows.{row_of, meet, or_else, joined, put_before, rows, frame_in, frame_of_row, with_frame, row_frames}
 use Rattle.codec_payload_buffer.specs.Rows.{merged, noted_if, next_head, shortened, first_mended, row_end, RowsAbove, RowsRise, EndsRise, IsFirstShort, IsShortened}
 use Rattle.codec_payload_buffer.specs.Scan.{first_of}
 use Rattle.codec_payload_buffer.specs.declared.buffer.frames.CompleteFrame.{CompleteFrame}
@@ -214,7 +213,3 @@ complete_frames_rise hs fs r is = rw (is, ← frames_of_rows hs) (ends_rise (row
 pub pushed_frames : (p : Held) (hs new : List Held) (whole : Row) (frame : Option CompleteFrame) (fs fs' : List CompleteFrame) → Rises hs → has_number p.meta.seq_no.0 hs ≡ false → fs ≡ frames hs
     → new ≡ placed p hs → whole ≡ merged (row_of p) (rows hs) → frame ≡ frame_of_row whole → fs' ≡ noted_if frame fs → fs' ≡ frames new
 pushed_frames p hs new whole frame fs fs' r fresh frames_are placed_is all of noted_is = rw (noted_is, of, all, placed_is, frames_are) (placed_index p hs r fresh)
-
--- facts about the frames apply to the code's list of frames
-pub some_frames : (o : Option CompleteFrame) (hs : List Held) (fs : List CompleteFrame) (count : ℕ) → count ≡ length fs → fs ≡ frames hs → IfSome o (λ _. 0 < length (frames hs)) → IfSome o (λ _. 0 < count)
-some_frames o hs fs count counted is some = rw (counted, is) some

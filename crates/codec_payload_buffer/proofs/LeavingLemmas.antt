@@ -1,12 +1,11 @@
 -- Packets that leave in pops: the packets of the frames that a pop takes are the packets that were held before it.
-use Rattle.std.proofs.Common.{◌≡◌, ◌≢◌, ◌∙◌, refl, ap, sym, ℕ, ◌+◌, ◌-◌, ◌<◌, ◌≤◌, List, [], ◌∷◌, ◌++◌, true, false, Option, Some, None, length, arith, cond, ltb, Result, Ok, Err, inl, inr}
+use Rattle.std.proofs.Common.{◌≡◌, ◌≢◌, ◌∙◌, refl, ap, sym, ℕ, ◌+◌, ◌-◌, ◌<◌, ◌≤◌, List, [], ◌∷◌, ◌++◌, true, Option, Some, None, length, arith, cond, ltb, Result, Err, inl, inr}
 use Rattle.std.proofs.lemmas.Bool.Decides.{nat_tests}
-use Rattle.std.proofs.lemmas.List.{length-map}
 use Rattle.codec_payload_codec.proofs.CaseLemmas.{by_test}
 use Rattle.codec_payload_base.specs.Time.{Time}
 use Rattle.codec_payload_base.specs.declared.error.PacketError.{PacketError}
 use Rattle.codec_payload_base.specs.declared.error.PacketError.TheVariants as faults
-use Rattle.codec_payload_buffer.specs.Held.{Held, AllAbove, IsAboveCutoff, above, between, number_of}
+use Rattle.codec_payload_buffer.specs.Held.{Held, AllAbove, IsAboveCutoff, above, between}
 use Rattle.codec_payload_buffer.specs.Blanks.{released_packets}
 use Rattle.codec_payload_buffer.specs.Leaving.{left_of, packets_in, refused_by, refused_in}
 use Rattle.codec_payload_buffer.specs.Release.{Release}

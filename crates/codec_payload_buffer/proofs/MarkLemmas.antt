@@ -4,9 +4,9 @@ use Rattle.std.specs.Prelude.{slice_set}
 use Rattle.std.specs.List.{insert}
 use Rattle.std.proofs.lemmas.Bool.Decides.{nat_tests}
 use Rattle.codec_payload_buffer.specs.declared.buffer.held_packet.HeldPacket.{HeldPacket}
-use Rattle.codec_payload_buffer.specs.Held.{Held, held_of, Rises, AllAbove, has_number}
+use Rattle.codec_payload_buffer.specs.Held.{Held, held_of, Rises, has_number}
 use Rattle.codec_payload_buffer.specs.Scan.{place_of, end_of}
-use Rattle.codec_payload_buffer.specs.Ends.{Mark, mark_of, mark_at, no_mark}
+use Rattle.codec_payload_buffer.specs.Ends.{Mark, mark_of, mark_at}
 use Rattle.codec_payload_codec.proofs.CaseLemmas.{by_test}
 use Rattle.codec_payload_buffer.proofs.PlaceLemmas.{not_below, above_lower, number_from}
 

@@ -20,7 +20,7 @@ use Rattle.codec_payload_buffer.proofs.PopLemmas.{above_is_above, above_rises}
 use Rattle.codec_payload_buffer.specs.Ends.{Mark, mark_of, mark_at, no_mark, IsTold, AreTold, next_of, previous_of, row_ending, IsLowestRow, IsBeyond, marked}
 use Rattle.codec_payload_buffer.specs.declared.buffer.rows.Row.{Row}
 use Rattle.codec_payload_codec.proofs.CaseLemmas.{by_test}
-use Rattle.codec_payload_buffer.proofs.EndLemmas.{IsRowAmong, AreRowsAmong, IsBeside, rows_among, next_is, previous_is, next_there, previous_there, by_row, place_fresh, place_held_next, merged_among, merged_has, HasNumber, StaysBut, told_placed, told_above}
+use Rattle.codec_payload_buffer.proofs.EndLemmas.{IsRowAmong, AreRowsAmong, rows_among, next_is, previous_is, next_there, previous_there, by_row, place_fresh, place_held_next, merged_among, merged_has, HasNumber, StaysBut, told_placed, told_above}
 use Rattle.codec_payload_buffer.proofs.MarkLemmas.{mark_found, place_found, has_found, held_found, place_held, number_held, mark_set, mark_insert, mark_dropped}
 
 -- the last packet of a row

@@ -1,6 +1,5 @@
 -- The rows of held packets, as noted in the packets at their ends.
 use Rattle.std.specs.Prelude.{◌≡◌, ℕ, ◌+◌, ◌<◌, List, [], ◌∷◌, ◌==◌, if◌then◌else◌, Option, Some, None}
-use Rattle.codec_payload_buffer.specs.Held.{Held, held_of}
 use Rattle.codec_payload_buffer.specs.Rows.{meet, joined, join_if}
 use Rattle.codec_payload_buffer.specs.declared.buffer.held_packet.HeldPacket.{HeldPacket}
 use Rattle.codec_payload_buffer.specs.declared.buffer.rows.Row.{Row}

@@ -115,6 +115,33 @@ pub(super) fn place_at(
     set_ends(packets, from, to, row);
 }
 
+/// Returns the complete frame that ends at this packet, if one does.
+#[inline(always)]
+pub(super) fn frame_to(entry: &HeldPacket) -> Option<CompleteFrame> {
+    match entry.packet.row_head {
+        Some(first) if entry.packet.tail => Some(CompleteFrame {
+            first,
+            last: entry.number,
+        }),
+        _ => None,
+    }
+}
+
+/// Returns whether no complete frame ends where `row` ends, the row of a new packet. `place` is the place of the packet.
+#[inline(always)]
+pub(super) fn is_new_end(
+    packets: &VecDeque<HeldPacket>,
+    place: usize,
+    packet: &HeldPacket,
+    row: &Row,
+) -> bool {
+    let after = (row.last - packet.number) as usize;
+    if after == 0 {
+        return true;
+    }
+    frame_to(&packets[place + after - 1]).is_none()
+}
+
 /// Returns the lowest row.
 fn lowest_row(packets: &VecDeque<HeldPacket>) -> Row {
     let entry = &packets[0];

@@ -66,6 +66,7 @@ pub(super) fn starts_next(cutoff: Option<u64>, first: u64) -> bool {
 }
 
 /// Returns the place of the first packet with this number or a higher one.
+#[inline(always)]
 pub(super) fn find_place(packets: &VecDeque<HeldPacket>, number: u64) -> usize {
     place_of_number(packets, number)
 }

@@ -3,8 +3,8 @@
 //! Two packets are stored at once: all memory is found before either is stored.
 
 use super::DepacketizingBuffer;
-use super::ends::{evict, place_at, row_with};
-use super::frames::{CompleteFrame, frame_of, mend_first, note};
+use super::ends::{evict, is_new_end, place_at, row_with};
+use super::frames::{CompleteFrames, frame_of, mend_first, note, reserve_known};
 use super::held_packet::{HeldPacket, Packet};
 use super::known::PackedMeta;
 use super::packets::{find_place, hold, is_at, is_too_late};
@@ -44,12 +44,12 @@ impl<B: Depacketizer> DepacketizingBuffer<B> {
         second: Incoming,
     ) -> Result<(Placed, Placed), PacketError> {
         self.packets.try_room(2)?;
-        self.complete_frames.try_room(2)?;
+        reserve_known(&mut self.complete.known, 2)?;
         let first = entry_of(&mut self.spare, &self.depacketizer, first)?;
         let second = entry_of(&mut self.spare, &self.depacketizer, second)?;
         let (one, gone) = store_entry(
             &mut self.packets,
-            &mut self.complete_frames,
+            &mut self.complete,
             &mut self.spare,
             Bounds {
                 cutoff: self.cutoff,
@@ -61,7 +61,7 @@ impl<B: Depacketizer> DepacketizingBuffer<B> {
         self.evicted = is_marked(gone, self.evicted);
         let (two, gone) = store_entry(
             &mut self.packets,
-            &mut self.complete_frames,
+            &mut self.complete,
             &mut self.spare,
             Bounds {
                 cutoff: self.cutoff,
@@ -96,7 +96,7 @@ fn entry_of<B: Depacketizer>(
 /// Stores a packet for which there is memory. Returns the result, and the number of the packet that was evicted.
 fn store_entry(
     packets: &mut VecDeque<HeldPacket>,
-    complete_frames: &mut VecDeque<CompleteFrame>,
+    complete: &mut CompleteFrames,
     spare: &mut Vec<One<Packet>>,
     bounds: Bounds,
     entry: HeldPacket,
@@ -111,12 +111,13 @@ fn store_entry(
     }
     let placed = placed_among(packets, bounds.limit);
     let row = row_with(packets, place, row_of_packet(&entry));
+    let is_new = is_new_end(packets, place, &entry, &row);
     place_at(packets, place, entry, row);
-    note(complete_frames, frame_of(&row));
+    note(complete, frame_of(&row), is_new);
     if packets.len() <= bounds.limit {
         return (placed, None);
     }
     let (number, before, after) = evict(packets, spare);
-    mend_first(complete_frames, before, after);
+    mend_first(complete, before, after, packets);
     (placed, Some(number))
 }

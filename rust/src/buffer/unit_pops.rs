@@ -2,7 +2,7 @@
 
 //! Pops that write a unit to memory that can be used again, and move the metadata of its packets.
 
-use super::frames::CompleteFrame;
+use super::frames::{CompleteFrame, drop_first};
 use super::known::PackedMeta;
 use super::leaving::{Left, left_by, refused_by};
 use super::one_packet::{make_room_for, unpack_frame};
@@ -108,9 +108,8 @@ impl<B: Depacketizer> DepacketizingBuffer<B> {
         metas: &mut Vec<PackedMeta>,
     ) {
         move_frame(&mut self.packets, &mut self.spare, metas, from, to);
-        self.complete_frames.pop_front();
         give_back(&mut self.packets);
-        give_back(&mut self.complete_frames);
+        drop_first(&mut self.complete, &self.packets);
         self.cutoff = Some(frame.last);
     }
 }

@@ -2,10 +2,11 @@
 //!
 //! So the buffer keeps no list of rows. A push, an eviction and a pop write only to the ends of the rows that they change.
 
-ghost use Rattle.std.specs.Prelude.{◌≡◌, ◌≢◌, ◌≤◌, ◌<◌, ◌+◌, ◌==◌, true, false, ℕ, IfSome, length, map, slice_index_or, slice_set};
+ghost use Rattle.std.specs.Prelude.{◌≡◌, ◌≢◌, ◌≤◌, ◌<◌, ◌+◌, ◌==◌, true, false, not, ℕ, IfSome, length, map, slice_index_or, slice_set};
 ghost use Rattle.std.specs.VecDeque.{deque_len, deque_capacity};
 ghost use Rattle.codec_payload_buffer.specs.Held.{held_of, Rises, TakesLowest, has_number, placed};
 ghost use Rattle.codec_payload_buffer.specs.Frames.{frames};
+ghost use Rattle.codec_payload_buffer.specs.KnownFrames.{frame_told, has_end};
 ghost use Rattle.codec_payload_buffer.specs.Scan.{place_of};
 ghost use Rattle.codec_payload_buffer.specs.Rows.{row_of, rows, merged, first_mended};
 ghost use Rattle.codec_payload_buffer.specs.Ends.{mark_of, mark_at, no_mark, IsTold, AreTold, next_of, previous_of, ahead, behind, row_ending, marked, IsLowestRow, IsBeyond};
@@ -165,6 +166,42 @@ pub(super) fn place_at(
     let from = place - (number - row.first) as usize;
     let to = place + (row.last - number) as usize;
     set_ends(packets, from, to, row);
+}
+
+/// Returns the complete frame that ends at this packet, if one does.
+#[inline(always)]
+pub(super) fn frame_to(entry: &HeldPacket) -> Option<CompleteFrame>
+    ensures { result ≡ frame_told entry.now }
+{
+    match entry.packet.row_head {
+        Some(first) if entry.packet.tail => Some(CompleteFrame {
+            first,
+            last: entry.number,
+        }),
+        _ => None,
+    }
+}
+
+/// Returns whether no complete frame ends where `row` ends, the row of a new packet. `place` is the place of the packet.
+#[inline(always)]
+pub(super) fn is_new_end(
+    packets: &VecDeque<HeldPacket>,
+    place: usize,
+    packet: &HeldPacket,
+    row: &Row,
+) -> bool
+    requires rises { Rises (map held_of packets.now.items) }
+    requires told { AreTold (rows (map held_of packets.now.items)) (map mark_of packets.now.items) }
+    requires place { place ≡ place_of packet.now.number (map held_of packets.now.items) }
+    requires fresh { has_number packet.now.number (map held_of packets.now.items) ≡ false }
+    requires row { row.now ≡ merged (row_of (held_of packet.now)) (rows (map held_of packets.now.items)) }
+    ensures { result ≡ not (has_end row.now.last (frames (map held_of packets.now.items))) }
+{
+    let after = (row.last - packet.number) as usize;
+    if after == 0 {
+        return true;
+    }
+    frame_to(&packets[place + after - 1]).is_none()
 }
 
 /// Returns the lowest row.

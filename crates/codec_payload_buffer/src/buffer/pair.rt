@@ -7,14 +7,15 @@ ghost use Rattle.codec_payload_codec.specs.Depacketizers.{depacketizer_state_of,
 ghost use Rattle.codec_payload_codec.specs.declared.codec.depacketizer.CodecDepacketizer.TheVariants.{Boxed};
 ghost use Rattle.codec_payload_buffer.specs.Held.{held_of, Rises, number_of};
 ghost use Rattle.codec_payload_buffer.specs.Frames.{frames};
+ghost use Rattle.codec_payload_buffer.specs.KnownFrames.{AreKept};
 ghost use Rattle.codec_payload_buffer.specs.Rows.{rows};
 ghost use Rattle.codec_payload_buffer.specs.Ends.{mark_of, AreTold};
 ghost use Rattle.codec_payload_buffer.specs.Steps.{State, IsArrived, arrived_by, placed_at, pushed};
 ghost use Rattle.codec_payload_buffer.specs.Pairs.{StoresTwo, stored, IsAt, is_there};
 
 use super::DepacketizingBuffer;
-use super::ends::{evict, place_at, row_with};
-use super::frames::{CompleteFrame, frame_of, mend_first, note};
+use super::ends::{evict, is_new_end, place_at, row_with};
+use super::frames::{CompleteFrames, frame_of, mend_first, note, reserve_known};
 use super::held_packet::{HeldPacket, Packet};
 use super::known::PackedMeta;
 use super::packets::{find_place, hold, is_at, is_too_late};
@@ -60,13 +61,13 @@ impl<B: Depacketizer> DepacketizingBuffer<B> {
         ensures own { is_built_in_depacketizer self.old.depacketizer ≡ false → OnOk result ((b : B) × (self.new ≡ pushed (pushed self.old (arrived_by (B.is_head b) (B.is_tail b) first.meta first.payload.items)) (arrived_by (B.is_head b) (B.is_tail b) second.meta second.payload.items))) }
     {
         self.packets.reserve(2)?;
-        self.complete_frames.reserve(2)?;
+        reserve_known(&mut self.complete.known, 2)?;
         let alloc = *self.packets.allocator();
         let first = entry_of(alloc, &mut self.spare, &self.depacketizer, first)?;
         let second = entry_of(alloc, &mut self.spare, &self.depacketizer, second)?;
         let (one, gone) = store_entry(
             &mut self.packets,
-            &mut self.complete_frames,
+            &mut self.complete,
             &mut self.spare,
             Bounds {
                 cutoff: self.cutoff,
@@ -78,7 +79,7 @@ impl<B: Depacketizer> DepacketizingBuffer<B> {
         self.evicted = is_marked(gone, self.evicted);
         let (two, gone) = store_entry(
             &mut self.packets,
-            &mut self.complete_frames,
+            &mut self.complete,
             &mut self.spare,
             Bounds {
                 cutoff: self.cutoff,
@@ -120,23 +121,23 @@ fn entry_of<B: Depacketizer>(
 /// Stores a packet for which there is memory. Returns the result, and the number of the packet that was evicted.
 fn store_entry(
     packets: &mut VecDeque<HeldPacket>,
-    complete_frames: &mut VecDeque<CompleteFrame>,
+    complete: &mut CompleteFrames,
     spare: &mut Vec<Box<Packet>>,
     bounds: Bounds,
     entry: HeldPacket,
 ) -> (Placed, Option<u64>)
     requires rises { Rises (map held_of packets.old.items) }
     requires told { AreTold (rows (map held_of packets.old.items)) (map mark_of packets.old.items) }
-    requires frames { complete_frames.old.items ≡ frames (map held_of packets.old.items) }
+    requires kept { AreKept (frames (map held_of packets.old.items)) complete.old.ready complete.old.known.items }
     requires packet_room { deque_len packets.old < deque_capacity packets.old }
-    requires frame_room { deque_len complete_frames.old < deque_capacity complete_frames.old }
+    requires frame_room { 0 < deque_capacity complete.old.known }
     ensures placed { (s : State) → IsAt s (map held_of packets.old.items) bounds.cutoff bounds.limit → result.0 ≡ placed_at s (number_of (held_of entry)) }
     ensures pushes { (s : State) → IsAt s (map held_of packets.old.items) bounds.cutoff bounds.limit → stored s (map held_of packets.new.items) result.1 ≡ pushed s (held_of entry) }
     ensures rises { Rises (map held_of packets.new.items) }
     ensures told { AreTold (rows (map held_of packets.new.items)) (map mark_of packets.new.items) }
-    ensures frames { complete_frames.new.items ≡ frames (map held_of packets.new.items) }
+    ensures kept { AreKept (frames (map held_of packets.new.items)) complete.new.ready complete.new.known.items }
     ensures packet_room { deque_len packets.new + deque_capacity packets.old ≤ deque_len packets.old + 1 + deque_capacity packets.new }
-    ensures frame_room { deque_len complete_frames.new + deque_capacity complete_frames.old ≤ deque_len complete_frames.old + 1 + deque_capacity complete_frames.new }
+    ensures frame_room { deque_capacity complete.old.known ≤ deque_capacity complete.new.known }
 {
     let number = entry.number;
     if is_too_late(bounds.cutoff, number) {
@@ -148,12 +149,13 @@ fn store_entry(
     }
     let placed = placed_among(packets, bounds.limit);
     let row = row_with(packets, place, row_of_packet(&entry));
+    let is_new = is_new_end(packets, place, &entry, &row);
     place_at(packets, place, entry, row);
-    note(complete_frames, frame_of(&row));
+    note(complete, frame_of(&row), is_new);
     if packets.len() <= bounds.limit {
         return (placed, None);
     }
     let (number, before, after) = evict(packets, spare);
-    mend_first(complete_frames, before, after);
+    mend_first(complete, before, after, packets);
     (placed, Some(number))
 }

@@ -8,7 +8,7 @@ ghost use Rattle.codec_payload_buffer.specs.Scan.{end_of};
 ghost use Rattle.codec_payload_buffer.specs.Steps.{HasPacketsIn, HasTaken, OwnPops, OwnTakes, TriesFrame, due_of, metas_of, packets_of_frame, popped_to, taken_to};
 ghost use Rattle.codec_payload_codec.specs.Depacketizers.{is_built_in_depacketizer};
 
-use super::frames::CompleteFrame;
+use super::frames::{CompleteFrame, drop_first};
 use super::known::PackedMeta;
 use super::leaving::{Left, left_by, refused_by};
 use super::one_packet::{make_room_for, unpack_frame};
@@ -145,9 +145,8 @@ impl<B: Depacketizer> DepacketizingBuffer<B> {
         ensures metas { metas.new.items ≡ metas_of (slice_range self.old.held from to) }
     {
         move_frame(&mut self.packets, &mut self.spare, metas, from, to);
-        self.complete_frames.pop_front();
         give_back(&mut self.packets);
-        give_back(&mut self.complete_frames);
+        drop_first(&mut self.complete, &self.packets);
         self.cutoff = Some(frame.last);
     }
 }

@@ -61,9 +61,11 @@ enum Order {
     Junk,
     /// 33 frames at once, and then 33 pops, before HELD packets that are not a frame.
     Bursts,
+    /// 64 frames at once, and then 64 pops, before HELD packets that are not a frame and one frame above them.
+    Walks,
 }
 
-const ORDERS: [(Order, &str); 6] = [
+const ORDERS: [(Order, &str); 7] = [
     (Order::Ascending, "in order"),
     (Order::Rows, "ranges of 32 in reverse"),
     (Order::Random, "random order, pushes alone"),
@@ -72,6 +74,10 @@ const ORDERS: [(Order, &str); 6] = [
     (
         Order::Bursts,
         "33 at once, before packets that are no frame",
+    ),
+    (
+        Order::Walks,
+        "64 at once, the next frame above packets that are no frame",
     ),
 ];
 
@@ -198,10 +204,13 @@ fn time<F: Form>(order: Order, held: usize, numbers: &[u64]) -> f64 {
         (0..held as u64 / 32 * 32).for_each(|it| form.push(it + 2, &frame));
     }
     let first = if stays { held as u64 / 32 * 32 + 2 } else { 2 };
-    if matches!(order, Order::Junk | Order::Bursts) {
+    if matches!(order, Order::Junk | Order::Bursts | Order::Walks) {
         form.push(0, &frame);
         form.pop();
         (0..held as u64).for_each(|it| form.push(count + 1_000 + 32 * it, &junk));
+    }
+    if order == Order::Walks {
+        form.push(count + 1_000 + 32 * held as u64, &frame);
     }
     let began = Instant::now();
     match order {
@@ -222,10 +231,11 @@ fn time<F: Form>(order: Order, held: usize, numbers: &[u64]) -> f64 {
         Order::Far => numbers
             .iter()
             .for_each(|it| form.push(first + 2_999 * it, &frame)),
-        Order::Bursts => {
-            for burst in 0..count / 33 {
-                (0..33).for_each(|it| form.push(1 + burst * 33 + it, &frame));
-                for _ in 0..33 {
+        Order::Bursts | Order::Walks => {
+            let size = if order == Order::Walks { 64 } else { 33 };
+            for burst in 0..count / size {
+                (0..size).for_each(|it| form.push(1 + burst * size + it, &frame));
+                for _ in 0..size {
                     form.pop();
                 }
             }

@@ -1,15 +1,6 @@
-use Rattle.std.proofs.Common.{◌≡◌, ◌∙◌, ◌≢◌, refl, sym, ap, arith, ◌<◌, ◌≤◌, ◌+◌, ◌-◌, length, map, get_or, true, false, eqb, ℕ, List, Option, Some, None}
-use Rattle.std.specs.Prelude.{slice_set}
-use Rattle.std.proofs.lemmas.List.{length-map}
-use Rattle.std.proofs.lemmas.Bool.Decides.{nat_tests}
-use Rattle.codec_payload_codec.proofs.CaseLemmas.{on_ok}
-use Rattle.codec_payload_buffer.specs.Held.{Held, held_of, has_number, placed}
-use Rattle.codec_payload_buffer.specs.Scan.{place_of}
-use Rattle.codec_payload_buffer.specs.Rows.{row_of, rows, meet}
-use Rattle.codec_payload_buffer.specs.Ends.{Mark, mark_of, marked, no_mark, ahead, behind, next_of, previous_of, row_ending}
-use Rattle.codec_payload_buffer.specs.declared.buffer.held_packet.HeldPacket.{HeldPacket}
-use Rattle.codec_payload_buffer.specs.declared.buffer.rows.Row.{Row}
-use Rattle.codec_payload_buffer.proofs.PlaceLemmas.{place_within}
+use Rattle.std.proofs.Common.{map}
+use Rattle.codec_payload_buffer.specs.Held.{held_of}
+use Rattle.codec_payload_buffer.specs.Ends.{mark_of}
 use Rattle.codec_payload_buffer.proofs.RowEnds.{short_row, evicted, evicted_told}
 use Rattle.codec_payload_buffer.proofs.buffer.ends.evict.Goals as goal
 

@@ -1,14 +1,9 @@
-use Rattle.std.proofs.Common.{◌≡◌, ◌∙◌, ◌≢◌, refl, sym, ap, arith, ◌<◌, ◌≤◌, ◌+◌, ◌-◌, length, map, get_or, true, false, eqb, ℕ, List, Option, Some, None}
-use Rattle.std.specs.Prelude.{slice_set}
+use Rattle.std.proofs.Common.{◌≡◌, ◌∙◌, sym, ap, arith, ◌<◌, ◌≤◌, ◌+◌, length, map, get_or}
 use Rattle.std.proofs.lemmas.List.{length-map}
 use Rattle.std.proofs.lemmas.Bool.Decides.{nat_tests}
-use Rattle.codec_payload_codec.proofs.CaseLemmas.{on_ok}
-use Rattle.codec_payload_buffer.specs.Held.{Held, held_of, has_number, placed}
+use Rattle.codec_payload_buffer.specs.Held.{held_of}
 use Rattle.codec_payload_buffer.specs.Scan.{place_of}
-use Rattle.codec_payload_buffer.specs.Rows.{row_of, rows, meet}
-use Rattle.codec_payload_buffer.specs.Ends.{Mark, mark_of, marked, no_mark, ahead, behind, next_of, previous_of, row_ending}
-use Rattle.codec_payload_buffer.specs.declared.buffer.held_packet.HeldPacket.{HeldPacket}
-use Rattle.codec_payload_buffer.specs.declared.buffer.rows.Row.{Row}
+use Rattle.codec_payload_buffer.specs.Ends.{ahead}
 use Rattle.codec_payload_buffer.proofs.PlaceLemmas.{place_within}
 use Rattle.codec_payload_buffer.proofs.EndLemmas.{ahead_joined, ahead_apart}
 use Rattle.codec_payload_buffer.proofs.RowEnds.{next_found, next_past, next_apart}

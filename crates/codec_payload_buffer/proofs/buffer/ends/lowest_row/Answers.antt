@@ -1,9 +1,4 @@
-use Rattle.std.proofs.Common.{◌∙◌, refl, sym, ap, arith, ◌<◌, length, map}
-use Rattle.codec_payload_buffer.specs.Held.{held_of}
-use Rattle.codec_payload_buffer.specs.Rows.{rows}
-use Rattle.codec_payload_buffer.specs.Ends.{IsLowestRow}
-use Rattle.codec_payload_buffer.specs.declared.buffer.held_packet.HeldPacket.{HeldPacket}
-use Rattle.codec_payload_buffer.specs.declared.buffer.rows.Row.{Row}
+use Rattle.std.proofs.Common.{arith, ◌<◌, length}
 use Rattle.codec_payload_buffer.proofs.RowEnds.{lowest_found}
 use Rattle.codec_payload_buffer.proofs.buffer.ends.lowest_row.Goals as goal
 

@@ -1,4 +1,4 @@
-use Rattle.std.proofs.Common.{◌∙◌, refl}
+use Rattle.std.proofs.Common.{refl}
 use Rattle.codec_payload_buffer.proofs.buffer.ends.row_to.Goals as goal
 
 pub returns : goal.returns
