@@ -181,7 +181,7 @@ impl<B: Depacketizer> DepacketizingBuffer<B> {
     ///
     /// The cost depends on the packets that leave. If packets below a frame leave with it, the frame is found by a binary search.
     /// Once the listed frames have left, the next ones, at most 64, are read from the packets, up to the last packet of the last
-    /// of them. So packets that are no frame are read once in 64 frames, at most.
+    /// of them. So a packet that stays is read at most once in 64 frames.
     ///
     /// # Errors
     ///

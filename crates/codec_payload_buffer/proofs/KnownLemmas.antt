@@ -1,4 +1,4 @@
--- The lowest of all frames: after one more was noted, and after the first has left.
+-- The lowest of all frames, after one more was noted.
 use Rattle.std.proofs.Common.{◌≡◌, ℕ, zero, suc, ◌<◌, ◌≤◌, ◌+◌, ◌-◌, [], ◌∷◌, ◌++◌, ◌||◌, List, length, get_or, take, drop, refl, ap, sym, ◌∙◌, arith, Bool, true, false, cond, ltb, leb, eqb}
 use Rattle.std.specs.Prelude.{not}
 use Rattle.std.specs.List.{insert}
@@ -88,7 +88,7 @@ lowest_more f all known new lowest same at is =
     let noted_is : new ≡ noted f all = is ∙ sym (noted_last f known at) ∙ ap (noted f) whole in
     noted_is ∙ sym (take-length (noted f all)) ∙ ap (λ (xs : List CompleteFrame). take (length xs) (noted f all)) (sym noted_is)
 
--- the frames that were read, in front of those still to read
+-- the frames that were read, in front of the frames still to read
 pub lowest_read : (all known rest : List CompleteFrame) → known ++ rest ≡ all → known ≡ take (length known) all
 lowest_read all known rest whole = sym (take-append_seam known rest) ∙ ap (take (length known)) whole
 

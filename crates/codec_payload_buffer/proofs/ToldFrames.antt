@@ -1,4 +1,4 @@
--- The complete frames, as the packets tell them that end them.
+-- The complete frames, as noted in the packets at their ends.
 use Rattle.std.proofs.Common.{◌≡◌, ℕ, zero, suc, ◌<◌, ◌≤◌, ◌+◌, ◌-◌, [], ◌∷◌, List, length, get_or, map, take, drop, subst, refl, ap, sym, ◌∙◌, arith, Bool, true, false, cond, Option, Some, None, ltb, eqb}
 use Rattle.std.specs.Prelude.{not, IfSome}
 use Rattle.std.specs.Option.{is_some}
@@ -22,7 +22,7 @@ use Rattle.codec_payload_buffer.proofs.RowFrames.{by_frame, frames_of_rows, row_
 use Rattle.codec_payload_buffer.proofs.IndexLemmas.{complete_frames_rise, left_index, pushed_frames}
 use Rattle.codec_payload_buffer.proofs.RowEnds.{row_is_placed}
 
--- The frames of rows are told
+-- The frames of rows
 
 -- the frames of rows, where the packets in front of the first have this head
 abbrev behind_frames : Option ℕ → List Row → List CompleteFrame
@@ -176,7 +176,7 @@ new_end_there xs place x r rises told at fresh is l =
     length_held [] = refl
     length_held (x ∷ xs) = ap suc (length_held xs)
 
--- What is kept of the frames of packets
+-- The number of frames, and the lowest of them
 
 few_with : (o : Option CompleteFrame) (fs : List CompleteFrame) → length (with_frame o fs) ≤ length fs + 1
 few_with None fs = omega arith
