@@ -4,50 +4,54 @@
   scripts/mutants.py                     all edits of must-fail/ and mutants/, of every crate
   scripts/mutants.py CRATE [NAME..]      the edits of one crate, or the named ones
   scripts/mutants.py CRATE FILE.edit..   edits from anywhere, applied to that crate
+  scripts/mutants.py --alone ..          the same, with each edit in a check of its own
   scripts/mutants.py --high-impact [CRATE]   the edits of mutants/high_impact.txt, the most harmful ones
   scripts/mutants.py --stale             the edits of all crates that cannot be applied, without the prover
-  scripts/mutants.py --record [CRATE..]  all edits of these crates or of all, into mutants/RESULTS.txt; without a change nothing runs
+  scripts/mutants.py --record [--jobs N] [CRATE..]   all edits of these crates or of all, into mutants/RESULTS.txt
   scripts/mutants.py --missing           the crates whose line in mutants/RESULTS.txt is missing or old, without the prover
 
 An edit is a file with a line 'file: src/x.rt' and pairs of lines 'old: TEXT' and 'new: TEXT'; each old text occurs once in
 that file. It is applied to a scratch copy of the crate, over the results of `rt check`. The function with its first old text is
-checked, with the functions that it calls. One line is printed for each edit, and the last line has the counts:
+checked, with the functions that it calls. Edits of bodies of different functions are tried in one check; scripts/mutant_trials.py
+says when that counts. One line is printed for each edit, and the last line has the counts:
 
   refused     a clause was not proved
+  by names    refused, but only because a proof file names what the edit took away: this says little of the contract. Counted with
+              the refused, and once more behind the counts
   PROVED      the mutant meets the contract: the contract is too weak
   BAD EDIT    it cannot be applied, or the edited text does not compile, so no contract was tried
 
 A line of mutants/RESULTS.txt is old if its checksum differs. The checksum has the edits of the crate, its src, specs and proofs,
 src and specs of all crates below it, without comments and layout, and the logic in toolchain.txt. Proofs below are not in it: they
 make no false clause true.
---record goes on where an earlier run ended: out/mutants.txt of a crate keeps each answer, by a checksum of the sources and edit.
+--record tries nothing of a crate whose line is not old, and goes on where an earlier run ended: out/tried_mutants.txt of a crate
+keeps each answer, by a checksum of the sources and edit. With --jobs N it tries the edits of N crates side by side.
 
-The status is 0 if all were refused, with --missing if no line is. Needs rt, and takes 5 to 20 seconds per edit on a free machine,
-after the check of each crate.
+The status is 0 if all were refused, with --missing if no line is. Needs rt, and on a free machine 1 to 3 seconds per edit, after
+the check of each crate.
 """
+import concurrent.futures
 import glob
 import hashlib
 import os
 import re
 import shutil
-import subprocess
+import signal
 import sys
 import tempfile
+import threading
+import time
 
 import assembly
+import mutant_trials
+from mutant_trials import SOURCES, apply, read, read_edit
 
 ROOT = os.path.dirname(os.path.dirname(os.path.realpath(__file__)))
-SOURCES = ("src", "specs", "proofs")
-PROVED = ("out",)
 RESULTS = f"{ROOT}/mutants/RESULTS.txt"
-HEAD = "# Written by scripts/mutants.py --record: crate, mutants, refused, PROVED, not tried, checksum, and the names of those not refused.\n"
+HEAD = "# Written by scripts/mutants.py --record: crate, mutants, refused, PROVED, not tried, checksum, names of those not refused, and names:NAME of those refused by names alone.\n"
 COMMENTS = {".rt": (assembly.COMMENT, r"\1"), ".antt": (re.compile(r"(?m)(?:^|(?<=\s))--(?:[ \t].*)?$"), "")}
-NAMES_ONLY = re.compile(r"(\./)?proofs/.*(has no field|is not in scope|has no `|was not admitted)")
-
-
-def read(path):
-    with open(path, encoding="utf-8") as it:
-        return it.read()
+# One crate is checked at a time, and one line is written at a time.
+ALONE = threading.Lock()
 
 
 def name_of(edit):
@@ -73,129 +77,38 @@ def edits_of(crate):
     return sorted(found, key=name_of)
 
 
-def read_edit(path):
-    """The edit's steps: file, old text, new text."""
-    steps, file, old = [], None, None
-    for line in read(path).split("\n"):
-        if line.startswith("file: "):
-            file = line[6:].strip()
-        elif line.startswith("old: "):
-            old = line[5:]
-        elif line.startswith("new:") and file and old:
-            steps.append((file, old, line[4:].removeprefix(" ")))
-            old = None
-    return steps
-
-
-def function_at(file, text, place):
-    """The path of the function at a place of a file, or of the module if there is none."""
-    module = re.sub(r"^src/|(/lib|/main)?\.rt$", "", file).replace("/", "::")
-    module = "" if module in ("lib", "main") else module
-    before = text[:place]
-    line_end = text.find("\n", place)
-    heads = list(re.finditer(r"^( *)(?:pub(?:\([a-z]+\))? )?(?:const )?fn (\w+)", text[: line_end if line_end >= 0 else None], re.M))
-    if not heads:
-        return module
-    indent, name = heads[-1].groups()
-    closed = re.search(rf"^{indent}\}}", text[heads[-1].end() : place], re.M)
-    if closed:
-        return module
-    parts = [module] if module else []
-    if indent:
-        impl = list(re.finditer(r"^(?:unsafe )?impl(?:<[^>]*>)? +(.*?)\{", before, re.M | re.S))
-        if impl:
-            header = re.sub(r"<[^<>]*>", "", re.sub(r"<[^<>]*>", "", impl[-1][1])).split(" where ")[0]
-            trait, _, kind = header.partition(" for ")
-            parts.append((kind or trait).strip().split("::")[-1] + (trait.strip().split("::")[-1] if kind else ""))
-    return "::".join([*parts, name])
-
-
-def apply(steps, folder):
-    """The texts of the files that the edit changes and the function to check, or why it cannot be applied."""
-    texts, function = {}, None
-    for file, old, new in steps:
-        if file not in texts:
-            try:
-                texts[file] = read(f"{folder}/{file}")
-            except OSError:
-                return None, f"there is no file {file}"
-        found = texts[file].count(old)
-        if found != 1:
-            return None, f"an old text stands in {file} {found} times, and not once"
-        if old == new:
-            return None, f"an edit of {file} changes nothing"
-        if function is None:
-            function = function_at(file, texts[file], texts[file].index(old))
-        texts[file] = texts[file].replace(old, new)
-    return (texts, function) if texts else (None, "it has no pair of 'old:' and 'new:'")
-
-
-def check(folder, function):
-    words = ["rt", "check", *(["--only", function] if function else [])]
-    ran = subprocess.run(words, cwd=folder, stdin=subprocess.DEVNULL, stdout=subprocess.PIPE, stderr=subprocess.STDOUT, errors="replace")
-    return ran.returncode, ran.stdout
-
-
-def judge(folder, function):
-    """The outcome of a check of the edited crate: one of the three words, and the first message."""
-    status, said = check(folder, function)
-    while function and re.search(r"fits (nothing|no function|several)|has no function", said):
-        function = function.partition("::")[2]  # an impl may stand in another module than its type; without a name, all is checked
-        status, said = check(folder, function)
-    lines = said.rstrip("\n").split("\n")
-    told = [it for it in lines if re.match(r"(note: )?\S+:\d+:\d+:", it) and (": error" in it or it.startswith("note: "))]
-    counts = re.search(r"^only=(\d+) proved=(\d+)|^logic=(proved|not-proved)", said, re.M)
-    if not counts:
-        return "BAD EDIT", next(iter(told), lines[-1])
-    if status == 0 and (counts[1] == counts[2] if counts[1] else counts[3] == "proved"):
-        return "PROVED", ""
-    unread = next((it for it in told if re.match(r"(\./)?(src|specs)/", it) and re.search(r"is not in scope|expected the end|has no field", it)), None)
-    if unread or re.search(r"error\[", said) and not re.search(r"^fn .*: not proved", said, re.M):
-        return "BAD EDIT", unread or next(iter(told), lines[-1])
-    told = [it for it in told if not NAMES_ONLY.match(it)]
-    return "refused", next(iter(told), "by names in proof files alone")
-
-
-def copy_crate(crate, room, parts):
-    for part in parts:
-        if os.path.isdir(f"{ROOT}/crates/{crate}/{part}"):
-            shutil.copytree(f"{ROOT}/crates/{crate}/{part}", f"{room}/crates/{crate}/{part}", symlinks=True)
-
-
-def tried(crate, edits):
-    """Tries the edits on one scratch copy of the crate: each edit with its answer, one at a time."""
-    folder = f"{ROOT}/crates/{crate}"
-    status, said = check(folder, "")
+def proved_functions(crate):
+    """The crate's functions, by their paths below it. Ends the run of this crate if one is not proved."""
+    status, said = mutant_trials.run(["rt", "check"], f"{ROOT}/crates/{crate}")
     if status:
         sys.exit(f"{crate} is not proved:\n{said[-2000:]}")
-    with tempfile.TemporaryDirectory(prefix="mutants-") as room:
-        for name in ("crates.txt", "HANDLES"):
-            shutil.copy(f"{ROOT}/{name}", room)
-        proved = with_those_below(crate)
-        for one in crates():
-            copy_crate(one, room, SOURCES + PROVED * (one in proved))
-        copy = f"{room}/crates/{crate}"
-        for edit in edits:
-            texts, function = apply(read_edit(edit), folder)
-            if texts is None:
-                word, why = "BAD EDIT", function
-            else:
-                for file, text in texts.items():
-                    with open(f"{copy}/{file}", "w", encoding="utf-8") as it:
-                        it.write(text)
-                word, why = judge(copy, function)
-                for file in texts:
-                    shutil.copy2(f"{folder}/{file}", f"{copy}/{file}")
-            print(f"{crate}/{name_of(edit)}: {word}{': ' + why[:160] if why else ''}", flush=True)
+    return re.findall(r"^fn \w+::(\S+): proved", said, re.M)
+
+
+def tried(crate, edits, jobs=0, is_alone=False):
+    """Tries the edits on one scratch copy of the crate, and keeps the answers: each edit with its answer. With jobs, each check has that many."""
+    began, count, sources = time.time(), 0, sum_of_sources(crate)
+    with tempfile.TemporaryDirectory(prefix=f"mutants-{os.getpid()}-") as room:
+        with ALONE:
+            known = proved_functions(crate)
+            below = sorted({*with_those_below(crate)} - {crate})
+            scratch = mutant_trials.Scratch(ROOT, room, crate, crates(), below, jobs)
+        for edit, word, why in mutant_trials.tried(scratch, edits, known, is_alone):
+            count += 1
+            why = " ".join(why.split())[:160]
+            print(f"{crate}/{name_of(edit)}: {word}{': ' + why if why else ''}", flush=True)
+            if word != "BAD EDIT":
+                with open(kept_at(crate), "a", encoding="utf-8") as it:
+                    it.write(f"{checksum(sources, read(edit))} {word}\n")
             yield edit, word
+    print(f"{crate}: {count} tried in {scratch.checks} checks and {time.time() - began:.0f} seconds", flush=True)
 
 
-def try_crate(crate, edits):
-    """Tries the edits, and counts the answers."""
-    counts = {}
-    for _, word in tried(crate, edits):
-        counts[word] = counts.get(word, 0) + 1
-    return counts
+def told(counts):
+    """The last line: how many edits had which answer."""
+    refused, by_names = counts.get("refused", 0), counts.get("by names", 0)
+    line = f"{refused + by_names} refused, {counts.get('PROVED', 0)} PROVED, {counts.get('BAD EDIT', 0)} BAD EDIT"
+    return line + (f", {by_names} of the refused by names alone" if by_names else "")
 
 
 def bare(file, text):
@@ -238,28 +151,29 @@ def is_recorded(crate, lines):
 
 def row_of(crate, total, answers):
     """The line of a crate from its checksum and the answers about its edits, by name."""
-    counts = [sum(it == word for it in answers.values()) for word in ("refused", "PROVED", "BAD EDIT")]
-    others = sorted(name for name, word in answers.items() if word != "refused")
+    refused = [name for name, word in answers.items() if word in ("refused", "by names")]
+    counts = [len(refused), *(sum(it == word for it in answers.values()) for word in ("PROVED", "BAD EDIT"))]
+    others = sorted(name for name in answers if name not in refused)
+    others += sorted(f"names:{name}" for name, word in answers.items() if word == "by names")
     return [crate, *map(str, [len(answers), *counts]), total, *others]
 
 
-def kept_answers(path):
+def kept_at(crate):
+    return f"{ROOT}/crates/{crate}/out/tried_mutants.txt"
+
+
+def kept_answers(crate):
     """The answers of earlier runs, by checksum."""
-    return dict(line.split(" ", 1) for line in read(path).splitlines()) if os.path.exists(path) else {}
+    return dict(line.split(" ", 1) for line in read(kept_at(crate)).splitlines()) if os.path.exists(kept_at(crate)) else {}
 
 
-def answers_of(crate):
+def answers_of(crate, jobs):
     """The answers about all edits of a crate, by name; those that an earlier run kept are not tried again."""
-    path = f"{ROOT}/crates/{crate}/out/mutants.txt"
-    sources, kept = sum_of_sources(crate), kept_answers(path)
+    sources, kept = sum_of_sources(crate), kept_answers(crate)
     sums = {edit: checksum(sources, read(edit)) for edit in edits_of(crate)}
     answers = {name_of(edit): kept[it] for edit, it in sums.items() if it in kept}
     rest = [edit for edit, it in sums.items() if it not in kept]
-    for edit, word in tried(crate, rest) if rest else ():
-        answers[name_of(edit)] = word
-        if word != "BAD EDIT":
-            with open(path, "a", encoding="utf-8") as it:
-                it.write(f"{sums[edit]} {word}\n")
+    answers.update((name_of(edit), word) for edit, word in (tried(crate, rest, jobs) if rest else ()))
     return answers
 
 
@@ -270,19 +184,36 @@ def write_line(crate, row):
         it.writelines([HEAD, *(f"{' '.join(lines[one])}\n" for one in crates() if one in lines)])
 
 
-def record(named):
-    """Tries the edits of these crates, or of all, the crates with few edits first, and writes their lines. The status."""
+def record_crate(crate, jobs):
+    """Tries the edits of a crate unless its line is about today's sources. The line, and none if the crate is not proved."""
+    if is_recorded(crate, recorded()):
+        print(f"as recorded: {' '.join(recorded()[crate])}", flush=True)
+        return recorded()[crate]
+    total = sum_of(crate)
+    try:
+        row = row_of(crate, total, answers_of(crate, jobs))
+    except SystemExit as why:
+        print(f"not recorded: {why}", flush=True)
+        return None
+    with ALONE:
+        write_line(crate, row)
+    print(f"recorded: {' '.join(row)}", flush=True)
+    return row
+
+
+def record(named, jobs):
+    """Tries the edits of these crates, or of all, those with most edits first, and writes their lines. The status."""
     unknown = [it for it in named if it not in crates()]
     if unknown:
         sys.exit(f"crates.txt has no crate {' '.join(unknown)}")
-    chosen = sorted((it for it in named or crates() if edits_of(it)), key=lambda it: len(edits_of(it)))
-    for crate in chosen:
-        is_old = not is_recorded(crate, recorded())
-        if is_old:
-            write_line(crate, row_of(crate, sum_of(crate), answers_of(crate)))
-        print(f"{'recorded' if is_old else 'as recorded'}: {' '.join(recorded()[crate])}", flush=True)
-    lines = recorded()
-    return 0 if all(lines[it][1] == lines[it][2] for it in chosen) else 1
+    chosen = sorted((it for it in named or crates() if edits_of(it)), key=lambda it: -len(edits_of(it)))
+    each = max((os.cpu_count() or 1) // jobs, 1) if jobs > 1 else 0
+    with concurrent.futures.ThreadPoolExecutor(jobs) as pool:
+        rows = [it for it in pool.map(lambda it: record_crate(it, each), chosen) if it]
+    refused, proved, bad = (sum(int(it[at]) for it in rows) for at in (2, 3, 4))
+    by_names = sum(it.startswith("names:") for row in rows for it in row[6:])
+    print(told({"refused": refused - by_names, "by names": by_names, "PROVED": proved, "BAD EDIT": bad}))
+    return 0 if len(rows) == len(chosen) and not proved + bad else 1
 
 
 def print_missing():
@@ -318,6 +249,41 @@ def print_stale():
     return 1 if count else 0
 
 
+def try_named(words, is_telling, is_alone):
+    """Tries the edits of all crates, of one, or the named ones of one, and counts the answers. The status."""
+    if words and words[0].startswith("-"):
+        sys.exit(f"no option {words[0]}: scripts/mutants.py --help lists all")
+    if words and words[0] not in crates():
+        sys.exit(f"crates.txt has no crate {words[0]}")
+    counts = {}
+    for crate in [words[0]] if words else list(crates()):
+        edits = edits_of(crate)
+        if is_telling:
+            edits = [it for it in edits if name_of(it) in telling(crate)]
+        elif words[1:]:
+            by_name = {name_of(it): it for it in edits}
+            edits = [it if os.path.isfile(it) else by_name.get(it.removesuffix(".edit")) or sys.exit(f"no edit {it}") for it in words[1:]]
+        for _, word in tried(crate, edits, is_alone=is_alone) if edits else ():
+            counts[word] = counts.get(word, 0) + 1
+    print(told(counts))
+    return 0 if set(counts) <= {"refused", "by names"} else 1
+
+
+def stop(number, _):
+    """Ends the checks that run, and then the script, which removes its scratch copies."""
+    signal.signal(number, signal.SIG_IGN)
+    mutant_trials.stop_running()
+    sys.exit(128 + number)
+
+
+def sweep():
+    """Removes the scratch copies that killed runs left."""
+    for path in glob.glob(f"{tempfile.gettempdir()}/mutants-*-*"):
+        number = path.rsplit("-", 2)[1]
+        if number.isdigit() and not os.path.exists(f"/proc/{number}"):
+            shutil.rmtree(path, ignore_errors=True)
+
+
 def main(words):
     if {"-h", "--help"} & {*words}:
         print(__doc__.strip())
@@ -326,27 +292,18 @@ def main(words):
         return print_stale()
     if words == ["--missing"]:
         return print_missing()
+    for it in (signal.SIGINT, signal.SIGTERM, signal.SIGHUP):
+        signal.signal(it, stop)
+    sweep()
     if words[:1] == ["--record"]:
-        return record(words[1:])
+        has_jobs = words[1:2] == ["--jobs"]
+        if has_jobs and not (words[2:] and words[2].isdigit() and int(words[2])):
+            sys.exit("--jobs takes a number from 1 on")
+        return record(words[3:] if has_jobs else words[1:], int(words[2]) if has_jobs else 1)
+    is_alone = words[:1] == ["--alone"]
+    words = words[is_alone:]
     is_telling = words[:1] == ["--high-impact"]
-    words = words[is_telling:]
-    if words and words[0].startswith("-"):
-        sys.exit(f"no option {words[0]}: scripts/mutants.py --help lists all")
-    if words and words[0] not in crates():
-        sys.exit(f"crates.txt has no crate {words[0]}")
-    chosen = [words[0]] if words else list(crates())
-    counts = {}
-    for crate in chosen:
-        edits = edits_of(crate)
-        if is_telling:
-            edits = [it for it in edits if name_of(it) in telling(crate)]
-        elif words[1:]:
-            by_name = {name_of(it): it for it in edits}
-            edits = [it if os.path.isfile(it) else by_name.get(it.removesuffix(".edit")) or sys.exit(f"no edit {it}") for it in words[1:]]
-        for word, count in (try_crate(crate, edits) if edits else {}).items():
-            counts[word] = counts.get(word, 0) + count
-    print(", ".join(f"{counts.get(it, 0)} {it}" for it in ("refused", "PROVED", "BAD EDIT")))
-    return 0 if set(counts) <= {"refused"} else 1
+    return try_named(words[is_telling:], is_telling, is_alone)
 
 
 if __name__ == "__main__":
