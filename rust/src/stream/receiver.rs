@@ -23,7 +23,7 @@ use crate::stream::choice::{Choice, Origin, Verdict};
 use crate::stream::datagram::{Datagram, Stream};
 use crate::stream::gated::{follow, follow_into, gate_for};
 use crate::stream::reports::{ReceptionReport, ReceptionStatistics};
-use crate::stream::seen_times::SeenTimes;
+use crate::stream::seen_times::LazySeenTimes;
 use crate::stream::unit_times::{extend_into, extend_with};
 use crate::wire::{Frequency, Ticks};
 use core::fmt;
@@ -218,7 +218,7 @@ pub struct Receiver<B = NoBox> {
     pub(crate) statistics: ReceptionStatistics,
     choice: Choice,
     /// The RTP times of the latest packets and blocks, if the stream uses RED.
-    seen: SeenTimes,
+    seen: LazySeenTimes,
     /// Which units a decoder can show.
     gates: UnitGate,
 }
@@ -275,7 +275,7 @@ impl<B: Depacketizer> Receiver<B> {
             times: RtpTimes::new(),
             statistics,
             choice,
-            seen: SeenTimes::none(),
+            seen: LazySeenTimes::none(),
             gates,
         })
     }
@@ -297,7 +297,8 @@ impl<B: Depacketizer> Receiver<B> {
     /// after [`Receiver::restart`].
     ///
     /// It allocates for the payload and metadata of the packet, for a datagram that waits, and for redundant blocks. The
-    /// payloads of all blocks are copied before anything changes.
+    /// payloads of all blocks are copied before anything changes. The first packet with media of a stream with RED also
+    /// allocates 324 bytes, for the times of the latest packets and blocks.
     ///
     /// # Errors
     ///
@@ -551,7 +552,7 @@ impl<B: Depacketizer> Receiver<B> {
     fn go_over_to(&mut self, ssrc: Option<u32>) {
         self.ssrc = ssrc;
         self.statistics = self.statistics.anew();
-        self.seen = SeenTimes::none();
+        self.seen = LazySeenTimes::none();
         self.packets.restart();
     }
 
