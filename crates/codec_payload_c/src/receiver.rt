@@ -345,17 +345,17 @@ fn pop(
 ) -> u32
     ensures { PopsUnit stream.old now result unit.old unit.new bytes.old bytes.new stream.new }
 {
-    if !stream.waiting.is_some() {
-        match stream
-            .waiting
-            .pop_receiver(&mut stream.receiver, Ticks(now))
-        {
-            None => return status::NONE,
-            Some(Err(fault)) => return u32::from(fault.number()),
-            Some(Ok(())) => {}
-        }
+    if stream.waiting.is_some() {
+        return hand_over(stream, alloc, unit, bytes);
     }
-    hand_over(stream, alloc, unit, bytes)
+    match stream
+        .waiting
+        .pop_receiver(&mut stream.receiver, Ticks(now))
+    {
+        None => status::NONE,
+        Some(Err(fault)) => u32::from(fault.number()),
+        Some(Ok(())) => hand_over(stream, alloc, unit, bytes),
+    }
 }
 
 /// Returns the counters of a receiver, and whether a unit waits.

@@ -135,6 +135,7 @@ impl UnitSlot {
         ensures empty { self.new ≡ None }
     {
         taken.is_some = self.is_some;
+        self.is_some = false;
         self.unit.move_packets(&mut taken.packets);
         self.clear(alloc);
     }
