@@ -363,7 +363,7 @@ impl<B: Depacketizer> Receiver<B> {
         if !self.settle_on(place) {
             return Err(ReceiveError::OutOfMemory);
         }
-        self.hear(now, bytes)
+        self.hear_rarely(now, bytes)
     }
 
     /// Chooses the stream of the first waiting packet, if no SSRC was chosen so far. Returns false if memory runs out.
@@ -383,7 +383,7 @@ impl<B: Depacketizer> Receiver<B> {
             return true;
         };
         self.ssrc = Some(first.ssrc);
-        if is_out_of_memory(&self.hear(first.received, &first.bytes)) {
+        if is_out_of_memory(&self.hear_rarely(first.received, &first.bytes)) {
             self.ssrc = None;
             self.choice.candidates = waiting;
             return false;

@@ -17,7 +17,17 @@ use codec_payload_jitter::jitter::Outcome;
 use codec_payload_rtp::rtp::{RtpError, RtpPacket, is_rtcp};
 
 impl<B: Depacketizer> Receiver<B> {
+    /// Does the same as [`Receiver::hear`] for callers that are rare.
+    #[inline(never)]
+    pub(super) fn hear_rarely(&mut self, now: Ticks, bytes: &[u8]) -> Result<Outcome, ReceiveError>
+        ensures heard { Heard now (datagram_at self.old.stream self.old.ssrc bytes.now) self.old result self.new }
+        ensures own { is_built_in_depacketizer self.old.packets.buffer.depacketizer ≡ false → OwnStores B.is_head B.is_tail self.old.packets.buffer self.new.packets.buffer }
+    {
+        self.hear(now, bytes)
+    }
+
     /// Receives a datagram, by the SSRC of the stream. A packet with media is stored without a [`Datagram`], which is large.
+    #[inline(always)]
     pub(super) fn hear(&mut self, now: Ticks, bytes: &[u8]) -> Result<Outcome, ReceiveError>
         ensures heard { Heard now (datagram_at self.old.stream self.old.ssrc bytes.now) self.old result self.new }
         ensures own { is_built_in_depacketizer self.old.packets.buffer.depacketizer ≡ false → OwnStores B.is_head B.is_tail self.old.packets.buffer self.new.packets.buffer }
@@ -25,8 +35,7 @@ impl<B: Depacketizer> Receiver<B> {
         if is_rtcp(bytes) {
             return self.hear_rtcp(now);
         }
-        let read = RtpPacket::parse(bytes);
-        match &read {
+        match &RtpPacket::parse(bytes) {
             Ok(packet) => {
                 if self.stream.is_media(self.ssrc, packet) {
                     self.hear_media(now, packet)

@@ -11,13 +11,23 @@ use crate::stream::datagram::{Datagram, Malformation, observe, ssrc_after};
 use crate::wire::Ticks;
 
 impl<B: Depacketizer> Receiver<B> {
+    /// Does the same as [`Receiver::hear`] for callers that are rare.
+    #[inline(never)]
+    pub(super) fn hear_rarely(
+        &mut self,
+        now: Ticks,
+        bytes: &[u8],
+    ) -> Result<Outcome, ReceiveError> {
+        self.hear(now, bytes)
+    }
+
     /// Receives a datagram, by the SSRC of the stream. A packet with media is stored without a [`Datagram`], which is large.
+    #[inline(always)]
     pub(super) fn hear(&mut self, now: Ticks, bytes: &[u8]) -> Result<Outcome, ReceiveError> {
         if is_rtcp(bytes) {
             return self.hear_rtcp(now);
         }
-        let read = RtpPacket::parse(bytes);
-        match &read {
+        match &RtpPacket::parse(bytes) {
             Ok(packet) => {
                 if self.stream.is_media(self.ssrc, packet) {
                     self.hear_media(now, packet)
