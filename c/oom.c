@@ -562,7 +562,7 @@ static int too_large(void) {
     TAKES(150, "sender of RED", cpay_red_sender_new(&it.red_sender, 63, 111, &distance, 1));
     TAKES(1200, "sender", cpay_sender_new(&it.sender, &sends));
     TAKES(200, "history", cpay_history_new(&it.history, &keeps));
-    TAKES(1800, "receiver", cpay_receiver_new(&it.receiver, &receives, NULL, 0));
+    TAKES(1300, "receiver", cpay_receiver_new(&it.receiver, &receives, NULL, 0));
     TAKES(1900, "adaptive wait", cpay_adaptive_wait_new(&it.adaptive_wait, &waits));
     TAKES(1200, "session", cpay_session_new(&it.session, &port, &format, 1, NULL, 0, NULL, 0));
     return bad;

@@ -16,6 +16,7 @@ mod packets;
 mod pair;
 mod placed;
 mod popped;
+mod popped_packets;
 mod rows;
 mod search;
 mod unit;
@@ -44,6 +45,7 @@ pub use pair::Incoming;
 pub use placed::Placed;
 use placed::placed_among;
 pub use popped::PoppedUnit;
+pub use popped_packets::PoppedPackets;
 use rows::row_of_packet;
 pub use unit::{Depacketized, RtpMeta, UnitInfo};
 

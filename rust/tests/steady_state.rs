@@ -2,6 +2,7 @@
 
 use codec_payload::contiguity::{Vp8Contiguity, Vp9Contiguity};
 use codec_payload::sender::{Sample, Sender, SenderSettings};
+use codec_payload::stream::{Receiver, ReceiverSettings, RedSettings, SettingsError};
 use codec_payload::*;
 use std::alloc::{GlobalAlloc, Layout, System};
 use std::cell::Cell;
@@ -115,6 +116,40 @@ fn pops() {
     buffer.pop_unit(&mut unit).unwrap().unwrap();
     let again = allocations(|| assert!(buffer.pop_unit(&mut unit).unwrap().is_ok()));
     assert_eq!((again, unit.bytes.len()), (0, 100));
+}
+
+/// How many allocations each of four packets of Opus makes: its payload, its metadata, and what grows.
+fn allocations_of_packets(red: Option<RedSettings>) -> Result<Vec<usize>, SettingsError> {
+    let mut settings = ReceiverSettings::live_audio(111, Frequency::FORTY_EIGHT_KHZ);
+    settings.ssrc = Some(7);
+    settings.red = red;
+    let mut receiver: Receiver =
+        Receiver::new(CodecDepacketizer::Opus(OpusDepacketizer), settings)?;
+    Ok((1..5)
+        .map(|number| {
+            let datagram = [
+                0x80, 111, 0, number, 0, 0, 0, number, 0, 0, 0, 7, 0xfc, number,
+            ];
+            allocations(|| {
+                receiver.receive(Ticks(0), &datagram).unwrap();
+            })
+        })
+        .collect())
+}
+
+/// The first packet of a stream with RED allocates memory for the times that are noted, and later packets do not. A stream
+/// without RED never does.
+#[test]
+fn times_of_red() -> Result<(), SettingsError> {
+    let plain = allocations_of_packets(None)?;
+    let red = allocations_of_packets(Some(RedSettings {
+        payload_type: 63,
+        step: 960,
+        retransmission: None,
+    }))?;
+    assert_eq!(red[0], plain[0] + 1);
+    assert_eq!(red[1..], plain[1..]);
+    Ok(())
 }
 
 /// Payloads of a codec, and of each: whether it begins a unit, and whether it ends one in a packet without the marker and with it.

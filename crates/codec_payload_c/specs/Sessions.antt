@@ -7,7 +7,8 @@ use Rattle.codec_payload_core.specs.Faults.{fault_number}
 use Rattle.codec_payload_core.specs.Release.{Release}
 use Rattle.codec_payload_core.specs.declared.error.PacketError.{PacketError}
 use Rattle.codec_payload_handle.specs.Bytes.{filled}
-use Rattle.codec_payload_handle.specs.Units.{TellsUnit, no_unit}
+use Rattle.codec_payload_handle.specs.Units.{TellsUnit, TellsValues, no_unit}
+use Rattle.codec_payload_handle.specs.declared.extension_values.ExtensionValues.{ExtensionValues as CValues}
 use Rattle.codec_payload_handle.specs.declared.object.PortSession.{PortSession}
 use Rattle.codec_payload_handle.specs.declared.unit.Unit.{Unit as CUnit}
 use Rattle.codec_payload_session.specs.Associations.{Associates}
@@ -173,3 +174,8 @@ pub record PollsEvent (now : ℕ) (r : PortSession) (status : ℕ) (h : Handing)
   pub mid : PortSession
   pub comes : Comes now r next mid
   pub hands : HandsOver next status h mid s
+
+-- the values of the latest popped unit
+abbrev pub TellsTaken : Option Release → ℕ → (before after : CValues) → Type 0
+TellsTaken None status before after = (status ≡ 32) × (after ≡ before)
+TellsTaken (Some u) status before after = (status ≡ 0) × TellsValues u.metas after

@@ -18,6 +18,7 @@ use Rattle.codec_payload_stream.specs.declared.receiver.Settings.{Settings}
 use Rattle.codec_payload_stream.specs.declared.reports.ReceptionReport.{ReceptionReport}
 use Rattle.codec_payload_base.specs.declared.wire.Ticks.{Ticks}
 use Rattle.codec_payload_core.specs.Release.{Release}
+use Rattle.codec_payload_core.specs.declared.buffer.RtpMeta.{RtpMeta}
 use Rattle.codec_payload_handle.specs.Bytes.{filled}
 use Rattle.codec_payload_handle.specs.Popping.{Answer, AnswersPop}
 use Rattle.codec_payload_handle.specs.Units.{TellsUnit, TellsValues}
@@ -156,30 +157,30 @@ TellsJudged s u unit =
     TellsUnit u (record unit { rtp_time = u.time.numer; decodable = true; keyframe = false })
     × (unit.rtp_time ≡ time_or u.time.numer s.time) × (unit.decodable ≡ s.gates.gate.shows) × (unit.keyframe ≡ s.gates.is_keyframe)
 
--- A unit that waited is described. Status 0: its bytes are at the front of the output buffer, and it is the latest popped unit.
+-- A unit that waited is described. Status 0: its bytes are at the front of the output buffer, and it is the latest popped unit, whose packets are kept.
 -- Status 33: the output buffer is too small, and the unit still waits
 pub record HandsOver (u : Release) (status : ℕ) (unit : CUnit) (before bytes : List ℕ) (r s : StreamReceiver) : Type 0 where
   pub tells : TellsJudged r.receiver u unit
   pub receiver : s.receiver ≡ r.receiver
   pub answers : (status ≡ 0) ⊎ (status ≡ 33)
-  pub ok : status ≡ 0 → (length u.bytes ≤ length before) × (bytes ≡ filled u.bytes before) × (s.waiting ≡ None) × (s.taken ≡ Some u)
+  pub ok : status ≡ 0 → (length u.bytes ≤ length before) × (bytes ≡ filled u.bytes before) × (s.waiting ≡ None) × (s.taken ≡ Some u.metas)
   pub too_small : status ≡ 33 → (length before < length u.bytes) × (bytes ≡ before) × (s.waiting ≡ Some u) × (s.taken ≡ r.taken)
 
--- the description of a unit; if the caller gets its bytes, it becomes the latest popped unit
+-- the description of a unit; if the caller gets its bytes, it becomes the latest popped unit, and its packets are kept
 abbrev pub TellsAndTakes : ℕ → StreamReceiver → Release → CUnit → Type 0
-TellsAndTakes status s u unit = TellsJudged s.receiver u unit × (status ≡ 0 → s.taken ≡ Some u)
+TellsAndTakes status s u unit = TellsJudged s.receiver u unit × (status ≡ 0 → s.taken ≡ Some u.metas)
 
--- the next unit of a receiver; without one, the latest popped unit stays
+-- the next unit of a receiver; without one, the packets of the latest popped unit stay
 abbrev pub PopsUnit : StreamReceiver → ℕ → ℕ → (unit_before unit : CUnit) (before bytes : List ℕ) → StreamReceiver → Type 0
 PopsUnit r now status unit_before unit before bytes s =
     AnswersPop (s.receiver ≡ r.receiver) (λ answer. PopsAt now r.receiver answer s.receiver) (TellsAndTakes status s) status
     (record { waited = r.waiting; waits = s.waiting; unit_before = unit_before; unit = unit; before = before; bytes = bytes })
     × (status ≢ 0 → s.taken ≡ r.taken)
 
--- the values of the latest popped unit
-abbrev pub TellsTaken : Option Release → ℕ → (before after : CValues) → Type 0
+-- the values of the latest popped unit, which has these packets
+abbrev pub TellsTaken : Option (List RtpMeta) → ℕ → (before after : CValues) → Type 0
 TellsTaken None status before after = (status ≡ 32) × (after ≡ before)
-TellsTaken (Some u) status before after = (status ≡ 0) × TellsValues u.metas after
+TellsTaken (Some metas) status before after = (status ≡ 0) × TellsValues metas after
 
 -- a number, if there is one; otherwise status 32
 abbrev pub TellsNumber : Option ℕ → ℕ → (before after : ℕ) → Type 0

@@ -19,7 +19,7 @@ use codec_payload_handle::extension_values::ExtensionValues;
 use codec_payload_handle::handle::Handle;
 use codec_payload_handle::object::{Object, StreamReceiver};
 use codec_payload_handle::settings::{Spec, depacketizer_of};
-use codec_payload_handle::slot::UnitSlot;
+use codec_payload_handle::slot::{TakenPackets, UnitSlot};
 use codec_payload_handle::status;
 use codec_payload_handle::unit::Unit;
 use codec_payload_jitter::jitter::WaitLimits as Waiting;
@@ -320,6 +320,7 @@ fn judge(unit: &mut Unit, receiver: &Receiver)
 }
 
 /// Describes the unit that waits, and writes it to the output buffer. If that is too small, the unit still waits.
+#[inline(always)]
 fn hand_over(stream: &mut StreamReceiver, alloc: Global, unit: &mut Unit, bytes: &mut [u8]) -> u32
     requires { IsSome stream.old.waiting }
     ensures { IfSome stream.old.waiting (λ u. HandsOver u result unit.new bytes.old bytes.new stream.old stream.new) }
@@ -448,7 +449,7 @@ fn stream_by(
         return Err(status::OUT_OF_MEMORY);
     }
     let waiting = UnitSlot::new(alloc);
-    let taken = UnitSlot::new(alloc);
+    let taken = TakenPackets::new(alloc);
     Ok(StreamReceiver {
         receiver,
         waiting,

@@ -7,8 +7,8 @@ ghost use Rattle.codec_payload_session.specs.Reporting.{report_deadline};
 ghost use Rattle.codec_payload_session.specs.Streams.{due_in, earlier};
 ghost use Rattle.codec_payload_session.specs.Telephone.{due_before};
 ghost use Rattle.codec_payload_c.specs.SessionFormats.{IsPortSessionOf, is_in_range};
-ghost use Rattle.codec_payload_c.specs.Sessions.{Comes, Hands, PollsEvent, ReceivesDatagram, TellsArrival, TellsEvent, TellsJudgedBy, arrived_as, bytes_in, ending_number, event_with, is_no_memory, latest_unit, popped_or, telephone_unit};
-ghost use Rattle.codec_payload_c.specs.StreamReceivers.{TellsNumber, TellsTaken};
+ghost use Rattle.codec_payload_c.specs.Sessions.{Comes, Hands, PollsEvent, ReceivesDatagram, TellsArrival, TellsEvent, TellsJudgedBy, TellsTaken, arrived_as, bytes_in, ending_number, event_with, is_no_memory, latest_unit, popped_or, telephone_unit};
+ghost use Rattle.codec_payload_c.specs.StreamReceivers.{TellsNumber};
 ghost use Rattle.codec_payload_handle.specs.Kinds.{Makes, OnPortSession, Refuses, is_port_session};
 ghost use Rattle.codec_payload_handle.specs.Units.{no_unit};
 

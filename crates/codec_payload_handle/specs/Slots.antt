@@ -1,6 +1,7 @@
 -- A unit in memory that is used again.
 use Rattle.std.specs.Prelude.{◌≡◌, ℕ, Bool, nat_le, Option, Some, None, Result, Ok, Err, List, length, ⊤}
 use Rattle.codec_payload_core.specs.Release.{Release}
+use Rattle.codec_payload_core.specs.declared.buffer.RtpMeta.{RtpMeta}
 use Rattle.codec_payload_core.specs.declared.error.PacketError.{PacketError}
 use Rattle.codec_payload_handle.specs.Bytes.{filled}
 use Rattle.codec_payload_handle.specs.Popping.{Answer}
@@ -24,8 +25,8 @@ abbrev pub IsWritten : Option Release → Bool → CUnit → (before bytes : Lis
 IsWritten None has_room unit before bytes = Unit {0}
 IsWritten (Some u) has_room unit before bytes = IsWrittenTo u has_room unit before bytes
 
--- the values of the unit, if there is one
-abbrev pub TellsValuesOf : Option Release → Option CValues → Type 0
+-- the values of the unit with these packets, if there is one
+abbrev pub TellsValuesOf : Option (List RtpMeta) → Option CValues → Type 0
 TellsValuesOf None values = values ≡ None
-TellsValuesOf (Some u) (Some values) = TellsValues u.metas values
-TellsValuesOf (Some u) None = ⊥
+TellsValuesOf (Some metas) (Some values) = TellsValues metas values
+TellsValuesOf (Some metas) None = ⊥

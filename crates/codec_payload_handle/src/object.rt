@@ -1,6 +1,6 @@
 //! The contents of a handle.
 
-use crate::slot::UnitSlot;
+use crate::slot::{TakenPackets, UnitSlot};
 use codec_payload_adaptive_wait::adaptive_wait::AdaptiveWait;
 use codec_payload_core::buffer::{Depacketized, DepacketizingBuffer};
 use codec_payload_core::codec::{CodecDepacketizer, CodecExtra, CodecPacketizer};
@@ -48,12 +48,12 @@ pub struct StreamSender {
     pub rate: Frequency,
 }
 
-/// A receiver of datagrams, the unit that waits for a larger output buffer, and the latest popped unit.
+/// A receiver of datagrams, the unit that waits for a larger output buffer, and the packets of the latest popped unit.
 #[derive(Drop)]
 pub struct StreamReceiver {
     pub receiver: DatagramReceiver,
     pub waiting: UnitSlot,
-    pub taken: UnitSlot,
+    pub taken: TakenPackets,
 }
 
 /// A session, the event whose bytes wait for a larger output buffer, and the latest unit.

@@ -1,6 +1,6 @@
 //! A popped unit in memory that the next pop uses again.
 
-ghost use Rattle.std.specs.Prelude.{◌≡◌, IsSome, None, is_some};
+ghost use Rattle.std.specs.Prelude.{◌≡◌, IsSome, None, is_some, option_map};
 ghost use Rattle.codec_payload_core.specs.Steps.{Pops};
 ghost use Rattle.codec_payload_stream.specs.Pops.{PopsGated};
 ghost use Rattle.codec_payload_handle.specs.Slots.{IsWritten, PopsTo, TellsValuesOf};
@@ -8,7 +8,7 @@ ghost use Rattle.codec_payload_handle.specs.Slots.{IsWritten, PopsTo, TellsValue
 use crate::bytes::fill;
 use crate::extension_values::{ExtensionValues, values_of};
 use crate::unit::{Unit, describe_popped};
-use codec_payload_core::buffer::{DepacketizingBuffer, PoppedUnit};
+use codec_payload_core::buffer::{DepacketizingBuffer, PoppedPackets, PoppedUnit};
 use codec_payload_core::error::PacketError;
 use codec_payload_core::wire::Ticks;
 use codec_payload_stream::receiver::Receiver;
@@ -119,17 +119,6 @@ impl UnitSlot {
         fill(bytes, &self.unit.bytes)
     }
 
-    /// Returns the values of header extensions of the unit, if there is one.
-    pub fn values(&self) -> Option<ExtensionValues>
-        ensures { TellsValuesOf self.now result }
-    {
-        if self.is_some {
-            Some(values_of(&self.unit.ext_vals()))
-        } else {
-            None
-        }
-    }
-
     /// Drops the unit, if there is one, and keeps its memory for the next unit.
     #[inline(always)]
     pub fn clear(&mut self, alloc: Global)
@@ -139,15 +128,56 @@ impl UnitSlot {
         self.unit.free_above(alloc, MOST_BYTES, MOST_PACKETS);
     }
 
-    /// Moves the unit, if there is one, into another slot, whose unit is dropped.
+    /// Moves the packets of the unit, if there is one, to `taken`, whose packets are dropped. The slot then has no unit.
     #[inline(always)]
-    pub fn move_to(&mut self, taken: &mut UnitSlot, alloc: Global)
-        ensures moved { taken.new ≡ self.old }
+    pub fn move_to(&mut self, taken: &mut TakenPackets, alloc: Global)
+        ensures moved { taken.new ≡ option_map (λ u. u.metas) self.old }
         ensures empty { self.new ≡ None }
     {
         taken.is_some = self.is_some;
         self.is_some = false;
-        self.unit.move_to(&mut taken.unit);
+        self.unit.move_packets(&mut taken.packets);
         self.clear(alloc);
+    }
+}
+
+/// The packets of the unit that the caller got last, or none.
+#[derive(Drop)]
+pub struct TakenPackets {
+    is_some: bool,
+    packets: PoppedPackets,
+}
+
+impl Model for TakenPackets {
+    ghost use Rattle.std.specs.Prelude.{◌≡◌, ◌<◌, List, None, Option, Some, if◌then◌else◌, length, true};
+    ghost use Rattle.codec_payload_core.specs.declared.buffer.RtpMeta.{RtpMeta};
+
+    ghost Value = { Option (List RtpMeta) };
+
+    ghost view = { λ t. if t.is_some then Some t.packets else None };
+
+    ghost invariant = { λ t. t.is_some ≡ true → 0 < length t.packets };
+}
+
+impl TakenPackets {
+    /// Returns no packets. Allocates nothing.
+    pub fn new(alloc: Global) -> Self
+        ensures { result ≡ None }
+    {
+        TakenPackets {
+            is_some: false,
+            packets: PoppedPackets::new(alloc),
+        }
+    }
+
+    /// Returns the values of header extensions of the unit, if there was one.
+    pub fn values(&self) -> Option<ExtensionValues>
+        ensures { TellsValuesOf self.now result }
+    {
+        if self.is_some {
+            Some(values_of(&self.packets.ext_vals()))
+        } else {
+            None
+        }
     }
 }

@@ -18,6 +18,11 @@ seen_at (time, Block) = Some (record { time = time; is_block = true })
 abbrev pub none_seen : Seen
 none_seen = record { places = replicate 64 None; next = 0 }
 
+-- the times in memory; without memory none was received
+abbrev pub seen_in : Option Seen → Seen
+seen_in None = none_seen
+seen_in (Some s) = s
+
 -- whether a packet with this time arrived, or a block with this time was stored
 abbrev pub is_seen : ℕ → List (Option SeenTime) → Bool
 is_seen time [] = false

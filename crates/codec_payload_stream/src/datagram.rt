@@ -9,13 +9,15 @@ ghost use Rattle.codec_payload_rtp.specs.RtpValues.{header_of, packet_of};
 ghost use Rattle.codec_payload_codec.specs.Depacketizers.{is_built_in_depacketizer};
 ghost use Rattle.codec_payload_jitter.specs.OwnReceiving.{OwnStores};
 ghost use Rattle.codec_payload_jitter.specs.Receiving.{Receives, ReceivesAgain, would_store};
-ghost use Rattle.codec_payload_stream.specs.Kinds.{WithMedia, again_kind, block_header, carrier_of, carrier_with, datagram_at, datagram_of, first_kind, header_for, is_among, is_other, is_padding_only, is_sent_again, is_the_type, kind_for, media_kind, original_header, original_of, red_again_kind, red_again_of, red_kind, red_of, repeated_header, retransmitted_under, ssrc_or, under};
+ghost use Rattle.codec_payload_stream.specs.Kinds.{Again, WithMedia, again_kind, block_header, carrier_of, carrier_with, datagram_at, datagram_of, first_kind, header_for, is_among, is_other, is_padding_only, is_sent_again, is_the_type, kind_for, media_kind, original_header, original_of, red_again_kind, red_again_of, red_kind, red_of, repeated_header, retransmitted_under, ssrc_or, under};
 ghost use Rattle.codec_payload_stream.specs.Sessions.{NotesAgain, TakesAgain, TakesDatagram, TakesMedia, TakesPrimary, TakesPrimaryAgain, TakesRed, TakesRedAgain, is_own_media, is_repeat, is_restart, is_suspect, observed_in, packet_seen, ssrc_after};
+
+mod noting;
 
 use crate::blocks::{copy_blocks, recover_all};
 use crate::receiver::Retransmission;
 use crate::reports::ReceptionStatistics;
-use crate::seen_times::{SeenTime, SeenTimes};
+use crate::seen_times::{LazySeenTimes, SeenTime, SeenTimes};
 use codec_payload_base::error::PacketError;
 use codec_payload_base::wire::{ExtensionValues, Pt, RtpHeader, Ticks};
 use codec_payload_buffer::buffer::PackedHeader;
@@ -610,7 +612,7 @@ impl StreamKinds {
 
     /// Stores a packet with media, and notes its time.
     #[inline(always)]
-    pub(crate) fn take_media<B: Depacketizer>(
+    fn push_noted<B: Depacketizer>(
         &self,
         packets: &mut JitterBuffer<B>,
         seen: &mut SeenTimes,
@@ -646,6 +648,24 @@ impl StreamKinds {
             return Ok(Outcome::NoMedia);
         }
         self.push_retransmitted(packets, now, sent)
+    }
+
+    /// Stores a retransmitted packet, and notes its time.
+    fn push_again_noted<B: Depacketizer>(
+        &self,
+        packets: &mut JitterBuffer<B>,
+        seen: &mut SeenTimes,
+        now: Ticks,
+        sent: &SentAgain<'_>,
+    ) -> Result<Outcome, PacketError>
+        ensures ok { IfOk result (λ outcome. TakesDatagram self.now now (Again (original_of sent.now)) (record { packets = packets.old; seen = seen.old }) outcome true (record { packets = packets.new; seen = seen.new })) }
+        ensures err { OnErr result ((packets.new ≡ packets.old) × (seen.new ≡ seen.old)) }
+        ensures fault { IfErr result (λ f. f ≡ OutOfMemory) }
+        ensures own { is_built_in_depacketizer packets.old.buffer.depacketizer ≡ false → OwnStores B.is_head B.is_tail packets.old.buffer packets.new.buffer }
+    {
+        let outcome = self.push_again(packets, seen, now, sent)?;
+        note_packet(seen, self.red.is_some(), outcome, sent.header.timestamp);
+        Ok(outcome)
     }
 
     /// Stores the primary block of a retransmitted RED packet under the original number, by the same rule. If it is not media
@@ -703,7 +723,7 @@ impl StreamKinds {
     pub(crate) fn take<B: Depacketizer>(
         &self,
         packets: &mut JitterBuffer<B>,
-        seen: &mut SeenTimes,
+        seen: &mut LazySeenTimes,
         now: Ticks,
         datagram: &Datagram<'_>,
     ) -> Result<Taken, PacketError>
@@ -713,8 +733,8 @@ impl StreamKinds {
         ensures own { is_built_in_depacketizer packets.old.buffer.depacketizer ≡ false → OwnStores B.is_head B.is_tail packets.old.buffer packets.new.buffer }
     {
         let outcome = match datagram {
-            Datagram::Red(red) => return self.push_red(packets, seen, now, red),
-            Datagram::RedAgain(red) => return self.push_red_again(packets, seen, now, red),
+            Datagram::Red(red) => return self.take_red(packets, seen, now, red),
+            Datagram::RedAgain(red) => return self.take_red_again(packets, seen, now, red),
             Datagram::Rtcp | Datagram::Malformed(_) => Outcome::Rtcp,
             Datagram::OtherStream => Outcome::OtherStream,
             Datagram::NoMedia(packet) => {
@@ -722,11 +742,7 @@ impl StreamKinds {
                 Outcome::NoMedia
             }
             Datagram::Media(packet) => self.take_media(packets, seen, now, packet)?,
-            Datagram::SentAgain(sent) => {
-                let outcome = self.push_again(packets, seen, now, sent)?;
-                note_packet(seen, self.red.is_some(), outcome, sent.header.timestamp);
-                outcome
-            }
+            Datagram::SentAgain(sent) => self.take_again(packets, seen, now, sent)?,
             Datagram::Nothing => {
                 packets.push_nothing();
                 Outcome::NoMedia

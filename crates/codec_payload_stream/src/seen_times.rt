@@ -1,9 +1,11 @@
 //! The RTP times of the latest packets and blocks of a stream with RED (RFC 2198).
 
-ghost use Rattle.std.specs.Prelude.{◌≡◌, ◌<◌, None, Some, length, slice_index_or};
+ghost use Rattle.std.specs.Prelude.{◌≡◌, ◌<◌, IfOk, None, OnErr, Some, length, slice_index_or};
 ghost use Rattle.codec_payload_stream.specs.SeenTimes.{has_block, is_seen, none_seen, seen_at, seen_with};
 
+use std::alloc::{AllocError, Global};
 use std::marker::Model;
+use std::mem;
 
 /// The number of times that are remembered.
 const MOST: usize = 64;
@@ -113,6 +115,48 @@ impl SeenTimes {
         self.times[place] = seen.time;
         self.kinds[place] = kind_of(seen);
         self.next = (self.next + 1) % MOST as u8;
+    }
+}
+
+/// The same times, in memory that the first packet with media of a stream with RED allocates.
+#[derive(Debug, Drop)]
+pub(crate) struct LazySeenTimes {
+    times: Option<Box<SeenTimes>>,
+}
+
+impl Model for LazySeenTimes {
+    ghost use Rattle.std.specs.Prelude.{option_map};
+    ghost use Rattle.codec_payload_stream.specs.SeenTimes.{Seen, seen_in};
+
+    ghost Value = { Seen };
+
+    ghost view = { λ s. seen_in (option_map (λ b. b.value) s.times) };
+}
+
+impl LazySeenTimes {
+    /// Returns the state before the first packet. Allocates nothing.
+    pub(crate) fn none() -> LazySeenTimes
+        ensures { result ≡ none_seen }
+    {
+        LazySeenTimes { times: None }
+    }
+
+    /// Takes the times out, until [`LazySeenTimes::put`] puts them back. Allocates memory for them if they have none.
+    pub(crate) fn take(&mut self, alloc: Global) -> Result<Box<SeenTimes>, AllocError>
+        ensures ok { IfOk result (λ times. times.value ≡ self.old) }
+        ensures err { OnErr result (self.new ≡ self.old) }
+    {
+        match mem::replace(&mut self.times, None) {
+            Some(times) => Ok(times),
+            None => Ok(Box::new(alloc, SeenTimes::none())?),
+        }
+    }
+
+    /// Puts the times back.
+    pub(crate) fn put(&mut self, times: Box<SeenTimes>)
+        ensures { self.new ≡ times.value }
+    {
+        self.times = Some(times);
     }
 }
 

@@ -3,6 +3,7 @@
 //! A popped unit in memory that the next pop uses again.
 
 use super::known::PackedMeta;
+use super::popped_packets::{PoppedPackets, values_among};
 use super::unit::RtpMeta;
 use crate::interface::CodecExtra;
 use crate::wire::{ExtensionValues, MediaTime, SenderInfo, SeqNo, Ticks};
@@ -103,14 +104,7 @@ impl PoppedUnit {
     ///
     /// Unless `self.packets() > 0`.
     pub fn ext_vals(&self) -> ExtensionValues {
-        let metas = self.metas.as_slice();
-        let first = metas[0].values();
-        let last = metas[metas.len() - 1].values();
-        ExtensionValues {
-            abs_capture_time: first.abs_capture_time.or(last.abs_capture_time),
-            layers_allocation: first.layers_allocation.or(last.layers_allocation),
-            ..last
-        }
+        values_among(&self.metas)
     }
 
     /// Moves the unit to `to`, and keeps the memory that `to` had. What this unit has afterwards is unspecified.
@@ -120,6 +114,13 @@ impl PoppedUnit {
         to.contiguous = self.contiguous;
         to.codec_extra = self.codec_extra;
         mem::swap(&mut self.bytes, &mut to.bytes);
+        mem::swap(&mut self.metas, &mut to.metas);
+    }
+
+    /// Moves the metadata of its packets to `to`, and keeps the memory that `to` had. Which packets this unit has afterwards is
+    /// unspecified; the rest is unchanged.
+    #[inline(always)]
+    pub fn move_packets(&mut self, to: &mut PoppedPackets) {
         mem::swap(&mut self.metas, &mut to.metas);
     }
 

@@ -473,6 +473,7 @@ impl<B: Depacketizer> JitterBuffer<B> {
     }
 
     /// Keeps a suspect packet, in place of the previous one.
+    #[inline(never)]
     fn keep(&mut self, packet: KeptPacket) {
         self.kept = Some(packet);
         self.counters = with_outcome(self.counters, Outcome::Suspect);

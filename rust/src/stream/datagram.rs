@@ -2,20 +2,23 @@
 
 //! Which datagrams belong to a stream, and how they reach its jitter buffer.
 
+use crate::memory::{AllocError, TryVec};
+use alloc::vec::Vec;
+
+mod noting;
+
 use crate::buffer::PackedHeader;
 use crate::codec::Depacketizer;
 use crate::error::PacketError;
 use crate::jitter::jitter_buffer::{JitterBuffer, Outcome};
-use crate::memory::{AllocError, TryVec};
 use crate::red::{Recovered, RedBlock, RedDecoder, RedReceiver};
 use crate::rtp::packet::{PacketHeader, RtpError, RtpPacket, is_rtcp};
 use crate::rtp::values::ExtensionIds;
 use crate::stream::blocks::{copy_blocks, recover_all};
 use crate::stream::receiver::Retransmission;
 use crate::stream::reports::ReceptionStatistics;
-use crate::stream::seen_times::{SeenTime, SeenTimes};
+use crate::stream::seen_times::{LazySeenTimes, SeenTime, SeenTimes};
 use crate::wire::{ExtensionValues, Pt, RtpHeader, Ticks};
-use alloc::vec::Vec;
 
 /// The reason why a datagram is malformed.
 #[derive(Clone, Copy, Debug)]
@@ -494,7 +497,7 @@ impl StreamKinds {
 
     /// Stores a packet with media, and notes its time.
     #[inline(always)]
-    pub(crate) fn take_media<B: Depacketizer>(
+    fn push_noted<B: Depacketizer>(
         &self,
         packets: &mut JitterBuffer<B>,
         seen: &mut SeenTimes,
@@ -519,6 +522,19 @@ impl StreamKinds {
             return Ok(Outcome::NoMedia);
         }
         self.push_retransmitted(packets, now, sent)
+    }
+
+    /// Stores a retransmitted packet, and notes its time.
+    fn push_again_noted<B: Depacketizer>(
+        &self,
+        packets: &mut JitterBuffer<B>,
+        seen: &mut SeenTimes,
+        now: Ticks,
+        sent: &SentAgain<'_>,
+    ) -> Result<Outcome, PacketError> {
+        let outcome = self.push_again(packets, seen, now, sent)?;
+        note_packet(seen, self.red.is_some(), outcome, sent.header.timestamp);
+        Ok(outcome)
     }
 
     /// Stores the primary block of a retransmitted RED packet under the original number, by the same rule. If it is not media
@@ -566,13 +582,13 @@ impl StreamKinds {
     pub(crate) fn take<B: Depacketizer>(
         &self,
         packets: &mut JitterBuffer<B>,
-        seen: &mut SeenTimes,
+        seen: &mut LazySeenTimes,
         now: Ticks,
         datagram: &Datagram<'_>,
     ) -> Result<Taken, PacketError> {
         let outcome = match datagram {
-            Datagram::Red(red) => return self.push_red(packets, seen, now, red),
-            Datagram::RedAgain(red) => return self.push_red_again(packets, seen, now, red),
+            Datagram::Red(red) => return self.take_red(packets, seen, now, red),
+            Datagram::RedAgain(red) => return self.take_red_again(packets, seen, now, red),
             Datagram::Rtcp | Datagram::Malformed(_) => Outcome::Rtcp,
             Datagram::OtherStream => Outcome::OtherStream,
             Datagram::NoMedia(packet) => {
@@ -580,11 +596,7 @@ impl StreamKinds {
                 Outcome::NoMedia
             }
             Datagram::Media(packet) => self.take_media(packets, seen, now, packet)?,
-            Datagram::SentAgain(sent) => {
-                let outcome = self.push_again(packets, seen, now, sent)?;
-                note_packet(seen, self.red.is_some(), outcome, sent.header.timestamp);
-                outcome
-            }
+            Datagram::SentAgain(sent) => self.take_again(packets, seen, now, sent)?,
             Datagram::Nothing => {
                 packets.push_nothing();
                 Outcome::NoMedia

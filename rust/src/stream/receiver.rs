@@ -23,7 +23,7 @@ use crate::stream::choice::{Choice, Origin, Verdict};
 use crate::stream::datagram::{Datagram, StreamKinds};
 use crate::stream::gated::{follow, follow_into, gate_for};
 use crate::stream::reports::{ReceptionReport, ReceptionStatistics};
-use crate::stream::seen_times::SeenTimes;
+use crate::stream::seen_times::LazySeenTimes;
 use crate::stream::unit_times::{extend_into, extend_with};
 use crate::wire::{Frequency, Ticks};
 use core::fmt;
@@ -218,7 +218,7 @@ pub struct Receiver<B = NoBox> {
     pub(crate) statistics: ReceptionStatistics,
     choice: Choice,
     /// The RTP times of the latest packets and blocks, if the stream uses RED.
-    seen: SeenTimes,
+    seen: LazySeenTimes,
     /// Which units a decoder can show.
     gates: UnitGate,
 }
@@ -275,7 +275,7 @@ impl<B: Depacketizer> Receiver<B> {
             times: RtpTimes::new(),
             statistics,
             choice,
-            seen: SeenTimes::none(),
+            seen: LazySeenTimes::none(),
             gates,
         })
     }
@@ -297,7 +297,8 @@ impl<B: Depacketizer> Receiver<B> {
     /// after [`Receiver::restart`].
     ///
     /// It allocates for the payload and metadata of the packet, for a datagram that waits, and for redundant blocks. The
-    /// payloads of all blocks are copied before anything changes.
+    /// payloads of all blocks are copied before anything changes. The first packet with media of a stream with RED also
+    /// allocates 324 bytes, for the times of the latest packets and blocks.
     ///
     /// # Errors
     ///
@@ -362,7 +363,7 @@ impl<B: Depacketizer> Receiver<B> {
         if !self.settle_on(place) {
             return Err(ReceiveError::OutOfMemory);
         }
-        self.hear(now, bytes)
+        self.hear_rarely(now, bytes)
     }
 
     /// Chooses the stream of the first waiting packet, if no SSRC was chosen so far. Returns false if memory runs out.
@@ -382,7 +383,7 @@ impl<B: Depacketizer> Receiver<B> {
             return true;
         };
         self.ssrc = Some(first.ssrc);
-        if is_out_of_memory(&self.hear(first.received, &first.bytes)) {
+        if is_out_of_memory(&self.hear_rarely(first.received, &first.bytes)) {
             self.ssrc = None;
             self.choice.candidates = waiting;
             return false;
@@ -551,7 +552,7 @@ impl<B: Depacketizer> Receiver<B> {
     fn go_over_to(&mut self, ssrc: Option<u32>) {
         self.ssrc = ssrc;
         self.statistics = self.statistics.anew();
-        self.seen = SeenTimes::none();
+        self.seen = LazySeenTimes::none();
         self.packets.restart();
     }
 

@@ -2,6 +2,9 @@
 
 //! The RTP times of the latest packets and blocks of a stream with RED (RFC 2198).
 
+use crate::memory::{AllocError, One};
+use core::mem;
+
 /// The number of times that are remembered.
 const MOST: usize = 64;
 
@@ -84,6 +87,32 @@ impl SeenTimes {
         self.times[place] = seen.time;
         self.kinds[place] = kind_of(seen);
         self.next = (self.next + 1) % MOST as u8;
+    }
+}
+
+/// The same times, in memory that the first packet with media of a stream with RED allocates.
+#[derive(Debug)]
+pub(crate) struct LazySeenTimes {
+    times: Option<One<SeenTimes>>,
+}
+
+impl LazySeenTimes {
+    /// Returns the state before the first packet. Allocates nothing.
+    pub(crate) fn none() -> LazySeenTimes {
+        LazySeenTimes { times: None }
+    }
+
+    /// Takes the times out, until [`LazySeenTimes::put`] puts them back. Allocates memory for them if they have none.
+    pub(crate) fn take(&mut self) -> Result<One<SeenTimes>, AllocError> {
+        match mem::replace(&mut self.times, None) {
+            Some(times) => Ok(times),
+            None => Ok(One::try_new(SeenTimes::none())?),
+        }
+    }
+
+    /// Puts the times back.
+    pub(crate) fn put(&mut self, times: One<SeenTimes>) {
+        self.times = Some(times);
     }
 }
 

@@ -191,15 +191,15 @@ fn memory_of_sessions_and_streams() {
     );
     assert!(size_of::<Session>() + session <= 580);
     println!("a receiver: {} bytes", size_of::<Receiver>());
-    assert!(size_of::<Receiver>() <= 1_300);
+    assert!(size_of::<Receiver>() <= 1_000);
     type Datagram = fn(u32, u16) -> Vec<u8>;
     let audio: Datagram = opus;
     let video: Datagram = |ssrc, number| vp8(ssrc, number, number == 0);
     let lines = [
-        ("audio", audio, 40, 2_600),
-        ("audio", audio, 1_500, 4_700),
-        ("video", video, 40, 2_700),
-        ("video", video, 6_000, 8_000),
+        ("audio", audio, 40, 2_300),
+        ("audio", audio, 1_500, 4_200),
+        ("video", video, 40, 2_400),
+        ("video", video, 6_000, 7_400),
     ];
     for (name, datagram, packets, most) in lines {
         // The list of streams has places for a power of two.

@@ -6,6 +6,7 @@ ghost use Rattle.codec_payload_buffer.specs.Release.{AreValues, IsFirst, IsLast,
 ghost use Rattle.codec_payload_buffer.specs.declared.buffer.unit.RtpMeta.{RtpMeta as Meta};
 
 use super::known::PackedMeta;
+use super::popped_packets::{PoppedPackets, values_among};
 use super::unit::RtpMeta;
 use codec_payload_base::interface::CodecExtra;
 use codec_payload_base::wire::{ExtensionValues, MediaTime, SenderInfo, SeqNo, Ticks};
@@ -121,14 +122,7 @@ impl PoppedUnit {
         requires { 0 < length self.now.metas }
         ensures { AreValues self.now.metas result }
     {
-        let metas = self.metas.as_slice();
-        let first = metas[0].values();
-        let last = metas[metas.len() - 1].values();
-        ExtensionValues {
-            abs_capture_time: first.abs_capture_time.or(last.abs_capture_time),
-            layers_allocation: first.layers_allocation.or(last.layers_allocation),
-            ..last
-        }
+        values_among(&self.metas)
     }
 
     /// Moves the unit to `to`, and keeps the memory that `to` had. What this unit has afterwards is unspecified.
@@ -140,6 +134,16 @@ impl PoppedUnit {
         to.contiguous = self.contiguous;
         to.codec_extra = self.codec_extra;
         mem::swap(&mut self.bytes, &mut to.bytes);
+        mem::swap(&mut self.metas, &mut to.metas);
+    }
+
+    /// Moves the metadata of its packets to `to`, and keeps the memory that `to` had. Which packets this unit has afterwards is
+    /// unspecified; the rest is unchanged.
+    #[inline(always)]
+    pub fn move_packets(&mut self, to: &mut PoppedPackets)
+        ensures moved { to.new ≡ self.old.metas }
+        ensures rest { self.new ≡ record self.old { metas = self.new.metas } }
+    {
         mem::swap(&mut self.metas, &mut to.metas);
     }
 

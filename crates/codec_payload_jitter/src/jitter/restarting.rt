@@ -24,6 +24,7 @@ use std::alloc::AllocError;
 
 impl<B: Depacketizer> JitterBuffer<B> {
     /// Stores the packet that confirms a restart, and the suspect packet before it, if one was kept: both, or neither.
+    #[inline(never)]
     pub(super) fn restart_with(
         &mut self,
         number: u64,

@@ -4,8 +4,9 @@ ghost use Rattle.std.specs.Prelude.{◌≡◌, false};
 ghost use Rattle.codec_payload_codec.specs.Depacketizers.{is_built_in_depacketizer};
 ghost use Rattle.codec_payload_jitter.specs.OwnReceiving.{OwnStores};
 ghost use Rattle.codec_payload_rtp.specs.RtpValues.{packet_of};
-ghost use Rattle.codec_payload_stream.specs.Kinds.{WithMedia, datagram_at, datagram_of, kind_for};
+ghost use Rattle.codec_payload_stream.specs.Kinds.{Malformed, RtcpPacket, WithMedia, datagram_at, datagram_of, kind_for};
 ghost use Rattle.codec_payload_stream.specs.Sessions.{Heard};
+ghost use Rattle.codec_payload_stream.specs.declared.datagram.Malformation.TheVariants as malformations;
 
 use super::{ReceiveError, Receiver, with_datagram};
 use crate::answers::answer_for;
@@ -13,27 +14,55 @@ use crate::datagram::{Datagram, Malformation, observe, ssrc_after};
 use codec_payload_base::wire::Ticks;
 use codec_payload_codec::codec::Depacketizer;
 use codec_payload_jitter::jitter::Outcome;
-use codec_payload_rtp::rtp::{RtpPacket, is_rtcp};
+use codec_payload_rtp::rtp::{RtpError, RtpPacket, is_rtcp};
 
 impl<B: Depacketizer> Receiver<B> {
+    /// Does the same as [`Receiver::hear`] for callers that are rare.
+    #[inline(never)]
+    pub(super) fn hear_rarely(&mut self, now: Ticks, bytes: &[u8]) -> Result<Outcome, ReceiveError>
+        ensures heard { Heard now (datagram_at self.old.stream self.old.ssrc bytes.now) self.old result self.new }
+        ensures own { is_built_in_depacketizer self.old.packets.buffer.depacketizer ≡ false → OwnStores B.is_head B.is_tail self.old.packets.buffer self.new.packets.buffer }
+    {
+        self.hear(now, bytes)
+    }
+
     /// Receives a datagram, by the SSRC of the stream. A packet with media is stored without a [`Datagram`], which is large.
+    #[inline(always)]
     pub(super) fn hear(&mut self, now: Ticks, bytes: &[u8]) -> Result<Outcome, ReceiveError>
         ensures heard { Heard now (datagram_at self.old.stream self.old.ssrc bytes.now) self.old result self.new }
         ensures own { is_built_in_depacketizer self.old.packets.buffer.depacketizer ≡ false → OwnStores B.is_head B.is_tail self.old.packets.buffer self.new.packets.buffer }
     {
         if is_rtcp(bytes) {
-            return self.hear_datagram(now, &Datagram::Rtcp);
+            return self.hear_rtcp(now);
         }
-        match RtpPacket::parse(bytes) {
+        match &RtpPacket::parse(bytes) {
             Ok(packet) => {
-                if self.stream.is_media(self.ssrc, &packet) {
-                    self.hear_media(now, &packet)
+                if self.stream.is_media(self.ssrc, packet) {
+                    self.hear_media(now, packet)
                 } else {
                     self.hear_packet(now, packet)
                 }
             }
-            Err(fault) => self.hear_datagram(now, &Datagram::Malformed(Malformation::Rtp(fault))),
+            Err(fault) => self.hear_malformed(now, *fault),
         }
+    }
+
+    /// Receives an RTCP packet.
+    #[inline(never)]
+    fn hear_rtcp(&mut self, now: Ticks) -> Result<Outcome, ReceiveError>
+        ensures heard { Heard now RtcpPacket self.old result self.new }
+        ensures own { is_built_in_depacketizer self.old.packets.buffer.depacketizer ≡ false → OwnStores B.is_head B.is_tail self.old.packets.buffer self.new.packets.buffer }
+    {
+        self.hear_datagram(now, &Datagram::Rtcp)
+    }
+
+    /// Receives a datagram that is no RTP packet.
+    #[inline(never)]
+    fn hear_malformed(&mut self, now: Ticks, fault: RtpError) -> Result<Outcome, ReceiveError>
+        ensures heard { Heard now (Malformed (malformations.Rtp fault)) self.old result self.new }
+        ensures own { is_built_in_depacketizer self.old.packets.buffer.depacketizer ≡ false → OwnStores B.is_head B.is_tail self.old.packets.buffer self.new.packets.buffer }
+    {
+        self.hear_datagram(now, &Datagram::Malformed(Malformation::Rtp(fault)))
     }
 
     /// Receives an RTP packet with media of the stream.
@@ -59,11 +88,11 @@ impl<B: Depacketizer> Receiver<B> {
 
     /// Receives an RTP packet of any kind.
     #[inline(never)]
-    fn hear_packet(&mut self, now: Ticks, packet: RtpPacket<'_>) -> Result<Outcome, ReceiveError>
-        ensures heard { Heard now (kind_for self.old.stream self.old.ssrc (packet_of packet.entry)) self.old result self.new }
+    fn hear_packet(&mut self, now: Ticks, packet: &RtpPacket<'_>) -> Result<Outcome, ReceiveError>
+        ensures heard { Heard now (kind_for self.old.stream self.old.ssrc (packet_of packet.now)) self.old result self.new }
         ensures own { is_built_in_depacketizer self.old.packets.buffer.depacketizer ≡ false → OwnStores B.is_head B.is_tail self.old.packets.buffer self.new.packets.buffer }
     {
-        match self.stream.kind_of(self.ssrc, packet) {
+        match self.stream.kind_of(self.ssrc, *packet) {
             Ok(datagram) => self.hear_datagram(now, &datagram),
             Err(_) => Err(ReceiveError::OutOfMemory),
         }

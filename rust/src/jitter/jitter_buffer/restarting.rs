@@ -17,6 +17,7 @@ use alloc::vec::Vec;
 
 impl<B: Depacketizer> JitterBuffer<B> {
     /// Stores the packet that confirms a restart, and the suspect packet before it, if one was kept: both, or neither.
+    #[inline(never)]
     pub(super) fn restart_with(
         &mut self,
         number: u64,

@@ -5,27 +5,50 @@
 use super::{ReceiveError, Receiver, with_datagram};
 use crate::codec::Depacketizer;
 use crate::jitter::jitter_buffer::Outcome;
-use crate::rtp::packet::{RtpPacket, is_rtcp};
+use crate::rtp::packet::{RtpError, RtpPacket, is_rtcp};
 use crate::stream::answers::answer_for;
 use crate::stream::datagram::{Datagram, Malformation, observe, ssrc_after};
 use crate::wire::Ticks;
 
 impl<B: Depacketizer> Receiver<B> {
+    /// Does the same as [`Receiver::hear`] for callers that are rare.
+    #[inline(never)]
+    pub(super) fn hear_rarely(
+        &mut self,
+        now: Ticks,
+        bytes: &[u8],
+    ) -> Result<Outcome, ReceiveError> {
+        self.hear(now, bytes)
+    }
+
     /// Receives a datagram, by the SSRC of the stream. A packet with media is stored without a [`Datagram`], which is large.
+    #[inline(always)]
     pub(super) fn hear(&mut self, now: Ticks, bytes: &[u8]) -> Result<Outcome, ReceiveError> {
         if is_rtcp(bytes) {
-            return self.hear_datagram(now, &Datagram::Rtcp);
+            return self.hear_rtcp(now);
         }
-        match RtpPacket::parse(bytes) {
+        match &RtpPacket::parse(bytes) {
             Ok(packet) => {
-                if self.stream.is_media(self.ssrc, &packet) {
-                    self.hear_media(now, &packet)
+                if self.stream.is_media(self.ssrc, packet) {
+                    self.hear_media(now, packet)
                 } else {
                     self.hear_packet(now, packet)
                 }
             }
-            Err(fault) => self.hear_datagram(now, &Datagram::Malformed(Malformation::Rtp(fault))),
+            Err(fault) => self.hear_malformed(now, *fault),
         }
+    }
+
+    /// Receives an RTCP packet.
+    #[inline(never)]
+    fn hear_rtcp(&mut self, now: Ticks) -> Result<Outcome, ReceiveError> {
+        self.hear_datagram(now, &Datagram::Rtcp)
+    }
+
+    /// Receives a datagram that is no RTP packet.
+    #[inline(never)]
+    fn hear_malformed(&mut self, now: Ticks, fault: RtpError) -> Result<Outcome, ReceiveError> {
+        self.hear_datagram(now, &Datagram::Malformed(Malformation::Rtp(fault)))
     }
 
     /// Receives an RTP packet with media of the stream.
@@ -48,8 +71,8 @@ impl<B: Depacketizer> Receiver<B> {
 
     /// Receives an RTP packet of any kind.
     #[inline(never)]
-    fn hear_packet(&mut self, now: Ticks, packet: RtpPacket<'_>) -> Result<Outcome, ReceiveError> {
-        match self.stream.kind_of(self.ssrc, packet) {
+    fn hear_packet(&mut self, now: Ticks, packet: &RtpPacket<'_>) -> Result<Outcome, ReceiveError> {
+        match self.stream.kind_of(self.ssrc, *packet) {
             Ok(datagram) => self.hear_datagram(now, &datagram),
             Err(_) => Err(ReceiveError::OutOfMemory),
         }

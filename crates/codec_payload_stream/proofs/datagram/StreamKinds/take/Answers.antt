@@ -18,8 +18,8 @@ returns-clause-own g c = λ other.
           stores_then _ _ before w.take_media.new.packets.buffer after (w.in_ok-outcome-in-Media.ensures.own other)
           (stores_none _ _ w.take_media.new.packets.buffer after (ap (λ (x : Receiving). x.buffer) w.packets-is))
       | in-SentAgain+in_ok-outcome-in-SentAgain w ↦
-          stores_then _ _ before w.push_again.new.packets.buffer after (w.in_ok-outcome-in-SentAgain.ensures.own other)
-          (stores_none _ _ w.push_again.new.packets.buffer after (ap (λ (x : Receiving). x.buffer) w.packets-is))
+          stores_then _ _ before w.take_again.new.packets.buffer after (w.in_ok-outcome-in-SentAgain.ensures.own other)
+          (stores_none _ _ w.take_again.new.packets.buffer after (ap (λ (x : Receiving). x.buffer) w.packets-is))
       | in-Nothing w ↦ stores_none _ _ before after (ap (λ (x : Receiving). x.buffer) (w.packets-is ∙ w.push_nothing.ensures))
       | in-Rtcp w ↦ stores_none _ _ before after (ap (λ (x : Receiving). x.buffer) w.packets-is)
       | in-Rtcp-2 w ↦ stores_none _ _ before after (ap (λ (x : Receiving). x.buffer) w.packets-is)

@@ -13,4 +13,4 @@ returns-clause-own g c = λ other.
     let same : start ≡ before = elim c.if-is_some.branch [ then-is_some w ↦ search rules | else-is_some w ↦ search rules ] in
     let first = stores_none _ _ before start same in
     let second = stores_then _ _ before start mid first (c.settle_on.ensures.own (ap is_built_in_depacketizer first.stays ∙ other)) in
-    stores_then _ _ before mid c.hear.new.self.packets.buffer second (c.hear.ensures.own (ap is_built_in_depacketizer second.stays ∙ other))
+    stores_then _ _ before mid c.hear_rarely.new.self.packets.buffer second (c.hear_rarely.ensures.own (ap is_built_in_depacketizer second.stays ∙ other))
