@@ -154,32 +154,38 @@ fn hand_over(
     status::OK
 }
 
+/// A frame to packetize into the output.
+#[derive(Drop)]
+struct WholeFrame<'a> {
+    bytes: &'a [u8],
+    cut: &'a FrameCut,
+}
+
 /// Packetizes a frame and writes its packets to the output. If that fails, the packetizer is unchanged.
 #[tactic(auto, using(crate::proofs::FrameLemmas::built_in_after))]
 fn packetize_into(
     sender: &mut FrameSender,
-    alloc: Global,
-    cut: &FrameCut,
-    frame: &[u8],
+    frame: &WholeFrame<'_>,
     bytes: &mut [u8],
     packets: &mut [PlacedPacket],
     room: &mut FrameRoom,
 ) -> u32
-    ensures lays { LaysFrame sender.old cut.now frame.now result (record { before = bytes.old; bytes = bytes.new; told_before = packets.old; told = packets.new; room = room.new }) sender.new }
+    ensures lays { LaysFrame sender.old frame.now.cut.now frame.now.bytes.now result (record { before = bytes.old; bytes = bytes.new; told_before = packets.old; told = packets.new; room = room.new }) sender.new }
     ensures untouched { result ≢ 0 → (bytes.new ≡ bytes.old) × (packets.new ≡ packets.old) }
     ensures unchanged { result ≢ 0 → result ≢ 33 → room.new ≡ room.old }
 {
     let Some(before) = packetizer_as(&sender.packetizer) else {
         return status::INVALID;
     };
+    let alloc = *sender.packets.allocator();
     let cutting = sender
         .packetizer
-        .packetize_into(alloc, cut.mtu, frame, &mut sender.frame);
+        .packetize_into(alloc, frame.cut.mtu, frame.bytes, &mut sender.frame);
     if let Err(fault) = cutting {
         sender.packetizer = before;
         return u32::from(fault.number());
     }
-    let answer = hand_over(sender, cut, bytes, packets, room);
+    let answer = hand_over(sender, frame.cut, bytes, packets, room);
     if answer != status::OK {
         sender.packetizer = before;
     }
@@ -205,10 +211,9 @@ pub extern "C" fn cpay_packetize_into(
     let Some(mut object) = handle.take(alloc) else {
         return status::EMPTY;
     };
+    let frame = WholeFrame { bytes: frame, cut };
     let answer = match &mut *object {
-        Object::FrameSender(sender) => {
-            packetize_into(sender, alloc, cut, frame, bytes, packets, room)
-        }
+        Object::FrameSender(sender) => packetize_into(sender, &frame, bytes, packets, room),
         _ => status::OTHER_KIND,
     };
     handle.put(object);

@@ -29,7 +29,6 @@ pub struct PacketInfo {
 /// Packetizes a frame. Packets of the previous frame that were not fetched are discarded.
 fn packetize(
     sender: &mut FrameSender,
-    alloc: Global,
     mtu: usize,
     starts_talk_spurt: bool,
     frame: &[u8],
@@ -38,6 +37,7 @@ fn packetize(
     ensures cuts { CutsFrame sender.old mtu starts_talk_spurt frame.now result count.new sender.new }
     ensures unchanged { result ≢ 0 → count.new ≡ count.old }
 {
+    let alloc = *sender.packets.allocator();
     match sender.packetizer.packetize(alloc, mtu, frame) {
         Ok(packets) => {
             *count = packets.len();
@@ -125,14 +125,7 @@ pub extern "C" fn cpay_packetize(
         return status::EMPTY;
     };
     let answer = match &mut *object {
-        Object::FrameSender(sender) => packetize(
-            sender,
-            alloc,
-            mtu,
-            starts_talk_spurt,
-            frame,
-            count,
-        ),
+        Object::FrameSender(sender) => packetize(sender, mtu, starts_talk_spurt, frame, count),
         _ => status::OTHER_KIND,
     };
     handle.put(object);

@@ -28,28 +28,35 @@ fn sync(sender: &mut RedSender, red_pt: u8, primary_pt: u8, distances: &[u32]) -
     status::OK
 }
 
+/// A payload to put in RED.
+#[derive(Drop)]
+struct Media<'a> {
+    rtp_time: u32,
+    /// The most bytes that the RED payload may have.
+    budget: usize,
+    payload: &'a [u8],
+}
+
 /// Writes the RED payload of a payload to the output buffer, which must be large enough for any answer.
 fn wrap(
     sender: &mut RedSender,
     alloc: Global,
-    rtp_time: u32,
-    budget: usize,
-    payload: &[u8],
+    media: &Media<'_>,
     bytes: &mut [u8],
     size: &mut usize,
 ) -> u32
-    ensures wraps { Wraps sender.old rtp_time budget payload.now result bytes.old bytes.new size.new sender.new }
+    ensures wraps { Wraps sender.old media.now.rtp_time media.now.budget media.now.payload.now result bytes.old bytes.new size.new sender.new }
     ensures same_size { result ≢ 0 → result ≢ 33 → size.new ≡ size.old }
 {
-    let room = budget.max(payload.len());
+    let room = media.budget.max(media.payload.len());
     if bytes.len() < room {
         *size = room;
         return status::TOO_SMALL;
     }
-    let Ok(media) = Vec::from_slice(alloc, payload) else {
+    let Ok(payload) = Vec::from_slice(alloc, media.payload) else {
         return status::OUT_OF_MEMORY;
     };
-    match sender.wrap(media, rtp_time, budget) {
+    match sender.wrap(payload, media.rtp_time, media.budget) {
         Ok(wrapped) => {
             *size = wrapped.len();
             fill(bytes, &wrapped);
@@ -137,8 +144,13 @@ pub extern "C" fn cpay_red_wrap(
     let Some(mut object) = handle.take(alloc) else {
         return status::EMPTY;
     };
+    let media = Media {
+        rtp_time,
+        budget,
+        payload,
+    };
     let answer = match &mut *object {
-        Object::RedSender(sender) => wrap(sender, alloc, rtp_time, budget, payload, bytes, size),
+        Object::RedSender(sender) => wrap(sender, alloc, &media, bytes, size),
         _ => status::OTHER_KIND,
     };
     handle.put(object);

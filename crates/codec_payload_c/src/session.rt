@@ -1,6 +1,7 @@
 //! Sessions: the datagrams of a port in, the events of its streams out.
 
 ghost use Rattle.std.specs.Prelude.{◌≡◌, ◌≢◌, length, nat_le, Option};
+ghost use Rattle.codec_payload_core.specs.Faults.{fault_number};
 ghost use Rattle.codec_payload_session.specs.Ports.{ends_all, ends_of};
 ghost use Rattle.codec_payload_session.specs.Reporting.{report_deadline};
 ghost use Rattle.codec_payload_session.specs.Streams.{due_in, earlier};
@@ -9,6 +10,7 @@ ghost use Rattle.codec_payload_c.specs.SessionFormats.{IsPortSessionOf, is_in_ra
 ghost use Rattle.codec_payload_c.specs.Sessions.{Comes, Hands, PollsEvent, ReceivesDatagram, TellsArrival, TellsEvent, TellsJudgedBy, arrived_as, bytes_in, ending_number, event_with, is_no_memory, latest_unit, popped_or, telephone_unit};
 ghost use Rattle.codec_payload_c.specs.StreamReceivers.{TellsNumber, TellsTaken};
 ghost use Rattle.codec_payload_handle.specs.Kinds.{Makes, OnPortSession, Refuses, is_port_session};
+ghost use Rattle.codec_payload_handle.specs.Units.{no_unit};
 
 use crate::receiver::report_answer;
 use crate::session_settings::{SessionFormat, SessionSettings, SsrcPair, session_by};
@@ -170,42 +172,58 @@ fn telephone_unit(rtp_time: u32, marker: bool, payload: &[u8]) -> Unit
     }
 }
 
+/// Returns an event of a stream without a unit, an error or a reason to end.
+fn event_without_unit(kind: u32, ssrc: u32, payload_type: u8) -> Event
+    ensures { result ≡ event_with kind ssrc payload_type no_unit }
+{
+    event_with(kind, ssrc, payload_type, no_unit())
+}
+
+/// Returns the event of a refused frame.
+fn refused_event(ssrc: u32, payload_type: u8, fault: &PacketError) -> Event
+    ensures { result ≡ record (event_with 2 ssrc payload_type no_unit) { status = fault_number fault.now } }
+{
+    Event {
+        status: u32::from(fault.number()),
+        ..event_without_unit(2, ssrc, payload_type)
+    }
+}
+
+/// Returns the event of an RTCP packet to send, which has these bytes.
+fn packet_event(kind: u32, ssrc: u32, payload_type: u8, packet: &[u8]) -> Event
+    ensures { result ≡ record (event_with kind ssrc payload_type no_unit) { bytes = length packet.now } }
+{
+    Event {
+        bytes: packet.len(),
+        ..event_without_unit(kind, ssrc, payload_type)
+    }
+}
+
 /// Describes an event for C.
 fn event_of(event: &SessionEvent) -> Event
     ensures { TellsEvent event.now result }
 {
     match event {
-        SessionEvent::Begun { ssrc, payload_type } => {
-            event_with(0, *ssrc, *payload_type, no_unit())
-        }
+        SessionEvent::Begun { ssrc, payload_type } => event_without_unit(0, *ssrc, *payload_type),
         SessionEvent::Unit {
             ssrc,
             payload_type,
             rtp_time,
             decodable,
             keyframe,
-            unit: Ok(unit),
-        } => {
-            let unit = judged_unit(unit, *rtp_time, *decodable, *keyframe);
-            event_with(1, *ssrc, *payload_type, unit)
-        }
-        SessionEvent::Unit {
-            ssrc,
-            payload_type,
-            unit: Err(fault),
-            ..
-        } => Event {
-            status: u32::from(fault.number()),
-            ..event_with(2, *ssrc, *payload_type, no_unit())
+            unit,
+        } => match unit {
+            Ok(unit) => {
+                let unit = judged_unit(unit, *rtp_time, *decodable, *keyframe);
+                event_with(1, *ssrc, *payload_type, unit)
+            }
+            Err(fault) => refused_event(*ssrc, *payload_type, fault),
         },
         SessionEvent::Feedback {
             ssrc,
             payload_type,
             ..
-        } => Event {
-            bytes: bytes_of(event).len(),
-            ..event_with(4, *ssrc, *payload_type, no_unit())
-        },
+        } => packet_event(4, *ssrc, *payload_type, bytes_of(event)),
         SessionEvent::Telephone {
             ssrc,
             payload_type,
@@ -216,17 +234,14 @@ fn event_of(event: &SessionEvent) -> Event
             let unit = telephone_unit(*rtp_time, *marker, payload);
             event_with(6, *ssrc, *payload_type, unit)
         }
-        SessionEvent::Report { .. } => Event {
-            bytes: bytes_of(event).len(),
-            ..event_with(5, 0, 0, no_unit())
-        },
+        SessionEvent::Report { .. } => packet_event(5, 0, 0, bytes_of(event)),
         SessionEvent::Ended {
             ssrc,
             payload_type,
             why,
         } => Event {
             why: number_of(*why),
-            ..event_with(3, *ssrc, *payload_type, no_unit())
+            ..event_without_unit(3, *ssrc, *payload_type)
         },
     }
 }
