@@ -15,6 +15,7 @@ pub mod receiver;
 #[doc(hidden)]
 pub mod reports;
 mod seen_times;
+mod storing;
 mod unit_times;
 #[doc(hidden)]
 pub mod windows;

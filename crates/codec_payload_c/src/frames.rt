@@ -155,6 +155,7 @@ fn hand_over(
 }
 
 /// A frame to packetize into the output.
+#[derive(Drop)]
 struct WholeFrame<'a> {
     bytes: &'a [u8],
     cut: &'a FrameCut,

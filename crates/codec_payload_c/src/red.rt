@@ -29,6 +29,7 @@ fn sync(sender: &mut RedSender, red_pt: u8, primary_pt: u8, distances: &[u32]) -
 }
 
 /// A payload to put in RED.
+#[derive(Drop)]
 struct Media<'a> {
     rtp_time: u32,
     /// The most bytes that the RED payload may have.

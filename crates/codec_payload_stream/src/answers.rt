@@ -5,8 +5,9 @@ ghost use Rattle.codec_payload_stream.specs.Kinds.{datagram_of};
 ghost use Rattle.codec_payload_stream.specs.Sessions.{AnswersFor, error_of};
 ghost use Rattle.codec_payload_stream.specs.declared.receiver.ReceiveError.TheVariants as errors;
 
-use crate::datagram::{Datagram, Malformation, Taken};
+use crate::datagram::{Datagram, Malformation};
 use crate::receiver::ReceiveError;
+use crate::storing::Taken;
 use codec_payload_jitter::jitter::Outcome;
 
 /// Returns whether memory ran out.

@@ -109,7 +109,6 @@ fn do_history_step<P: Packetizer, D: Depacketizer>(
         HistoryStep::Plain(step) => {
             let sent = run.run.datagrams.len();
             do_step(
-                alloc,
                 &mut link.sender,
                 &mut link.receiver,
                 samples,

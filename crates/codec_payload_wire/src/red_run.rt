@@ -99,7 +99,6 @@ fn do_red_step<P: Packetizer, D: Depacketizer>(
         _ => {
             let sent = run.run.datagrams.len();
             do_step(
-                alloc,
                 &mut link.sender,
                 &mut link.receiver,
                 samples,

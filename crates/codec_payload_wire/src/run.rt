@@ -91,7 +91,7 @@ pub fn run_datagrams<P: Packetizer, D: Depacketizer>(
 {
     let mut run = no_results(alloc);
     for step in steps {
-        do_step(alloc, sender, receiver, samples, *step, &mut run)?;
+        do_step(sender, receiver, samples, *step, &mut run)?;
     }
     Ok(run)
 }
@@ -113,7 +113,6 @@ pub(crate) fn no_results(alloc: Global) -> DatagramRun
 
 /// Executes one step, and records its result.
 pub(crate) fn do_step<P: Packetizer, D: Depacketizer>(
-    alloc: Global,
     sender: &mut Sender<P>,
     receiver: &mut Receiver<D>,
     samples: &[ToPayload],
@@ -132,6 +131,7 @@ pub(crate) fn do_step<P: Packetizer, D: Depacketizer>(
                 return Ok(());
             };
             run.sends.reserve(1)?;
+            let alloc = *run.sends.allocator();
             let entry = send_step(alloc, sender, sample, &mut run.datagrams)?;
             run.sends.push(entry).unwrap();
             Ok(())

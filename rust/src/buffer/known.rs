@@ -19,15 +19,7 @@ pub struct PackedMeta {
     time: MediaTime,
     seq_no: SeqNo,
     rare: Option<One<Rare>>,
-    timestamp: u32,
-    ssrc: u32,
-    sequence_number: u16,
-    payload_type: Pt,
-    marker: bool,
-    video_orientation: Option<u8>,
-    video_content_type: Option<u8>,
-    audio_level: Option<i8>,
-    voice_activity: Option<bool>,
+    plain: PlainHeader,
 }
 
 /// Packed metadata have at most 72 bytes, without rare values.
@@ -40,6 +32,84 @@ pub(super) struct Rare {
     pub(super) video_timing: Option<VideoTiming>,
     layers_allocation: Option<One<VideoLayersAllocation>>,
     last_sender_info: Option<SenderInfo>,
+}
+
+/// What a header says besides the rare values of its extensions.
+#[derive(Clone, Copy, Debug)]
+pub(super) struct PlainHeader {
+    pub(super) timestamp: u32,
+    pub(super) ssrc: u32,
+    pub(super) sequence_number: u16,
+    pub(super) payload_type: Pt,
+    pub(super) marker: bool,
+    pub(super) video_orientation: Option<u8>,
+    pub(super) video_content_type: Option<u8>,
+    pub(super) audio_level: Option<i8>,
+    pub(super) voice_activity: Option<bool>,
+}
+
+impl PlainHeader {
+    /// Returns the header without the rare values.
+    #[inline(always)]
+    pub(super) fn of(header: &RtpHeader) -> Self {
+        let values = &header.ext_vals;
+        PlainHeader {
+            timestamp: header.timestamp,
+            ssrc: header.ssrc,
+            sequence_number: header.sequence_number,
+            payload_type: header.payload_type,
+            marker: header.marker,
+            video_orientation: values.video_orientation,
+            video_content_type: values.video_content_type,
+            audio_level: values.audio_level,
+            voice_activity: values.voice_activity,
+        }
+    }
+
+    /// Returns the values of header extensions, if none is rare.
+    #[inline(always)]
+    fn values(&self) -> ExtensionValues {
+        ExtensionValues {
+            abs_capture_time: None,
+            video_orientation: self.video_orientation,
+            video_content_type: self.video_content_type,
+            video_timing: None,
+            layers_allocation: None,
+            audio_level: self.audio_level,
+            voice_activity: self.voice_activity,
+        }
+    }
+
+    /// Returns the values of header extensions, with these rare ones.
+    fn values_with(&self, rare: &Rare) -> ExtensionValues {
+        ExtensionValues {
+            abs_capture_time: rare.abs_capture_time,
+            video_timing: rare.video_timing,
+            layers_allocation: rare.layers(),
+            ..self.values()
+        }
+    }
+
+    /// Returns the values of header extensions, with the rare ones if there are any.
+    pub(super) fn all_values(&self, rare: &Option<One<Rare>>) -> ExtensionValues {
+        match rare {
+            Some(rare) => self.values_with(rare),
+            None => self.values(),
+        }
+    }
+
+    /// Returns the header with these values.
+    #[inline(always)]
+    pub(super) fn with(&self, values: ExtensionValues) -> RtpHeader {
+        RtpHeader {
+            payload_type: self.payload_type,
+            sequence_number: self.sequence_number,
+            timestamp: self.timestamp,
+            ssrc: self.ssrc,
+            marker: self.marker,
+            ext_vals: values,
+        }
+    }
 }
 
 /// Returns whether none of the values is rare.
@@ -100,22 +170,13 @@ impl PackedMeta {
     #[inline(always)]
     pub fn of(meta: &RtpMeta) -> Result<Self, AllocError> {
         let header = &meta.header;
-        let values = &header.ext_vals;
-        let rare = Rare::of(values, &meta.last_sender_info)?;
+        let rare = Rare::of(&header.ext_vals, &meta.last_sender_info)?;
         Ok(PackedMeta {
             received: meta.received,
             time: meta.time,
             seq_no: meta.seq_no,
             rare,
-            timestamp: header.timestamp,
-            ssrc: header.ssrc,
-            sequence_number: header.sequence_number,
-            payload_type: header.payload_type,
-            marker: header.marker,
-            video_orientation: values.video_orientation,
-            video_content_type: values.video_content_type,
-            audio_level: values.audio_level,
-            voice_activity: values.voice_activity,
+            plain: PlainHeader::of(header),
         })
     }
 
@@ -127,15 +188,7 @@ impl PackedMeta {
             time,
             seq_no,
             rare: without_sender_info(header.rare),
-            timestamp: header.timestamp,
-            ssrc: header.ssrc,
-            sequence_number: header.sequence_number,
-            payload_type: header.payload_type,
-            marker: header.marker,
-            video_orientation: header.video_orientation,
-            video_content_type: header.video_content_type,
-            audio_level: header.audio_level,
-            voice_activity: header.voice_activity,
+            plain: header.plain,
         }
     }
 
@@ -154,7 +207,7 @@ impl PackedMeta {
     /// Returns the marker bit.
     #[inline(always)]
     pub(super) fn marker(&self) -> bool {
-        self.marker
+        self.plain.marker
     }
 
     /// Returns the RTP time.
@@ -177,15 +230,7 @@ impl PackedMeta {
             time: self.time,
             seq_no: self.seq_no,
             rare: self.rare.take(),
-            timestamp: self.timestamp,
-            ssrc: self.ssrc,
-            sequence_number: self.sequence_number,
-            payload_type: self.payload_type,
-            marker: self.marker,
-            video_orientation: self.video_orientation,
-            video_content_type: self.video_content_type,
-            audio_level: self.audio_level,
-            voice_activity: self.voice_activity,
+            plain: self.plain,
         }
     }
 
@@ -204,23 +249,20 @@ impl PackedMeta {
     /// Returns the metadata without rare values.
     #[inline(always)]
     pub(super) fn plain_meta(&self) -> RtpMeta {
-        self.meta_with(self.plain_values(), None)
+        self.meta_with(self.plain.values(), None)
     }
 
     /// Returns the metadata of the packet, as users see it.
     pub fn meta(&self) -> RtpMeta {
         match &self.rare {
-            Some(rare) => self.meta_with(self.values_with(rare), rare.last_sender_info),
+            Some(rare) => self.meta_with(self.plain.values_with(rare), rare.last_sender_info),
             None => self.plain_meta(),
         }
     }
 
     /// Returns the values of its header extensions.
     pub(super) fn values(&self) -> ExtensionValues {
-        match &self.rare {
-            Some(rare) => self.values_with(rare),
-            None => self.plain_values(),
-        }
+        self.plain.all_values(&self.rare)
     }
 
     /// Returns the values of the latest sender report before the packet.
@@ -238,39 +280,8 @@ impl PackedMeta {
             received: self.received,
             time: self.time,
             seq_no: self.seq_no,
-            header: RtpHeader {
-                payload_type: self.payload_type,
-                sequence_number: self.sequence_number,
-                timestamp: self.timestamp,
-                ssrc: self.ssrc,
-                marker: self.marker,
-                ext_vals: values,
-            },
+            header: self.plain.with(values),
             last_sender_info,
-        }
-    }
-
-    /// Returns the values of its header extensions that are not rare.
-    #[inline(always)]
-    fn plain_values(&self) -> ExtensionValues {
-        ExtensionValues {
-            abs_capture_time: None,
-            video_orientation: self.video_orientation,
-            video_content_type: self.video_content_type,
-            video_timing: None,
-            layers_allocation: None,
-            audio_level: self.audio_level,
-            voice_activity: self.voice_activity,
-        }
-    }
-
-    /// Returns the values of its header extensions, with these rare ones.
-    fn values_with(&self, rare: &Rare) -> ExtensionValues {
-        ExtensionValues {
-            abs_capture_time: rare.abs_capture_time,
-            video_timing: rare.video_timing,
-            layers_allocation: rare.layers(),
-            ..self.plain_values()
         }
     }
 }

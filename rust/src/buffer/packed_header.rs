@@ -2,9 +2,9 @@
 
 //! The header of a packet, packed.
 
-use super::known::Rare;
+use super::known::{PlainHeader, Rare};
 use crate::memory::{AllocError, One};
-use crate::wire::{ExtensionValues, Pt, RtpHeader};
+use crate::wire::{Pt, RtpHeader};
 use core::mem::size_of;
 
 /// The header of a packet in 40 bytes; an [`RtpHeader`] has more than 300. Rare values of header extensions (a capture time, a
@@ -12,15 +12,7 @@ use core::mem::size_of;
 #[derive(Debug)]
 pub struct PackedHeader {
     pub(super) rare: Option<One<Rare>>,
-    pub(super) timestamp: u32,
-    pub(super) ssrc: u32,
-    pub(super) sequence_number: u16,
-    pub(super) payload_type: Pt,
-    pub(super) marker: bool,
-    pub(super) video_orientation: Option<u8>,
-    pub(super) video_content_type: Option<u8>,
-    pub(super) audio_level: Option<i8>,
-    pub(super) voice_activity: Option<bool>,
+    pub(super) plain: PlainHeader,
 }
 
 /// A packed header has at most 40 bytes, without rare values.
@@ -30,19 +22,10 @@ impl PackedHeader {
     /// Packs a header. Allocates only for rare values.
     #[inline(always)]
     pub fn new(header: &RtpHeader) -> Result<Self, AllocError> {
-        let values = &header.ext_vals;
-        let rare = Rare::of(values, &None)?;
+        let rare = Rare::of(&header.ext_vals, &None)?;
         Ok(PackedHeader {
             rare,
-            timestamp: header.timestamp,
-            ssrc: header.ssrc,
-            sequence_number: header.sequence_number,
-            payload_type: header.payload_type,
-            marker: header.marker,
-            video_orientation: values.video_orientation,
-            video_content_type: values.video_content_type,
-            audio_level: values.audio_level,
-            voice_activity: values.voice_activity,
+            plain: PlainHeader::of(header),
         })
     }
 
@@ -57,65 +40,34 @@ impl PackedHeader {
     ) -> Self {
         PackedHeader {
             rare: None,
-            timestamp,
-            ssrc,
-            sequence_number,
-            payload_type,
-            marker,
-            video_orientation: None,
-            video_content_type: None,
-            audio_level: None,
-            voice_activity: None,
+            plain: PlainHeader {
+                timestamp,
+                ssrc,
+                sequence_number,
+                payload_type,
+                marker,
+                video_orientation: None,
+                video_content_type: None,
+                audio_level: None,
+                voice_activity: None,
+            },
         }
     }
 
     /// Returns the sequence number.
     #[inline(always)]
     pub fn sequence_number(&self) -> u16 {
-        self.sequence_number
+        self.plain.sequence_number
     }
 
     /// Returns the RTP time.
     #[inline(always)]
     pub fn timestamp(&self) -> u32 {
-        self.timestamp
+        self.plain.timestamp
     }
 
     /// Returns the header as an [`RtpHeader`].
     pub fn header(&self) -> RtpHeader {
-        RtpHeader {
-            payload_type: self.payload_type,
-            sequence_number: self.sequence_number,
-            timestamp: self.timestamp,
-            ssrc: self.ssrc,
-            marker: self.marker,
-            ext_vals: match &self.rare {
-                Some(rare) => self.values_with(rare),
-                None => self.plain_values(),
-            },
-        }
-    }
-
-    /// Returns the values of its header extensions that are not rare.
-    fn plain_values(&self) -> ExtensionValues {
-        ExtensionValues {
-            abs_capture_time: None,
-            video_orientation: self.video_orientation,
-            video_content_type: self.video_content_type,
-            video_timing: None,
-            layers_allocation: None,
-            audio_level: self.audio_level,
-            voice_activity: self.voice_activity,
-        }
-    }
-
-    /// Returns the values of its header extensions, with these rare ones.
-    fn values_with(&self, rare: &Rare) -> ExtensionValues {
-        ExtensionValues {
-            abs_capture_time: rare.abs_capture_time,
-            video_timing: rare.video_timing,
-            layers_allocation: rare.layers(),
-            ..self.plain_values()
-        }
+        self.plain.with(self.plain.all_values(&self.rare))
     }
 }

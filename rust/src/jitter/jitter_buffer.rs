@@ -141,9 +141,7 @@ impl<B: Depacketizer> JitterBuffer<B> {
     ) -> Result<Outcome, PacketError> {
         let low = header.sequence_number();
         let answer = self.answer_to_packet(&header);
-        let mut numbers = self.numbers;
-        numbers.take(answer, low);
-        let lowest = lowest_with(self.lowest, answer);
+        let (numbers, lowest) = self.extended(answer, low);
         let packet = KeptPacket {
             received: now,
             header,
@@ -163,9 +161,7 @@ impl<B: Depacketizer> JitterBuffer<B> {
     /// `OutOfMemory`: nothing has changed.
     pub fn push_no_media(&mut self, low: u16) -> Result<(), PacketError> {
         let answer = self.answer_to(low);
-        let mut numbers = self.numbers;
-        numbers.take(answer, low);
-        let lowest = lowest_with(self.lowest, answer);
+        let (numbers, lowest) = self.extended(answer, low);
         self.note_as(answer)?;
         self.set_numbers(numbers, lowest);
         Ok(())
@@ -189,9 +185,7 @@ impl<B: Depacketizer> JitterBuffer<B> {
             return Ok(Outcome::Late);
         };
         let answer = Extended::Number(number);
-        let mut numbers = self.numbers;
-        numbers.take(answer, low);
-        let lowest = lowest_with(self.lowest, answer);
+        let (numbers, lowest) = self.extended(answer, low);
         let packet = KeptPacket {
             received: now,
             header: PackedHeader::new(&header)?,
@@ -225,9 +219,7 @@ impl<B: Depacketizer> JitterBuffer<B> {
             return Ok(false);
         }
         let answer = Extended::Number(number);
-        let mut numbers = self.numbers;
-        numbers.take(answer, low);
-        let lowest = lowest_with(self.lowest, answer);
+        let (numbers, lowest) = self.extended(answer, low);
         let packet = KeptPacket {
             received: now,
             header: PackedHeader::new(&header)?,
@@ -432,6 +424,14 @@ impl<B: Depacketizer> JitterBuffer<B> {
     fn may_recover(&self, number: u64) -> bool {
         is_stored(outcome_in(&self.buffer, SeqNo(number)))
             && !is_noted(&self.no_media_numbers, number)
+    }
+
+    /// Returns the numbering and the lowest number after a packet with the low bits `low` and this answer.
+    #[inline(always)]
+    fn extended(&self, answer: Extended, low: u16) -> (SequenceNumbers, Option<u64>) {
+        let mut numbers = self.numbers;
+        numbers.take(answer, low);
+        (numbers, lowest_with(self.lowest, answer))
     }
 
     /// Replaces the numbering and the lowest number.

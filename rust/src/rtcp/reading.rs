@@ -174,6 +174,44 @@ fn are_some(size: usize, bytes: &[u8]) -> bool {
     !bytes.is_empty() && bytes.len() % size == 0
 }
 
+/// Reads a generic NACK.
+fn read_nack(body: &[u8]) -> Result<RtcpPacket<'_>, RtcpError> {
+    let feedback = read_feedback(body)?;
+    if !are_some(4, feedback.fci) {
+        return Err(RtcpError::NackWrongLength);
+    }
+    Ok(RtcpPacket::Nack(Nack {
+        sender_ssrc: feedback.sender_ssrc,
+        media_ssrc: feedback.media_ssrc,
+        pairs: feedback.fci,
+    }))
+}
+
+/// Reads a picture loss indication.
+fn read_picture_loss(body: &[u8]) -> Result<RtcpPacket<'_>, RtcpError> {
+    let feedback = read_feedback(body)?;
+    if !feedback.fci.is_empty() {
+        return Err(RtcpError::PictureLossWrongLength);
+    }
+    Ok(RtcpPacket::PictureLoss(PictureLoss {
+        sender_ssrc: feedback.sender_ssrc,
+        media_ssrc: feedback.media_ssrc,
+    }))
+}
+
+/// Reads a full intra request.
+fn read_full_intra(body: &[u8]) -> Result<RtcpPacket<'_>, RtcpError> {
+    let feedback = read_feedback(body)?;
+    if !are_some(8, feedback.fci) {
+        return Err(RtcpError::FullIntraWrongLength);
+    }
+    Ok(RtcpPacket::FullIntra(FullIntraRequest {
+        sender_ssrc: feedback.sender_ssrc,
+        media_ssrc: feedback.media_ssrc,
+        entries: feedback.fci,
+    }))
+}
+
 /// A packet of that kind.
 fn read_body<'a>(
     kind: PacketKind,
@@ -198,38 +236,9 @@ fn read_body<'a>(
             let goodbye = read_goodbye(count, body)?;
             Ok(RtcpPacket::Goodbye(goodbye))
         }
-        PacketKind::Nack => {
-            let feedback = read_feedback(body)?;
-            if !are_some(4, feedback.fci) {
-                return Err(RtcpError::NackWrongLength);
-            }
-            Ok(RtcpPacket::Nack(Nack {
-                sender_ssrc: feedback.sender_ssrc,
-                media_ssrc: feedback.media_ssrc,
-                pairs: feedback.fci,
-            }))
-        }
-        PacketKind::PictureLoss => {
-            let feedback = read_feedback(body)?;
-            if !feedback.fci.is_empty() {
-                return Err(RtcpError::PictureLossWrongLength);
-            }
-            Ok(RtcpPacket::PictureLoss(PictureLoss {
-                sender_ssrc: feedback.sender_ssrc,
-                media_ssrc: feedback.media_ssrc,
-            }))
-        }
-        PacketKind::FullIntra => {
-            let feedback = read_feedback(body)?;
-            if !are_some(8, feedback.fci) {
-                return Err(RtcpError::FullIntraWrongLength);
-            }
-            Ok(RtcpPacket::FullIntra(FullIntraRequest {
-                sender_ssrc: feedback.sender_ssrc,
-                media_ssrc: feedback.media_ssrc,
-                entries: feedback.fci,
-            }))
-        }
+        PacketKind::Nack => read_nack(body),
+        PacketKind::PictureLoss => read_picture_loss(body),
+        PacketKind::FullIntra => read_full_intra(body),
         PacketKind::Other => Ok(RtcpPacket::Other(OtherPacket {
             packet_type,
             count,

@@ -3,8 +3,9 @@
 //! The answer of a receiver to a datagram.
 
 use crate::jitter::jitter_buffer::Outcome;
-use crate::stream::datagram::{Datagram, Malformation, Taken};
+use crate::stream::datagram::{Datagram, Malformation};
 use crate::stream::receiver::ReceiveError;
+use crate::stream::storing::Taken;
 
 /// Returns whether memory ran out.
 pub(crate) fn is_out_of_memory(answer: &Result<Outcome, ReceiveError>) -> bool {

@@ -20,7 +20,7 @@ use crate::rtp::values::ExtensionIds;
 use crate::stream::answers::is_out_of_memory;
 use crate::stream::checks::{packets_at_once, red_of, retransmission_fits};
 use crate::stream::choice::{Choice, Origin, Verdict};
-use crate::stream::datagram::{Datagram, StreamKinds};
+use crate::stream::datagram::{Datagram, RedStream, StreamKinds};
 use crate::stream::gated::{follow, follow_into, gate_for};
 use crate::stream::reports::{ReceptionReport, ReceptionStatistics};
 use crate::stream::seen_times::LazySeenTimes;
@@ -243,11 +243,20 @@ impl<B: Depacketizer> Receiver<B> {
             return Err(SettingsError::RetransmissionPayloadType);
         }
         let red = red_of(settings.payload_type, settings.red)?;
-        let numbers = match SequenceNumbers::with_windows(settings.forward, settings.backward) {
-            Ok(numbers) => numbers,
-            Err(WindowError::Forward) => return Err(SettingsError::Forward),
-            Err(WindowError::Backward) => return Err(SettingsError::Backward),
-        };
+        match SequenceNumbers::with_windows(settings.forward, settings.backward) {
+            Ok(numbers) => Ok(Receiver::over(depacketizer, settings, red, numbers)),
+            Err(WindowError::Forward) => Err(SettingsError::Forward),
+            Err(WindowError::Backward) => Err(SettingsError::Backward),
+        }
+    }
+
+    /// Creates a receiver for settings in range, with this use of RED and these numbers.
+    fn over(
+        depacketizer: CodecDepacketizer<B>,
+        settings: ReceiverSettings,
+        red: Option<RedStream>,
+        numbers: SequenceNumbers,
+    ) -> Self {
         let clock_rate = settings.clock_rate;
         let statistics = ReceptionStatistics::over(numbers, settings.tick_rate, clock_rate);
         let choice = Choice::over(settings.tick_rate);
@@ -260,7 +269,7 @@ impl<B: Depacketizer> Receiver<B> {
         );
         let packets = JitterBuffer::over(numbers, buffer, clock_rate, wait_limits);
         let at_once = packets_at_once(&red);
-        Ok(Receiver {
+        Receiver {
             stream: StreamKinds {
                 payload_type: settings.payload_type,
                 no_media: settings.no_media,
@@ -277,7 +286,7 @@ impl<B: Depacketizer> Receiver<B> {
             choice,
             seen: LazySeenTimes::none(),
             gates,
-        })
+        }
     }
 
     /// Receives a datagram at time `now`, and returns its outcome. Any bytes are accepted.

@@ -2,7 +2,7 @@
 
 ghost use Rattle.std.specs.Prelude.{◌≡◌, IfOk, IsOk, IsTrue, Option, true};
 ghost use Rattle.std.specs.Option.{option_map};
-ghost use Rattle.codec_payload_buffer.specs.Rare.{are_plain, capture_of, timing_of, layers_of, plain_meta, sender_info_of};
+ghost use Rattle.codec_payload_buffer.specs.Rare.{are_plain, capture_of, header_with, layers_of, plain_meta, plain_of, sender_info_of, timing_of, values_with};
 
 use super::packed_header::PackedHeader;
 use super::unit::RtpMeta;
@@ -22,15 +22,7 @@ pub struct PackedMeta {
     time: MediaTime,
     seq_no: SeqNo,
     rare: Option<Box<Rare>>,
-    timestamp: u32,
-    ssrc: u32,
-    sequence_number: u16,
-    payload_type: Pt,
-    marker: bool,
-    video_orientation: Option<u8>,
-    video_content_type: Option<u8>,
-    audio_level: Option<i8>,
-    voice_activity: Option<bool>,
+    plain: PlainHeader,
 }
 
 /// Packed metadata have at most 72 bytes, without rare values.
@@ -43,6 +35,94 @@ pub(super) struct Rare {
     pub(super) video_timing: Option<VideoTiming>,
     layers_allocation: Option<Box<VideoLayersAllocation>>,
     last_sender_info: Option<SenderInfo>,
+}
+
+/// What a header says besides the rare values of its extensions.
+#[derive(Clone, Copy, Debug)]
+pub(super) struct PlainHeader {
+    pub(super) timestamp: u32,
+    pub(super) ssrc: u32,
+    pub(super) sequence_number: u16,
+    pub(super) payload_type: Pt,
+    pub(super) marker: bool,
+    pub(super) video_orientation: Option<u8>,
+    pub(super) video_content_type: Option<u8>,
+    pub(super) audio_level: Option<i8>,
+    pub(super) voice_activity: Option<bool>,
+}
+
+impl PlainHeader {
+    /// Returns the header without the rare values.
+    #[inline(always)]
+    pub(super) fn of(header: &RtpHeader) -> Self
+        ensures { result ≡ plain_of header.now }
+    {
+        let values = &header.ext_vals;
+        PlainHeader {
+            timestamp: header.timestamp,
+            ssrc: header.ssrc,
+            sequence_number: header.sequence_number,
+            payload_type: header.payload_type,
+            marker: header.marker,
+            video_orientation: values.video_orientation,
+            video_content_type: values.video_content_type,
+            audio_level: values.audio_level,
+            voice_activity: values.voice_activity,
+        }
+    }
+
+    /// Returns the values of header extensions, if none is rare.
+    #[inline(always)]
+    fn values(&self) -> ExtensionValues
+        ensures { result ≡ values_with self.now Option.None }
+    {
+        ExtensionValues {
+            abs_capture_time: None,
+            video_orientation: self.video_orientation,
+            video_content_type: self.video_content_type,
+            video_timing: None,
+            layers_allocation: None,
+            audio_level: self.audio_level,
+            voice_activity: self.voice_activity,
+        }
+    }
+
+    /// Returns the values of header extensions, with these rare ones.
+    fn values_with(&self, rare: &Rare) -> ExtensionValues
+        ensures { result ≡ values_with self.now (Option.Some rare.now) }
+    {
+        ExtensionValues {
+            abs_capture_time: rare.abs_capture_time,
+            video_timing: rare.video_timing,
+            layers_allocation: rare.layers(),
+            ..self.values()
+        }
+    }
+
+    /// Returns the values of header extensions, with the rare ones if there are any.
+    pub(super) fn all_values(&self, rare: &Option<Box<Rare>>) -> ExtensionValues
+        ensures { result ≡ values_with self.now (option_map (λ b. b.value) rare.now) }
+    {
+        match rare {
+            Some(rare) => self.values_with(rare),
+            None => self.values(),
+        }
+    }
+
+    /// Returns the header with these values.
+    #[inline(always)]
+    pub(super) fn with(&self, values: ExtensionValues) -> RtpHeader
+        ensures { result ≡ header_with self.now values }
+    {
+        RtpHeader {
+            payload_type: self.payload_type,
+            sequence_number: self.sequence_number,
+            timestamp: self.timestamp,
+            ssrc: self.ssrc,
+            marker: self.marker,
+            ext_vals: values,
+        }
+    }
 }
 
 /// Returns whether none of the values is rare.
@@ -117,7 +197,7 @@ fn without_sender_info(rare: Option<Box<Rare>>) -> Option<Box<Rare>>
 impl Model for PackedMeta {
     ghost use Rattle.std.specs.Option.{option_map};
     ghost use Rattle.codec_payload_buffer.specs.declared.buffer.unit.RtpMeta.{RtpMeta as Meta};
-    ghost use Rattle.codec_payload_buffer.specs.Rare.{capture_of, timing_of, layers_of, sender_info_of};
+    ghost use Rattle.codec_payload_buffer.specs.Rare.{header_with, sender_info_of, values_with};
 
     ghost Value = { Meta };
 
@@ -125,22 +205,7 @@ impl Model for PackedMeta {
       received = k.received;
       time = k.time;
       seq_no = k.seq_no;
-      header = record {
-        payload_type = k.payload_type;
-        sequence_number = k.sequence_number;
-        timestamp = k.timestamp;
-        ssrc = k.ssrc;
-        marker = k.marker;
-        ext_vals = record {
-          abs_capture_time = capture_of (option_map (λ b. b.value) k.rare);
-          video_orientation = k.video_orientation;
-          video_content_type = k.video_content_type;
-          video_timing = timing_of (option_map (λ b. b.value) k.rare);
-          layers_allocation = layers_of (option_map (λ b. b.value) k.rare);
-          audio_level = k.audio_level;
-          voice_activity = k.voice_activity;
-        };
-      };
+      header = header_with k.plain (values_with k.plain (option_map (λ b. b.value) k.rare));
       last_sender_info = sender_info_of (option_map (λ b. b.value) k.rare);
     } };
 }
@@ -153,22 +218,13 @@ impl PackedMeta {
         ensures plain { IsTrue (are_plain meta.now.header.ext_vals meta.now.last_sender_info) → IsOk result }
     {
         let header = &meta.header;
-        let values = &header.ext_vals;
-        let rare = Rare::of(alloc, values, &meta.last_sender_info)?;
+        let rare = Rare::of(alloc, &header.ext_vals, &meta.last_sender_info)?;
         Ok(PackedMeta {
             received: meta.received,
             time: meta.time,
             seq_no: meta.seq_no,
             rare,
-            timestamp: header.timestamp,
-            ssrc: header.ssrc,
-            sequence_number: header.sequence_number,
-            payload_type: header.payload_type,
-            marker: header.marker,
-            video_orientation: values.video_orientation,
-            video_content_type: values.video_content_type,
-            audio_level: values.audio_level,
-            voice_activity: values.voice_activity,
+            plain: PlainHeader::of(header),
         })
     }
 
@@ -182,15 +238,7 @@ impl PackedMeta {
             time,
             seq_no,
             rare: without_sender_info(header.rare),
-            timestamp: header.timestamp,
-            ssrc: header.ssrc,
-            sequence_number: header.sequence_number,
-            payload_type: header.payload_type,
-            marker: header.marker,
-            video_orientation: header.video_orientation,
-            video_content_type: header.video_content_type,
-            audio_level: header.audio_level,
-            voice_activity: header.voice_activity,
+            plain: header.plain,
         }
     }
 
@@ -215,7 +263,7 @@ impl PackedMeta {
     pub(super) fn marker(&self) -> bool
         ensures { result ≡ self.now.header.marker }
     {
-        self.marker
+        self.plain.marker
     }
 
     /// Returns the RTP time.
@@ -243,15 +291,7 @@ impl PackedMeta {
             time: self.time,
             seq_no: self.seq_no,
             rare: self.rare.take(),
-            timestamp: self.timestamp,
-            ssrc: self.ssrc,
-            sequence_number: self.sequence_number,
-            payload_type: self.payload_type,
-            marker: self.marker,
-            video_orientation: self.video_orientation,
-            video_content_type: self.video_content_type,
-            audio_level: self.audio_level,
-            voice_activity: self.voice_activity,
+            plain: self.plain,
         }
     }
 
@@ -276,7 +316,7 @@ impl PackedMeta {
     pub(super) fn plain_meta(&self) -> RtpMeta
         ensures { result ≡ plain_meta self.now }
     {
-        self.meta_with(self.plain_values(), None)
+        self.meta_with(self.plain.values(), None)
     }
 
     /// Returns the metadata of the packet, as users see it.
@@ -284,7 +324,7 @@ impl PackedMeta {
         ensures { result ≡ self.now }
     {
         match &self.rare {
-            Some(rare) => self.meta_with(self.values_with(rare), rare.last_sender_info),
+            Some(rare) => self.meta_with(self.plain.values_with(rare), rare.last_sender_info),
             None => self.plain_meta(),
         }
     }
@@ -293,10 +333,7 @@ impl PackedMeta {
     pub(super) fn values(&self) -> ExtensionValues
         ensures { result ≡ self.now.header.ext_vals }
     {
-        match &self.rare {
-            Some(rare) => self.values_with(rare),
-            None => self.plain_values(),
-        }
+        self.plain.all_values(&self.rare)
     }
 
     /// Returns the values of the latest sender report before the packet.
@@ -318,43 +355,8 @@ impl PackedMeta {
             received: self.received,
             time: self.time,
             seq_no: self.seq_no,
-            header: RtpHeader {
-                payload_type: self.payload_type,
-                sequence_number: self.sequence_number,
-                timestamp: self.timestamp,
-                ssrc: self.ssrc,
-                marker: self.marker,
-                ext_vals: values,
-            },
+            header: self.plain.with(values),
             last_sender_info,
-        }
-    }
-
-    /// Returns the values of its header extensions that are not rare.
-    #[inline(always)]
-    fn plain_values(&self) -> ExtensionValues
-        ensures { result ≡ record self.now.header.ext_vals { abs_capture_time = Option.None; video_timing = Option.None; layers_allocation = Option.None } }
-    {
-        ExtensionValues {
-            abs_capture_time: None,
-            video_orientation: self.video_orientation,
-            video_content_type: self.video_content_type,
-            video_timing: None,
-            layers_allocation: None,
-            audio_level: self.audio_level,
-            voice_activity: self.voice_activity,
-        }
-    }
-
-    /// Returns the values of its header extensions, with these rare ones.
-    fn values_with(&self, rare: &Rare) -> ExtensionValues
-        ensures { result ≡ record self.now.header.ext_vals { abs_capture_time = rare.now.abs_capture_time; video_timing = rare.now.video_timing; layers_allocation = option_map (λ b. b.value) rare.now.layers_allocation } }
-    {
-        ExtensionValues {
-            abs_capture_time: rare.abs_capture_time,
-            video_timing: rare.video_timing,
-            layers_allocation: rare.layers(),
-            ..self.plain_values()
         }
     }
 }

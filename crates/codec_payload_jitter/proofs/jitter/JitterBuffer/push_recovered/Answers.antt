@@ -16,9 +16,9 @@ returns-clause-ok g c =
     let stored : Receiving = record mid { counters = counted_recovered mid.counters } in
     let is : number_again r low ≡ Some n = sym c.number_again.ensures.value ∙ c.in-Some.is in
     let missing : may_recover r n ≡ true = sym c.may_recover.ensures ∙ c.if-not-may_recover.false in
-    let numbers : c.take.new.self ≡ numbering_with r.numbering answer low = c.take.ensures ∙ ap (λ (x : Receiving). numbering_with x.numbering answer low) c.self.view_is in
-    let lowest : c.lowest_with-lowest.result ≡ lowest_with r.lowest answer = c.lowest_with-lowest.ensures ∙ ap (λ (x : Receiving). lowest_with x.lowest answer) c.self.view_is in
+    let numbers : c.extended-numbers.result.0 ≡ numbering_with r.numbering answer low = c.extended-numbers.ensures.numbers in
+    let lowest : c.extended-numbers.result.1 ≡ lowest_with r.lowest answer = c.extended-numbers.ensures.lowest in
     recovers_is (record { now = c.args.now; header = c.args.header; bytes = c.args.payload.items }) n r mid c.set_numbers.new.self c.in_ok-accept.field-0 is missing (rw c.in_ok-new.ensures at c.in_ok-accept.ensures.ok)
-    (c.set_numbers.ensures ∙ (ap (λ (x : Receiving). record x { numbering = c.take.new.self; lowest = c.lowest_with-lowest.result; is_restarting = false }) c.count_recovered.ensures
-    ∙ (ap (λ (k : Numbering). record stored { numbering = k; lowest = c.lowest_with-lowest.result; is_restarting = false }) numbers
+    (c.set_numbers.ensures ∙ (ap (λ (x : Receiving). record x { numbering = c.extended-numbers.result.0; lowest = c.extended-numbers.result.1; is_restarting = false }) c.count_recovered.ensures
+    ∙ (ap (λ (k : Numbering). record stored { numbering = k; lowest = c.extended-numbers.result.1; is_restarting = false }) numbers
     ∙ ap (λ (l : Option ℕ). record stored { numbering = numbering_with r.numbering answer low; lowest = l; is_restarting = false }) lowest)))

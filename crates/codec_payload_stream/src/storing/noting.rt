@@ -8,7 +8,8 @@ ghost use Rattle.codec_payload_rtp.specs.RtpValues.{packet_of};
 ghost use Rattle.codec_payload_stream.specs.Kinds.{Again, WithMedia, carrier_of, original_of};
 ghost use Rattle.codec_payload_stream.specs.Sessions.{TakesDatagram, TakesRed, TakesRedAgain};
 
-use super::{RedPacket, SentAgain, Stream, Taken};
+use super::Taken;
+use crate::datagram::{RedPacket, SentAgain, StreamKinds};
 use crate::seen_times::LazySeenTimes;
 use codec_payload_base::error::PacketError;
 use codec_payload_base::wire::Ticks;
@@ -16,7 +17,7 @@ use codec_payload_codec::codec::Depacketizer;
 use codec_payload_jitter::jitter::{JitterBuffer, Outcome};
 use codec_payload_rtp::rtp::RtpPacket;
 
-impl Stream {
+impl StreamKinds {
     /// Stores a packet with media, and notes its time if the stream uses RED.
     #[inline(always)]
     pub(crate) fn take_media<B: Depacketizer>(
