@@ -124,7 +124,7 @@ fn allocations_of_packets(red: Option<RedSettings>) -> Result<Vec<usize>, Settin
     settings.ssrc = Some(7);
     settings.red = red;
     let mut receiver: Receiver =
-        Receiver::new(CodecDepacketizer::Opus(OpusDepacketizer), settings)?;
+        Receiver::new(CodecDepacketizer::Opus(OpusDepacketizer {}), settings)?;
     Ok((1..5)
         .map(|number| {
             let datagram = [
