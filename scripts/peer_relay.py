@@ -57,7 +57,7 @@ def answer_to_section(lines, port, user, password, refused):
     yield f"a=ice-ufrag:{user}"
     yield f"a=ice-pwd:{password}"
     if any(line.startswith("a=simulcast:") for line in lines):
-        # Enough for the larger size: nothing here tells the browser what the network can carry.
+        # Enough for the larger size: nothing here reports to the browser what the network can carry.
         yield f"a=fmtp:{taken[0]} x-google-start-bitrate=1500"
     for line in lines[1:]:
         number = re.match(r"a=(?:rtpmap|fmtp|rtcp-fb):(\d+)", line)

@@ -147,7 +147,7 @@ pub use av1::*;
 #[doc(no_inline)]
 pub use bits::{BitRead, BitReader};
 #[doc(no_inline)]
-pub use buffer::{Depacketized, DepacketizingBuffer, PoppedUnit, RtpMeta, UnitInfo};
+pub use buffer::{Depacketized, DepacketizingBuffer, PoppedPackets, PoppedUnit, RtpMeta, UnitInfo};
 #[doc(no_inline)]
 pub use codec::*;
 #[doc(no_inline)]

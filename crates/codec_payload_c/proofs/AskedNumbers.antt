@@ -27,7 +27,7 @@ put_all (b ∷ bs) (x ∷ xs) = put_later 0 x bs xs ∙ ap (λ (ys : List ℕ). 
 least_suc : (n most : ℕ) → min (suc n) (suc most) ≡ suc (min n most)
 least_suc n most = omega arith
 
--- a place that no list reaches stands for all after it
+-- writing at a place behind the list changes nothing, as at each place after it
 pub set_least : (most n : ℕ) (xs : List ℕ) (x : ℕ) → length xs ≤ most → set xs (min n most) x ≡ set xs n x
 set_least most n [] x h = refl
 set_least zero n (y ∷ ys) x h = absurd (omega (arith, h))

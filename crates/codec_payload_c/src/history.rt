@@ -35,7 +35,7 @@ pub struct HistorySettings {
     pub rtx_first_number: u16,
     /// With `has_rtx`: the payload type of retransmissions, 0 to 127.
     pub rtx_payload_type: u8,
-    /// Whether retransmissions are a stream of their own (RFC 4588). If not, a packet is resent as it was.
+    /// Whether retransmissions are a separate stream (RFC 4588). If not, a packet is resent as it was.
     pub has_rtx: bool,
 }
 

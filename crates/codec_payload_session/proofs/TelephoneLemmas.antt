@@ -103,7 +103,7 @@ turn_by : (ws : List TelephonePacket) (now : Ticks) (s : Session) (event : Optio
 turn_by [] now s event t r got turn = subst (λ (x : Queue). TurnsOrReports now (record s { telephone = x }) event t) got.1 turn
 turn_by (w ∷ ws) now s event t r got turn = absurd (cc (got.0))
 
--- without one the streams have their turn
+-- without one the streams are asked
 pub polls_turn : (now : Ticks) (s : Session) (event : Option Event) (t : Session) (r : Queue) → Gives s.telephone None r → TurnsOrReports now (record s { telephone = r }) event t
     → Polls now s event t
 polls_turn now s event t r got turn = turn_by s.telephone.waiting now s event t r got turn

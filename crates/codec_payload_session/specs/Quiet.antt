@@ -24,7 +24,7 @@ pub record IsQuiet (now : ℕ) (told : Bool) (stage : Stage) (last : ℕ) (feedb
   pub pops : PopsNothing now r.packets
   pub asks : AsksNothing feedback now last r
 
--- a time; 0 stands for none
+-- a time; 0 is none
 abbrev pub time_of : ℕ → Option ℕ
 time_of at = if at == 0 then None else Some at
 

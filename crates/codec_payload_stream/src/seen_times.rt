@@ -5,7 +5,6 @@ ghost use Rattle.codec_payload_stream.specs.SeenTimes.{has_block, is_seen, none_
 
 use std::alloc::{AllocError, Global};
 use std::marker::Model;
-use std::mem;
 
 /// The number of times that are remembered.
 const MOST: usize = 64;
@@ -146,7 +145,7 @@ impl LazySeenTimes {
         ensures ok { IfOk result (λ times. times.value ≡ self.old) }
         ensures err { OnErr result (self.new ≡ self.old) }
     {
-        match mem::replace(&mut self.times, None) {
+        match self.times.take() {
             Some(times) => Ok(times),
             None => Ok(Box::new(alloc, SeenTimes::none())?),
         }

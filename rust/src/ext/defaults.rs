@@ -1,7 +1,7 @@
 //! `Default` for types whose `new` takes nothing.
 
 use crate::av1::Av1Depacketizer;
-use crate::buffer::PoppedUnit;
+use crate::buffer::{PoppedPackets, PoppedUnit};
 use crate::jitter::SequenceNumbers;
 use crate::vp9::Vp9Depacketizer;
 
@@ -26,5 +26,11 @@ impl Default for SequenceNumbers {
 impl Default for PoppedUnit {
     fn default() -> Self {
         PoppedUnit::new()
+    }
+}
+
+impl Default for PoppedPackets {
+    fn default() -> Self {
+        PoppedPackets::new()
     }
 }

@@ -3,7 +3,6 @@
 //! The RTP times of the latest packets and blocks of a stream with RED (RFC 2198).
 
 use crate::memory::{AllocError, One};
-use core::mem;
 
 /// The number of times that are remembered.
 const MOST: usize = 64;
@@ -104,7 +103,7 @@ impl LazySeenTimes {
 
     /// Takes the times out, until [`LazySeenTimes::put`] puts them back. Allocates memory for them if they have none.
     pub(crate) fn take(&mut self) -> Result<One<SeenTimes>, AllocError> {
-        match mem::replace(&mut self.times, None) {
+        match self.times.take() {
             Some(times) => Ok(times),
             None => Ok(One::try_new(SeenTimes::none())?),
         }

@@ -5,7 +5,7 @@ use Rattle.codec_payload_c.specs.Histories.{asks_keyframe, numbers_asked}
 use Rattle.codec_payload_c.proofs.AskedNumbers.{put_from}
 use Rattle.codec_payload_c.proofs.history.collect.Given as goal
 
--- so many numbers were put, and the rest is put after them
+-- n numbers were put, and the rest is put after them
 abbrev pub invariant-loop-request : goal.invariant-loop-request
 invariant-loop-request l =
     (n : ℕ)
