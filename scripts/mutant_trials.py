@@ -33,7 +33,7 @@ def read(path):
 def run(words, folder):
     """The status and the output of a command. Ends the thread once the script was told to stop."""
     if STOPPING.is_set():
-        raise SystemExit(1)
+        raise SystemExit("stopped")
     how = {"stdin": subprocess.DEVNULL, "stdout": subprocess.PIPE, "stderr": subprocess.STDOUT, "text": True, "errors": "replace"}
     with subprocess.Popen(words, cwd=folder, **how) as ran:
         RUNNING.add(ran)
@@ -42,7 +42,7 @@ def run(words, folder):
         said = ran.communicate()[0]
         RUNNING.discard(ran)
     if STOPPING.is_set():
-        raise SystemExit(1)
+        raise SystemExit("stopped")
     return ran.returncode, said
 
 
@@ -194,10 +194,10 @@ def is_of_names(message):
 
 def own_refusal(said, function):
     """What a check says against the body of this function itself, '' if nothing: not what it says of the functions that it calls."""
-    before, line, _ = said.partition(next(iter(re.findall(rf"^fn \w+::{re.escape(function)}: (?:no proof|not proved).*$", said, re.M)), "\0"))
+    line = re.search(rf"^fn \w+::{re.escape(function)}: (?:no proof|not proved).*$", said, re.M)
     if not line:
         return ""
-    goals = re.search(r"`search` did not prove [^;]*", line)
+    before, goals = said[: line.start()], re.search(r"`search` did not prove [^;]*", line[0])
     # the goals of a function stand between the line of the function before it and its own
     open_goal = re.search(r"^note: src/\S+: it is not proved that .*$", before[before.rfind("\nfn ") + 1 :], re.M)
     if goals or open_goal:

@@ -27,8 +27,8 @@ make no false clause true.
 --record tries nothing of a crate whose line is not old, and goes on where an earlier run ended: out/tried_mutants.txt of a crate
 keeps each answer, by a checksum of the sources and edit. With --jobs N it tries the edits of N crates side by side.
 
-The status is 0 if all were refused, with --missing if no line is. Needs rt, and on a free machine 1 to 3 seconds per edit, after
-the check of each crate.
+The status is 0 if all were refused, with --missing if no line is. Needs rt, and some 4 seconds of one processor per edit, after the
+check of each crate.
 """
 import concurrent.futures
 import glob
@@ -48,7 +48,10 @@ from mutant_trials import SOURCES, apply, read, read_edit
 
 ROOT = os.path.dirname(os.path.dirname(os.path.realpath(__file__)))
 RESULTS = f"{ROOT}/mutants/RESULTS.txt"
-HEAD = "# Written by scripts/mutants.py --record: crate, mutants, refused, PROVED, not tried, checksum, names of those not refused, and names:NAME of those refused by names alone.\n"
+HEAD = (
+    "# Written by scripts/mutants.py --record: crate, mutants, refused, PROVED, not tried, checksum, names of those not refused, "
+    "and names:NAME of those refused by names alone.\n"
+)
 COMMENTS = {".rt": (assembly.COMMENT, r"\1"), ".antt": (re.compile(r"(?m)(?:^|(?<=\s))--(?:[ \t].*)?$"), "")}
 # One crate is checked at a time, and one line is written at a time.
 ALONE = threading.Lock()
@@ -82,11 +85,11 @@ def proved_functions(crate):
     status, said = mutant_trials.run(["rt", "check"], f"{ROOT}/crates/{crate}")
     if status:
         sys.exit(f"{crate} is not proved:\n{said[-2000:]}")
-    return re.findall(r"^fn \w+::(\S+): proved", said, re.M)
+    return re.findall(rf"^fn {crate}::(\S+): proved", said, re.M)
 
 
 def tried(crate, edits, jobs=0, is_alone=False):
-    """Tries the edits on one scratch copy of the crate, and keeps the answers: each edit with its answer. With jobs, each check has that many."""
+    """Tries the edits on one scratch copy of the crate and keeps the answers: each edit with its answer. `jobs` is for each check."""
     began, count, sources = time.time(), 0, sum_of_sources(crate)
     with tempfile.TemporaryDirectory(prefix=f"mutants-{os.getpid()}-") as room:
         with ALONE:
@@ -193,7 +196,7 @@ def record_crate(crate, jobs):
     try:
         row = row_of(crate, total, answers_of(crate, jobs))
     except SystemExit as why:
-        print(f"not recorded: {why}", flush=True)
+        print(f"not recorded: {crate}: {why}", flush=True)
         return None
     with ALONE:
         write_line(crate, row)
