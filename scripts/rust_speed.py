@@ -4,8 +4,9 @@
   scripts/rust_speed.py [--fallible]
   scripts/rust_speed.py [--fallible] --sessions
   scripts/rust_speed.py [--fallible] --orders
+  scripts/rust_speed.py [--fallible] --buffer
 
-With --sessions it prints what a datagram takes in a session beside a receiver alone (tools/speed/src/bin/session.rs). With
+With --buffer it prints the instructions of a push and a pop (tools/speed/src/bin/buffer.rs). With --sessions it prints what a datagram takes in a session beside a receiver alone (tools/speed/src/bin/session.rs). With
 --orders it prints times of packets in orders of arrival, and the memory of held packets (tools/speed/src/bin/orders.rs).
 Needs cargo, and valgrind for instructions. Times depend on the machine and on what else runs on it; instructions do not.
 """
@@ -20,6 +21,9 @@ ROOT = os.path.dirname(os.path.dirname(os.path.realpath(__file__)))
 SPEED = f"{ROOT}/tools/speed"
 CASES = [("opus", 120), ("VP8", 1_000), ("VP8", 20_000), ("VP9", 1_000), ("VP9", 20_000), ("AV1", 1_000), ("AV1", 20_000)]
 CALLS = ["packetize", "packetize_into", "depacketize"]
+# The orders and ways of tools/speed/src/bin/buffer.rs.
+ARRIVALS = {"opus": "Opus, in order", "rows": "Opus, ranges of 32 in reverse", "vp8": "VP8, 17 packets a frame"}
+WAYS = {"into": "`push`, `pop_into`", "unit": "`push`, `pop_unit`", "packed": "`store_packed`, `pop_unit`"}
 # The rounds of tools/speed, each with this many calls.
 ROUNDS = 12
 # The streams and the hostile datagrams of tools/speed/src/bin/session.rs.
@@ -63,6 +67,20 @@ def print_sessions():
         print(f"| {name} | " + " | ".join(f"{cell:,.0f}" for cell in cells) + " |", flush=True)
 
 
+def of_packet(way, order, held, counts=(6_528, 13_056)):
+    """The instructions of a push and a pop of a packet, with so many held."""
+    few, many = (collected(f"{SPEED}/target/release/buffer", way, order, held, count) for count in counts)
+    return (many - few) / (counts[1] - counts[0])
+
+
+def print_buffer():
+    print("| packets | held | " + " | ".join(WAYS.values()) + " |")
+    print("|---" * (2 + len(WAYS)) + "|")
+    for order, name in ARRIVALS.items():
+        for held in 64, 4_096:
+            print(f"| {name} | {held:,} | " + " | ".join(f"{of_packet(way, order, held):,.0f}" for way in WAYS) + " |", flush=True)
+
+
 def print_orders():
     print("| order | held | copy, ns | buffer, ns | over a copy | earlier form, ns | map, ns |")
     print("|---" * 7 + "|", flush=True)
@@ -80,7 +98,7 @@ def time_of(program, codec, size, call):
 def main(words):
     features = ["--features", "codec-payload/fallible"] if "--fallible" in words else []
     subprocess.run(["cargo", "build", "--offline", "--quiet", "--release", *features], cwd=SPEED, check=True)
-    for word, prints in ("--sessions", print_sessions), ("--orders", print_orders):
+    for word, prints in ("--sessions", print_sessions), ("--orders", print_orders), ("--buffer", print_buffer):
         if word in words:
             prints()
             return 0

@@ -2,12 +2,13 @@
 //!
 //!   buffer WAY ORDER HELD COUNT
 //!
-//! - WAY: `into` pops by `pop_into`, `unit` by `pop_unit`.
+//! - WAY: `into` pops by `pop_into`, `unit` by `pop_unit`; `packed` does so too, and pushes packed metadata by `store_packed`.
 //! - ORDER: `opus` is in order, `rows` 32 at a time in reverse, `vp8` has 17 packets a frame.
 //!
 //! The difference of two runs under callgrind, divided by the difference of their counts, is what a packet takes. It includes
 //! the packet's metadata and a copy of its payload of 120 bytes.
 
+use codec_payload::buffer::{PackedHeader, PackedMeta};
 use codec_payload::{
     Codec, CodecDepacketizer, DepacketizingBuffer, MediaTime, PoppedUnit, Pt, RtpMeta, SeqNo, Ticks,
 };
@@ -31,6 +32,21 @@ fn meta(number: u64, time: u64, marker: bool) -> RtpMeta {
     meta
 }
 
+/// Pushes a packet with a copy of this payload.
+fn push(buffer: &mut DepacketizingBuffer, way: &str, place: (u64, u64, bool), payload: &[u8]) {
+    let (number, time, marker) = place;
+    if way == "packed" {
+        let header = PackedHeader::plain(Pt::from(96), number as u16, time as u32, 7, marker);
+        let time = MediaTime::from_90khz(time);
+        let packed = PackedMeta::new(Ticks(number), time, SeqNo(number), header);
+        buffer.store_packed(packed, payload.to_vec()).unwrap();
+    } else {
+        buffer
+            .push(meta(number, time, marker), payload.to_vec())
+            .unwrap();
+    }
+}
+
 /// What a unit is popped into.
 #[derive(Default)]
 struct Memory {
@@ -42,7 +58,7 @@ struct Memory {
 impl Memory {
     /// Pops a unit, and returns the number of its bytes.
     fn pop(&mut self, way: &str, buffer: &mut DepacketizingBuffer) -> Option<usize> {
-        if way == "unit" {
+        if way != "into" {
             buffer.pop_unit(&mut self.unit)?.ok()?;
             return Some(self.unit.bytes.len());
         }
@@ -77,9 +93,7 @@ fn main() {
         if video {
             payload[0] = if number % 17 == 0 { 0x10 } else { 0 };
         }
-        buffer
-            .push(meta(number + 2, time, marker), payload.clone())
-            .unwrap();
+        push(&mut buffer, way, (number + 2, time, marker), &payload);
         if (marker || !video)
             && let Some(bytes) = memory.pop(way, &mut buffer)
         {
