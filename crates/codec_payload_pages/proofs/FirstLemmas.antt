@@ -27,11 +27,11 @@ lower_page num key p [] are l is under from = absurd (omega arith)
 lower_page num key p (q ∷ ps) are l is under from =
     let is_low : q.key < key = rw (← is) under in
     let none : somes q.slots.items ≡ [] = by_first (somes q.slots.items) (somes q.slots.items ≡ [])
-        (λ e. e)
-        (λ x ys e.
-        let at = first_in num (q.key * 32) x q.slots.items ys are.0.slots e in
-        let high = from x (ap (λ (zs : List _). first_of (zs ++ items_in ps)) e) in
-        absurd (omega (arith, at.1, high, is_low, are.0.whole))) in
+    (λ e. e)
+    (λ x ys e.
+    let at = first_in num (q.key * 32) x q.slots.items ys are.0.slots e in
+    let high = from x (ap (λ (zs : List _). first_of (zs ++ items_in ps)) e) in
+    absurd (omega (arith, at.1, high, is_low, are.0.whole))) in
     record {
       first = ap Some (sym is);
       blank = rw is (record { whole = are.0.whole; none = none });
@@ -65,14 +65,14 @@ front_of_page num x p q [] are under slots l is first le = absurd (omega arith)
 front_of_page num x p q (h ∷ ps) are under slots l is first le = rw is (by_first (somes h.slots.items) (IsFront num x h)
     (λ e.
     let high = first_above num h.key x ps (somes q.slots.items) are.2 are.1
-        (λ at. by_first (somes q.slots.items) ((h.key + 1) * 32 ≤ num x)
-        (λ none. absurd (cc))
-        (λ y zs some.
-        let in_last = first_in num (q.key * 32) y q.slots.items zs slots some in
-        let same : y ≡ x = (cc) in
-        let there : num y ≡ num x = ap num same in
-        omega (arith, in_last.0, there, under.0)))
-        (ap (λ (zs : List _). first_of ((zs ++ items_in ps) ++ somes q.slots.items)) (sym e) ∙ first) in
+    (λ at. by_first (somes q.slots.items) ((h.key + 1) * 32 ≤ num x)
+    (λ none. absurd (cc))
+    (λ y zs some.
+    let in_last = first_in num (q.key * 32) y q.slots.items zs slots some in
+    let same : y ≡ x = (cc) in
+    let there : num y ≡ num x = ap num same in
+    omega (arith, in_last.0, there, under.0)))
+    (ap (λ (zs : List _). first_of ((zs ++ items_in ps) ++ somes q.slots.items)) (sym e) ∙ first) in
     absurd (omega (arith, high, rw is at le)))
     (λ y zs e.
     let at = first_in num (h.key * 32) y h.slots.items zs are.0.slots e in

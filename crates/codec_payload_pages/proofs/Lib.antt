@@ -1,6 +1,7 @@
 pub mod BlankLemmas
 pub mod FirstLemmas
 pub mod ListLemmas
+pub mod NoteLemmas
 pub mod PageLemmas
 pub mod PagedLemmas
 pub mod PutLemmas

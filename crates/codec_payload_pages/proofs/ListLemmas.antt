@@ -1,5 +1,5 @@
 -- Lists in rising order of the numbers of their items.
-use Rattle.std.proofs.Common.{◌≡◌, ℕ, ◌<◌, ◌≤◌, ◌+◌, ◌++◌, [], ◌∷◌, List, length, refl, ap, arith, Bool, true, false, cond, ltb, eqb, Option, Some, None}
+use Rattle.std.proofs.Common.{◌≡◌, ℕ, ◌<◌, ◌≤◌, ◌+◌, ◌++◌, [], ◌∷◌, List, length, refl, ap, sym, ◌∙◌, arith, Bool, true, false, cond, ltb, eqb, Option, Some, None}
 use Rattle.std.proofs.lemmas.Bool.Decides.{nat_tests}
 use Rattle.codec_payload_pages.specs.Numbers.{found, put}
 
@@ -34,3 +34,10 @@ length_put num x [] = refl
 length_put num x (y ∷ xs) = by_test (ltb (num y) (num x)) (λ b. length (cond b (y ∷ put num x xs) (x ∷ y ∷ xs)) ≡ length (y ∷ xs) + 1)
     (λ e. omega (arith, length_put num x xs))
     (λ e. omega arith)
+
+-- the item that is found has the number
+pub found_number : {X : Type 0} (num : X → ℕ) (m : ℕ) (x : X) (xs : List X) → found num m xs ≡ Some x → num x ≡ m
+found_number num m x [] is = absurd (cc)
+found_number num m x (y ∷ xs) is = by_test (eqb (num y) m) (λ b. eqb (num y) m ≡ b → cond b (Some y) (found num m xs) ≡ Some x → num x ≡ m)
+    (λ e f at. let same : y ≡ x = (cc) in let there : num y ≡ m = grind (arith, nat_tests, e) in ap num (sym same) ∙ there)
+    (λ e f at. found_number num m x xs at) refl is

@@ -99,13 +99,13 @@ pub point_at : {X : Type 0} (num : X → ℕ) (k i : ℕ) (p : Page X) (ps : Lis
     → IsPartitionPoint (λ (q : Page X). q.key < k) (λ (q : Page X). k ≤ q.key) ps i
 point_at num k i p ps are l is key = (
   (λ j d from to.
-  let under = keys_strict num j i d ps are to l in
-  let there : p.key ≡ (get_or ps i d).key = ap (λ (q : Page _). q.key) (is ∙ same_there ps i p d l) in
-  omega (arith, under, there, key)),
+      let under = keys_strict num j i d ps are to l in
+      let there : p.key ≡ (get_or ps i d).key = ap (λ (q : Page _). q.key) (is ∙ same_there ps i p d l) in
+      omega (arith, under, there, key)),
   (λ j d from to.
-  let over = keys_rise num ps are i j d from to in
-  let there : p.key ≡ (get_or ps i d).key = ap (λ (q : Page _). q.key) (is ∙ same_there ps i p d l) in
-  omega (arith, over, there, key)),
+      let over = keys_rise num ps are i j d from to in
+      let there : p.key ≡ (get_or ps i d).key = ap (λ (q : Page _). q.key) (is ∙ same_there ps i p d l) in
+      omega (arith, over, there, key)),
 )
 
 -- a number that has no slot in the last page

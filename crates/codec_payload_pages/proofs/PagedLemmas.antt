@@ -1,9 +1,9 @@
 -- Items in pages below a last page.
 use Rattle.std.proofs.Common.{◌≡◌, ◌≢◌, ℕ, zero, suc, ◌<◌, ◌≤◌, ◌+◌, ◌-◌, ◌*◌, ◌/◌, ◌%◌, ◌++◌, [], ◌∷◌, List, length, get_or, refl, ap, sym, ◌∙◌, arith, Option, Some, None, slice_set, append_assoc, append-nil}
 use Rattle.std.specs.List.{insert}
-use Rattle.codec_payload_pages.specs.Numbers.{found, put}
+use Rattle.codec_payload_pages.specs.Numbers.{found, put, joined}
 use Rattle.codec_payload_pages.specs.Slots.{somes, AreInSlots}
-use Rattle.codec_payload_pages.specs.Pages.{KeysAbove, KeysBelow, IsPage, ArePages, items_in, all_items}
+use Rattle.codec_payload_pages.specs.Pages.{KeysAbove, KeysBelow, IsPage, ArePages, items_in, all_items, page_items}
 use Rattle.codec_payload_pages.specs.declared.page.Page.{Page}
 use Rattle.codec_payload_pages.proofs.ListLemmas.{found_skip, found_front, put_front}
 use Rattle.codec_payload_pages.proofs.SlotLemmas.{found_in, put_in, put_lowest, put_after, still_in, first_in, take_first, IsTaken}
@@ -92,3 +92,29 @@ less_key k y s n le out few full = elim (cases_lt k y) [
       let same : k ≡ y = omega arith in
       absurd (omega (arith, out same))
 ]
+
+-- The items of each page
+
+pub count_pages : {X : Type 0} (ps : List (Page X)) (q : Page X) → length (page_items ps q) ≡ length ps + 1
+count_pages [] q = refl
+count_pages (p ∷ ps) q = omega (arith, count_pages ps q)
+
+pub join_pages : {X : Type 0} (ps : List (Page X)) (q : Page X) → joined (page_items ps q) ≡ all_items ps q
+join_pages [] q = append-nil (somes q.slots.items)
+join_pages (p ∷ ps) q = ap (λ (zs : List _). somes p.slots.items ++ zs) (join_pages ps q) ∙ sym (append_assoc (somes p.slots.items) (items_in ps) (somes q.slots.items))
+
+pub page_low : {X : Type 0} (i : ℕ) (p : Page X) (ps : List (Page X)) (q : Page X) → i < length ps → p ≡ get_or ps i p → somes p.slots.items ≡ get_or (page_items ps q) i []
+page_low i p [] q l is = absurd (omega arith)
+page_low zero p (h ∷ ps) q l is = ap (λ (v : Page _). somes v.slots.items) is
+page_low (suc i) p (h ∷ ps) q l is = page_low i p ps q (omega (arith, l)) is
+
+pub page_high : {X : Type 0} (i : ℕ) (ps : List (Page X)) (q : Page X) → i ≡ length ps → somes q.slots.items ≡ get_or (page_items ps q) i []
+page_high zero [] q e = refl
+page_high (suc i) [] q e = absurd (omega (arith, e))
+page_high zero (h ∷ ps) q e = absurd (omega (arith, e))
+page_high (suc i) (h ∷ ps) q e = page_high i ps q (omega (arith, e))
+
+-- a page without one of its slots has none
+pub few_slots : (n s t : ℕ) → n ≤ s → s < 32 → (0 < n → n ≡ 32) → n ≤ t
+few_slots zero s t le few whole = omega arith
+few_slots (suc n) s t le few whole = absurd (omega (arith, whole (omega arith)))

@@ -26,12 +26,12 @@ put_last num x k (p ∷ ps) ys are b l =
     ∙ ap (λ (zs : List _). somes p.slots.items ++ zs) (put_last num x k ps ys are.2 b.1 l)
     ∙ sym (append_assoc (somes p.slots.items) (items_in ps) (put num x ys))
 
-above_set : {X : Type 0} (k i : ℕ) (p q : Page X) (ps : List (Page X)) → KeysAbove k ps → i < length ps → p ≡ get_or ps i p → q.key ≡ p.key → KeysAbove k (slice_set ps i q)
+pub above_set : {X : Type 0} (k i : ℕ) (p q : Page X) (ps : List (Page X)) → KeysAbove k ps → i < length ps → p ≡ get_or ps i p → q.key ≡ p.key → KeysAbove k (slice_set ps i q)
 above_set k i p q [] a l is key = tt
 above_set k zero p q (h ∷ ps) a l is key = let there = ap (λ (x : Page _). x.key) is in (omega (arith, a.0, there, key), a.1)
 above_set k (suc i) p q (h ∷ ps) a l is key = (a.0, above_set k i p q ps a.1 (omega (arith, l)) is key)
 
-below_set : {X : Type 0} (k i : ℕ) (p q : Page X) (ps : List (Page X)) → KeysBelow k ps → i < length ps → p ≡ get_or ps i p → q.key ≡ p.key → KeysBelow k (slice_set ps i q)
+pub below_set : {X : Type 0} (k i : ℕ) (p q : Page X) (ps : List (Page X)) → KeysBelow k ps → i < length ps → p ≡ get_or ps i p → q.key ≡ p.key → KeysBelow k (slice_set ps i q)
 below_set k i p q [] a l is key = tt
 below_set k zero p q (h ∷ ps) a l is key = let there = ap (λ (x : Page _). x.key) is in (omega (arith, a.0, there, key), a.1)
 below_set k (suc i) p q (h ∷ ps) a l is key = (a.0, below_set k i p q ps a.1 (omega (arith, l)) is key)

@@ -1,9 +1,10 @@
 -- Lists in rising order of the numbers of their items.
-use Rattle.std.specs.Prelude.{◌≡◌, ℕ, ◌+◌, ◌<◌, ◌==◌, nat_lt, if◌then◌else◌, List, [], ◌∷◌, ◌++◌, Option, Some, None}
+use Rattle.std.specs.Prelude.{◌≡◌, ℕ, ◌+◌, ◌<◌, ◌==◌, nat_lt, if◌then◌else◌, List, [], ◌∷◌, ◌++◌, length, slice_index_or, slice_set, Option, Some, None}
 
--- what pages hold: the items, and for how many insertions of any numbers there is memory
+-- what pages hold: the items, the items of each page, and for how many insertions of any numbers there is memory
 pub record Paged (X : Type 0) : Type 0 where
   pub items : List X
+  pub pages : List (List X)
   pub room : ℕ
 
 -- the item with this number
@@ -25,3 +26,19 @@ first_of (x ∷ xs) = Some x
 pub record IsFirst {X : Type 0} (num : X → ℕ) (n : ℕ) (before : List X) (x : X) (xs : List X) : Type 0 where
   pub first : before ≡ x ∷ xs
   pub number : num x ≡ n
+
+-- lists, one after the other
+abbrev pub joined : {X : Type 0} → List (List X) → List X
+joined [] = []
+joined (xs ∷ xss) = xs ++ joined xss
+
+-- a note is written into the item of this number
+pub record IsNotedIn {X N : Type 0} (is_noted : X → N → X → Type 0) (num : X → ℕ) (n : ℕ) (note : N) (before after : List X) : Type 0 where
+  pub place : ℕ
+  pub old : X
+  pub new : X
+  pub within : place < length before
+  pub there : old ≡ slice_index_or before place old
+  pub number : num old ≡ n
+  pub noted : is_noted old note new
+  pub others : after ≡ slice_set before place new

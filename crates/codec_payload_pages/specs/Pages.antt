@@ -45,6 +45,11 @@ AreBlank (s ∷ ss) = IsBlank s.items × AreBlank ss
 abbrev pub all_items : {X : Type 0} → List (Page X) → Page X → List X
 all_items below last = items_in below ++ somes last.slots.items
 
+-- the items of each page, the last one too
+abbrev pub page_items : {X : Type 0} → List (Page X) → Page X → List (List X)
+page_items [] last = somes last.slots.items ∷ []
+page_items (p ∷ ps) last = somes p.slots.items ∷ page_items ps last
+
 -- for how many insertions there is memory: that many pages, and places for them
 abbrev pub room_in : {X : Type 0} → VecDeque (Page X) Global → Vec (Vec (Option X)) → ℕ
 room_in below spare = min (length spare.items) (deque_capacity below - deque_len below)

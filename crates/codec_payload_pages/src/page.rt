@@ -6,7 +6,7 @@ ghost use Rattle.codec_payload_pages.specs.Slots.{somes};
 ghost use Rattle.codec_payload_pages.specs.Pages.{IsPage, IsBlank, AreBlank};
 ghost use Rattle.std.specs.Option.{option_copied};
 
-use crate::search::Numbered;
+use crate::search::{Noted, Numbered};
 use std::alloc::{AllocError, Global};
 
 /// How many consecutive numbers a page has.
@@ -159,4 +159,20 @@ pub(super) fn empty<T>(page: &mut Page<T>, number: u64) -> Option<T>
     ensures slots { page.new.slots.items ≡ slice_set page.old.slots.items (number % 32) None }
 {
     page.slots[slot_of(number)].take()
+}
+
+/// Writes a note into the item of this number.
+#[inline(always)]
+pub(super) fn note_in<N: Drop, T: Noted<N> + Drop>(page: &mut Page<T>, number: u64, note: N)
+    requires slot { number % 32 < length page.old.slots.items }
+    requires item { (x : T) × (slice_index_or page.old.slots.items (number % 32) None ≡ Some x) }
+    ensures key { page.new.key ≡ page.old.key }
+    ensures slots { (x : T) × (y : T) × (slice_index_or page.old.slots.items (number % 32) None ≡ Some x) × T.is_noted x note y
+        × (page.new.slots.items ≡ slice_set page.old.slots.items (number % 32) (Some y)) }
+{
+    let slot = slot_of(number);
+    if let Some(mut item) = page.slots[slot].take() {
+        item.note(note);
+        page.slots[slot] = Some(item);
+    }
 }

@@ -4,15 +4,16 @@ ghost use Rattle.std.specs.Prelude.{◌≡◌, ◌≢◌, ◌<◌, ◌≤◌, �
 ghost use Rattle.std.specs.Option.{option_copied};
 ghost use Rattle.std.specs.VecDeque.{deque_len, deque_capacity};
 ghost use Rattle.std.specs.List.Sorted.{IsPartitionPoint};
-ghost use Rattle.codec_payload_pages.specs.Numbers.{found, put, first_of, IsFirst};
-ghost use Rattle.codec_payload_pages.specs.Slots.{AreInSlots};
+ghost use Rattle.codec_payload_pages.specs.Numbers.{found, put, first_of, joined, IsNotedIn};
+ghost use Rattle.codec_payload_pages.specs.Slots.{AreInSlots, somes};
 ghost use Rattle.codec_payload_pages.specs.Pages.{ArePages, IsPage, IsBlank, AreBlank, KeysBelow, items_in, all_items, room_in};
 ghost use Rattle.codec_payload_pages.specs.declared.page.Page.{Page};
 
 use crate::page::{
-    Page, empty, fill, find_pages, first_in, has_slot, item_at, keep_slots, key_of, page_with, slot_of,
+    Page, SPAN, empty, fill, find_pages, first_in, has_slot, item_at, keep_slots, key_of, note_in,
+    page_with, slot_of,
 };
-use crate::search::{Numbered, place_of_number, put_at};
+use crate::search::{Noted, Numbered, place_of_number, put_at};
 use std::alloc::{AllocError, Global};
 use std::collections::VecDeque;
 use std::marker::Model;
@@ -38,11 +39,11 @@ pub struct Pages<T: Numbered + Drop> {
 
 impl<T: Numbered + Drop> Model for Pages<T> {
     ghost use Rattle.codec_payload_pages.specs.Numbers.{Paged};
-    ghost use Rattle.codec_payload_pages.specs.Pages.{IsPaged, all_items, room_in};
+    ghost use Rattle.codec_payload_pages.specs.Pages.{IsPaged, all_items, page_items, room_in};
 
     ghost Value = { Paged T };
 
-    ghost view = { λ b. record { items = all_items b.below.items b.last; room = room_in b.below b.spare } };
+    ghost view = { λ b. record { items = all_items b.below.items b.last; pages = page_items b.below.items b.last; room = room_in b.below b.spare } };
 
     ghost invariant = { λ b. IsPaged T.number_of b.below.items b.last b.spare.items b.count };
 }
@@ -138,6 +139,26 @@ fn insert_last<T: Numbered + Drop>(
     }
 }
 
+/// Writes a note into the item of this number in these pages.
+#[inline(never)]
+fn note_below<N: Drop, T: Numbered + Noted<N> + Drop>(
+    below: &mut VecDeque<Page<T>>,
+    number: u64,
+    note: N,
+)
+    requires pages { ArePages T.number_of below.old.items }
+    requires item { (x : T) × (found T.number_of number (items_in below.old.items) ≡ Some x) }
+    requires keeps { (x : T) → (n : N) → (y : T) → T.is_noted x n y → T.number_of y ≡ T.number_of x }
+    ensures pages { ArePages T.number_of below.new.items }
+    ensures items { IsNotedIn T.is_noted T.number_of number note (items_in below.old.items) (items_in below.new.items) }
+    ensures under { (k : ℕ) → KeysBelow k below.old.items → KeysBelow k below.new.items }
+    ensures len { deque_len below.new ≡ deque_len below.old }
+    ensures capacity { deque_capacity below.new ≡ deque_capacity below.old }
+{
+    let place = place_of_key(below, key_of(number));
+    note_in(&mut below[place], number, note);
+}
+
 /// Removes the lowest page, which has no items.
 #[inline(never)]
 fn drop_page<T: Numbered + Drop>(below: &mut VecDeque<Page<T>>, spare: &mut Vec<Vec<Option<T>>>)
@@ -172,6 +193,22 @@ fn drop_lower<T: Numbered + Drop>(
     while below.len() > 0 && below[0].key < key {
         drop_page(below, spare);
     }
+}
+
+/// Returns the slots of the page of a number, which is in these pages. The first page is looked at first.
+#[inline(always)]
+fn slots_below<T: Numbered + Drop>(below: &VecDeque<Page<T>>, number: u64) -> &Vec<Option<T>>
+    requires pages { ArePages T.number_of below.now.items }
+    requires item { (x : T) × (found T.number_of number (items_in below.now.items) ≡ Some x) }
+    ensures whole { length result.now.items ≡ 32 }
+    ensures slots { (m : ℕ) → m / 32 ≡ number / 32 → found T.number_of m (items_in below.now.items) ≡ slice_index_or result.now.items (m % 32) None }
+{
+    let key = key_of(number);
+    if below.len() > 0 && below[0].key == key {
+        return &below[0].slots;
+    }
+    let place = place_of_key(below, key);
+    &below[place].slots
 }
 
 impl<T: Numbered + Drop> Pages<T> {
@@ -277,7 +314,79 @@ impl<T: Numbered + Drop> Pages<T> {
         ensures { self.new.items ≡ self.old.items }
     {
         if self.below.capacity() > KEPT_PLACES && self.below.len() <= self.below.capacity() / 4 {
-            self.below.shrink_to((2 * self.below.len()).max(KEPT_PLACES));
+            self.below
+                .shrink_to((2 * self.below.len()).max(KEPT_PLACES));
         }
+    }
+
+    /// Returns the number of pages: at least one.
+    #[inline(always)]
+    pub fn page_count(&self) -> usize
+        ensures count { result ≡ length self.now.pages }
+        ensures items { self.now.items ≡ joined self.now.pages }
+    {
+        self.below.len() + 1
+    }
+
+    /// Returns the slots of a page by its place.
+    #[inline(always)]
+    pub fn page(&self, place: usize) -> &Vec<Option<T>>
+        requires { place < length self.now.pages }
+        ensures { somes result.now.items ≡ slice_index_or self.now.pages place [] }
+    {
+        if place < self.below.len() {
+            &self.below[place].slots
+        } else {
+            &self.last.slots
+        }
+    }
+
+    /// Writes a note into the item of this number, which is there. The last page is looked at first.
+    #[inline(always)]
+    pub fn note<N: Drop>(&mut self, number: u64, note: N)
+    where
+        T: Noted<N>,
+        requires item { (x : T) × (found T.number_of number self.old.items ≡ Some x) }
+        requires keeps { (x : T) → (n : N) → (y : T) → T.is_noted x n y → T.number_of y ≡ T.number_of x }
+        ensures items { IsNotedIn T.is_noted T.number_of number note self.old.items self.new.items }
+        ensures room { self.new.room ≡ self.old.room }
+    {
+        if has_slot(&self.last, number) {
+            note_in(&mut self.last, number, note);
+        } else {
+            note_below(&mut self.below, number, note);
+        }
+    }
+
+    /// Returns the slots of the page of a number, whose item is there.
+    #[inline(always)]
+    fn slots_with(&self, number: u64) -> &Vec<Option<T>>
+        requires item { (x : T) × (found T.number_of number self.now.items ≡ Some x) }
+        ensures whole { length result.now.items ≡ 32 }
+        ensures slots { (m : ℕ) → m / 32 ≡ number / 32 → found T.number_of m self.now.items ≡ slice_index_or result.now.items (m % 32) None }
+    {
+        if has_slot(&self.last, number) {
+            &self.last.slots
+        } else {
+            slots_below(&self.below, number)
+        }
+    }
+
+    /// Returns the slots of the numbers from `first` on, up to `last` or the last number of the page. The item of `first` is there.
+    #[inline(always)]
+    pub fn part(&self, first: u64, last: u64) -> &[Option<T>]
+        requires order { first ≤ last }
+        requires item { (x : T) × (found T.number_of first self.now.items ≡ Some x) }
+        ensures some { 0 < length result.now }
+        ensures within { first + length result.now ≤ last + 1 }
+        ensures slots { (i : ℕ) → i < length result.now → slice_index_or result.now i None ≡ found T.number_of (first + i) self.now.items }
+    {
+        let from = slot_of(first);
+        let to = if last - first < (SPAN - from) as u64 {
+            slot_of(last) + 1
+        } else {
+            SPAN
+        };
+        &self.slots_with(first)[from..to]
     }
 }

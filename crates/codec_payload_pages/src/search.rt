@@ -15,6 +15,15 @@ pub trait Numbered {
         ensures { result ≡ number_of self.now };
 }
 
+/// An item in which a note can be written.
+pub trait Noted<N> {
+    // the item before, the note, the item with it
+    ghost is_noted: { Self → N → Self → Type 0 };
+
+    fn note(&mut self, note: N)
+        ensures { is_noted self.old note self.new };
+}
+
 /// Returns how many items have a lower number. It inspects the first and the last item, then the place that is right if no number
 /// is missing between. Then it goes back from the last item in steps that double. So the cost grows with the logarithm of the
 /// distance from the end, and not with the length of the queue.

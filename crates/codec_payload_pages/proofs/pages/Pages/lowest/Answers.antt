@@ -14,5 +14,5 @@ returns-in-Some-first_in g c =
     let rest = items_in (deque_iter_rest c.next.new.self) in
     let x = c.in-Some-first_in.item.now in
     let parts : all_items c.self.inside.below.items c.self.inside.last ≡ somes page.slots.items ++ (rest ++ last) =
-        sym c.loop-page.invariant ∙ ap (λ (ps : List (Page _)). items_in ps ++ last) c.in-Some.ensures.steps ∙ append_assoc (somes page.slots.items) rest last in
+    sym c.loop-page.invariant ∙ ap (λ (ps : List (Page _)). items_in ps ++ last) c.in-Some.ensures.steps ∙ append_assoc (somes page.slots.items) rest last in
     rw (← c.self.view_is) (sym (ap first_of parts ∙ first_after (somes page.slots.items) (rest ++ last) x (sym c.in-Some-first_in.ensures)))
