@@ -2,7 +2,7 @@
 
 //! The depacketizing buffer: it restores the order of packets and reassembles units, with a bounded number of packets.
 
-use crate::memory::{One, TryQueue};
+use crate::memory::One;
 use alloc::vec::Vec;
 
 mod ends;
@@ -17,7 +17,6 @@ mod pair;
 mod placed;
 mod popped;
 mod rows;
-mod search;
 mod unit;
 mod unit_pops;
 
@@ -25,6 +24,7 @@ use crate::codec::{CodecDepacketizer, Depacketizer, NoBox};
 use crate::contiguity::Contiguity;
 use crate::error::PacketError;
 use crate::interface::CodecExtra;
+use crate::paged::pages::Pages;
 use crate::wire::{SeqNo, Ticks};
 use alloc::collections::VecDeque;
 use ends::{evict, is_new_end, place_at, row_with};
@@ -35,11 +35,9 @@ use held_packet::{HeldPacket, Packet};
 pub use known::PackedMeta;
 use known::are_plain;
 pub use leaving::Left;
+use one_packet::{make_room_for, unpack_frame};
 pub use packed_header::PackedHeader;
-use packets::{
-    copy_metas, drop_front, find_place, frame_range, give_back, hold, is_at, is_too_late,
-    make_room, received_at, starts_next, unpack,
-};
+use packets::{copy_metas, drop_frame, hold, is_at, is_too_late, received_at, starts_next};
 pub use pair::Incoming;
 pub use placed::Placed;
 use placed::placed_among;
@@ -56,7 +54,7 @@ const HELD_LIMIT: usize = 4_096;
 /// the last number of the latest released or discarded frame, or the number of the latest evicted packet.
 #[derive(Debug)]
 pub struct DepacketizingBuffer<B = NoBox> {
-    packets: VecDeque<HeldPacket>,
+    packets: Pages<HeldPacket>,
     /// Memory blocks of packets that have left, for later packets.
     spare: Vec<One<Packet>>,
     complete: CompleteFrames,
@@ -93,7 +91,7 @@ impl<B: Depacketizer> DepacketizingBuffer<B> {
     pub fn with_limit(depacketizer: CodecDepacketizer<B>, hold_back: usize, limit: usize) -> Self {
         assert!((1..=65_536).contains(&limit));
         DepacketizingBuffer {
-            packets: VecDeque::new(),
+            packets: Pages::new(),
             spare: Vec::new(),
             complete: CompleteFrames {
                 ready: 0,
@@ -149,19 +147,18 @@ impl<B: Depacketizer> DepacketizingBuffer<B> {
         if is_too_late(self.cutoff, number) {
             return Ok(Placed::Late);
         }
-        let place = find_place(&self.packets, number);
-        if is_at(&self.packets, place, number) {
+        if is_at(&self.packets, number) {
             return Ok(Placed::Duplicate);
         }
         let placed = placed_among(&self.packets, self.limit);
         let head = self.depacketizer.is_partition_head(&data);
         let tail = self.depacketizer.is_partition_tail(meta.marker(), &data);
-        self.packets.try_room(1)?;
+        self.packets.reserve(1)?;
         reserve_known(&mut self.complete.known, 1)?;
         let entry = hold(&mut self.spare, Packet::of(meta, data, head, tail))?;
-        let row = row_with(&self.packets, place, row_of_packet(&entry));
-        let is_new = is_new_end(&self.packets, place, &entry, &row);
-        place_at(&mut self.packets, place, entry, row);
+        let row = row_with(&self.packets, row_of_packet(&entry));
+        let is_new = is_new_end(&self.packets, &entry, &row);
+        place_at(&mut self.packets, entry, row);
         note(&mut self.complete, frame_of(&row), is_new);
         if self.packets.len() > self.limit {
             let (number, before, after) = evict(&mut self.packets, &mut self.spare);
@@ -254,8 +251,7 @@ impl<B: Depacketizer> DepacketizingBuffer<B> {
 
     /// Returns whether a packet with this number is held.
     pub fn holds(&self, number: SeqNo) -> bool {
-        let place = find_place(&self.packets, number.0);
-        is_at(&self.packets, place, number.0)
+        is_at(&self.packets, number.0)
     }
 
     /// Skips a number without media, for example a packet with padding only. If the number comes right after the cutoff and is
@@ -286,15 +282,13 @@ impl<B: Depacketizer> DepacketizingBuffer<B> {
         bytes: &mut Vec<u8>,
         metas: &mut Vec<RtpMeta>,
     ) -> Result<Option<UnitInfo>, PacketError> {
-        let (from, to) = frame_range(&self.packets, frame);
-        copy_metas(metas, &self.packets, from, to)?;
-        make_room(bytes, &self.depacketizer, &self.packets, from, to)?;
+        copy_metas(metas, &self.packets, frame)?;
+        make_room_for(bytes, &self.depacketizer, &self.packets, frame)?;
         let mut codec_extra = CodecExtra::None;
-        let unpacked = unpack(
+        let unpacked = unpack_frame(
             &mut self.depacketizer,
             &self.packets,
-            from,
-            to,
+            frame,
             bytes,
             &mut codec_extra,
         );
@@ -302,7 +296,7 @@ impl<B: Depacketizer> DepacketizingBuffer<B> {
             return Err(PacketError::OutOfMemory);
         }
         let follows = starts_next(self.cutoff, frame.first) && !self.evicted;
-        self.leave(frame, to);
+        self.leave(frame);
         unpacked?;
         let (may_go, contiguous) = self.contiguity.check(&codec_extra, follows);
         if !may_go {
@@ -317,11 +311,12 @@ impl<B: Depacketizer> DepacketizingBuffer<B> {
         }))
     }
 
-    /// Removes the frame that is due and all packets below it, the first `count` packets.
+    /// Removes the frame that is due and all packets below it.
     #[inline(always)]
-    fn leave(&mut self, frame: CompleteFrame, count: usize) {
-        drop_front(&mut self.packets, &mut self.spare, count);
-        give_back(&mut self.packets);
+    fn leave(&mut self, frame: CompleteFrame) {
+        let follows = is_right_after(self.cutoff, frame.first);
+        drop_frame(&mut self.packets, &mut self.spare, frame, follows);
+        self.packets.give_back();
         drop_first(&mut self.complete, &self.packets);
         self.cutoff = Some(frame.last);
     }

@@ -118,6 +118,7 @@ pub mod interface;
 pub mod jitter;
 pub mod keyframes;
 pub mod media;
+mod paged;
 pub mod payload;
 pub mod payloads;
 #[doc(hidden)]

@@ -1,14 +1,14 @@
 """Where the modules of the proved crates go in the one crate of plain Rust."""
 
 # The crates of the library, each after the crates that it uses.
-LIBRARY = ["base", "audio", "vp8", "vp9", "av1", "red", "rtp", "red_writer", "rtcp", "history", "vpx", "media", "keyframes", "requests", "feedback", "adaptive_wait", "codec", "buffer", "jitter", "stream", "session", "sender",
+LIBRARY = ["base", "audio", "vp8", "vp9", "av1", "red", "rtp", "red_writer", "rtcp", "history", "vpx", "media", "keyframes", "requests", "feedback", "adaptive_wait", "codec", "pages", "buffer", "jitter", "stream", "session", "sender",
            "send", "runs", "wire", "session_runs"]
 # The library for C.
 NOT_HERE = {"handle", "c"}
 # Names the users' modules of the library again.
 FACADE = "core"
 # The module below which a crate's modules go. Modules of all other crates go to the root.
-PLACES = {"rtp": "rtp", "rtcp": "rtcp", "vpx": "media::vpx", "media": "media", "keyframes": "keyframes", "history": "history", "requests": "requests", "feedback": "feedback", "adaptive_wait": "waiting", "jitter": "jitter", "stream": "stream", "session": "session", "send": "payload",
+PLACES = {"pages": "paged", "rtp": "rtp", "rtcp": "rtcp", "vpx": "media::vpx", "media": "media", "keyframes": "keyframes", "history": "history", "requests": "requests", "feedback": "feedback", "adaptive_wait": "waiting", "jitter": "jitter", "stream": "stream", "session": "session", "send": "payload",
           "runs": "schedule", "wire": "schedule::datagrams", "session_runs": "session::runs"}
 # Modules with another name in the one crate.
 RENAMED_MODULES = {("rtp", "rtp"): "packet", ("jitter", "jitter"): "jitter_buffer", ("session", "session"): "sessions"}

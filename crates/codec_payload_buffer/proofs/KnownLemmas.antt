@@ -10,7 +10,7 @@ use Rattle.codec_payload_buffer.specs.Rows.{noted, frame_place, EndsAbove, EndsR
 use Rattle.codec_payload_buffer.specs.declared.buffer.frames.CompleteFrame.{CompleteFrame}
 use Rattle.codec_payload_codec.proofs.CaseLemmas.{by_test}
 use Rattle.codec_payload_buffer.proofs.FramePlaces.{frames_by_end, end_from_point, frame_place_within}
-use Rattle.codec_payload_buffer.proofs.SearchLemmas.{all_below}
+use Rattle.codec_payload_pages.proofs.SearchLemmas.{all_below}
 
 -- Whether the last frame ends at a number or above
 

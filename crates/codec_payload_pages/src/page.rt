@@ -170,9 +170,7 @@ pub(super) fn note_in<N: Drop, T: Noted<N> + Drop>(page: &mut Page<T>, number: u
     ensures slots { (x : T) × (y : T) × (slice_index_or page.old.slots.items (number % 32) None ≡ Some x) × T.is_noted x note y
         × (page.new.slots.items ≡ slice_set page.old.slots.items (number % 32) (Some y)) }
 {
-    let slot = slot_of(number);
-    if let Some(mut item) = page.slots[slot].take() {
+    if let Some(item) = page.slots[slot_of(number)].as_mut() {
         item.note(note);
-        page.slots[slot] = Some(item);
     }
 }

@@ -5,18 +5,17 @@
 //! So the buffer keeps no list of rows. A push, an eviction and a pop write only to the ends of the rows that they change.
 
 use super::frames::{CompleteFrame, frame_of};
-use super::held_packet::{HeldPacket, Packet};
+use super::held_packet::{HeldPacket, Packet, RowNote};
 use super::packets::take_lowest;
 use super::rows::{Row, frame_of_left, join, meets, shorten};
-use super::search::put_at;
 use crate::memory::One;
-use alloc::collections::VecDeque;
+use crate::paged::pages::Pages;
+use crate::paged::search::Noted;
 use alloc::vec::Vec;
 
-/// Returns the row from `first` to the packet at `place`, which is its last.
+/// Returns the row from `first` to this packet, which is its last.
 #[inline(always)]
-fn row_to(packets: &VecDeque<HeldPacket>, first: u64, place: usize) -> Row {
-    let last = &packets[place];
+fn row_to(first: u64, last: &HeldPacket) -> Row {
     Row {
         first,
         last: last.number,
@@ -26,23 +25,26 @@ fn row_to(packets: &VecDeque<HeldPacket>, first: u64, place: usize) -> Row {
     }
 }
 
-/// Returns whether `later` is the next number after `earlier`.
-fn is_next(earlier: u64, later: u64) -> bool {
-    earlier < later && later - earlier == 1
+/// Returns the row that begins with this packet.
+#[inline(always)]
+fn row_from(packets: &Pages<HeldPacket>, entry: &HeldPacket) -> Row {
+    let last = entry.packet.other_end;
+    if last == entry.number {
+        return row_to(last, entry);
+    }
+    row_to(entry.number, packets.get(last).unwrap())
 }
 
-/// Joins a row with the row that begins at `place`, if they meet.
+/// Joins a row of one packet with the row that begins with the next number, if they meet.
 #[inline(always)]
-fn join_next(packets: &VecDeque<HeldPacket>, place: usize, row: Row) -> Row {
-    if place == packets.len() {
+fn join_next(packets: &Pages<HeldPacket>, row: Row) -> Row {
+    let Some(number) = row.last.checked_add(1) else {
         return row;
-    }
-    let entry = &packets[place];
-    if !is_next(row.last, entry.number) {
+    };
+    let Some(entry) = packets.get(number) else {
         return row;
-    }
-    let after = (entry.packet.other_end - entry.number) as usize;
-    let next = row_to(packets, entry.number, place + after);
+    };
+    let next = row_from(packets, entry);
     if meets(&row, &next) {
         join(row, next)
     } else {
@@ -50,17 +52,16 @@ fn join_next(packets: &VecDeque<HeldPacket>, place: usize, row: Row) -> Row {
     }
 }
 
-/// Joins a row with the row that ends in front of `place`, if they meet.
+/// Joins a row with the row that ends with the number before it, if they meet.
 #[inline(always)]
-fn join_previous(packets: &VecDeque<HeldPacket>, place: usize, row: Row) -> Row {
-    if place == 0 {
+fn join_previous(packets: &Pages<HeldPacket>, row: Row) -> Row {
+    let Some(number) = row.first.checked_sub(1) else {
         return row;
-    }
-    let entry = &packets[place - 1];
-    if !is_next(entry.number, row.first) {
+    };
+    let Some(entry) = packets.get(number) else {
         return row;
-    }
-    let previous = row_to(packets, entry.packet.other_end, place - 1);
+    };
+    let previous = row_to(entry.packet.other_end, entry);
     if meets(&previous, &row) {
         join(previous, row)
     } else {
@@ -70,49 +71,62 @@ fn join_previous(packets: &VecDeque<HeldPacket>, place: usize, row: Row) -> Row 
 
 /// Returns the row of a new packet once it is at its place: `row` is the packet alone.
 #[inline(always)]
-pub(super) fn row_with(packets: &VecDeque<HeldPacket>, place: usize, row: Row) -> Row {
-    let row = join_next(packets, place, row);
-    join_previous(packets, place, row)
+pub(super) fn row_with(packets: &Pages<HeldPacket>, row: Row) -> Row {
+    let row = join_next(packets, row);
+    join_previous(packets, row)
 }
 
-/// Notes the other end of a row, and its head, in a packet.
-fn mark(entry: &mut HeldPacket, other_end: u64, row_head: Option<u64>) {
-    entry.packet.other_end = other_end;
-    entry.packet.row_head = row_head;
-}
-
-/// Notes the other end of a row, and its head, in the packet at `place`.
+/// Notes a row at one of its ends, the packet with this number.
 #[inline(always)]
-fn set_mark(
-    packets: &mut VecDeque<HeldPacket>,
-    place: usize,
-    other_end: u64,
-    row_head: Option<u64>,
-) {
-    mark(&mut packets[place], other_end, row_head);
+fn set_mark(packets: &mut Pages<HeldPacket>, number: u64, other_end: u64, row_head: Option<u64>) {
+    packets.note(
+        number,
+        RowNote {
+            other_end,
+            row_head,
+        },
+    );
 }
 
-/// Notes a row at both of its ends, the packets at `from` and `to`.
+/// Notes a row at both of its ends.
 #[inline(always)]
-fn set_ends(packets: &mut VecDeque<HeldPacket>, from: usize, to: usize, row: Row) {
-    set_mark(packets, from, row.last, None);
-    set_mark(packets, to, row.first, row.head);
+fn set_ends(packets: &mut Pages<HeldPacket>, row: Row) {
+    if row.first != row.last {
+        set_mark(packets, row.first, row.last, None);
+    }
+    set_mark(packets, row.last, row.first, row.head);
+}
+
+/// Notes a row in a packet that is at one of its ends.
+#[inline(always)]
+fn note_own(packet: &mut HeldPacket, row: &Row) {
+    if packet.number == row.last {
+        packet.note(RowNote {
+            other_end: row.first,
+            row_head: row.head,
+        });
+    } else if packet.number == row.first {
+        packet.note(RowNote {
+            other_end: row.last,
+            row_head: None,
+        });
+    }
 }
 
 /// Inserts a packet at its place; `row` is its row after that. The caller has reserved the room. At the end of the queue
 /// nothing moves.
 #[inline(always)]
-pub(super) fn place_at(
-    packets: &mut VecDeque<HeldPacket>,
-    place: usize,
-    packet: HeldPacket,
-    row: Row,
-) {
+pub(super) fn place_at(packets: &mut Pages<HeldPacket>, packet: HeldPacket, row: Row) {
     let number = packet.number;
-    put_at(packets, place, packet);
-    let from = place - (number - row.first) as usize;
-    let to = place + (row.last - number) as usize;
-    set_ends(packets, from, to, row);
+    let mut packet = packet;
+    note_own(&mut packet, &row);
+    packets.insert(packet);
+    if row.first != number {
+        set_mark(packets, row.first, row.last, None);
+    }
+    if row.last != number {
+        set_mark(packets, row.last, row.first, row.head);
+    }
 }
 
 /// Returns the complete frame that ends at this packet, if one does.
@@ -129,37 +143,32 @@ pub(super) fn frame_to(entry: &HeldPacket) -> Option<CompleteFrame> {
 
 /// Returns whether no complete frame ends where `row` ends, the row of a new packet. `place` is the place of the packet.
 #[inline(always)]
-pub(super) fn is_new_end(
-    packets: &VecDeque<HeldPacket>,
-    place: usize,
-    packet: &HeldPacket,
-    row: &Row,
-) -> bool {
-    let after = (row.last - packet.number) as usize;
-    if after == 0 {
+pub(super) fn is_new_end(packets: &Pages<HeldPacket>, packet: &HeldPacket, row: &Row) -> bool {
+    if row.last == packet.number {
         return true;
     }
-    frame_to(&packets[place + after - 1]).is_none()
+    match packets.get(row.last) {
+        Some(last) => frame_to(last).is_none(),
+        None => true,
+    }
 }
 
 /// Returns the lowest row.
-fn lowest_row(packets: &VecDeque<HeldPacket>) -> Row {
-    let entry = &packets[0];
-    let after = (entry.packet.other_end - entry.number) as usize;
-    row_to(packets, entry.number, after)
+fn lowest_row(packets: &Pages<HeldPacket>) -> Row {
+    row_from(packets, packets.lowest().unwrap())
 }
 
 /// Notes the rest of the lowest row at both of its ends.
-fn set_lowest_ends(packets: &mut VecDeque<HeldPacket>, rest: &Option<Row>) {
+fn set_lowest_ends(packets: &mut Pages<HeldPacket>, rest: &Option<Row>) {
     match rest {
-        Some(row) => set_ends(packets, 0, (row.last - row.first) as usize, *row),
+        Some(row) => set_ends(packets, *row),
         None => {}
     }
 }
 
 /// Removes the lowest packet. Returns its number, the frame of its row before that, and the frame of the row after that.
 pub(super) fn evict(
-    packets: &mut VecDeque<HeldPacket>,
+    packets: &mut Pages<HeldPacket>,
     spare: &mut Vec<One<Packet>>,
 ) -> (u64, Option<CompleteFrame>, Option<CompleteFrame>) {
     let row = lowest_row(packets);

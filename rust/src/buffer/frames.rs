@@ -5,15 +5,24 @@
 use super::ends::frame_to;
 use super::held_packet::HeldPacket;
 use super::rows::Row;
-use super::search::{place_of_number, put_at};
 use crate::memory::{AllocError, TryQueue};
+use crate::paged::pages::Pages;
+use crate::paged::search::{Numbered, place_of_number, put_at};
 use alloc::collections::VecDeque;
+use alloc::vec::Vec;
 
 /// A complete frame: the sequence numbers of its first and last packet.
 #[derive(Clone, Copy, Debug, PartialEq, Eq)]
 pub struct CompleteFrame {
     pub first: u64,
     pub last: u64,
+}
+
+/// Frames are ordered by their last number.
+impl Numbered for CompleteFrame {
+    fn number(&self) -> u64 {
+        self.last
+    }
 }
 
 /// Returns the frame of a row, if it has one: from its lowest packet that begins a unit to the packet that ends it.
@@ -118,23 +127,36 @@ pub(super) fn note(complete: &mut CompleteFrames, frame: Option<CompleteFrame>, 
     }
 }
 
-/// Reads the lowest frames from the packets, as many as there is room for. Allocates nothing.
-#[inline(never)]
-fn read_known(known: &mut VecDeque<CompleteFrame>, ready: usize, packets: &VecDeque<HeldPacket>) {
-    let wanted = ready.min(known.capacity());
-    for packet in packets {
+/// Reads the frames that end in the packets of a page, up to so many known ones in all.
+#[inline(always)]
+fn read_page(known: &mut VecDeque<CompleteFrame>, wanted: usize, slots: &Vec<Option<HeldPacket>>) {
+    for slot in slots.iter() {
         if known.len() == wanted {
             return;
         }
-        if let Some(frame) = frame_to(packet) {
+        if let Some(packet) = slot
+            && let Some(frame) = frame_to(packet)
+        {
             known.push_back(frame);
         }
     }
 }
 
+/// Reads the lowest frames from the packets, as many as there is room for. Allocates nothing.
+#[inline(never)]
+fn read_known(known: &mut VecDeque<CompleteFrame>, ready: usize, packets: &Pages<HeldPacket>) {
+    let wanted = ready.min(known.capacity());
+    let pages = packets.page_count();
+    let mut place = 0;
+    while place < pages && known.len() < wanted {
+        read_page(known, wanted, packets.page(place));
+        place += 1;
+    }
+}
+
 /// Removes the lowest frame; `packets` are the remaining packets.
 #[inline(always)]
-pub(super) fn drop_first(complete: &mut CompleteFrames, packets: &VecDeque<HeldPacket>) {
+pub(super) fn drop_first(complete: &mut CompleteFrames, packets: &Pages<HeldPacket>) {
     complete.known.pop_front();
     complete.ready -= 1;
     if complete.known.is_empty() && complete.ready > 0 {
@@ -147,7 +169,7 @@ pub(super) fn mend_first(
     complete: &mut CompleteFrames,
     before: Option<CompleteFrame>,
     after: Option<CompleteFrame>,
-    packets: &VecDeque<HeldPacket>,
+    packets: &Pages<HeldPacket>,
 ) {
     match (before, after) {
         (Some(_), Some(frame)) => complete.known[0] = frame,

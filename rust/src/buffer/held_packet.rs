@@ -5,6 +5,7 @@
 use super::known::PackedMeta;
 use super::unit::RtpMeta;
 use crate::memory::One;
+use crate::paged::search::{Noted, Numbered};
 use alloc::vec::Vec;
 use core::mem::size_of;
 
@@ -53,6 +54,28 @@ impl Packet {
     }
 }
 
+impl Numbered for HeldPacket {
+    fn number(&self) -> u64 {
+        self.number
+    }
+}
+
+/// What a packet at an end of a row notes: the number at the other end, and at the last packet the lowest number that begins a
+/// unit.
+#[derive(Clone, Copy, Debug)]
+pub(super) struct RowNote {
+    pub(super) other_end: u64,
+    pub(super) row_head: Option<u64>,
+}
+
+impl Noted<RowNote> for HeldPacket {
+    #[inline(always)]
+    fn note(&mut self, note: RowNote) {
+        self.packet.other_end = note.other_end;
+        self.packet.row_head = note.row_head;
+    }
+}
+
 /// A type that returns a value about itself, made new on each call. A plain value costs less.
 pub(super) trait Tells<T> {
     fn is_plain(&self) -> bool;
@@ -79,5 +102,5 @@ impl Tells<RtpMeta> for HeldPacket {
     }
 }
 
-/// An entry has at most 16 bytes, since a push far from both ends moves up to half of all entries.
+/// An entry has at most 16 bytes, since a page has room for 32 of them.
 const _: () = assert!(size_of::<HeldPacket>() <= 16);

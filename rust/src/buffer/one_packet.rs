@@ -2,29 +2,35 @@
 
 //! Frames of one packet, such as most frames of audio: their payloads are reached by their place, without a walk of the queue.
 
+use super::frames::CompleteFrame;
 use super::held_packet::HeldPacket;
 use super::packets::{make_room, unpack};
 use crate::codec::{CodecDepacketizer, Depacketizer};
 use crate::error::PacketError;
 use crate::interface::CodecExtra;
 use crate::memory::{AllocError, TryVec};
-use alloc::collections::VecDeque;
+use crate::paged::pages::Pages;
 use alloc::vec::Vec;
+
+/// Returns the packet with this number, which is held.
+#[inline(always)]
+fn packet_at(packets: &Pages<HeldPacket>, number: u64) -> &HeldPacket {
+    packets.part(number, number)[0].as_ref().unwrap()
+}
 
 /// Starts an empty unit for a frame, as [`make_room`] does.
 #[inline(always)]
 pub(super) fn make_room_for<B: Depacketizer>(
     bytes: &mut Vec<u8>,
     depacketizer: &CodecDepacketizer<B>,
-    packets: &VecDeque<HeldPacket>,
-    from: usize,
-    to: usize,
+    packets: &Pages<HeldPacket>,
+    frame: CompleteFrame,
 ) -> Result<(), AllocError> {
-    if to - from != 1 {
-        return make_room(bytes, depacketizer, packets, from, to);
+    if frame.first != frame.last {
+        return make_room(bytes, depacketizer, packets, frame);
     }
     bytes.clear();
-    match depacketizer.out_size_hint(packets[from].packet.bytes.len()) {
+    match depacketizer.out_size_hint(packet_at(packets, frame.first).packet.bytes.len()) {
         Some(size) => bytes.try_exact(size),
         None => Ok(()),
     }
@@ -34,14 +40,17 @@ pub(super) fn make_room_for<B: Depacketizer>(
 #[inline(always)]
 pub(super) fn unpack_frame<B: Depacketizer>(
     depacketizer: &mut CodecDepacketizer<B>,
-    packets: &VecDeque<HeldPacket>,
-    from: usize,
-    to: usize,
+    packets: &Pages<HeldPacket>,
+    frame: CompleteFrame,
     bytes: &mut Vec<u8>,
     codec_extra: &mut CodecExtra,
 ) -> Result<(), PacketError> {
-    if to - from != 1 {
-        return unpack(depacketizer, packets, from, to, bytes, codec_extra);
+    if frame.first != frame.last {
+        return unpack(depacketizer, packets, frame, bytes, codec_extra);
     }
-    depacketizer.depacketize(&packets[from].packet.bytes, bytes, codec_extra)
+    depacketizer.depacketize(
+        &packet_at(packets, frame.first).packet.bytes,
+        bytes,
+        codec_extra,
+    )
 }

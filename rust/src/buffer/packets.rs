@@ -5,14 +5,13 @@
 use super::frames::CompleteFrame;
 use super::held_packet::{HeldPacket, Packet, Tells};
 use super::known::PackedMeta;
-use super::search::place_of_number;
 use super::unit::RtpMeta;
 use crate::codec::{CodecDepacketizer, Depacketizer};
 use crate::error::PacketError;
 use crate::interface::CodecExtra;
-use crate::memory::{AllocError, One, TryQueue, TryVec};
+use crate::memory::{AllocError, One, TryVec};
+use crate::paged::pages::Pages;
 use crate::wire::Ticks;
-use alloc::collections::VecDeque;
 use alloc::vec::Vec;
 
 /// The largest number of memory blocks that are kept for later packets.
@@ -65,46 +64,28 @@ pub(super) fn starts_next(cutoff: Option<u64>, first: u64) -> bool {
     }
 }
 
-/// Returns the place of the first packet with this number or a higher one.
+/// Returns whether the packet with this number is held.
 #[inline(always)]
-pub(super) fn find_place(packets: &VecDeque<HeldPacket>, number: u64) -> usize {
-    place_of_number(packets, number)
-}
-
-/// Returns whether the packet at `place` has this number.
-pub(super) fn is_at(packets: &VecDeque<HeldPacket>, place: usize, number: u64) -> bool {
-    place < packets.len() && packets[place].number == number
+pub(super) fn is_at(packets: &Pages<HeldPacket>, number: u64) -> bool {
+    packets.get(number).is_some()
 }
 
 /// Returns the time at which the packet with this number arrived, if it is held.
 #[inline(always)]
-pub(super) fn received_at(packets: &VecDeque<HeldPacket>, number: u64) -> Option<Ticks> {
-    let place = find_place(packets, number);
-    if place >= packets.len() {
-        return None;
-    }
-    let packet = &packets[place];
-    if packet.number == number {
-        Some(packet.packet.known.received())
-    } else {
-        None
+pub(super) fn received_at(packets: &Pages<HeldPacket>, number: u64) -> Option<Ticks> {
+    match packets.get(number) {
+        Some(packet) => Some(packet.packet.known.received()),
+        None => None,
     }
 }
 
 /// Removes the lowest packet, and returns its number.
-pub(super) fn take_lowest(packets: &mut VecDeque<HeldPacket>, spare: &mut Vec<One<Packet>>) -> u64 {
-    let lowest = packets.pop_front().unwrap();
-    let number = lowest.number;
-    keep(spare, lowest.packet);
+pub(super) fn take_lowest(packets: &mut Pages<HeldPacket>, spare: &mut Vec<One<Packet>>) -> u64 {
+    let number = packets.lowest().unwrap().number;
+    if let Some(lowest) = packets.take_first(number) {
+        keep(spare, lowest.packet);
+    }
     number
-}
-
-/// Returns the places at which the packets of a frame begin and end. The numbers of a frame are consecutive, so only its first
-/// packet is searched.
-#[inline(always)]
-pub(super) fn frame_range(packets: &VecDeque<HeldPacket>, frame: CompleteFrame) -> (usize, usize) {
-    let from = find_place(packets, frame.first);
-    (from, from + (frame.last - frame.first) as usize + 1)
 }
 
 /// Appends the fields of an item.
@@ -118,124 +99,185 @@ fn push_told<T, I: Tells<T>>(all: &mut Vec<T>, item: &I) -> Result<(), AllocErro
     Ok(())
 }
 
-/// Writes the metadata of the packets between two places to `metas`, and replaces the earlier contents.
+/// Returns the number of packets of a frame, whose numbers are consecutive.
 #[inline(always)]
-pub(super) fn copy_metas(
-    metas: &mut Vec<RtpMeta>,
-    packets: &VecDeque<HeldPacket>,
-    from: usize,
-    to: usize,
-) -> Result<(), AllocError> {
-    metas.clear();
-    metas.try_exact(to - from)?;
-    for packet in packets.range(from..to) {
-        push_told(metas, packet)?;
+pub(super) fn packets_in(frame: CompleteFrame) -> usize {
+    (frame.last - frame.first) as usize + 1
+}
+
+/// Appends the metadata of the packets in these slots.
+#[inline(always)]
+fn append_metas(metas: &mut Vec<RtpMeta>, slots: &[Option<HeldPacket>]) -> Result<(), AllocError> {
+    for slot in slots {
+        if let Some(packet) = slot {
+            push_told(metas, packet)?;
+        }
     }
     Ok(())
 }
 
-/// Returns the number of payload bytes of these packets, at most `usize::MAX`.
+/// Writes the metadata of the packets of a frame to `metas`, and replaces the earlier contents.
 #[inline(always)]
-fn payload_size(packets: &VecDeque<HeldPacket>, from: usize, to: usize) -> usize {
+pub(super) fn copy_metas(
+    metas: &mut Vec<RtpMeta>,
+    packets: &Pages<HeldPacket>,
+    frame: CompleteFrame,
+) -> Result<(), AllocError> {
+    metas.clear();
+    metas.try_exact(packets_in(frame))?;
+    let mut first = frame.first;
+    let mut left = packets_in(frame);
+    while left > 0 {
+        let part = packets.part(first, frame.last);
+        append_metas(metas, part)?;
+        left -= part.len();
+        first = first.wrapping_add(part.len() as u64);
+    }
+    Ok(())
+}
+
+/// Returns the number of payload bytes of the packets in these slots, at most `usize::MAX`.
+#[inline(always)]
+fn size_in(slots: &[Option<HeldPacket>]) -> usize {
     let mut size = 0usize;
-    for packet in packets.range(from..to) {
-        size = size.saturating_add(packet.packet.bytes.len());
+    for slot in slots {
+        if let Some(packet) = slot {
+            size = size.saturating_add(packet.packet.bytes.len());
+        }
     }
     size
 }
 
-/// Starts an empty unit, with room for the payload bytes of these packets, as the depacketizer expects it.
+/// Returns the number of payload bytes of the packets of a frame, at most `usize::MAX`.
+#[inline(always)]
+fn payload_size(packets: &Pages<HeldPacket>, frame: CompleteFrame) -> usize {
+    let mut size = 0usize;
+    let mut first = frame.first;
+    let mut left = packets_in(frame);
+    while left > 0 {
+        let part = packets.part(first, frame.last);
+        size = size.saturating_add(size_in(part));
+        left -= part.len();
+        first = first.wrapping_add(part.len() as u64);
+    }
+    size
+}
+
+/// Starts an empty unit, with room for the payload bytes of the packets of a frame, as the depacketizer expects it.
 #[inline(always)]
 pub(super) fn make_room<B: Depacketizer>(
     bytes: &mut Vec<u8>,
     depacketizer: &CodecDepacketizer<B>,
-    packets: &VecDeque<HeldPacket>,
-    from: usize,
-    to: usize,
+    packets: &Pages<HeldPacket>,
+    frame: CompleteFrame,
 ) -> Result<(), AllocError> {
     bytes.clear();
-    match depacketizer.out_size_hint(payload_size(packets, from, to)) {
+    match depacketizer.out_size_hint(payload_size(packets, frame)) {
         Some(size) => bytes.try_exact(size),
         None => Ok(()),
     }
 }
 
-/// Passes the payloads of these packets to the depacketizer, in order, up to the first payload that it refuses.
+/// Passes the payloads in these slots to the depacketizer, in order, up to the first payload that it refuses.
 #[inline(always)]
-pub(super) fn unpack<B: Depacketizer>(
+fn unpack_slots<B: Depacketizer>(
     depacketizer: &mut CodecDepacketizer<B>,
-    packets: &VecDeque<HeldPacket>,
-    from: usize,
-    to: usize,
+    slots: &[Option<HeldPacket>],
     bytes: &mut Vec<u8>,
     codec_extra: &mut CodecExtra,
 ) -> Result<(), PacketError> {
-    for packet in packets.range(from..to) {
-        match depacketizer.depacketize(&packet.packet.bytes, bytes, codec_extra) {
-            Ok(()) => {}
-            Err(fault) => return Err(fault),
+    for slot in slots {
+        if let Some(packet) = slot {
+            match depacketizer.depacketize(&packet.packet.bytes, bytes, codec_extra) {
+                Ok(()) => {}
+                Err(fault) => return Err(fault),
+            }
         }
     }
     Ok(())
 }
 
-/// The smallest number of entries for which a queue keeps memory.
-const KEPT_ENTRIES: usize = 64;
-
-/// Shrinks a queue that is at most a quarter full to twice its contents, or to 64 entries. So a call that moves entries comes
-/// after at least as many packets that left. If the smaller memory cannot be allocated, the queue stays as it is.
+/// Passes the payloads of the packets of a frame to the depacketizer, in order, up to the first payload that it refuses.
 #[inline(always)]
-pub(super) fn give_back<T>(queue: &mut VecDeque<T>) {
-    if queue.capacity() > KEPT_ENTRIES && queue.len() <= queue.capacity() / 4 {
-        queue.shrink_if_possible((2 * queue.len()).max(KEPT_ENTRIES));
+pub(super) fn unpack<B: Depacketizer>(
+    depacketizer: &mut CodecDepacketizer<B>,
+    packets: &Pages<HeldPacket>,
+    frame: CompleteFrame,
+    bytes: &mut Vec<u8>,
+    codec_extra: &mut CodecExtra,
+) -> Result<(), PacketError> {
+    let mut first = frame.first;
+    let mut left = packets_in(frame);
+    while left > 0 {
+        let part = packets.part(first, frame.last);
+        match unpack_slots(depacketizer, part, bytes, codec_extra) {
+            Ok(()) => {}
+            Err(fault) => return Err(fault),
+        }
+        left -= part.len();
+        first = first.wrapping_add(part.len() as u64);
     }
+    Ok(())
 }
 
-/// Removes the first `count` packets.
-#[inline(always)]
-pub(super) fn drop_front(
-    packets: &mut VecDeque<HeldPacket>,
-    spare: &mut Vec<One<Packet>>,
-    count: usize,
-) {
-    let mut left = count;
-    while left > 0 {
-        left -= 1;
-        if let Some(entry) = packets.pop_front() {
+/// Removes the packets below this number.
+#[inline(never)]
+fn drop_below(packets: &mut Pages<HeldPacket>, spare: &mut Vec<One<Packet>>, first: u64) {
+    while let Some(lowest) = packets.lowest() {
+        let number = lowest.number;
+        if number >= first {
+            return;
+        }
+        if let Some(entry) = packets.take_first(number) {
             keep(spare, entry.packet);
         }
     }
 }
 
-/// Removes the first `count` packets, and appends their metadata to `metas`, which has room for them. Allocates nothing.
+/// Removes a frame and the packets below it. `follows`: there are none.
 #[inline(always)]
-fn move_front(
-    packets: &mut VecDeque<HeldPacket>,
+pub(super) fn drop_frame(
+    packets: &mut Pages<HeldPacket>,
+    spare: &mut Vec<One<Packet>>,
+    frame: CompleteFrame,
+    follows: bool,
+) {
+    if !follows {
+        drop_below(packets, spare, frame.first);
+    }
+    let mut left = packets_in(frame);
+    let mut number = frame.first;
+    while left > 0 {
+        if let Some(entry) = packets.take_first(number) {
+            keep(spare, entry.packet);
+        }
+        left -= 1;
+        number = number.wrapping_add(1);
+    }
+}
+
+/// Removes a frame and the packets below it, and moves the metadata of the frame's packets to `metas`, which is empty and has room
+/// for them. `follows`: no packets are below it. Allocates nothing.
+#[inline(always)]
+pub(super) fn move_frame(
+    packets: &mut Pages<HeldPacket>,
     spare: &mut Vec<One<Packet>>,
     metas: &mut Vec<PackedMeta>,
-    count: usize,
+    frame: CompleteFrame,
+    follows: bool,
 ) {
-    let mut left = count;
+    if !follows {
+        drop_below(packets, spare, frame.first);
+    }
+    let mut left = packets_in(frame);
+    let mut number = frame.first;
     while left > 0 {
-        left -= 1;
-        if let Some(entry) = packets.pop_front() {
+        if let Some(entry) = packets.take_first(number) {
             let mut block = entry.packet;
             metas.push(block.known.take());
             keep(spare, block);
         }
+        left -= 1;
+        number = number.wrapping_add(1);
     }
-}
-
-/// Removes the first `to` packets, and moves the metadata of those from `from` on to `metas`, which is empty and has room for
-/// them. Allocates nothing.
-#[inline(always)]
-pub(super) fn move_frame(
-    packets: &mut VecDeque<HeldPacket>,
-    spare: &mut Vec<One<Packet>>,
-    metas: &mut Vec<PackedMeta>,
-    from: usize,
-    to: usize,
-) {
-    drop_front(packets, spare, from);
-    move_front(packets, spare, metas, to - from);
 }

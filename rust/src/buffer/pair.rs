@@ -7,14 +7,14 @@ use super::ends::{evict, is_new_end, place_at, row_with};
 use super::frames::{CompleteFrames, frame_of, mend_first, note, reserve_known};
 use super::held_packet::{HeldPacket, Packet};
 use super::known::PackedMeta;
-use super::packets::{find_place, hold, is_at, is_too_late};
+use super::packets::{hold, is_at, is_too_late};
 use super::placed::{Placed, placed_among};
 use super::rows::row_of_packet;
 use super::unit::RtpMeta;
 use crate::codec::{CodecDepacketizer, Depacketizer};
 use crate::error::PacketError;
-use crate::memory::{One, TryQueue};
-use alloc::collections::VecDeque;
+use crate::memory::One;
+use crate::paged::pages::Pages;
 use alloc::vec::Vec;
 
 /// The metadata of a packet, and its payload.
@@ -43,7 +43,7 @@ impl<B: Depacketizer> DepacketizingBuffer<B> {
         first: Incoming,
         second: Incoming,
     ) -> Result<(Placed, Placed), PacketError> {
-        self.packets.try_room(2)?;
+        self.packets.reserve(2)?;
         reserve_known(&mut self.complete.known, 2)?;
         let first = entry_of(&mut self.spare, &self.depacketizer, first)?;
         let second = entry_of(&mut self.spare, &self.depacketizer, second)?;
@@ -95,7 +95,7 @@ fn entry_of<B: Depacketizer>(
 
 /// Stores a packet for which there is memory. Returns the result, and the number of the packet that was evicted.
 fn store_entry(
-    packets: &mut VecDeque<HeldPacket>,
+    packets: &mut Pages<HeldPacket>,
     complete: &mut CompleteFrames,
     spare: &mut Vec<One<Packet>>,
     bounds: Bounds,
@@ -105,14 +105,13 @@ fn store_entry(
     if is_too_late(bounds.cutoff, number) {
         return (Placed::Late, None);
     }
-    let place = find_place(packets, number);
-    if is_at(packets, place, number) {
+    if is_at(packets, number) {
         return (Placed::Duplicate, None);
     }
     let placed = placed_among(packets, bounds.limit);
-    let row = row_with(packets, place, row_of_packet(&entry));
-    let is_new = is_new_end(packets, place, &entry, &row);
-    place_at(packets, place, entry, row);
+    let row = row_with(packets, row_of_packet(&entry));
+    let is_new = is_new_end(packets, &entry, &row);
+    place_at(packets, entry, row);
     note(complete, frame_of(&row), is_new);
     if packets.len() <= bounds.limit {
         return (placed, None);

@@ -4,8 +4,8 @@
 
 use super::frames::{CompleteFrame, frame_of};
 use super::held_packet::HeldPacket;
+use crate::paged::pages::Pages;
 use crate::wire::MediaTime;
-use alloc::collections::VecDeque;
 
 /// A row: the longest range of held packets with consecutive numbers and one time, in which only the last packet can end a
 /// unit.
@@ -55,14 +55,13 @@ pub(super) fn join(earlier: Row, later: Row) -> Row {
     }
 }
 
-/// Returns the lowest number, up to `last`, of a packet that begins a unit.
-fn find_head(packets: &VecDeque<HeldPacket>, last: u64) -> Option<u64> {
-    for packet in packets {
-        if packet.number > last {
-            return None;
-        }
-        if packet.packet.head {
-            return Some(packet.number);
+/// Returns the lowest number from `first` to `last` of a packet that begins a unit. All of these packets are held.
+fn find_head(packets: &Pages<HeldPacket>, first: u64, last: u64) -> Option<u64> {
+    for number in first..=last {
+        if let Some(packet) = packets.get(number)
+            && packet.packet.head
+        {
+            return Some(number);
         }
     }
     None
@@ -70,12 +69,12 @@ fn find_head(packets: &VecDeque<HeldPacket>, last: u64) -> Option<u64> {
 
 /// Returns the rest of a row after its first packet has left; `packets` are the remaining packets. It searches for the next
 /// packet that begins a unit only if the first packet began one.
-pub(super) fn shorten(row: &Row, packets: &VecDeque<HeldPacket>) -> Option<Row> {
+pub(super) fn shorten(row: &Row, packets: &Pages<HeldPacket>) -> Option<Row> {
     if row.first == row.last {
         return None;
     }
     let head = if row.head == Some(row.first) {
-        find_head(packets, row.last)
+        find_head(packets, row.first + 1, row.last)
     } else {
         row.head
     };

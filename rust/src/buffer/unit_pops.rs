@@ -6,9 +6,9 @@ use super::frames::{CompleteFrame, drop_first};
 use super::known::PackedMeta;
 use super::leaving::{Left, left_by, refused_by};
 use super::one_packet::{make_room_for, unpack_frame};
-use super::packets::{frame_range, give_back, move_frame, starts_next};
+use super::packets::{move_frame, packets_in, starts_next};
 use super::popped::PoppedUnit;
-use super::{DepacketizingBuffer, is_out_of_memory};
+use super::{DepacketizingBuffer, is_out_of_memory, is_right_after};
 use crate::codec::Depacketizer;
 use crate::error::PacketError;
 use crate::interface::CodecExtra;
@@ -68,16 +68,14 @@ impl<B: Depacketizer> DepacketizingBuffer<B> {
         frame: CompleteFrame,
         unit: &mut PoppedUnit,
     ) -> Result<Taken, PacketError> {
-        let (from, to) = frame_range(&self.packets, frame);
         unit.metas.clear();
-        unit.metas.try_exact(to - from)?;
-        make_room_for(&mut unit.bytes, &self.depacketizer, &self.packets, from, to)?;
+        unit.metas.try_exact(packets_in(frame))?;
+        make_room_for(&mut unit.bytes, &self.depacketizer, &self.packets, frame)?;
         unit.codec_extra = CodecExtra::None;
         let unpacked = unpack_frame(
             &mut self.depacketizer,
             &self.packets,
-            from,
-            to,
+            frame,
             &mut unit.bytes,
             &mut unit.codec_extra,
         );
@@ -85,7 +83,7 @@ impl<B: Depacketizer> DepacketizingBuffer<B> {
             return Err(PacketError::OutOfMemory);
         }
         let follows = starts_next(self.cutoff, frame.first) && !self.evicted;
-        self.leave_to(frame, from, to, &mut unit.metas);
+        self.leave_to(frame, &mut unit.metas);
         unpacked?;
         let (may_go, contiguous) = self.contiguity.check(&unit.codec_extra, follows);
         if !may_go {
@@ -97,18 +95,13 @@ impl<B: Depacketizer> DepacketizingBuffer<B> {
         Ok(Taken::Released)
     }
 
-    /// Removes the frame that is due and all packets below it. The metadata of its packets, from `from` to `to`, move to `metas`,
-    /// which is empty and has room for them.
+    /// Removes the frame that is due and all packets below it. The metadata of its packets move to `metas`, which is empty
+    /// and has room for them.
     #[inline(always)]
-    fn leave_to(
-        &mut self,
-        frame: CompleteFrame,
-        from: usize,
-        to: usize,
-        metas: &mut Vec<PackedMeta>,
-    ) {
-        move_frame(&mut self.packets, &mut self.spare, metas, from, to);
-        give_back(&mut self.packets);
+    fn leave_to(&mut self, frame: CompleteFrame, metas: &mut Vec<PackedMeta>) {
+        let follows = is_right_after(self.cutoff, frame.first);
+        move_frame(&mut self.packets, &mut self.spare, metas, frame, follows);
+        self.packets.give_back();
         drop_first(&mut self.complete, &self.packets);
         self.cutoff = Some(frame.last);
     }

@@ -13,8 +13,9 @@ ghost use Rattle.codec_payload_buffer.specs.declared.buffer.frames.CompleteFrame
 use super::ends::frame_to;
 use super::held_packet::HeldPacket;
 use super::rows::Row;
-use super::search::{place_of_number, put_at};
 use std::alloc::AllocError;
+use codec_payload_pages::pages::Pages;
+use codec_payload_pages::search::{Numbered, place_of_number, put_at};
 use std::collections::VecDeque;
 
 /// A complete frame: the sequence numbers of its first and last packet.
@@ -22,6 +23,15 @@ use std::collections::VecDeque;
 pub struct CompleteFrame {
     pub first: u64,
     pub last: u64,
+}
+
+/// Frames are ordered by their last number.
+impl Numbered for CompleteFrame {
+    ghost number_of = { λ frame. frame.last };
+
+    fn number(&self) -> u64 {
+        self.last
+    }
 }
 
 /// Returns the frame of a row, if it has one: from its lowest packet that begins a unit to the packet that ends it.
@@ -165,9 +175,30 @@ pub(super) fn note(complete: &mut CompleteFrames, frame: Option<CompleteFrame>, 
     }
 }
 
+/// Reads the frames that end in the packets of a page, up to so many known ones in all.
+#[inline(always)]
+fn read_page(known: &mut VecDeque<CompleteFrame>, wanted: usize, slots: &Vec<Option<HeldPacket>>)
+    requires few { length known.old.items ≤ wanted }
+    requires room { wanted ≤ deque_capacity known.old }
+    ensures read { (rest : List Frame) × (known.old.items ++ frames_told (somes slots.now.items) ≡ known.new.items ++ rest) × (length known.new.items < wanted → rest ≡ []) }
+    ensures few { length known.new.items ≤ wanted }
+    ensures capacity { deque_capacity known.old ≤ deque_capacity known.new }
+{
+    for slot in slots.iter() {
+        if known.len() == wanted {
+            return;
+        }
+        if let Some(packet) = slot
+            && let Some(frame) = frame_to(packet)
+        {
+            known.push_back_reserved(frame);
+        }
+    }
+}
+
 /// Reads the lowest frames from the packets, as many as there is room for. Allocates nothing.
 #[inline(never)]
-fn read_known(known: &mut VecDeque<CompleteFrame>, ready: usize, packets: &VecDeque<HeldPacket>)
+fn read_known(known: &mut VecDeque<CompleteFrame>, ready: usize, packets: &Pages<HeldPacket>)
     requires rises { Rises (map held_of packets.now.items) }
     requires told { AreTold (rows (map held_of packets.now.items)) (map mark_of packets.now.items) }
     requires empty { known.old.items ≡ [] }
@@ -177,19 +208,17 @@ fn read_known(known: &mut VecDeque<CompleteFrame>, ready: usize, packets: &VecDe
     ensures capacity { deque_capacity known.old ≤ deque_capacity known.new }
 {
     let wanted = ready.min(known.capacity());
-    for packet in packets {
-        if known.len() == wanted {
-            return;
-        }
-        if let Some(frame) = frame_to(packet) {
-            known.push_back_reserved(frame);
-        }
+    let pages = packets.page_count();
+    let mut place = 0;
+    while place < pages && known.len() < wanted {
+        read_page(known, wanted, packets.page(place));
+        place += 1;
     }
 }
 
 /// Removes the lowest frame; `packets` are the remaining packets.
 #[inline(always)]
-pub(super) fn drop_first(complete: &mut CompleteFrames, packets: &VecDeque<HeldPacket>)
+pub(super) fn drop_first(complete: &mut CompleteFrames, packets: &Pages<HeldPacket>)
     requires rises { Rises (map held_of packets.now.items) }
     requires told { AreTold (rows (map held_of packets.now.items)) (map mark_of packets.now.items) }
     requires kept { (f : Frame) × AreKept (f ∷ frames (map held_of packets.now.items)) complete.old.ready complete.old.known.items }
@@ -208,7 +237,7 @@ pub(super) fn mend_first(
     complete: &mut CompleteFrames,
     before: Option<CompleteFrame>,
     after: Option<CompleteFrame>,
-    packets: &VecDeque<HeldPacket>,
+    packets: &Pages<HeldPacket>,
 )
     requires rises { Rises (map held_of packets.now.items) }
     requires told { AreTold (rows (map held_of packets.now.items)) (map mark_of packets.now.items) }

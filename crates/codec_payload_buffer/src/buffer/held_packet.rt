@@ -5,6 +5,7 @@ ghost use Rattle.codec_payload_buffer.specs.Rare.{plain_meta};
 
 use super::known::PackedMeta;
 use super::unit::RtpMeta;
+use codec_payload_pages::search::Numbered;
 use std::mem::size_of;
 
 /// An entry of the queue: the number of a held packet, and a pointer to the rest.
@@ -60,6 +61,14 @@ impl Packet {
     }
 }
 
+impl Numbered for HeldPacket {
+    ghost number_of = { λ packet. packet.number };
+
+    fn number(&self) -> u64 {
+        self.number
+    }
+}
+
 /// A type that returns a value about itself, made new on each call. A plain value costs less.
 pub(super) trait Tells<T> {
     ghost told: { Self → T };
@@ -97,5 +106,5 @@ impl Tells<RtpMeta> for HeldPacket {
     }
 }
 
-/// An entry has at most 16 bytes, since a push far from both ends moves up to half of all entries.
+/// An entry has at most 16 bytes, since a page has room for 32 of them.
 const _: () = prove!(size_of::<HeldPacket>() <= 16);

@@ -1,13 +1,14 @@
 //! Rows: ranges of consecutive held packets in which a frame can be complete.
 
-ghost use Rattle.std.specs.Prelude.{◌≡◌, ◌≤◌, map};
-ghost use Rattle.codec_payload_buffer.specs.Held.{held_of};
+ghost use Rattle.std.specs.Prelude.{◌≡◌, ◌≤◌, ◌∷◌, ℕ, List, true, map};
+ghost use Rattle.codec_payload_buffer.specs.Held.{held_of, Rises, has_number};
+ghost use Rattle.codec_payload_buffer.specs.declared.buffer.held_packet.HeldPacket.{HeldPacket as Entry};
 ghost use Rattle.codec_payload_buffer.specs.Rows.{row_of, meet, joined, next_head, shortened, frame_of_rest, IsHeadKept};
 
 use super::frames::{CompleteFrame, frame_of};
 use super::held_packet::HeldPacket;
 use codec_payload_base::wire::MediaTime;
-use std::collections::VecDeque;
+use codec_payload_pages::pages::Pages;
 
 /// A row: the longest range of held packets with consecutive numbers and one time, in which only the last packet can end a
 /// unit.
@@ -63,16 +64,18 @@ pub(super) fn join(earlier: Row, later: Row) -> Row
     }
 }
 
-/// Returns the lowest number, up to `last`, of a packet that begins a unit.
-fn find_head(packets: &VecDeque<HeldPacket>, last: u64) -> Option<u64>
+/// Returns the lowest number from `first` to `last` of a packet that begins a unit. All of these packets are held.
+fn find_head(packets: &Pages<HeldPacket>, first: u64, last: u64) -> Option<u64>
+    requires rises { Rises (map held_of packets.now.items) }
+    requires first { (x : Entry) × (rest : List Entry) × (packets.now.items ≡ x ∷ rest) × (x.number ≡ first) }
+    requires held { (k : ℕ) → first ≤ k → k ≤ last → has_number k (map held_of packets.now.items) ≡ true }
     ensures { result ≡ next_head last (map held_of packets.now.items) }
 {
-    for packet in packets {
-        if packet.number > last {
-            return None;
-        }
-        if packet.packet.head {
-            return Some(packet.number);
+    for number in first..=last {
+        if let Some(packet) = packets.get(number)
+            && packet.packet.head
+        {
+            return Some(number);
         }
     }
     None
@@ -80,7 +83,7 @@ fn find_head(packets: &VecDeque<HeldPacket>, last: u64) -> Option<u64>
 
 /// Returns the rest of a row after its first packet has left; `packets` are the remaining packets. It searches for the next
 /// packet that begins a unit only if the first packet began one.
-pub(super) fn shorten(row: &Row, packets: &VecDeque<HeldPacket>) -> Option<Row>
+pub(super) fn shorten(row: &Row, packets: &Pages<HeldPacket>) -> Option<Row>
     requires ends { row.now.first ≤ row.now.last }
     requires head { IsHeadKept row.now (map held_of packets.now.items) }
     ensures { result ≡ shortened row.now (map held_of packets.now.items) }
@@ -89,7 +92,7 @@ pub(super) fn shorten(row: &Row, packets: &VecDeque<HeldPacket>) -> Option<Row>
         return None;
     }
     let head = if row.head == Some(row.first) {
-        find_head(packets, row.last)
+        find_head(packets, row.first + 1, row.last)
     } else {
         row.head
     };

@@ -12,9 +12,9 @@ use super::frames::{CompleteFrame, drop_first};
 use super::known::PackedMeta;
 use super::leaving::{Left, left_by, refused_by};
 use super::one_packet::{make_room_for, unpack_frame};
-use super::packets::{frame_range, give_back, move_frame, starts_next};
+use super::packets::{move_frame, packets_in, starts_next};
 use super::popped::PoppedUnit;
-use super::{DepacketizingBuffer, is_out_of_memory};
+use super::{DepacketizingBuffer, is_out_of_memory, is_right_after};
 use codec_payload_base::error::PacketError;
 use codec_payload_base::interface::CodecExtra;
 use codec_payload_codec::codec::Depacketizer;
@@ -97,16 +97,14 @@ impl<B: Depacketizer> DepacketizingBuffer<B> {
         ensures limit { self.new.limit ≡ self.old.limit }
         ensures own { is_built_in_depacketizer self.old.depacketizer ≡ false → (before : B) × (after : B) × OwnTakes B.state B.depacketize_step self.old frame before (taken_to result unit.new) after }
     {
-        let (from, to) = frame_range(&self.packets, frame);
         unit.metas.clear();
-        unit.metas.reserve_exact(to - from)?;
-        make_room_for(&mut unit.bytes, &self.depacketizer, &self.packets, from, to)?;
+        unit.metas.reserve_exact(packets_in(frame))?;
+        make_room_for(&mut unit.bytes, &self.depacketizer, &self.packets, frame)?;
         unit.codec_extra = CodecExtra::None;
         let unpacked = unpack_frame(
             &mut self.depacketizer,
             &self.packets,
-            from,
-            to,
+            frame,
             &mut unit.bytes,
             &mut unit.codec_extra,
         );
@@ -114,7 +112,7 @@ impl<B: Depacketizer> DepacketizingBuffer<B> {
             return Err(PacketError::OutOfMemory);
         }
         let follows = starts_next(self.cutoff, frame.first) && !self.evicted;
-        self.leave_to(frame, from, to, &mut unit.metas);
+        self.leave_to(frame, &mut unit.metas);
         unpacked?;
         let (may_go, contiguous) = self.contiguity.check(&unit.codec_extra, follows);
         if !may_go {
@@ -126,26 +124,23 @@ impl<B: Depacketizer> DepacketizingBuffer<B> {
         Ok(Taken::Released)
     }
 
-    /// Removes the frame that is due and all packets below it. The metadata of its packets, from `from` to `to`, move to `metas`,
-    /// which is empty and has room for them.
+    /// Removes the frame that is due and all packets below it. The metadata of its packets move to `metas`, which is empty
+    /// and has room for them.
     #[inline(always)]
     fn leave_to(
         &mut self,
         frame: CompleteFrame,
-        from: usize,
-        to: usize,
         metas: &mut Vec<PackedMeta>,
     )
         requires due { due_of self.old ≡ Option.Some frame }
-        requires order { from ≤ to }
-        requires end { to ≡ end_of frame.last self.old.held }
         requires empty { metas.old.items ≡ [] }
-        requires room { to ≤ from + vec_capacity metas.old }
+        requires room { frame.last + 1 ≤ frame.first + vec_capacity metas.old }
         ensures left { self.new ≡ record self.old { held = above frame.last self.old.held; cutoff = Option.Some frame.last } }
-        ensures metas { metas.new.items ≡ metas_of (slice_range self.old.held from to) }
+        ensures metas { metas.new.items ≡ metas_of (packets_of_frame self.old frame) }
     {
-        move_frame(&mut self.packets, &mut self.spare, metas, from, to);
-        give_back(&mut self.packets);
+        let follows = is_right_after(self.cutoff, frame.first);
+        move_frame(&mut self.packets, &mut self.spare, metas, frame, follows);
+        self.packets.give_back();
         drop_first(&mut self.complete, &self.packets);
         self.cutoff = Some(frame.last);
     }

@@ -38,11 +38,11 @@ pub returns-then-is_out_of_memory-clause-takes : goal.returns-then-is_out_of_mem
 returns-then-is_out_of_memory-clause-takes g c =
     let s = state_of c.self.inside in
     let due : due_of s ≡ Some c.args.frame = ap due_of c.self.view_is ∙ c.requires in
-    let packets = map held_of (slice_range c.self.inside.packets.items c.frame_range-from.result.0 c.frame_range-from.result.1) in
+    let packets = between c.args.frame.first c.args.frame.last (map held_of c.self.inside.packets.items) in
     let e = depacketizer_state_of c.unpack_frame-unpacked.new.depacketizer in
     let wanting : c.unpack_frame-unpacked.result ≡ Err OutOfMemory = c.is_out_of_memory.ensures.0 c.if-is_out_of_memory.true in
     stalled s c.args.self.now c.self.view_is c.args.frame due e _ refl
-    (gives_of s c.args.frame packets c.make_room_for.new.bytes.items (Err OutOfMemory) e c.frame_range-from.ensures.part c.make_room_for.ensures.empty (rw wanting at c.unpack_frame-unpacked.ensures.unpacks))
+    (gives_of s c.args.frame packets c.make_room_for.new.bytes.items (Err OutOfMemory) e refl c.make_room_for.ensures.empty (rw wanting at c.unpack_frame-unpacked.ensures.unpacks))
 
 pub leave_to-requires-clause-end : goal.leave_to-requires-clause-end
 leave_to-requires-clause-end g c = c.frame_range-from.ensures.end
@@ -51,35 +51,35 @@ pub returns-in_err-unpacked-clause-takes : goal.returns-in_err-unpacked-clause-t
 returns-in_err-unpacked-clause-takes g c =
     let s = state_of c.self.inside in
     let due : due_of s ≡ Some c.args.frame = ap due_of c.self.view_is ∙ c.requires in
-    let packets = map held_of (slice_range c.self.inside.packets.items c.frame_range-from.result.0 c.frame_range-from.result.1) in
+    let packets = between c.args.frame.first c.args.frame.last (map held_of c.self.inside.packets.items) in
     let e = depacketizer_state_of c.unpack_frame-unpacked.new.depacketizer in
     let fault = c.in_err-unpacked.field-0.0 in
     let exit = err_from_is_err_and c.from_residual-in_err-unpacked.result c.from_residual-in_err-unpacked.ensures.1 in
     rw (exit.1, exit.2)
     (refused s c.args.self.now c.self.view_is c.args.frame due e _ fault c.leave_to.ensures.left
     (λ is. not_both c.is_out_of_memory.result (c.is_out_of_memory.ensures.1 (c.in_err-unpacked.was ∙ ap Err is)) c.if-is_out_of_memory.false)
-    (gives_of s c.args.frame packets c.make_room_for.new.bytes.items (Err fault) e c.frame_range-from.ensures.part c.make_room_for.ensures.empty
+    (gives_of s c.args.frame packets c.make_room_for.new.bytes.items (Err fault) e refl c.make_room_for.ensures.empty
     (rw c.in_err-unpacked.was at c.unpack_frame-unpacked.ensures.unpacks)))
 
 pub index-requires : goal.index-requires
 index-requires g c =
     let s = state_of c.self.inside in
     let due : due_of s ≡ Some c.args.frame = ap due_of c.self.view_is ∙ c.requires in
-    let metas : c.leave_to.new.metas.items ≡ metas_of (packets_of_frame s c.args.frame) = c.leave_to.ensures.metas ∙ ap metas_of (slice-map c.self.inside.packets.items c.frame_range-from.result.0 c.frame_range-from.result.1 ∙ c.frame_range-from.ensures.part) in
+    let metas : c.leave_to.new.metas.items ≡ metas_of (packets_of_frame s c.args.frame) = c.leave_to.ensures.metas in
     omega (arith, due_metas s c.args.frame c.leave_to.new.metas.items c.self.invariant.sound.rises due metas, c.leave_to.new.metas.ok.0)
 
 pub returns-clause-some : goal.returns-clause-some
 returns-clause-some g c =
     let s = state_of c.self.inside in
     let due : due_of s ≡ Some c.args.frame = ap due_of c.self.view_is ∙ c.requires in
-    let metas : c.leave_to.new.metas.items ≡ metas_of (packets_of_frame s c.args.frame) = c.leave_to.ensures.metas ∙ ap metas_of (slice-map c.self.inside.packets.items c.frame_range-from.result.0 c.frame_range-from.result.1 ∙ c.frame_range-from.ensures.part) in
+    let metas : c.leave_to.new.metas.items ≡ metas_of (packets_of_frame s c.args.frame) = c.leave_to.ensures.metas in
     due_metas s c.args.frame c.leave_to.new.metas.items c.self.invariant.sound.rises due metas
 
 pub returns-then-not-may_go-clause-some : goal.returns-then-not-may_go-clause-some
 returns-then-not-may_go-clause-some g c =
     let s = state_of c.self.inside in
     let due : due_of s ≡ Some c.args.frame = ap due_of c.self.view_is ∙ c.requires in
-    let metas : c.leave_to.new.metas.items ≡ metas_of (packets_of_frame s c.args.frame) = c.leave_to.ensures.metas ∙ ap metas_of (slice-map c.self.inside.packets.items c.frame_range-from.result.0 c.frame_range-from.result.1 ∙ c.frame_range-from.ensures.part) in
+    let metas : c.leave_to.new.metas.items ≡ metas_of (packets_of_frame s c.args.frame) = c.leave_to.ensures.metas in
     due_metas s c.args.frame c.leave_to.new.metas.items c.self.invariant.sound.rises due metas
 
 pub returns-then-not-may_go-clause-takes : goal.returns-then-not-may_go-clause-takes
@@ -87,7 +87,7 @@ returns-then-not-may_go-clause-takes g c =
     let s = state_of c.self.inside in
     let frame = c.args.frame in
     let due : due_of s ≡ Some frame = ap due_of c.self.view_is ∙ c.requires in
-    let packets = map held_of (slice_range c.self.inside.packets.items c.frame_range-from.result.0 c.frame_range-from.result.1) in
+    let packets = between c.args.frame.first c.args.frame.last (map held_of c.self.inside.packets.items) in
     let unpacked : Unpacked = record { bytes = c.unpack_frame-unpacked.new.bytes.items; extra = c.unpack_frame-unpacked.new.codec_extra } in
     let e = depacketizer_state_of c.unpack_frame-unpacked.new.depacketizer in
     let test : c.if-starts_next.follows ≡ follows s frame = elim c.if-starts_next.branch [
@@ -99,7 +99,7 @@ returns-then-not-may_go-clause-takes g c =
     ap (λ (x : State). checked x.contiguity unpacked.extra c.if-starts_next.follows) (sym left) ∙ c.check-may_go.ensures
     ∙ ap (λ (b : Bool). (b, c.check-may_go.result.1, c.check-may_go.new.self)) c.if-not-may_go.true in
     skipped_over s c.args.self.now c.self.view_is frame due e c.check-may_go.result.1 c.if-starts_next.follows c.check-may_go.new.self unpacked _
-    (gives_of s frame packets c.make_room_for.new.bytes.items (Ok unpacked) e c.frame_range-from.ensures.part c.make_room_for.ensures.empty (rw c.in_ok-unpacked.was at c.unpack_frame-unpacked.ensures.unpacks))
+    (gives_of s frame packets c.make_room_for.new.bytes.items (Ok unpacked) e refl c.make_room_for.ensures.empty (rw c.in_ok-unpacked.was at c.unpack_frame-unpacked.ensures.unpacks))
     test answer (ap (λ (x : State). record x { contiguity = c.check-may_go.new.self }) left)
 
 pub returns-clause-takes : goal.returns-clause-takes
@@ -107,8 +107,8 @@ returns-clause-takes g c =
     let s = state_of c.self.inside in
     let frame = c.args.frame in
     let due : due_of s ≡ Some frame = ap due_of c.self.view_is ∙ c.requires in
-    let packets = map held_of (slice_range c.self.inside.packets.items c.frame_range-from.result.0 c.frame_range-from.result.1) in
-    let metas : c.leave_to.new.metas.items ≡ metas_of (packets_of_frame s frame) = c.leave_to.ensures.metas ∙ ap metas_of (slice-map c.self.inside.packets.items c.frame_range-from.result.0 c.frame_range-from.result.1 ∙ c.frame_range-from.ensures.part) in
+    let packets = between c.args.frame.first c.args.frame.last (map held_of c.self.inside.packets.items) in
+    let metas : c.leave_to.new.metas.items ≡ metas_of (packets_of_frame s frame) = c.leave_to.ensures.metas in
     let unpacked : Unpacked = record { bytes = c.unpack_frame-unpacked.new.bytes.items; extra = c.unpack_frame-unpacked.new.codec_extra } in
     let e = depacketizer_state_of c.unpack_frame-unpacked.new.depacketizer in
     let test : c.if-starts_next.follows ≡ follows s frame = elim c.if-starts_next.branch [
@@ -121,7 +121,7 @@ returns-clause-takes g c =
     ∙ ap (λ (b : Bool). (b, c.check-may_go.result.1, c.check-may_go.new.self)) c.if-not-may_go.false in
     released s c.args.self.now c.self.view_is frame due e _ c.time-unit-inside.result c.check-may_go.result.1 c.if-starts_next.follows c.check-may_go.new.self unpacked c.leave_to.new.metas.items _
     refl
-    (gives_of s frame packets c.make_room_for.new.bytes.items (Ok unpacked) e c.frame_range-from.ensures.part c.make_room_for.ensures.empty (rw c.in_ok-unpacked.was at c.unpack_frame-unpacked.ensures.unpacks))
+    (gives_of s frame packets c.make_room_for.new.bytes.items (Ok unpacked) e refl c.make_room_for.ensures.empty (rw c.in_ok-unpacked.was at c.unpack_frame-unpacked.ensures.unpacks))
     (rw c.time-unit-inside.ensures (due_time s frame c.leave_to.new.metas.items c.index.result.now c.self.invariant.sound.rises due metas c.index.ensures))
     metas test answer (ap (λ (x : State). record x { contiguity = c.check-may_go.new.self; evicted = false }) left)
 
@@ -144,13 +144,13 @@ returns-then-is_out_of_memory-clause-own g c = λ other.
     let wanting : c.unpack_frame-unpacked.result ≡ Err OutOfMemory = c.is_out_of_memory.ensures.0 c.if-is_out_of_memory.true in
     let view : depacketizer_state_of c.self.inside.depacketizer ≡ c.args.self.now.depacketizer = ap (λ (s : State). s.depacketizer) c.self.view_is in
     let before = own_depacketizer c.self.inside.depacketizer (ap is_built_in_depacketizer view ∙ other) in
-    let packets = map held_of (slice_range c.self.inside.packets.items c.frame_range-from.result.0 c.frame_range-from.result.1) in
+    let packets = between c.args.frame.first c.args.frame.last (map held_of c.self.inside.packets.items) in
     let own = c.unpack_frame-unpacked.ensures.own before.0 before.1 in (
       before.0,
       own.0,
       inr (own_gives g.B.Depacketizer.state g.B.Depacketizer.depacketize_step
           (state_of c.self.inside) c.args.self.now c.args.frame packets c.make_room_for.new.bytes.items
-          (Err OutOfMemory) before.0 own.0 c.frame_range-from.ensures.part c.self.view_is c.make_room_for.ensures.empty (rw wanting at own.2)),
+          (Err OutOfMemory) before.0 own.0 refl c.self.view_is c.make_room_for.ensures.empty (rw wanting at own.2)),
     )
 
 pub returns-in_err-unpacked-clause-own : goal.returns-in_err-unpacked-clause-own
@@ -158,13 +158,13 @@ returns-in_err-unpacked-clause-own g c = λ other.
     let exit = err_from_is_err_and c.from_residual-in_err-unpacked.result c.from_residual-in_err-unpacked.ensures.1 in
     let view : depacketizer_state_of c.self.inside.depacketizer ≡ c.args.self.now.depacketizer = ap (λ (s : State). s.depacketizer) c.self.view_is in
     let before = own_depacketizer c.self.inside.depacketizer (ap is_built_in_depacketizer view ∙ other) in
-    let packets = map held_of (slice_range c.self.inside.packets.items c.frame_range-from.result.0 c.frame_range-from.result.1) in
+    let packets = between c.args.frame.first c.args.frame.last (map held_of c.self.inside.packets.items) in
     let own = c.unpack_frame-unpacked.ensures.own before.0 before.1 in (
       before.0,
       own.0,
       rw (exit.1, exit.2) (inr (own_gives g.B.Depacketizer.state g.B.Depacketizer.depacketize_step
           (state_of c.self.inside) c.args.self.now c.args.frame packets c.make_room_for.new.bytes.items
-          (Err c.in_err-unpacked.field-0.0) before.0 own.0 c.frame_range-from.ensures.part c.self.view_is c.make_room_for.ensures.empty (rw c.in_err-unpacked.was at own.2))),
+          (Err c.in_err-unpacked.field-0.0) before.0 own.0 refl c.self.view_is c.make_room_for.ensures.empty (rw c.in_err-unpacked.was at own.2))),
     )
 
 pub returns-then-not-may_go-clause-own : goal.returns-then-not-may_go-clause-own
@@ -172,7 +172,7 @@ returns-then-not-may_go-clause-own g c = λ other.
     let unpacked : Unpacked = record { bytes = c.unpack_frame-unpacked.new.bytes.items; extra = c.unpack_frame-unpacked.new.codec_extra } in
     let view : depacketizer_state_of c.self.inside.depacketizer ≡ c.args.self.now.depacketizer = ap (λ (s : State). s.depacketizer) c.self.view_is in
     let before = own_depacketizer c.self.inside.depacketizer (ap is_built_in_depacketizer view ∙ other) in
-    let packets = map held_of (slice_range c.self.inside.packets.items c.frame_range-from.result.0 c.frame_range-from.result.1) in
+    let packets = between c.args.frame.first c.args.frame.last (map held_of c.self.inside.packets.items) in
     let own = c.unpack_frame-unpacked.ensures.own before.0 before.1 in (
       before.0,
       own.0,
@@ -180,7 +180,7 @@ returns-then-not-may_go-clause-own g c = λ other.
         unpacked,
         own_gives g.B.Depacketizer.state g.B.Depacketizer.depacketize_step
             (state_of c.self.inside) c.args.self.now c.args.frame packets c.make_room_for.new.bytes.items
-            (Ok unpacked) before.0 own.0 c.frame_range-from.ensures.part c.self.view_is c.make_room_for.ensures.empty (rw c.in_ok-unpacked.was at own.2),
+            (Ok unpacked) before.0 own.0 refl c.self.view_is c.make_room_for.ensures.empty (rw c.in_ok-unpacked.was at own.2),
       ),
     )
 
@@ -189,11 +189,11 @@ returns-clause-own g c = λ other.
     let unpacked : Unpacked = record { bytes = c.unpack_frame-unpacked.new.bytes.items; extra = c.unpack_frame-unpacked.new.codec_extra } in
     let view : depacketizer_state_of c.self.inside.depacketizer ≡ c.args.self.now.depacketizer = ap (λ (s : State). s.depacketizer) c.self.view_is in
     let before = own_depacketizer c.self.inside.depacketizer (ap is_built_in_depacketizer view ∙ other) in
-    let packets = map held_of (slice_range c.self.inside.packets.items c.frame_range-from.result.0 c.frame_range-from.result.1) in
+    let packets = between c.args.frame.first c.args.frame.last (map held_of c.self.inside.packets.items) in
     let own = c.unpack_frame-unpacked.ensures.own before.0 before.1 in (
       before.0,
       own.0,
       (own_gives g.B.Depacketizer.state g.B.Depacketizer.depacketize_step
           (state_of c.self.inside) c.args.self.now c.args.frame packets c.make_room_for.new.bytes.items
-          (Ok unpacked) before.0 own.0 c.frame_range-from.ensures.part c.self.view_is c.make_room_for.ensures.empty (rw c.in_ok-unpacked.was at own.2)),
+          (Ok unpacked) before.0 own.0 refl c.self.view_is c.make_room_for.ensures.empty (rw c.in_ok-unpacked.was at own.2)),
     )

@@ -6,7 +6,7 @@ use Rattle.codec_payload_buffer.specs.Ends.{behind, row_ending}
 use Rattle.codec_payload_buffer.specs.declared.buffer.held_packet.HeldPacket.{HeldPacket}
 use Rattle.codec_payload_buffer.proofs.PlaceLemmas.{place_within}
 use Rattle.codec_payload_buffer.proofs.EndLemmas.{behind_joined, behind_apart}
-use Rattle.codec_payload_buffer.proofs.SearchLemmas.{same_there}
+use Rattle.codec_payload_pages.proofs.SearchLemmas.{same_there}
 use Rattle.codec_payload_buffer.proofs.RowEnds.{previous_found, previous_past, previous_apart}
 use Rattle.codec_payload_buffer.proofs.buffer.ends.join_previous.Goals as goal
 
