@@ -1,5 +1,5 @@
 -- Items in slots, as a list in rising order of numbers.
-use Rattle.std.proofs.Common.{◌≡◌, ◌≢◌, ℕ, zero, suc, ◌<◌, ◌≤◌, ◌+◌, ◌-◌, ◌++◌, [], ◌∷◌, List, length, get_or, take, refl, ap, sym, ◌∙◌, arith, Bool, true, false, cond, ltb, eqb, Option, Some, None, add-one, slice_set}
+use Rattle.std.proofs.Common.{◌≡◌, ◌≢◌, ℕ, zero, suc, ◌<◌, ◌≤◌, ◌+◌, ◌-◌, ◌++◌, [], ◌∷◌, List, length, get_or, take, drop, refl, ap, sym, ◌∙◌, arith, Bool, true, false, cond, ltb, eqb, Option, Some, None, add-one, slice_set}
 use Rattle.std.proofs.lemmas.Bool.Decides.{nat_tests}
 use Rattle.codec_payload_pages.specs.Numbers.{found, put, first_of}
 use Rattle.codec_payload_pages.specs.Slots.{somes, AreInSlots}
@@ -152,3 +152,16 @@ pub somes_none : {X : Type 0} (os : List (Option X)) → somes (os ++ None ∷ [
 somes_none [] = refl
 somes_none (None ∷ os) = somes_none os
 somes_none (Some x ∷ os) = ap (λ (zs : List _). x ∷ zs) (somes_none os)
+
+-- the items from a slot on
+pub rest_some : {X : Type 0} (i : ℕ) (x : X) (os : List (Option X)) → i < length os → get_or os i None ≡ Some x → somes (drop i os) ≡ x ∷ somes (drop (i + 1) os)
+rest_some i x [] l is = absurd (omega arith)
+rest_some zero x (None ∷ os) l is = absurd (cc)
+rest_some zero x (Some y ∷ os) l is = ap (λ v. v ∷ somes os) (cc)
+rest_some (suc i) x (o ∷ os) l is = rw add-one (rw add-one at (rest_some i x os (omega (arith, l)) is))
+
+pub rest_none : {X : Type 0} (i : ℕ) (os : List (Option X)) → i < length os → get_or os i None ≡ None → somes (drop i os) ≡ somes (drop (i + 1) os)
+rest_none i [] l is = absurd (omega arith)
+rest_none zero (None ∷ os) l is = refl
+rest_none zero (Some y ∷ os) l is = absurd (cc)
+rest_none (suc i) (o ∷ os) l is = rw add-one (rw add-one at (rest_none i os (omega (arith, l)) is))

@@ -2,7 +2,7 @@
 //!
 //! So the buffer keeps no list of rows. A push, an eviction and a pop write only to the ends of the rows that they change.
 
-ghost use Rattle.std.specs.Prelude.{◌≡◌, ◌≢◌, ◌≤◌, ◌<◌, ◌+◌, ◌==◌, true, false, not, ℕ, IfSome, length, map, slice_index_or, slice_set};
+ghost use Rattle.std.specs.Prelude.{◌≡◌, ◌≢◌, ◌≤◌, ◌<◌, ◌+◌, ◌==◌, true, false, not, ℕ, IfSome, length, map, slice_index_or, slice_set, Option};
 ghost use Rattle.codec_payload_pages.specs.Numbers.{found};
 ghost use Rattle.codec_payload_buffer.specs.Held.{held_of, Rises, TakesLowest, has_number, placed};
 ghost use Rattle.codec_payload_buffer.specs.Frames.{frames};
@@ -150,9 +150,7 @@ fn set_ends(packets: &mut Pages<HeldPacket>, row: Row)
     ensures others { (k : ℕ) → k ≢ row.first → k ≢ row.last → mark_at k (map mark_of packets.new.items) ≡ mark_at k (map mark_of packets.old.items) }
     ensures room { packets.old.room ≤ packets.new.room }
 {
-    if row.first != row.last {
-        set_mark(packets, row.first, row.last, None);
-    }
+    set_mark(packets, row.first, row.last, None);
     set_mark(packets, row.last, row.first, row.head);
 }
 

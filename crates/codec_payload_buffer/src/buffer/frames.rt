@@ -1,11 +1,12 @@
 //! The complete frames among the held packets: their number, and the lowest of them.
 
-ghost use Rattle.std.specs.Prelude.{◌≡◌, ◌≤◌, ◌<◌, ◌+◌, ◌∷◌, IfSome, OnOk, List, [], length, map, nat_lt, not, take};
+ghost use Rattle.std.specs.Prelude.{◌≡◌, ◌≤◌, ◌<◌, ◌+◌, ◌∷◌, IfSome, OnOk, List, [], length, map, nat_lt, not, take, ◌++◌};
+ghost use Rattle.codec_payload_pages.specs.Slots.{somes};
 ghost use Rattle.std.specs.VecDeque.{deque_len, deque_capacity};
 ghost use Rattle.codec_payload_buffer.specs.Ends.{mark_of, AreTold};
 ghost use Rattle.codec_payload_buffer.specs.Frames.{frames};
 ghost use Rattle.codec_payload_buffer.specs.Held.{held_of, Rises};
-ghost use Rattle.codec_payload_buffer.specs.KnownFrames.{AreKept, has_end};
+ghost use Rattle.codec_payload_buffer.specs.KnownFrames.{AreKept, has_end, frames_told};
 ghost use Rattle.codec_payload_buffer.specs.Rows.{EndsRise, frame_of_row, frame_place, noted, noted_if, first_mended, rows};
 ghost use Rattle.codec_payload_buffer.specs.Scan.{first_of};
 ghost use Rattle.codec_payload_buffer.specs.declared.buffer.frames.CompleteFrame.{CompleteFrame as Frame};
