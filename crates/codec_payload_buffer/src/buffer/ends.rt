@@ -54,7 +54,7 @@ fn row_to(first: u64, last: &HeldPacket) -> Row
 /// Returns the row that begins with this packet.
 #[inline(always)]
 fn row_from(packets: &Pages<HeldPacket>, entry: &HeldPacket) -> Row
-    requires rises { Rises (map held_of packets.now.items) }
+    requires entry { found (λ x. x.number) entry.now.number packets.now.items ≡ Option.Some entry.now }
     requires last { (y : Entry) × (found (λ x. x.number) entry.now.packet.value.other_end packets.now.items ≡ Option.Some y) }
     ensures { (y : Entry) × (found (λ x. x.number) entry.now.packet.value.other_end packets.now.items ≡ Option.Some y) × (result ≡ row_ending entry.now.number y) }
 {
