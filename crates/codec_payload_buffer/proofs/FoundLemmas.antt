@@ -74,3 +74,11 @@ received_none n (y ∷ xs) is =
     rw same (by_test (eqb y.number n) (λ b. cond b (Some y) (entry_at n xs) ≡ None → cond b (Some y.packet.value.known.received) (received_of n (map held_of xs)) ≡ None)
     (λ e at. absurd (cc))
     (λ e at. received_none n xs at) is)
+
+-- a packet of this number is found, if one is held
+pub has_found : (n : ℕ) (xs : List HeldPacket) → has_number n (map held_of xs) ≡ true → (x : HeldPacket) × (entry_at n xs ≡ Some x)
+has_found n xs has = some_of (entry_at n xs) (found_has n xs ∙ has)
+  where
+    some_of : (o : Option HeldPacket) → is_some o ≡ true → (x : HeldPacket) × (o ≡ Some x)
+    some_of None is = absurd (cc)
+    some_of (Some x) is = (x, refl)

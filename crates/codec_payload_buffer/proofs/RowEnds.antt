@@ -450,3 +450,24 @@ left_told xs left f rises told first drops held =
     told_drop zero rs t = t
     told_drop (suc i) [] t = t
     told_drop (suc i) (r ∷ rs) t = told_drop i rs t.1
+
+-- no row begins right after n, if no packet has the next number
+pub next_none : (xs : List HeldPacket) (n : ℕ) → Rises (map held_of xs) → AreTold (rows (map held_of xs)) (map mark_of xs) → has_number (n + 1) (map held_of xs) ≡ false
+    → next_of n (rows (map held_of xs)) ≡ None
+next_none xs n rises told none =
+    by_row (next_of n (rows (map held_of xs))) (λ o. o ≡ None) (λ e. refl)
+    (λ r is.
+    let beside = next_is n (map held_of xs) (map mark_of xs) (rows (map held_of xs)) r (rows_among (map held_of xs) rises) told is in
+    let held : has_number (n + 1) (map held_of xs) ≡ true = rw (← beside.1) beside.0.among.first_held in
+    absurd (cc))
+
+-- no row ends right before n, if no packet has the number before
+pub previous_none : (xs : List HeldPacket) (m n : ℕ) → Rises (map held_of xs) → AreTold (rows (map held_of xs)) (map mark_of xs) → m + 1 ≡ n → has_number m (map held_of xs) ≡ false
+    → previous_of n (rows (map held_of xs)) ≡ None
+previous_none xs m n rises told next none =
+    by_row (previous_of n (rows (map held_of xs))) (λ o. o ≡ None) (λ e. refl)
+    (λ r is.
+    let beside = previous_is n (map held_of xs) (map mark_of xs) (rows (map held_of xs)) r (rows_among (map held_of xs) rises) told is in
+    let same : r.last ≡ m = omega (arith, beside.1, next) in
+    let held : has_number m (map held_of xs) ≡ true = rw (← same) beside.0.among.last_held in
+    absurd (cc))

@@ -125,7 +125,8 @@ pub(super) fn row_with(packets: &Pages<HeldPacket>, row: Row) -> Row
 /// Notes a row at one of its ends, the packet with this number.
 #[inline(always)]
 fn set_mark(packets: &mut Pages<HeldPacket>, number: u64, other_end: u64, row_head: Option<u64>)
-    requires { has_number number (map held_of packets.old.items) ≡ true }
+    requires rises { Rises (map held_of packets.old.items) }
+    requires there { has_number number (map held_of packets.old.items) ≡ true }
     ensures held { map held_of packets.new.items ≡ map held_of packets.old.items }
     ensures marks { map mark_of packets.new.items ≡ slice_set (map mark_of packets.old.items) (place_of number (map held_of packets.old.items)) (marked (slice_index_or (map mark_of packets.old.items) (place_of number (map held_of packets.old.items)) no_mark) other_end row_head) }
     ensures room { packets.old.room ≤ packets.new.room }
