@@ -11,6 +11,7 @@
   beside             time over that of str0m, by a table of docs/PERFORMANCE.md, and the recorder beside GStreamer, by its README
   receiver_life      a receiver from its first packet to its end: what arrives, what it reports, what the caller does
   session_life       a session with two senders: what arrives, the stages of its streams, what polls return, what the caller does
+  buffer_layout      what a buffer holds: entries, blocks of packets, the ends of rows, the lowest complete frames
   copies             where the bytes of a frame are copied
   descriptors        the bytes in front of a frame's: VP8, VP9, AV1 and RED, by their RFCs
 
@@ -438,8 +439,37 @@ def session_life():
     keep("session_life", figure)
 
 
+# The packets of the picture of a buffer: number, whether it begins and ends a unit, and what its block notes, if it is an end of
+# a row. The numbers 12 and 16 are missing.
+HELD = (
+    (10, "begins", "row to 11"), (11, "ends", "row from 10\nbegins at 10"), (13, "begins", "row to 15"), (14, "", ""),
+    (15, "", "row from 13\nbegins at 13"), (17, "begins,\nends", "row 17\nbegins at 17"),
+)
+
+
+def buffer_layout():
+    pyplot = plotting()
+    figure, axes = bare(pyplot, 112, 40)
+    for top, title in ((3.4, "queue of entries,\n16 bytes each"), (16.5, "a block for\neach packet,\n128 bytes"),
+                       (27.5, "notes at the\nends of rows"), (36, "complete frames")):
+        axes.text(1, top, title, va="center", weight="bold", fontsize=10)
+    for place, (number, kind, note) in enumerate(HELD):
+        left, color = 22 + 15 * place, (BLUE, ORANGE, GREEN)[(number > 12) + (number > 16)]
+        box(axes, left, 1.6, 12, 3.6, f"{number}", color=color, weight="bold")
+        axes.annotate("", (left + 6, 11.4), (left + 6, 5.6), arrowprops={"arrowstyle": "->", "color": FAINT, "linewidth": 1.2})
+        box(axes, left, 11.8, 12, 9.6, f"metadata,\npayload\n{kind}".rstrip(), color=color, fontsize=9)
+        axes.text(left + 6, 27.5, note, ha="center", va="center", fontsize=9, color=INK if note else FAINT)
+    box(axes, 22, 33.8, 27, 4.4, "known: 10 to 11, 17 to 17", color=FAINT, fontsize=10)
+    box(axes, 52, 33.8, 12, 4.4, "ready: 2", color=FAINT, fontsize=10)
+    axes.text(67, 36, "13 to 15 is a row without an end of a unit", va="center", fontsize=9)
+    for height in (8.2, 24, 31.4):
+        axes.plot([1, 111], [height, height], color=FAINT, linewidth=0.5, alpha=0.5)
+    keep("buffer_layout", figure)
+
+
 PICTURES = {
-    it.__name__: it for it in (units_under_loss, crates, over_a_copy, beside, receiver_life, session_life, copies, descriptors)
+    it.__name__: it
+    for it in (units_under_loss, crates, over_a_copy, beside, receiver_life, session_life, buffer_layout, copies, descriptors)
 }
 
 
