@@ -431,12 +431,12 @@ pub(crate) fn is_playing(stage: Stage) -> bool {
     matches!(stage, Stage::Playing)
 }
 
-/// Returns the time. 0 stands for none.
+/// Returns the time. 0 is none.
 fn time_of(at: u64) -> Option<u64> {
     if at == 0 { None } else { Some(at) }
 }
 
-/// Returns the time as a number. 0 stands for none.
+/// Returns the time as a number. 0 is none.
 fn or_none(time: Option<u64>) -> u64 {
     time.unwrap_or(0)
 }
