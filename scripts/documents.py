@@ -64,6 +64,7 @@ RUN_ELSEWHERE = {
     "scripts/refuse.sh": ("scripts/test.sh", "runs scripts/refuse.sh"),
     "scripts/allocations.sh": ("scripts/test.sh", "runs scripts/allocations.sh"),
     "scripts/instructions.sh": ("scripts/test.sh", "runs scripts/instructions.sh"),
+    "scripts/receiving.py": ("scripts/test.sh", "runs scripts/receiving.py"),
     "scripts/mutants.py": ("scripts/test.sh", "runs scripts/mutants.py --stale"),
     "scripts/mutants.py --missing": ("scripts/documents.py", "mutant_results"),
     "scripts/bench.sh": ("scripts/allocations.sh", "tools/bench/bench.c"),

@@ -1,7 +1,8 @@
 #!/usr/bin/env python3
 """Prints what a received packet takes through the library for C, as `make` builds it: instructions by callgrind, and times.
 
-  scripts/receiving.py           instructions of a packet, with 64 held, and with 4,096
+  scripts/receiving.py           instructions of a packet, with 64 held, and with 4,096; fails if a packet of Opus in order, with 64
+                                 held, takes more than BOUND in a receiver
   scripts/receiving.py --times   nanoseconds too, over a ring in C that makes no promises, and of 10,000 receivers in turn
 
 The program is tools/bench/receive.c. Needs make, a C compiler, $CC or cc, and valgrind. Times depend on the machine and on what
@@ -15,6 +16,7 @@ import tempfile
 
 ROOT = os.path.dirname(os.path.dirname(os.path.realpath(__file__)))
 ROUNDS = 2176
+BOUND = 1_900
 # What each row calls, and the functions that are counted for it.
 KINDS = {"opus": "Opus, in order", "ranges": "Opus, ranges of 32 in reverse", "vp8": "VP8, 17 packets a frame"}
 CALLS = {"cpay_receiver_receive": "receive", "cpay_receiver_pop": "pop", "cpay_buffer_push": "push", "cpay_buffer_pop": "pop_buffer"}
@@ -41,14 +43,18 @@ def time_of(program, call, kind, held):
 
 
 def print_instructions(program):
+    """Prints a table, and returns what a packet of Opus in order takes in a receiver, with 64 held."""
+    first = None
     print("| packets | held | " + " | ".join(f"`{it}`" for it in CALLS) + " | receiver, both |")
     print("|---" * (len(CALLS) + 3) + "|")
     for held in 64, 4_096:
         for kind, name in KINDS.items():
             counts = [instructions(program, call, kind, held) for call in CALLS.values()]
+            first = first or sum(counts[:2])
             print(f"| {name} | {held:,} | " + " | ".join(f"{it:,.0f}" for it in [*counts, sum(counts[:2])]) + " |", flush=True)
     ring = [instructions(program, call, "ring", 64) for call in ("put", "take")]
     print(f"\nA ring of slots that makes no promises takes {sum(ring):,.0f} instructions of Opus.")
+    return first
 
 
 def print_times(program):
@@ -67,10 +73,12 @@ def main(words):
         sys.exit(__doc__.strip())
     with tempfile.TemporaryDirectory() as folder:
         program = built(folder)
-        print_instructions(program)
+        taken = print_instructions(program)
         if words:
             print_times(program)
+    print(f"receiving: {taken:,.0f} instructions of a packet of Opus, at most {BOUND:,} wanted")
+    return 0 if taken <= BOUND else 1
 
 
 if __name__ == "__main__":
-    main(sys.argv[1:])
+    sys.exit(main(sys.argv[1:]))

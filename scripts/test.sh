@@ -111,6 +111,7 @@ runs scripts/bindings.sh
 runs scripts/documents.py
 runs scripts/examples.py
 runs scripts/instructions.sh
+runs scripts/receiving.py
 if command -v ffmpeg >/dev/null; then
     runs scripts/media_peers.py
 else
