@@ -84,7 +84,7 @@ def print_buffer():
 def print_orders():
     print("| order | held | copy, ns | buffer, ns | over a copy | earlier form, ns | map, ns |")
     print("|---" * 7 + "|", flush=True)
-    for held, rounds in (64, 9), (4_096, 9), (65_536, 2):
+    for held, rounds in (64, 9), (4_096, 9), (65_000, 2):
         subprocess.run([f"{SPEED}/target/release/orders", str(held), str(rounds)], check=True)
     print(flush=True)
     subprocess.run([f"{SPEED}/target/release/orders", "memory"], check=True)
