@@ -3,7 +3,6 @@
 //! So the buffer keeps no list of rows. A push, an eviction and a pop write only to the ends of the rows that they change.
 
 ghost use Rattle.std.specs.Prelude.{◌≡◌, ◌≢◌, ◌≤◌, ◌<◌, ◌+◌, ◌==◌, true, false, not, ℕ, IfSome, length, map, slice_index_or, slice_set};
-ghost use Rattle.std.specs.VecDeque.{deque_len, deque_capacity};
 ghost use Rattle.codec_payload_buffer.specs.Held.{held_of, Rises, TakesLowest, has_number, placed};
 ghost use Rattle.codec_payload_buffer.specs.Frames.{frames};
 ghost use Rattle.codec_payload_buffer.specs.KnownFrames.{frame_told, has_end};
@@ -16,16 +15,15 @@ use super::frames::{CompleteFrame, frame_of};
 use super::held_packet::{HeldPacket, Packet};
 use super::packets::take_lowest;
 use super::rows::{Row, frame_of_left, join, meets, shorten};
-use super::search::put_at;
-use std::collections::VecDeque;
+use codec_payload_queue::tiers::{Noted, TieredQueue};
 
 /// Returns the row from `first` to the packet at `place`, which is its last.
 #[inline(always)]
-fn row_to(packets: &VecDeque<HeldPacket>, first: u64, place: usize) -> Row
-    requires { place < deque_len packets.now }
+fn row_to(packets: &TieredQueue<HeldPacket>, first: u64, place: usize) -> Row
+    requires { place < length packets.now.items }
     ensures { (x : Entry) × (x ≡ slice_index_or packets.now.items place x) × (result ≡ row_ending first x) }
 {
-    let last = &packets[place];
+    let last = packets.at(place);
     Row {
         first,
         last: last.number,
@@ -44,7 +42,7 @@ fn is_next(earlier: u64, later: u64) -> bool
 
 /// Joins a row with the row that begins at `place`, if they meet.
 #[inline(always)]
-fn join_next(packets: &VecDeque<HeldPacket>, place: usize, row: Row) -> Row
+fn join_next(packets: &TieredQueue<HeldPacket>, place: usize, row: Row) -> Row
     requires rises { Rises (map held_of packets.now.items) }
     requires told { AreTold (rows (map held_of packets.now.items)) (map mark_of packets.now.items) }
     requires place { place ≡ place_of row.last (map held_of packets.now.items) }
@@ -54,7 +52,7 @@ fn join_next(packets: &VecDeque<HeldPacket>, place: usize, row: Row) -> Row
     if place == packets.len() {
         return row;
     }
-    let entry = &packets[place];
+    let entry = packets.at(place);
     if !is_next(row.last, entry.number) {
         return row;
     }
@@ -69,7 +67,7 @@ fn join_next(packets: &VecDeque<HeldPacket>, place: usize, row: Row) -> Row
 
 /// Joins a row with the row that ends in front of `place`, if they meet.
 #[inline(always)]
-fn join_previous(packets: &VecDeque<HeldPacket>, place: usize, row: Row) -> Row
+fn join_previous(packets: &TieredQueue<HeldPacket>, place: usize, row: Row) -> Row
     requires rises { Rises (map held_of packets.now.items) }
     requires told { AreTold (rows (map held_of packets.now.items)) (map mark_of packets.now.items) }
     requires place { place ≡ place_of row.first (map held_of packets.now.items) }
@@ -79,7 +77,7 @@ fn join_previous(packets: &VecDeque<HeldPacket>, place: usize, row: Row) -> Row
     if place == 0 {
         return row;
     }
-    let entry = &packets[place - 1];
+    let entry = packets.at(place - 1);
     if !is_next(entry.number, row.first) {
         return row;
     }
@@ -93,7 +91,7 @@ fn join_previous(packets: &VecDeque<HeldPacket>, place: usize, row: Row) -> Row
 
 /// Returns the row of a new packet once it is at its place: `row` is the packet alone.
 #[inline(always)]
-pub(super) fn row_with(packets: &VecDeque<HeldPacket>, place: usize, row: Row) -> Row
+pub(super) fn row_with(packets: &TieredQueue<HeldPacket>, place: usize, row: Row) -> Row
     requires rises { Rises (map held_of packets.now.items) }
     requires told { AreTold (rows (map held_of packets.now.items)) (map mark_of packets.now.items) }
     requires one { row.first ≡ row.last }
@@ -105,29 +103,43 @@ pub(super) fn row_with(packets: &VecDeque<HeldPacket>, place: usize, row: Row) -
     join_previous(packets, place, row)
 }
 
-/// Notes the other end of a row, and its head, in a packet.
-fn mark(entry: &mut HeldPacket, other_end: u64, row_head: Option<u64>)
-    ensures held { held_of entry.new ≡ held_of entry.old }
-    ensures mark { mark_of entry.new ≡ marked (mark_of entry.old) other_end row_head }
-{
-    entry.packet.other_end = other_end;
-    entry.packet.row_head = row_head;
+/// What the first and the last packet of a row hold of it.
+#[derive(Clone, Copy, Debug)]
+pub(super) struct RowNote {
+    other_end: u64,
+    row_head: Option<u64>,
+}
+
+impl Noted<RowNote> for HeldPacket {
+    ghost is_noted = { λ before note after. (held_of after ≡ held_of before) × (mark_of after ≡ marked (mark_of before) note.other_end note.row_head) };
+
+    #[inline(always)]
+    fn note(&mut self, note: RowNote) {
+        self.packet.other_end = note.other_end;
+        self.packet.row_head = note.row_head;
+    }
 }
 
 /// Notes the other end of a row, and its head, in the packet at `place`.
 #[inline(always)]
-fn set_mark(packets: &mut VecDeque<HeldPacket>, place: usize, other_end: u64, row_head: Option<u64>)
-    requires { place < deque_len packets.old }
+fn set_mark(packets: &mut TieredQueue<HeldPacket>, place: usize, other_end: u64, row_head: Option<u64>)
+    requires { place < length packets.old.items }
     ensures held { map held_of packets.new.items ≡ map held_of packets.old.items }
     ensures marks { map mark_of packets.new.items ≡ slice_set (map mark_of packets.old.items) place (marked (slice_index_or (map mark_of packets.old.items) place no_mark) other_end row_head) }
-    ensures capacity { deque_capacity packets.old ≤ deque_capacity packets.new }
+    ensures room { packets.old.room ≤ packets.new.room }
 {
-    mark(&mut packets[place], other_end, row_head);
+    packets.note(
+        place,
+        RowNote {
+            other_end,
+            row_head,
+        },
+    );
 }
 
 /// Notes a row at both of its ends, the packets at `from` and `to`.
 #[inline(always)]
-fn set_ends(packets: &mut VecDeque<HeldPacket>, from: usize, to: usize, row: Row)
+fn set_ends(packets: &mut TieredQueue<HeldPacket>, from: usize, to: usize, row: Row)
     requires rises { Rises (map held_of packets.old.items) }
     requires from { from ≡ place_of row.first (map held_of packets.old.items) }
     requires to { to ≡ place_of row.last (map held_of packets.old.items) }
@@ -136,17 +148,37 @@ fn set_ends(packets: &mut VecDeque<HeldPacket>, from: usize, to: usize, row: Row
     ensures held { map held_of packets.new.items ≡ map held_of packets.old.items }
     ensures told { IsTold row (map mark_of packets.new.items) }
     ensures others { (k : ℕ) → k ≢ row.first → k ≢ row.last → mark_at k (map mark_of packets.new.items) ≡ mark_at k (map mark_of packets.old.items) }
-    ensures capacity { deque_capacity packets.old ≤ deque_capacity packets.new }
+    ensures room { packets.old.room ≤ packets.new.room }
 {
     set_mark(packets, from, row.last, None);
     set_mark(packets, to, row.first, row.head);
 }
 
-/// Inserts a packet at its place; `row` is its row after that. The caller has reserved the room. At the end of the queue
-/// nothing moves.
+/// Notes its row in a packet that is not held yet, if it is the first or the last packet of the row.
+#[inline(always)]
+fn noted(packet: HeldPacket, row: Row) -> HeldPacket
+    ensures held { held_of result ≡ held_of packet }
+    ensures mark { mark_of result ≡ (if packet.number == row.last then marked (mark_of packet) row.first row.head else marked (mark_of packet) row.last Option.None) }
+{
+    let mut packet = packet;
+    if packet.number == row.last {
+        packet.note(RowNote {
+            other_end: row.first,
+            row_head: row.head,
+        });
+    } else {
+        packet.note(RowNote {
+            other_end: row.last,
+            row_head: None,
+        });
+    }
+    packet
+}
+
+/// Inserts a packet at its place; `row` is its row after that. The caller has reserved the room.
 #[inline(always)]
 pub(super) fn place_at(
-    packets: &mut VecDeque<HeldPacket>,
+    packets: &mut TieredQueue<HeldPacket>,
     place: usize,
     packet: HeldPacket,
     row: Row,
@@ -155,17 +187,21 @@ pub(super) fn place_at(
     requires told { AreTold (rows (map held_of packets.old.items)) (map mark_of packets.old.items) }
     requires place { place ≡ place_of packet.number (map held_of packets.old.items) }
     requires fresh { has_number packet.number (map held_of packets.old.items) ≡ false }
-    requires room { deque_len packets.old < deque_capacity packets.old }
+    requires room { 0 < packets.old.room }
     requires row { row ≡ merged (row_of (held_of packet)) (rows (map held_of packets.old.items)) }
     ensures held { map held_of packets.new.items ≡ placed (held_of packet) (map held_of packets.old.items) }
     ensures told { AreTold (rows (map held_of packets.new.items)) (map mark_of packets.new.items) }
-    ensures capacity { deque_capacity packets.old ≤ deque_capacity packets.new }
+    ensures room { packets.old.room ≤ packets.new.room + 1 }
 {
-    let number = packet.number;
-    put_at(packets, place, packet);
-    let from = place - (number - row.first) as usize;
-    let to = place + (row.last - number) as usize;
-    set_ends(packets, from, to, row);
+    let before = (packet.number - row.first) as usize;
+    let after = (row.last - packet.number) as usize;
+    packets.insert(place, noted(packet, row));
+    if before > 0 {
+        set_mark(packets, place - before, row.last, None);
+    }
+    if after > 0 {
+        set_mark(packets, place + after, row.first, row.head);
+    }
 }
 
 /// Returns the complete frame that ends at this packet, if one does.
@@ -185,7 +221,7 @@ pub(super) fn frame_to(entry: &HeldPacket) -> Option<CompleteFrame>
 /// Returns whether no complete frame ends where `row` ends, the row of a new packet. `place` is the place of the packet.
 #[inline(always)]
 pub(super) fn is_new_end(
-    packets: &VecDeque<HeldPacket>,
+    packets: &TieredQueue<HeldPacket>,
     place: usize,
     packet: &HeldPacket,
     row: &Row,
@@ -201,29 +237,29 @@ pub(super) fn is_new_end(
     if after == 0 {
         return true;
     }
-    frame_to(&packets[place + after - 1]).is_none()
+    frame_to(packets.at(place + after - 1)).is_none()
 }
 
 /// Returns the lowest row.
-fn lowest_row(packets: &VecDeque<HeldPacket>) -> Row
+fn lowest_row(packets: &TieredQueue<HeldPacket>) -> Row
     requires rises { Rises (map held_of packets.now.items) }
     requires told { AreTold (rows (map held_of packets.now.items)) (map mark_of packets.now.items) }
-    requires some { 0 < deque_len packets.now }
+    requires some { 0 < length packets.now.items }
     ensures { IsLowestRow (rows (map held_of packets.now.items)) result }
 {
-    let entry = &packets[0];
+    let entry = packets.at(0);
     let after = (entry.packet.other_end - entry.number) as usize;
     row_to(packets, entry.number, after)
 }
 
 /// Notes the rest of the lowest row at both of its ends.
-fn set_lowest_ends(packets: &mut VecDeque<HeldPacket>, rest: &Option<Row>)
+fn set_lowest_ends(packets: &mut TieredQueue<HeldPacket>, rest: &Option<Row>)
     requires rises { Rises (map held_of packets.old.items) }
     requires lowest { IfSome rest.now (λ row. IsLowestRow (rows (map held_of packets.old.items)) row) }
     ensures held { map held_of packets.new.items ≡ map held_of packets.old.items }
     ensures told { IfSome rest.now (λ row. IsTold row (map mark_of packets.new.items)) }
     ensures others { (k : ℕ) → IsBeyond rest.now k → mark_at k (map mark_of packets.new.items) ≡ mark_at k (map mark_of packets.old.items) }
-    ensures capacity { deque_capacity packets.old ≤ deque_capacity packets.new }
+    ensures room { packets.old.room ≤ packets.new.room }
 {
     match rest {
         Some(row) => set_ends(packets, 0, (row.last - row.first) as usize, *row),
@@ -233,17 +269,17 @@ fn set_lowest_ends(packets: &mut VecDeque<HeldPacket>, rest: &Option<Row>)
 
 /// Removes the lowest packet. Returns its number, the frame of its row before that, and the frame of the row after that.
 pub(super) fn evict(
-    packets: &mut VecDeque<HeldPacket>,
+    packets: &mut TieredQueue<HeldPacket>,
     spare: &mut Vec<Box<Packet>>,
 ) -> (u64, Option<CompleteFrame>, Option<CompleteFrame>)
     requires rises { Rises (map held_of packets.old.items) }
     requires told { AreTold (rows (map held_of packets.old.items)) (map mark_of packets.old.items) }
-    requires some { 0 < deque_len packets.old }
+    requires some { 0 < length packets.old.items }
     ensures lowest { TakesLowest (map held_of packets.old.items) result.0 (map held_of packets.new.items) }
     ensures frames { first_mended result.1 result.2 (frames (map held_of packets.old.items)) ≡ frames (map held_of packets.new.items) }
     ensures some { IfSome result.1 (λ _. 0 < length (frames (map held_of packets.old.items))) }
     ensures told { AreTold (rows (map held_of packets.new.items)) (map mark_of packets.new.items) }
-    ensures capacity { deque_capacity packets.old ≤ deque_capacity packets.new }
+    ensures room { packets.old.room ≤ packets.new.room }
 {
     let row = lowest_row(packets);
     let number = take_lowest(packets, spare);

@@ -13,8 +13,9 @@ ghost use Rattle.codec_payload_buffer.specs.declared.buffer.frames.CompleteFrame
 use super::ends::frame_to;
 use super::held_packet::HeldPacket;
 use super::rows::Row;
-use super::search::{place_of_number, put_at};
+use codec_payload_queue::search::{place_of_number, put_at};
 use std::alloc::AllocError;
+use codec_payload_queue::tiers::TieredQueue;
 use std::collections::VecDeque;
 
 /// A complete frame: the sequence numbers of its first and last packet.
@@ -167,7 +168,7 @@ pub(super) fn note(complete: &mut CompleteFrames, frame: Option<CompleteFrame>, 
 
 /// Reads the lowest frames from the packets, as many as there is room for. Allocates nothing.
 #[inline(never)]
-fn read_known(known: &mut VecDeque<CompleteFrame>, ready: usize, packets: &VecDeque<HeldPacket>)
+fn read_known(known: &mut VecDeque<CompleteFrame>, ready: usize, packets: &TieredQueue<HeldPacket>)
     requires rises { Rises (map held_of packets.now.items) }
     requires told { AreTold (rows (map held_of packets.now.items)) (map mark_of packets.now.items) }
     requires empty { known.old.items ≡ [] }
@@ -177,11 +178,11 @@ fn read_known(known: &mut VecDeque<CompleteFrame>, ready: usize, packets: &VecDe
     ensures capacity { deque_capacity known.old ≤ deque_capacity known.new }
 {
     let wanted = ready.min(known.capacity());
-    for packet in packets {
+    for place in 0..packets.len() {
         if known.len() == wanted {
             return;
         }
-        if let Some(frame) = frame_to(packet) {
+        if let Some(frame) = frame_to(packets.at(place)) {
             known.push_back_reserved(frame);
         }
     }
@@ -189,7 +190,7 @@ fn read_known(known: &mut VecDeque<CompleteFrame>, ready: usize, packets: &VecDe
 
 /// Removes the lowest frame; `packets` are the remaining packets.
 #[inline(always)]
-pub(super) fn drop_first(complete: &mut CompleteFrames, packets: &VecDeque<HeldPacket>)
+pub(super) fn drop_first(complete: &mut CompleteFrames, packets: &TieredQueue<HeldPacket>)
     requires rises { Rises (map held_of packets.now.items) }
     requires told { AreTold (rows (map held_of packets.now.items)) (map mark_of packets.now.items) }
     requires kept { (f : Frame) × AreKept (f ∷ frames (map held_of packets.now.items)) complete.old.ready complete.old.known.items }
@@ -208,7 +209,7 @@ pub(super) fn mend_first(
     complete: &mut CompleteFrames,
     before: Option<CompleteFrame>,
     after: Option<CompleteFrame>,
-    packets: &VecDeque<HeldPacket>,
+    packets: &TieredQueue<HeldPacket>,
 )
     requires rises { Rises (map held_of packets.now.items) }
     requires told { AreTold (rows (map held_of packets.now.items)) (map mark_of packets.now.items) }

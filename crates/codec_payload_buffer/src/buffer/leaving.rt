@@ -35,7 +35,7 @@ impl<B: Depacketizer> DepacketizingBuffer<B> {
         // A custom depacketizer is called once for each payload of the unit.
         ensures own { is_built_in_depacketizer self.old.depacketizer ≡ false → OwnPops B.state B.depacketize_step self.old result.0 }
     {
-        let alloc = *self.packets.allocator();
+        let alloc = self.packets.alloc();
         let mut bytes = Vec::new(alloc);
         let mut metas = Vec::new(alloc);
         let (answer, left) = self.pop_counted_into(&mut bytes, &mut metas);

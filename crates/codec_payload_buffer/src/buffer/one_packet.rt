@@ -1,7 +1,6 @@
 //! Frames of one packet, such as most frames of audio: their payloads are reached by their place, without a walk of the queue.
 
 ghost use Rattle.std.specs.Prelude.{◌≡◌, ◌≤◌, [], map, slice_range};
-ghost use Rattle.std.specs.VecDeque.{deque_len};
 ghost use Rattle.codec_payload_codec.specs.Depacketizers.{depacketizer_state_of, kind_of_depacketizer};
 ghost use Rattle.codec_payload_codec.specs.declared.codec.depacketizer.CodecDepacketizer.TheVariants.{Boxed};
 ghost use Rattle.codec_payload_buffer.specs.Held.{held_of};
@@ -13,26 +12,26 @@ use codec_payload_base::error::PacketError;
 use codec_payload_base::interface::CodecExtra;
 use codec_payload_codec::codec::{CodecDepacketizer, Depacketizer};
 use std::alloc::AllocError;
-use std::collections::VecDeque;
+use codec_payload_queue::tiers::TieredQueue;
 
 /// Starts an empty unit for a frame, as [`make_room`] does.
 #[inline(always)]
 pub(super) fn make_room_for<B: Depacketizer>(
     bytes: &mut Vec<u8>,
     depacketizer: &CodecDepacketizer<B>,
-    packets: &VecDeque<HeldPacket>,
+    packets: &TieredQueue<HeldPacket>,
     from: usize,
     to: usize,
 ) -> Result<(), AllocError>
     requires order { from ≤ to }
-    requires within { to ≤ deque_len packets.now }
+    requires within { to ≤ length packets.now.items }
     ensures empty { bytes.new.items ≡ [] }
 {
     if to - from != 1 {
         return make_room(bytes, depacketizer, packets, from, to);
     }
     bytes.clear();
-    match depacketizer.out_size_hint(packets[from].packet.bytes.len()) {
+    match depacketizer.out_size_hint(packets.at(from).packet.bytes.len()) {
         Some(size) => bytes.reserve_exact(size),
         None => Ok(()),
     }
@@ -42,14 +41,14 @@ pub(super) fn make_room_for<B: Depacketizer>(
 #[inline(always)]
 pub(super) fn unpack_frame<B: Depacketizer>(
     depacketizer: &mut CodecDepacketizer<B>,
-    packets: &VecDeque<HeldPacket>,
+    packets: &TieredQueue<HeldPacket>,
     from: usize,
     to: usize,
     bytes: &mut Vec<u8>,
     codec_extra: &mut CodecExtra,
 ) -> Result<(), PacketError>
     requires order { from ≤ to }
-    requires within { to ≤ deque_len packets.now }
+    requires within { to ≤ length packets.now.items }
     ensures unpacks { Unpacks (depacketizer_state_of depacketizer.old) (map held_of (slice_range packets.now.items from to))
         (record { bytes = bytes.old.items; extra = codec_extra.old })
         (answer_of result (record { bytes = bytes.new.items; extra = codec_extra.new })) (depacketizer_state_of depacketizer.new) }
@@ -62,5 +61,5 @@ pub(super) fn unpack_frame<B: Depacketizer>(
     if to - from != 1 {
         return unpack(depacketizer, packets, from, to, bytes, codec_extra);
     }
-    depacketizer.depacketize(&packets[from].packet.bytes, bytes, codec_extra)
+    depacketizer.depacketize(&packets.at(from).packet.bytes, bytes, codec_extra)
 }

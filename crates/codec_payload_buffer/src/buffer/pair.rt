@@ -1,7 +1,7 @@
 //! Two packets are stored at once: all memory is found before either is stored.
 
 ghost use Rattle.std.specs.Prelude.{◌≡◌, ◌≤◌, ◌<◌, ◌+◌, ◌||◌, IfOk, OnErr, IfErr, OnOk, false, map};
-ghost use Rattle.std.specs.VecDeque.{deque_len, deque_capacity};
+ghost use Rattle.std.specs.VecDeque.{deque_capacity};
 ghost use Rattle.codec_payload_base.specs.declared.error.PacketError.TheVariants.{OutOfMemory};
 ghost use Rattle.codec_payload_codec.specs.Depacketizers.{depacketizer_state_of, is_built_in_depacketizer};
 ghost use Rattle.codec_payload_codec.specs.declared.codec.depacketizer.CodecDepacketizer.TheVariants.{Boxed};
@@ -25,7 +25,7 @@ use super::unit::RtpMeta;
 use codec_payload_base::error::PacketError;
 use codec_payload_codec::codec::{CodecDepacketizer, Depacketizer};
 use std::alloc::Global;
-use std::collections::VecDeque;
+use codec_payload_queue::tiers::TieredQueue;
 
 /// The metadata of a packet, and its payload.
 #[derive(Debug, Drop)]
@@ -62,7 +62,7 @@ impl<B: Depacketizer> DepacketizingBuffer<B> {
     {
         self.packets.reserve(2)?;
         reserve_known(&mut self.complete.known, 2)?;
-        let alloc = *self.packets.allocator();
+        let alloc = self.packets.alloc();
         let first = entry_of(alloc, &mut self.spare, &self.depacketizer, first)?;
         let second = entry_of(alloc, &mut self.spare, &self.depacketizer, second)?;
         let (one, gone) = store_entry(
@@ -120,7 +120,7 @@ fn entry_of<B: Depacketizer>(
 
 /// Stores a packet for which there is memory. Returns the result, and the number of the packet that was evicted.
 fn store_entry(
-    packets: &mut VecDeque<HeldPacket>,
+    packets: &mut TieredQueue<HeldPacket>,
     complete: &mut CompleteFrames,
     spare: &mut Vec<Box<Packet>>,
     bounds: Bounds,
@@ -129,14 +129,14 @@ fn store_entry(
     requires rises { Rises (map held_of packets.old.items) }
     requires told { AreTold (rows (map held_of packets.old.items)) (map mark_of packets.old.items) }
     requires kept { AreKept (frames (map held_of packets.old.items)) complete.old.ready complete.old.known.items }
-    requires packet_room { deque_len packets.old < deque_capacity packets.old }
+    requires packet_room { 0 < packets.old.room }
     requires frame_room { 0 < deque_capacity complete.old.known }
     ensures placed { (s : State) → IsAt s (map held_of packets.old.items) bounds.cutoff bounds.limit → result.0 ≡ placed_at s (number_of (held_of entry)) }
     ensures pushes { (s : State) → IsAt s (map held_of packets.old.items) bounds.cutoff bounds.limit → stored s (map held_of packets.new.items) result.1 ≡ pushed s (held_of entry) }
     ensures rises { Rises (map held_of packets.new.items) }
     ensures told { AreTold (rows (map held_of packets.new.items)) (map mark_of packets.new.items) }
     ensures kept { AreKept (frames (map held_of packets.new.items)) complete.new.ready complete.new.known.items }
-    ensures packet_room { deque_len packets.new + deque_capacity packets.old ≤ deque_len packets.old + 1 + deque_capacity packets.new }
+    ensures packet_room { packets.old.room ≤ packets.new.room + 1 }
     ensures frame_room { deque_capacity complete.old.known ≤ deque_capacity complete.new.known }
 {
     let number = entry.number;

@@ -7,7 +7,7 @@ ghost use Rattle.codec_payload_buffer.specs.Rows.{row_of, meet, joined, next_hea
 use super::frames::{CompleteFrame, frame_of};
 use super::held_packet::HeldPacket;
 use codec_payload_base::wire::MediaTime;
-use std::collections::VecDeque;
+use codec_payload_queue::tiers::TieredQueue;
 
 /// A row: the longest range of held packets with consecutive numbers and one time, in which only the last packet can end a
 /// unit.
@@ -64,10 +64,11 @@ pub(super) fn join(earlier: Row, later: Row) -> Row
 }
 
 /// Returns the lowest number, up to `last`, of a packet that begins a unit.
-fn find_head(packets: &VecDeque<HeldPacket>, last: u64) -> Option<u64>
+fn find_head(packets: &TieredQueue<HeldPacket>, last: u64) -> Option<u64>
     ensures { result ≡ next_head last (map held_of packets.now.items) }
 {
-    for packet in packets {
+    for place in 0..packets.len() {
+        let packet = packets.at(place);
         if packet.number > last {
             return None;
         }
@@ -80,7 +81,7 @@ fn find_head(packets: &VecDeque<HeldPacket>, last: u64) -> Option<u64>
 
 /// Returns the rest of a row after its first packet has left; `packets` are the remaining packets. It searches for the next
 /// packet that begins a unit only if the first packet began one.
-pub(super) fn shorten(row: &Row, packets: &VecDeque<HeldPacket>) -> Option<Row>
+pub(super) fn shorten(row: &Row, packets: &TieredQueue<HeldPacket>) -> Option<Row>
     requires ends { row.now.first ≤ row.now.last }
     requires head { IsHeadKept row.now (map held_of packets.now.items) }
     ensures { result ≡ shortened row.now (map held_of packets.now.items) }

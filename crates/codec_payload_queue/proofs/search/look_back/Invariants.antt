@@ -1,6 +1,6 @@
 use Rattle.std.proofs.Common.{◌<◌, ◌≤◌, length}
 use Rattle.std.specs.List.{AllWithin}
-use Rattle.codec_payload_buffer.proofs.buffer.search.look_back.Given as goal
+use Rattle.codec_payload_queue.proofs.search.look_back.Given as goal
 
 -- no number behind is lower
 abbrev pub invariant-loop-step : goal.invariant-loop-step

@@ -1,6 +1,6 @@
 use Rattle.std.proofs.Common.{◌<◌, ◌+◌, ◌-◌, ◌/◌, arith, length}
-use Rattle.codec_payload_buffer.proofs.SearchLemmas.{all_below, none_below}
-use Rattle.codec_payload_buffer.proofs.buffer.search.search_between.Goals as goal
+use Rattle.codec_payload_queue.proofs.SearchLemmas.{all_below, none_below}
+use Rattle.codec_payload_queue.proofs.search.search_between.Goals as goal
 
 pub loop-low-preserved-then-number : goal.loop-low-preserved-then-number
 loop-low-preserved-then-number g c =

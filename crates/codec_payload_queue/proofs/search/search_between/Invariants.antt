@@ -1,6 +1,6 @@
 use Rattle.std.proofs.Common.{◌≤◌, ◌<◌, ◌-◌, length}
 use Rattle.std.specs.List.{AllWithin}
-use Rattle.codec_payload_buffer.proofs.buffer.search.search_between.Given as goal
+use Rattle.codec_payload_queue.proofs.search.search_between.Given as goal
 
 -- the place is still between both
 abbrev pub invariant-loop-low : goal.invariant-loop-low

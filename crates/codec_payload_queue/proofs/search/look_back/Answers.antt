@@ -1,7 +1,7 @@
 use Rattle.std.proofs.Common.{◌-◌, arith}
-use Rattle.codec_payload_buffer.proofs.SearchLemmas.{all_below, none_below}
-use Rattle.codec_payload_buffer.proofs.buffer.search.look_back.Goals.{then-loop-step-test+else-number, else-loop-step-test}
-use Rattle.codec_payload_buffer.proofs.buffer.search.look_back.Goals as goal
+use Rattle.codec_payload_queue.proofs.SearchLemmas.{all_below, none_below}
+use Rattle.codec_payload_queue.proofs.search.look_back.Goals.{then-loop-step-test+else-number, else-loop-step-test}
+use Rattle.codec_payload_queue.proofs.search.look_back.Goals as goal
 
 pub loop-step-preserved : goal.loop-step-preserved
 loop-step-preserved g c =

@@ -1,6 +1,6 @@
 use Rattle.std.proofs.Common.{◌≡◌, ◌-◌, ◌<◌, ℕ, length, arith}
-use Rattle.codec_payload_buffer.proofs.SearchLemmas.{all_below, none_below}
-use Rattle.codec_payload_buffer.proofs.buffer.search.place_by_distance.Goals as goal
+use Rattle.codec_payload_queue.proofs.SearchLemmas.{all_below, none_below}
+use Rattle.codec_payload_queue.proofs.search.place_by_distance.Goals as goal
 
 pub returns-then-number-2-clause-point : goal.returns-then-number-2-clause-point
 returns-then-number-2-clause-point g c =

@@ -1,6 +1,6 @@
 use Rattle.std.proofs.Common.{◌≡◌, ◌-◌, ◌<◌, length, arith}
-use Rattle.codec_payload_buffer.proofs.SearchLemmas.{all_below}
-use Rattle.codec_payload_buffer.proofs.buffer.search.place_of_number.Goals as goal
+use Rattle.codec_payload_queue.proofs.SearchLemmas.{all_below}
+use Rattle.codec_payload_queue.proofs.search.place_of_number.Goals as goal
 
 pub returns-then-number-2-clause-point : goal.returns-then-number-2-clause-point
 returns-then-number-2-clause-point g c =
