@@ -2,7 +2,7 @@
 //!
 //! So the buffer keeps no list of rows. A push, an eviction and a pop write only to the ends of the rows that they change.
 
-ghost use Rattle.std.specs.Prelude.{◌≡◌, ◌≢◌, ◌≤◌, ◌<◌, ◌+◌, ◌==◌, true, false, not, ℕ, IfSome, length, map, slice_index_or, slice_set};
+ghost use Rattle.std.specs.Prelude.{if◌then◌else◌, ◌≡◌, ◌≢◌, ◌≤◌, ◌<◌, ◌+◌, ◌==◌, true, false, not, ℕ, IfSome, length, map, slice_index_or, slice_set};
 ghost use Rattle.codec_payload_buffer.specs.Held.{held_of, Rises, TakesLowest, has_number, placed};
 ghost use Rattle.codec_payload_buffer.specs.Frames.{frames};
 ghost use Rattle.codec_payload_buffer.specs.KnownFrames.{frame_told, has_end};
@@ -160,8 +160,9 @@ fn noted(packet: HeldPacket, row: Row) -> HeldPacket
     ensures held { held_of result ≡ held_of packet }
     ensures mark { mark_of result ≡ (if packet.number == row.last then marked (mark_of packet) row.first row.head else marked (mark_of packet) row.last Option.None) }
 {
+    let number = packet.number;
     let mut packet = packet;
-    if packet.number == row.last {
+    if number == row.last {
         packet.note(RowNote {
             other_end: row.first,
             row_head: row.head,
@@ -193,9 +194,11 @@ pub(super) fn place_at(
     ensures told { AreTold (rows (map held_of packets.new.items)) (map mark_of packets.new.items) }
     ensures room { packets.old.room ≤ packets.new.room + 1 }
 {
-    let before = (packet.number - row.first) as usize;
-    let after = (row.last - packet.number) as usize;
-    packets.insert(place, noted(packet, row));
+    let number = packet.number;
+    let before = (number - row.first) as usize;
+    let after = (row.last - number) as usize;
+    let packet = noted(packet, row);
+    packets.insert(place, packet);
     if before > 0 {
         set_mark(packets, place - before, row.last, None);
     }

@@ -1,6 +1,6 @@
 //! Frames of one packet, such as most frames of audio: their payloads are reached by their place, without a walk of the queue.
 
-ghost use Rattle.std.specs.Prelude.{◌≡◌, ◌≤◌, [], map, slice_range};
+ghost use Rattle.std.specs.Prelude.{◌≡◌, ◌≤◌, [], length, map, slice_range};
 ghost use Rattle.codec_payload_codec.specs.Depacketizers.{depacketizer_state_of, kind_of_depacketizer};
 ghost use Rattle.codec_payload_codec.specs.declared.codec.depacketizer.CodecDepacketizer.TheVariants.{Boxed};
 ghost use Rattle.codec_payload_buffer.specs.Held.{held_of};
