@@ -190,6 +190,7 @@ pub(super) fn place_at(
     requires fresh { has_number packet.number (map held_of packets.old.items) ≡ false }
     requires room { 0 < packets.old.room }
     requires row { row ≡ merged (row_of (held_of packet)) (rows (map held_of packets.old.items)) }
+    requires few { length packets.old.items ≤ usize.MAX }
     ensures held { map held_of packets.new.items ≡ placed (held_of packet) (map held_of packets.old.items) }
     ensures told { AreTold (rows (map held_of packets.new.items)) (map mark_of packets.new.items) }
     ensures room { packets.old.room ≤ packets.new.room + 1 }
@@ -234,6 +235,7 @@ pub(super) fn is_new_end(
     requires place { place ≡ place_of packet.now.number (map held_of packets.now.items) }
     requires fresh { has_number packet.now.number (map held_of packets.now.items) ≡ false }
     requires row { row.now ≡ merged (row_of (held_of packet.now)) (rows (map held_of packets.now.items)) }
+    requires few { length packets.now.items ≤ usize.MAX }
     ensures { result ≡ not (has_end row.now.last (frames (map held_of packets.now.items))) }
 {
     let after = (row.last - packet.number) as usize;

@@ -22,21 +22,21 @@ pub overflow_add-place : goal.overflow_add-place
 overflow_add-place c =
     let xs = c.args.packets.now.items in
     let row = row_is_placed xs (insert xs c.args.place c.args.packet.now) c.args.place c.args.packet.now c.args.row.now c.requires.rises c.requires.place c.requires.fresh refl c.requires.row in
-    omega (arith, row.within, c.args.packets.now.ok.0, c.args.packets.now.small.0, c.args.packets.now.small.1)
+    omega (arith, row.within, c.requires.few)
 
-pub index-requires : goal.index-requires
-index-requires c =
+pub at-requires : goal.at-requires
+at-requires c =
     let xs = c.args.packets.now.items in
     let over : c.args.packet.now.number < c.args.row.now.last = omega (arith, c.if-after-eq0.false) in
     let end = new_end_there xs c.args.place c.args.packet.now c.args.row.now c.requires.rises c.requires.told c.requires.place c.requires.fresh c.requires.row over in
-    omega (arith, end.within, c.args.packets.now.ok.0)
+    omega (arith, end.within)
 
 pub returns : goal.returns
 returns c =
     let xs = c.args.packets.now.items in
     let over : c.args.packet.now.number < c.args.row.now.last = omega (arith, c.if-after-eq0.false) in
     let end = new_end_there xs c.args.place c.args.packet.now c.args.row.now c.requires.rises c.requires.told c.requires.place c.requires.fresh c.requires.row over in
-    let ends = end.ends c.index.result.now c.index.ensures in
+    let ends = end.ends c.at.result.now c.at.ensures in
     swapped _ _ (sym ends ∙ ap is_some (sym c.frame_to.ensures) ∙ c.is_none.ensures)
   where
     swapped : (a b : Bool) → b ≡ not a → a ≡ not b

@@ -13,54 +13,54 @@ pub returns-then-place-len : goal.returns-then-place-len
 returns-then-place-len c =
     let xs = c.args.packets.now.items in
     let n = c.args.row.last in
-    let past : length xs ≤ place_of n (map held_of xs) = omega (arith, c.if-place-len.true, c.len.ensures, c.requires.place, c.args.packets.now.ok.0) in
+    let past : length xs ≤ place_of n (map held_of xs) = omega (arith, c.if-place-len.true, c.len.ensures, c.requires.place) in
     sym (ap (ahead c.args.row) (next_past xs n c.requires.rises c.requires.told c.requires.fresh past))
 
-pub index-entry-requires : goal.index-entry-requires
-index-entry-requires c =
+pub at-entry-requires : goal.at-entry-requires
+at-entry-requires c =
     let xs = c.args.packets.now.items in
-    omega (arith, c.if-place-len.false, c.len.ensures, c.requires.place, place_within c.args.row.last (map held_of xs), length-map xs held_of, c.args.packets.now.ok.0)
+    omega (arith, c.if-place-len.false, c.len.ensures, c.requires.place, place_within c.args.row.last (map held_of xs), length-map xs held_of)
 
 pub returns-then-not-is_next : goal.returns-then-not-is_next
 returns-then-not-is_next c =
     let xs = c.args.packets.now.items in
-    sym (ap (ahead c.args.row) (next_apart xs c.args.row.last c.index-entry.result.now c.requires.rises c.requires.told c.requires.fresh
-    (c.index-entry.ensures ∙ ap (λ k. get_or xs k c.index-entry.result.now) c.requires.place) (sym c.is_next.ensures ∙ c.if-not-is_next.true)))
+    sym (ap (ahead c.args.row) (next_apart xs c.args.row.last c.at-entry.result.now c.requires.rises c.requires.told c.requires.fresh
+    (c.at-entry.ensures ∙ ap (λ k. get_or xs k c.at-entry.result.now) c.requires.place) (sym c.is_next.ensures ∙ c.if-not-is_next.true)))
 
 pub overflow_sub-after : goal.overflow_sub-after
 overflow_sub-after c =
     let xs = c.args.packets.now.items in
     let n = c.args.row.last in
-    let l : c.args.place < length xs = omega (arith, c.if-place-len.false, c.len.ensures, c.requires.place, place_within n (map held_of xs), length-map xs held_of, c.args.packets.now.ok.0) in
-    let number : c.index-entry.result.now.number ≡ n + 1 = grind (arith, nat_tests, sym c.is_next.ensures ∙ c.if-not-is_next.false) in
-    let found = next_found xs n c.args.place c.index-entry.result.now c.requires.rises c.requires.told c.requires.fresh l c.index-entry.ensures number in
+    let l : c.args.place < length xs = omega (arith, c.if-place-len.false, c.len.ensures, c.requires.place, place_within n (map held_of xs), length-map xs held_of) in
+    let number : c.at-entry.result.now.number ≡ n + 1 = grind (arith, nat_tests, sym c.is_next.ensures ∙ c.if-not-is_next.false) in
+    let found = next_found xs n c.args.place c.at-entry.result.now c.requires.rises c.requires.told c.requires.fresh l c.at-entry.ensures number in
     rw c.deref.ensures found.2.order
 
 pub overflow_add-place : goal.overflow_add-place
 overflow_add-place c =
     let xs = c.args.packets.now.items in
     let n = c.args.row.last in
-    let l : c.args.place < length xs = omega (arith, c.if-place-len.false, c.len.ensures, c.requires.place, place_within n (map held_of xs), length-map xs held_of, c.args.packets.now.ok.0) in
-    let number : c.index-entry.result.now.number ≡ n + 1 = grind (arith, nat_tests, sym c.is_next.ensures ∙ c.if-not-is_next.false) in
-    let found = next_found xs n c.args.place c.index-entry.result.now c.requires.rises c.requires.told c.requires.fresh l c.index-entry.ensures number in
-    rw c.deref.ensures (omega (arith, found.2.within, c.args.packets.now.ok.0, c.args.packets.now.small.0, c.args.packets.now.small.1))
+    let l : c.args.place < length xs = omega (arith, c.if-place-len.false, c.len.ensures, c.requires.place, place_within n (map held_of xs), length-map xs held_of) in
+    let number : c.at-entry.result.now.number ≡ n + 1 = grind (arith, nat_tests, sym c.is_next.ensures ∙ c.if-not-is_next.false) in
+    let found = next_found xs n c.args.place c.at-entry.result.now c.requires.rises c.requires.told c.requires.fresh l c.at-entry.ensures number in
+    rw c.deref.ensures (omega (arith, found.2.within, c.len.ensures))
 
 pub row_to-next-requires : goal.row_to-next-requires
 row_to-next-requires c =
     let xs = c.args.packets.now.items in
     let n = c.args.row.last in
-    let l : c.args.place < length xs = omega (arith, c.if-place-len.false, c.len.ensures, c.requires.place, place_within n (map held_of xs), length-map xs held_of, c.args.packets.now.ok.0) in
-    let number : c.index-entry.result.now.number ≡ n + 1 = grind (arith, nat_tests, sym c.is_next.ensures ∙ c.if-not-is_next.false) in
-    let found = next_found xs n c.args.place c.index-entry.result.now c.requires.rises c.requires.told c.requires.fresh l c.index-entry.ensures number in
-    rw c.deref.ensures (omega (arith, found.2.within, c.args.packets.now.ok.0))
+    let l : c.args.place < length xs = omega (arith, c.if-place-len.false, c.len.ensures, c.requires.place, place_within n (map held_of xs), length-map xs held_of) in
+    let number : c.at-entry.result.now.number ≡ n + 1 = grind (arith, nat_tests, sym c.is_next.ensures ∙ c.if-not-is_next.false) in
+    let found = next_found xs n c.args.place c.at-entry.result.now c.requires.rises c.requires.told c.requires.fresh l c.at-entry.ensures number in
+    rw c.deref.ensures (omega (arith, found.2.within))
 
 pub returns-then-meets : goal.returns-then-meets
 returns-then-meets c =
     let xs = c.args.packets.now.items in
     let n = c.args.row.last in
-    let l : c.args.place < length xs = omega (arith, c.if-place-len.false, c.len.ensures, c.requires.place, place_within n (map held_of xs), length-map xs held_of, c.args.packets.now.ok.0) in
-    let number : c.index-entry.result.now.number ≡ n + 1 = grind (arith, nat_tests, sym c.is_next.ensures ∙ c.if-not-is_next.false) in
-    let found = next_found xs n c.args.place c.index-entry.result.now c.requires.rises c.requires.told c.requires.fresh l c.index-entry.ensures number in
+    let l : c.args.place < length xs = omega (arith, c.if-place-len.false, c.len.ensures, c.requires.place, place_within n (map held_of xs), length-map xs held_of) in
+    let number : c.at-entry.result.now.number ≡ n + 1 = grind (arith, nat_tests, sym c.is_next.ensures ∙ c.if-not-is_next.false) in
+    let found = next_found xs n c.args.place c.at-entry.result.now c.requires.rises c.requires.told c.requires.fresh l c.at-entry.ensures number in
     let whole : c.row_to-next.result ≡ found.0 = c.row_to-next.ensures.2 ∙ found.2.whole c.row_to-next.ensures.0 (rw c.deref.ensures at c.row_to-next.ensures.1) in
     c.join.ensures ∙ ahead_joined c.args.row found.0 c.row_to-next.result _ found.1 whole (sym c.meets.ensures ∙ c.if-meets.true)
 
@@ -68,8 +68,8 @@ pub returns-else-meets : goal.returns-else-meets
 returns-else-meets c =
     let xs = c.args.packets.now.items in
     let n = c.args.row.last in
-    let l : c.args.place < length xs = omega (arith, c.if-place-len.false, c.len.ensures, c.requires.place, place_within n (map held_of xs), length-map xs held_of, c.args.packets.now.ok.0) in
-    let number : c.index-entry.result.now.number ≡ n + 1 = grind (arith, nat_tests, sym c.is_next.ensures ∙ c.if-not-is_next.false) in
-    let found = next_found xs n c.args.place c.index-entry.result.now c.requires.rises c.requires.told c.requires.fresh l c.index-entry.ensures number in
+    let l : c.args.place < length xs = omega (arith, c.if-place-len.false, c.len.ensures, c.requires.place, place_within n (map held_of xs), length-map xs held_of) in
+    let number : c.at-entry.result.now.number ≡ n + 1 = grind (arith, nat_tests, sym c.is_next.ensures ∙ c.if-not-is_next.false) in
+    let found = next_found xs n c.args.place c.at-entry.result.now c.requires.rises c.requires.told c.requires.fresh l c.at-entry.ensures number in
     let whole : c.row_to-next.result ≡ found.0 = c.row_to-next.ensures.2 ∙ found.2.whole c.row_to-next.ensures.0 (rw c.deref.ensures at c.row_to-next.ensures.1) in
     ahead_apart c.args.row found.0 c.row_to-next.result _ found.1 whole (sym c.meets.ensures ∙ c.if-meets.false)

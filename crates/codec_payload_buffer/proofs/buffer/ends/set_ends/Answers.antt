@@ -9,13 +9,13 @@ use Rattle.codec_payload_buffer.proofs.buffer.ends.set_ends.Goals as goal
 pub set_mark-requires : goal.set_mark-requires
 set_mark-requires c =
     let xs = c.args.packets.now.items in
-    omega (arith, c.requires.from, place_held c.args.row.first (map held_of xs) c.requires.rises c.requires.first, length-map xs held_of, c.args.packets.now.ok.0)
+    omega (arith, c.requires.from, place_held c.args.row.first (map held_of xs) c.requires.rises c.requires.first, length-map xs held_of)
 
 pub set_mark-requires-2 : goal.set_mark-requires-2
 set_mark-requires-2 c =
     let xs = c.args.packets.now.items in
     let mid = c.set_mark.new.packets.items in
-    omega (arith, c.requires.to, place_held c.args.row.last (map held_of xs) c.requires.rises c.requires.last, length-map xs held_of, length-map mid held_of, ap length c.set_mark.ensures.held, c.set_mark.new.packets.ok.0)
+    omega (arith, c.requires.to, place_held c.args.row.last (map held_of xs) c.requires.rises c.requires.last, length-map xs held_of, length-map mid held_of, ap length c.set_mark.ensures.held)
 
 pub returns-clause-told : goal.returns-clause-told
 returns-clause-told c =
