@@ -219,7 +219,7 @@ mark_there (z ∷ zs) zero x l is = ap mark_of is
 mark_there (z ∷ zs) (suc i) x l is = mark_there zs i x (omega arith) is
 
 -- the number that a mark at the place of a held number has
-mark_number : (n : ℕ) (xs : List HeldPacket) → Rises (map held_of xs) → has_number n (map held_of xs) ≡ true → (get_or (map mark_of xs) (place_of n (map held_of xs)) no_mark).number ≡ n
+pub mark_number : (n : ℕ) (xs : List HeldPacket) → Rises (map held_of xs) → has_number n (map held_of xs) ≡ true → (get_or (map mark_of xs) (place_of n (map held_of xs)) no_mark).number ≡ n
 mark_number n [] r has = absurd (cc)
 mark_number n (y ∷ ys) r has =
     by_test (ltb y.packet.value.known.seq_no.0 n) (λ b. ltb y.packet.value.known.seq_no.0 n ≡ b → (get_or (mark_of y ∷ map mark_of ys) (cond b (place_of n (map held_of ys) + 1) 0) no_mark).number ≡ n)

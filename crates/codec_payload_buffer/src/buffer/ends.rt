@@ -2,7 +2,7 @@
 //!
 //! So the buffer keeps no list of rows. A push, an eviction and a pop write only to the ends of the rows that they change.
 
-ghost use Rattle.std.specs.Prelude.{if◌then◌else◌, ◌≡◌, ◌≢◌, ◌≤◌, ◌<◌, ◌+◌, ◌==◌, true, false, not, ℕ, IfSome, length, map, slice_index_or, slice_set};
+ghost use Rattle.std.specs.Prelude.{if◌then◌else◌, ◌≡◌, ◌≢◌, ◌≤◌, ◌<◌, ◌+◌, ◌==◌, true, false, not, ℕ, IfSome, Option, length, map, slice_index_or, slice_set};
 ghost use Rattle.codec_payload_buffer.specs.Held.{held_of, Rises, TakesLowest, has_number, placed};
 ghost use Rattle.codec_payload_buffer.specs.Frames.{frames};
 ghost use Rattle.codec_payload_buffer.specs.KnownFrames.{frame_told, has_end};
@@ -195,16 +195,19 @@ pub(super) fn place_at(
     ensures told { AreTold (rows (map held_of packets.new.items)) (map mark_of packets.new.items) }
     ensures room { packets.old.room ≤ packets.new.room + 1 }
 {
+    let first = row.first;
+    let last = row.last;
+    let head = row.head;
     let number = packet.number;
-    let before = (number - row.first) as usize;
-    let after = (row.last - number) as usize;
+    let before = (number - first) as usize;
+    let after = (last - number) as usize;
     let packet = noted(packet, row);
     packets.insert(place, packet);
     if before > 0 {
-        set_mark(packets, place - before, row.last, None);
+        set_mark(packets, place - before, last, None);
     }
     if after > 0 {
-        set_mark(packets, place + after, row.first, row.head);
+        set_mark(packets, place + after, first, head);
     }
 }
 
