@@ -1,6 +1,6 @@
 //! Two packets are stored at once: all memory is found before either is stored.
 
-ghost use Rattle.std.specs.Prelude.{◌≡◌, ◌≤◌, ◌<◌, ◌+◌, ◌||◌, IfOk, OnErr, IfErr, OnOk, false, map};
+ghost use Rattle.std.specs.Prelude.{◌≡◌, ◌≤◌, ◌<◌, ◌+◌, ◌||◌, IfOk, OnErr, IfErr, OnOk, false, length, map};
 ghost use Rattle.std.specs.VecDeque.{deque_capacity};
 ghost use Rattle.codec_payload_base.specs.declared.error.PacketError.TheVariants.{OutOfMemory};
 ghost use Rattle.codec_payload_codec.specs.Depacketizers.{depacketizer_state_of, is_built_in_depacketizer};
@@ -129,6 +129,8 @@ fn store_entry(
     requires rises { Rises (map held_of packets.old.items) }
     requires told { AreTold (rows (map held_of packets.old.items)) (map mark_of packets.old.items) }
     requires kept { AreKept (frames (map held_of packets.old.items)) complete.old.ready complete.old.known.items }
+    requires few { length packets.old.items ≤ bounds.limit }
+    requires most { bounds.limit ≤ 65536 }
     requires packet_room { 0 < packets.old.room }
     requires frame_room { 0 < deque_capacity complete.old.known }
     ensures placed { (s : State) → IsAt s (map held_of packets.old.items) bounds.cutoff bounds.limit → result.0 ≡ placed_at s (number_of (held_of entry)) }
@@ -136,6 +138,7 @@ fn store_entry(
     ensures rises { Rises (map held_of packets.new.items) }
     ensures told { AreTold (rows (map held_of packets.new.items)) (map mark_of packets.new.items) }
     ensures kept { AreKept (frames (map held_of packets.new.items)) complete.new.ready complete.new.known.items }
+    ensures few { length packets.new.items ≤ bounds.limit }
     ensures packet_room { packets.old.room ≤ packets.new.room + 1 }
     ensures frame_room { deque_capacity complete.old.known ≤ deque_capacity complete.new.known }
 {

@@ -27,6 +27,16 @@ note-requires-clause-few g c =
     let few = few_frames items _ _ c.self.invariant.sound.rises c.self.invariant.told c.self.invariant.kept in
     omega (arith, few, c.self.invariant.sound.few, c.self.invariant.most, length-map items held_of)
 
+pub is_new_end-is_new-requires-clause-few : goal.is_new_end-is_new-requires-clause-few
+is_new_end-is_new-requires-clause-few g c =
+    let items = c.self.inside.packets.items in
+    rw c.reserve.ensures.items (omega (arith, c.self.invariant.sound.few, c.self.invariant.most, length-map items held_of))
+
+pub place_at-requires-clause-few : goal.place_at-requires-clause-few
+place_at-requires-clause-few g c =
+    let items = c.self.inside.packets.items in
+    rw c.reserve.ensures.items (omega (arith, c.self.invariant.sound.few, c.self.invariant.most, length-map items held_of))
+
 pub evict-number-requires-clause-rises : goal.evict-number-requires-clause-rises
 evict-number-requires-clause-rises g c =
     let items = c.self.inside.packets.items in
@@ -137,7 +147,7 @@ invariant_of-self-else-len-self g c =
     let kept : AreKept (frames (map held_of new)) c.note.new.complete.ready c.note.new.complete.known.items = kept_pushed packet hs (map held_of new) c.row_with-row.result c.frame_of.result c.is_new_end-is_new.result _ _ _ _
     c.self.invariant.sound.rises fresh before put whole c.frame_of.ensures new_is c.note.ensures.kept in
     record {
-      sound = record { rises = with.rises; above = with.above; few = omega (arith, c.if-len-self.false, c.len.ensures, length-map new held_of, c.place_at.new.packets.ok.0) };
+      sound = record { rises = with.rises; above = with.above; few = omega (arith, c.if-len-self.false, c.len.ensures, length-map new held_of) };
       least = c.self.invariant.least;
       most = c.self.invariant.most;
       told = c.place_at.ensures.told;

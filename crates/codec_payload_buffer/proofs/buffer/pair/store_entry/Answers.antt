@@ -16,7 +16,7 @@ note-requires-clause-rises c = known_rise (map held_of c.args.packets.now.items)
 pub note-requires-clause-few : goal.note-requires-clause-few
 note-requires-clause-few c =
     let few = few_frames c.args.packets.now.items _ _ c.requires.rises c.requires.told c.requires.kept in
-    omega (arith, few, c.args.packets.now.ok.0, c.args.packets.now.small.0, c.args.packets.now.small.1)
+    omega (arith, few, c.requires.few, c.requires.most)
 
 pub returns-then-len-bounds-clause-rises : goal.returns-then-len-bounds-clause-rises
 returns-then-len-bounds-clause-rises c =
@@ -34,21 +34,6 @@ returns-then-len-bounds-clause-kept c =
     let whole : c.row_with-row.result ≡ merged (row_of p) (rows hs) = c.row_with-row.ensures ∙ ap (λ (r : Row). merged r (rows hs)) c.row_of_packet.ensures in
     kept_pushed p hs new c.row_with-row.result c.frame_of.result c.is_new_end-is_new.result _ _ _ _
     c.requires.rises fresh c.requires.kept c.place_at.ensures.held whole c.frame_of.ensures c.is_new_end-is_new.ensures c.note.ensures.kept
-
-pub returns-then-len-bounds-clause-packet_room : goal.returns-then-len-bounds-clause-packet_room
-returns-then-len-bounds-clause-packet_room c =
-    let items = c.args.packets.now.items in
-    let new = c.place_at.new.packets.items in
-    omega (
-      arith,
-      ap length c.place_at.ensures.held,
-      length_placed (held_of c.args.entry) (map held_of items),
-      length-map new held_of,
-      length-map items held_of,
-      c.args.packets.now.ok.0,
-      c.place_at.new.packets.ok.0,
-      c.place_at.ensures.capacity,
-    )
 
 pub evict-number-requires-clause-rises : goal.evict-number-requires-clause-rises
 evict-number-requires-clause-rises c =
@@ -85,8 +70,8 @@ returns-clause-rises c =
     let rises : Rises (map held_of c.place_at.new.packets.items) = rw c.place_at.ensures.held (placed_rises p hs c.requires.rises fresh) in
     (lowest_out _ _ _ c.evict-number.ensures.lowest rises).rises
 
-pub returns-clause-packet_room : goal.returns-clause-packet_room
-returns-clause-packet_room c =
+pub returns-clause-few : goal.returns-clause-few
+returns-clause-few c =
     let hs = map held_of c.args.packets.now.items in
     let p : Held = held_of c.args.entry in
     let fresh : has_number (number_of p) hs ≡ false = ap (λ k. has_number k hs) (sym c.args.entry.numbered) ∙ sym c.is_at.ensures ∙ c.if-is_at.false in
@@ -99,8 +84,5 @@ returns-clause-packet_room c =
       length-map c.place_at.new.packets.items held_of,
       length-map c.evict-number.new.packets.items held_of,
       length-map c.args.packets.now.items held_of,
-      c.args.packets.now.ok.0,
-      c.evict-number.new.packets.ok.0,
-      c.place_at.ensures.capacity,
-      c.evict-number.ensures.capacity,
+      c.requires.few,
     )
