@@ -122,7 +122,12 @@ impl Noted<RowNote> for HeldPacket {
 
 /// Notes the other end of a row, and its head, in the packet at `place`.
 #[inline(always)]
-fn set_mark(packets: &mut TieredQueue<HeldPacket>, place: usize, other_end: u64, row_head: Option<u64>)
+fn set_mark(
+    packets: &mut TieredQueue<HeldPacket>,
+    place: usize,
+    other_end: u64,
+    row_head: Option<u64>,
+)
     requires { place < length packets.old.items }
     ensures held { map held_of packets.new.items ≡ map held_of packets.old.items }
     ensures marks { map mark_of packets.new.items ≡ slice_set (map mark_of packets.old.items) place (marked (slice_index_or (map mark_of packets.old.items) place no_mark) other_end row_head) }

@@ -14,8 +14,8 @@ use super::ends::frame_to;
 use super::held_packet::HeldPacket;
 use super::rows::Row;
 use codec_payload_queue::search::{place_of_number, put_at};
-use std::alloc::AllocError;
 use codec_payload_queue::tiers::TieredQueue;
+use std::alloc::AllocError;
 use std::collections::VecDeque;
 
 /// A complete frame: the sequence numbers of its first and last packet.

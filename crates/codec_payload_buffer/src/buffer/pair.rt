@@ -24,8 +24,8 @@ use super::rows::row_of_packet;
 use super::unit::RtpMeta;
 use codec_payload_base::error::PacketError;
 use codec_payload_codec::codec::{CodecDepacketizer, Depacketizer};
-use std::alloc::Global;
 use codec_payload_queue::tiers::TieredQueue;
+use std::alloc::Global;
 
 /// The metadata of a packet, and its payload.
 #[derive(Debug, Drop)]
