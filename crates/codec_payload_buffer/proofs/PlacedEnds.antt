@@ -1,5 +1,5 @@
 -- The ends of a row, noted as a packet joins it: in the packet itself before it is inserted, then at the other ends.
-use Rattle.std.proofs.Common.{◌≡◌, ◌≢◌, ℕ, ◌<◌, ◌≤◌, ◌+◌, ◌-◌, List, length, get_or, map, eqb, refl, ap, sym, subst, ◌∙◌, arith, true, false, cond, Option, Some, None}
+use Rattle.std.proofs.Common.{◌≡◌, ◌≢◌, ℕ, ◌<◌, ◌≤◌, ◌+◌, ◌-◌, List, get_or, map, eqb, refl, ap, sym, subst, ◌∙◌, arith, true, false, cond, Option, None}
 use Rattle.std.specs.Prelude.{slice_set, if◌then◌else◌, ◌==◌}
 use Rattle.std.specs.List.{insert}
 use Rattle.std.proofs.lemmas.Bool.Decides.{nat_tests}

@@ -1,4 +1,4 @@
-use Rattle.std.proofs.Common.{◌≡◌, ◌∙◌, ap, arith, length, List, map, refl, subst, sym}
+use Rattle.std.proofs.Common.{◌∙◌, ap, arith, length, map, refl, subst, sym}
 use Rattle.std.proofs.lemmas.List.{length-map}
 use Rattle.std.specs.List.{insert}
 use Rattle.codec_payload_queue.specs.Tiers.{Queue}
@@ -56,7 +56,7 @@ set_mark-requires c =
       row = c.requires.row;
     } in
     let row = put_row xs new c.args.place c.args.packet c.noted-packet.result c.args.row put in
-    omega (arith, row.within, row.room, row.held, ap length row.held, length_placed (held_of c.args.packet) (map held_of xs), length-map new held_of, length-map xs held_of, row.high)
+    omega (arith, row.within, row.room, ap length row.held, length_placed (held_of c.args.packet) (map held_of xs), length-map new held_of, length-map xs held_of, row.high)
 
 pub overflow_add-place : goal.overflow_add-place
 overflow_add-place c =

@@ -2,7 +2,6 @@ use Rattle.std.proofs.Common.{◌∙◌, ap, map}
 use Rattle.std.specs.Prelude.{slice_set}
 use Rattle.codec_payload_buffer.specs.Held.{held_of}
 use Rattle.codec_payload_buffer.specs.Ends.{Mark, mark_of, marked}
-use Rattle.codec_payload_buffer.specs.declared.buffer.held_packet.HeldPacket.{HeldPacket}
 use Rattle.codec_payload_buffer.proofs.RowEnds.{held_set, marks_set, mark_there}
 use Rattle.codec_payload_buffer.proofs.buffer.ends.set_mark.Goals as goal
 
