@@ -4,7 +4,7 @@ use Rattle.codec_payload_buffer.specs.Steps.{PassesOver, Pops, TakesFrame, due_o
 use Rattle.codec_payload_buffer.proofs.BlankLemmas.{takes_away_from}
 use Rattle.codec_payload_buffer.proofs.LeavingLemmas.{left_is, more_in, passed_fits, refused_counts}
 use Rattle.codec_payload_buffer.proofs.OwnLemmas.{passes_stays}
-use Rattle.codec_payload_buffer.proofs.PopLemmas.{passes_shorter, release_shorter, refusal_shorter, nothing_passed}
+use Rattle.codec_payload_buffer.proofs.PopLemmas.{passes_shorter, release_shorter, refusal_shorter}
 use Rattle.codec_payload_buffer.proofs.buffer.DepacketizingBuffer.pop_due_unit.Goals as goal
 
 pub loop-due-init : goal.loop-due-init
@@ -37,14 +37,6 @@ overflow_add-skipped g c =
     let size : c.packets-skipped.result ≡ length (packets_of_frame c.loop-due.self c.in-Some.frame) = omega (arith, c.packets-skipped.ensures, c.in-Ok-Skipped.ensures.size (λ e. cc)) in
     let fits : c.packets-skipped.result + length c.take_unit.new.self.held ≤ length c.loop-due.self.held = passed_fits c.loop-due.self c.take_unit.new.self passed c.in-Some.frame c.packets-skipped.result due size in
     omega (arith, c.loop-due.invariant.fewer, fits, c.held-before.ensures.count, c.held-before.type_inv)
-
-pub returns-in-Ok-Released-clause-waits : goal.returns-in-Ok-Released-clause-waits
-returns-in-Ok-Released-clause-waits g c = λ waits. absurd (nothing_passed c.args.self.now c.loop-due.self c.loop-due.invariant.over c.in-Some.frame waits
-    c.loop-due.invariant.passes (sym c.loop-due.invariant.due ∙ c.in-Some.is))
-
-pub returns-in-Err-clause-waits : goal.returns-in-Err-clause-waits
-returns-in-Err-clause-waits g c = λ waits. absurd (nothing_passed c.args.self.now c.loop-due.self c.loop-due.invariant.over c.in-Some.frame waits
-    c.loop-due.invariant.passes (sym c.loop-due.invariant.due ∙ c.in-Some.is))
 
 pub returns-in-Ok-Released-clause-fewer : goal.returns-in-Ok-Released-clause-fewer
 returns-in-Ok-Released-clause-fewer g c = omega (
