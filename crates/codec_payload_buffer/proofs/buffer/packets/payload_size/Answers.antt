@@ -13,7 +13,7 @@ loop-place-preserved c =
     let items = c.args.packets.now.items in
     let rest = rest_from items c.loop-place.place c.args.to c.at.result.now c.loop-place-test.true c.requires.within c.at.ensures in
     let total : total_size (map held_of (slice_range items c.loop-place.place c.args.to))
-        ≡ length c.at.result.now.packet.value.bytes.items + total_size (map held_of (slice_range items (c.loop-place.place + 1) c.args.to)) =
+    ≡ length c.at.result.now.packet.value.bytes.items + total_size (map held_of (slice_range items (c.loop-place.place + 1) c.args.to)) =
     ap (λ (xs : List HeldPacket). total_size (map held_of xs)) rest in
     let bytes : c.len.result ≡ length c.at.result.now.packet.value.bytes.items = c.len.ensures ∙ omega (arith, ap (λ (p : Packet). length p.bytes.items) c.deref.ensures, c.deref.result.now.bytes.ok.0) in
     record { counted = omega (arith, total, bytes); fits = omega arith }
