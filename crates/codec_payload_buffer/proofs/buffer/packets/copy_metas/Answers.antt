@@ -1,5 +1,4 @@
-use Rattle.std.proofs.Common.{ap, map, refl, sym, ◌∙◌, ◌++◌, ◌≡◌, List, arith, append_assoc, append-nil}
-use Rattle.std.specs.Prelude.{slice_range}
+use Rattle.std.proofs.Common.{ap, map, sym, ◌∙◌, ◌++◌, List, append_assoc, append-nil}
 use Rattle.codec_payload_buffer.specs.Held.{held_of}
 use Rattle.codec_payload_buffer.specs.Steps.{metas_of}
 use Rattle.codec_payload_buffer.specs.declared.buffer.held_packet.HeldPacket.{HeldPacket}
