@@ -1,7 +1,7 @@
 -- A part of the packets by their numbers is a part by place.
-use Rattle.std.proofs.Common.{◌≡◌, ℕ, suc, ◌≤◌, ◌+◌, ◌-◌, [], ◌∷◌, List, length, take, drop, map, refl, ap, sym, arith, true, false, cond, ltb, add-one}
+use Rattle.std.proofs.Common.{◌≡◌, ◌∙◌, ℕ, suc, ◌<◌, ◌≤◌, ◌+◌, ◌-◌, [], ◌∷◌, List, length, get_or, take, drop, map, refl, ap, sym, arith, true, false, cond, ltb, add-one}
 use Rattle.std.proofs.lemmas.Bool.{cases_lt}
-use Rattle.std.proofs.lemmas.List.{length-take, length-drop, drop-map, take-map}
+use Rattle.std.proofs.lemmas.List.{drop_more, length-take, length-drop, drop-map, take-map}
 use Rattle.std.proofs.Common.{inl, inr}
 use Rattle.std.proofs.lemmas.Bool.Decides.{nat_tests}
 use Rattle.codec_payload_buffer.specs.Held.{Held, held_of, Rises, AllAbove, between, above}
@@ -66,3 +66,15 @@ end_from_place first last hs r le whole =
 -- a part of the entries, as packets
 pub slice-map : (items : List HeldPacket) (from to : ℕ) → slice_range (map held_of items) from to ≡ map held_of (slice_range items from to)
 slice-map items from to = simp (drop-map, take-map)
+
+-- the items between two places are the first one and the items behind it
+pub rest_from : (xs : List HeldPacket) (i to : ℕ) (q : HeldPacket) → i < to → to ≤ length xs → q ≡ get_or xs i q → slice_range xs i to ≡ q ∷ slice_range xs (i + 1) to
+rest_from xs i to q more within is =
+    let front : drop i xs ≡ get_or xs i q ∷ drop (i + 1) xs = drop_more xs i q (omega (arith, more, within)) in
+    let size : to - i ≡ suc (to - (i + 1)) = omega (arith, more) in
+    ap (λ (n : ℕ). take n (drop i xs)) size
+    ∙ (ap (take (suc (to - (i + 1)))) front ∙ ap (λ (p : HeldPacket). p ∷ slice_range xs (i + 1) to) (sym is))
+
+-- no item is between a place and itself
+pub none_from : (xs : List HeldPacket) (i to : ℕ) → to ≤ i → slice_range xs i to ≡ []
+none_from xs i to end = let size : to - i ≡ 0 = omega (arith, end) in ap (λ (n : ℕ). take n (drop i xs)) size

@@ -11,8 +11,8 @@ use super::packets::{make_room, unpack};
 use codec_payload_base::error::PacketError;
 use codec_payload_base::interface::CodecExtra;
 use codec_payload_codec::codec::{CodecDepacketizer, Depacketizer};
-use std::alloc::AllocError;
 use codec_payload_queue::tiers::TieredQueue;
+use std::alloc::AllocError;
 
 /// Starts an empty unit for a frame, as [`make_room`] does.
 #[inline(always)]

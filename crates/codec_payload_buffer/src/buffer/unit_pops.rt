@@ -63,7 +63,6 @@ impl<B: Depacketizer> DepacketizingBuffer<B> {
         ensures pops { PopsLeaving self.old (popped_to result.0 unit.new) result.1 self.new }
         ensures some { HasPacketsIn result.0 unit.new }
         ensures whole { IsWhole self.old (popped_to result.0 unit.new) result.1 self.new }
-        ensures waits { due_of self.old ≡ Option.None → result.0 ≡ Option.None }
         ensures fewer { HasTaken (popped_to result.0 unit.new) self.old self.new }
         ensures limit { self.new.limit ≡ self.old.limit }
         ensures own { is_built_in_depacketizer self.old.depacketizer ≡ false → OwnPops B.state B.depacketize_step self.old (popped_to result.0 unit.new) }

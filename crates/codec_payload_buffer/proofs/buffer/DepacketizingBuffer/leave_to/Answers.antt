@@ -15,13 +15,13 @@ pub move_frame-requires-clause-within : goal.move_frame-requires-clause-within
 move_frame-requires-clause-within g c =
     let items = c.self.inside.packets.items in
     let count : c.args.to ≡ end_of c.args.frame.last (map held_of items) = c.requires.end ∙ ap (λ (s : State). end_of c.args.frame.last s.held) (sym c.self.view_is) in
-    omega (arith, count, end_within c.args.frame.last (map held_of items), length-map items held_of, c.self.inside.packets.ok.0)
+    omega (arith, count, end_within c.args.frame.last (map held_of items), length-map items held_of)
 
 pub drop_first-requires-clause-rises : goal.drop_first-requires-clause-rises
 drop_first-requires-clause-rises g c =
     let s = state_of c.self.inside in
     let last = c.args.frame.last in
-    let left : map held_of c.give_back.new.queue.items ≡ above last s.held =
+    let left : map held_of c.give_back.new.self.items ≡ above last s.held =
     ap (map held_of) (c.give_back.ensures ∙ c.move_frame.ensures.packets) ∙ sym (drop-map held_of c.args.to c.self.inside.packets.items)
     ∙ ap (λ k. drop k s.held) (c.requires.end ∙ ap (λ (t : State). end_of last t.held) (sym c.self.view_is)) ∙ drop_above last s.held c.self.invariant.sound.rises in
     rw left (above_rises last s.held c.self.invariant.sound.rises)
@@ -30,40 +30,40 @@ pub drop_first-requires-clause-told : goal.drop_first-requires-clause-told
 drop_first-requires-clause-told g c =
     let s = state_of c.self.inside in
     let last = c.args.frame.last in
-    let left : map held_of c.give_back.new.queue.items ≡ above last s.held =
+    let left : map held_of c.give_back.new.self.items ≡ above last s.held =
     ap (map held_of) (c.give_back.ensures ∙ c.move_frame.ensures.packets) ∙ sym (drop-map held_of c.args.to c.self.inside.packets.items)
     ∙ ap (λ k. drop k s.held) (c.requires.end ∙ ap (λ (t : State). end_of last t.held) (sym c.self.view_is)) ∙ drop_above last s.held c.self.invariant.sound.rises in
     let due : due_of s ≡ Some c.args.frame = ap due_of c.self.view_is ∙ c.requires.due in
     let count : c.args.to ≡ end_of last s.held = c.requires.end ∙ ap (λ (t : State). end_of last t.held) (sym c.self.view_is) in
-    let drops : c.give_back.new.queue.items ≡ drop (end_of last s.held) c.self.inside.packets.items = c.give_back.ensures ∙ c.move_frame.ensures.packets ∙ ap (λ k. drop k c.self.inside.packets.items) count in
-    left_told c.self.inside.packets.items c.give_back.new.queue.items c.args.frame c.self.invariant.sound.rises c.self.invariant.told (due_is_first s c.args.frame due) drops left
+    let drops : c.give_back.new.self.items ≡ drop (end_of last s.held) c.self.inside.packets.items = c.give_back.ensures ∙ c.move_frame.ensures.packets ∙ ap (λ k. drop k c.self.inside.packets.items) count in
+    left_told c.self.inside.packets.items c.give_back.new.self.items c.args.frame c.self.invariant.sound.rises c.self.invariant.told (due_is_first s c.args.frame due) drops left
 
 pub drop_first-requires-clause-kept : goal.drop_first-requires-clause-kept
 drop_first-requires-clause-kept g c =
     let s = state_of c.self.inside in
     let last = c.args.frame.last in
-    let left : map held_of c.give_back.new.queue.items ≡ above last s.held =
+    let left : map held_of c.give_back.new.self.items ≡ above last s.held =
     ap (map held_of) (c.give_back.ensures ∙ c.move_frame.ensures.packets) ∙ sym (drop-map held_of c.args.to c.self.inside.packets.items)
     ∙ ap (λ k. drop k s.held) (c.requires.end ∙ ap (λ (t : State). end_of last t.held) (sym c.self.view_is)) ∙ drop_above last s.held c.self.invariant.sound.rises in
     let due : due_of s ≡ Some c.args.frame = ap due_of c.self.view_is ∙ c.requires.due in
-    kept_left s.held (map held_of c.give_back.new.queue.items) c.args.frame _ _ c.self.invariant.sound.rises (due_is_first s c.args.frame due) c.self.invariant.kept left
+    kept_left s.held (map held_of c.give_back.new.self.items) c.args.frame _ _ c.self.invariant.sound.rises (due_is_first s c.args.frame due) c.self.invariant.kept left
 
 pub invariant_of-self : goal.invariant_of-self
 invariant_of-self g c =
     let s = state_of c.self.inside in
     let last = c.args.frame.last in
     let due : due_of s ≡ Some c.args.frame = ap due_of c.self.view_is ∙ c.requires.due in
-    let left : map held_of c.give_back.new.queue.items ≡ above last s.held =
+    let left : map held_of c.give_back.new.self.items ≡ above last s.held =
     ap (map held_of) (c.give_back.ensures ∙ c.move_frame.ensures.packets) ∙ sym (drop-map held_of c.args.to c.self.inside.packets.items)
     ∙ ap (λ k. drop k s.held) (c.requires.end ∙ ap (λ (t : State). end_of last t.held) (sym c.self.view_is)) ∙ drop_above last s.held c.self.invariant.sound.rises in
     let count : c.args.to ≡ end_of last s.held = c.requires.end ∙ ap (λ (t : State). end_of last t.held) (sym c.self.view_is) in
-    let drops : c.give_back.new.queue.items ≡ drop (end_of last s.held) c.self.inside.packets.items = c.give_back.ensures ∙ c.move_frame.ensures.packets ∙ ap (λ k. drop k c.self.inside.packets.items) count in
+    let drops : c.give_back.new.self.items ≡ drop (end_of last s.held) c.self.inside.packets.items = c.give_back.ensures ∙ c.move_frame.ensures.packets ∙ ap (λ k. drop k c.self.inside.packets.items) count in
     let first = due_is_first s c.args.frame due in
     record {
       sound = sound_left s _ last c.self.invariant.sound left refl refl;
       least = c.self.invariant.least;
       most = c.self.invariant.most;
-      told = left_told c.self.inside.packets.items c.give_back.new.queue.items c.args.frame c.self.invariant.sound.rises c.self.invariant.told first drops left;
+      told = left_told c.self.inside.packets.items c.give_back.new.self.items c.args.frame c.self.invariant.sound.rises c.self.invariant.told first drops left;
       kept = c.drop_first.ensures.kept;
     }
 
@@ -71,7 +71,7 @@ pub returns-clause-left : goal.returns-clause-left
 returns-clause-left g c =
     let s = state_of c.self.inside in
     let last = c.args.frame.last in
-    let left : map held_of c.give_back.new.queue.items ≡ above last s.held =
+    let left : map held_of c.give_back.new.self.items ≡ above last s.held =
     ap (map held_of) (c.give_back.ensures ∙ c.move_frame.ensures.packets) ∙ sym (drop-map held_of c.args.to c.self.inside.packets.items)
     ∙ ap (λ k. drop k s.held) (c.requires.end ∙ ap (λ (t : State). end_of last t.held) (sym c.self.view_is)) ∙ drop_above last s.held c.self.invariant.sound.rises in
     ap (λ (hs : List Held). record s { held = hs; cutoff = Some last }) left ∙ ap (λ (t : State). record t { held = above last t.held; cutoff = Some last }) c.self.view_is

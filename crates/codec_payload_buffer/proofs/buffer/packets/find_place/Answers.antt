@@ -2,8 +2,8 @@ use Rattle.std.proofs.Common.{arith}
 use Rattle.codec_payload_buffer.proofs.PlaceLemmas.{rises_by_number, place_from_point}
 use Rattle.codec_payload_buffer.proofs.buffer.packets.find_place.Goals as goal
 
-pub place_of_number-requires : goal.place_of_number-requires
-place_of_number-requires c = rises_by_number c.args.packets.now.items c.requires
+pub place_of-requires : goal.place_of-requires
+place_of-requires c = rises_by_number c.args.packets.now.items c.requires
 
 pub returns : goal.returns
-returns c = place_from_point c.args.number c.args.packets.now.items c.place_of_number.result c.place_of_number.ensures.point (omega (arith, c.place_of_number.ensures.bound, c.args.packets.now.ok.0))
+returns c = place_from_point c.args.number c.args.packets.now.items c.place_of.result c.place_of.ensures.point (omega (arith, c.place_of.ensures.bound))

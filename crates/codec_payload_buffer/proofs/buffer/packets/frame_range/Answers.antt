@@ -11,13 +11,12 @@ overflow_add-result c =
     let end = end_from_place c.args.frame.first c.args.frame.last (map held_of items) c.requires.rises c.requires.order c.requires.whole in
     omega (
       arith,
-      c.find_place-from.ensures,
+      c.place_from_front-from.ensures,
       end,
       end_within c.args.frame.last (map held_of items),
       length-map items held_of,
-      c.args.packets.now.ok.0,
-      c.args.packets.now.small.0,
-      c.args.packets.now.small.1,
+      c.len.ensures,
+      c.len.type_inv,
     )
 
 pub overflow_add-result-2 : goal.overflow_add-result-2
@@ -26,13 +25,12 @@ overflow_add-result-2 c =
     let end = end_from_place c.args.frame.first c.args.frame.last (map held_of items) c.requires.rises c.requires.order c.requires.whole in
     omega (
       arith,
-      c.find_place-from.ensures,
+      c.place_from_front-from.ensures,
       end,
       end_within c.args.frame.last (map held_of items),
       length-map items held_of,
-      c.args.packets.now.ok.0,
-      c.args.packets.now.small.0,
-      c.args.packets.now.small.1,
+      c.len.ensures,
+      c.len.type_inv,
     )
 
 pub returns : goal.returns
@@ -43,9 +41,21 @@ returns c =
     let to = end_of c.args.frame.last hs in
     let slice = slice_between c.args.frame.first c.args.frame.last hs c.requires.rises c.requires.order in
     let end : from + (c.args.frame.last - c.args.frame.first) + 1 ≡ to = sym (end_from_place c.args.frame.first c.args.frame.last hs c.requires.rises c.requires.order c.requires.whole) in
-    rw (c.find_place-from.ensures, end) (record {
+    rw (c.place_from_front-from.ensures, end) (record {
       order = slice.order;
-      within = omega (arith, end_within c.args.frame.last hs, length-map items held_of, c.args.packets.now.ok.0);
+      within = omega (arith, end_within c.args.frame.last hs, length-map items held_of);
       end = refl;
       part = sym (take-map held_of (to - from) (drop from items)) ∙ ap (take (to - from)) (sym (drop-map held_of from items)) ∙ slice.part;
     })
+
+pub prove-unreachable-requires : goal.prove-unreachable-requires
+prove-unreachable-requires c =
+    let items = c.args.packets.now.items in
+    let end = end_from_place c.args.frame.first c.args.frame.last (map held_of items) c.requires.rises c.requires.order c.requires.whole in
+    omega (
+      arith,
+      c.place_from_front-from.ensures,
+      end,
+      end_within c.args.frame.last (map held_of items),
+      length-map items held_of,
+    )

@@ -8,12 +8,12 @@ use Rattle.codec_payload_buffer.proofs.buffer.packets.is_at.Goals as goal
 
 pub returns-then-place-len : goal.returns-then-place-len
 returns-then-place-len c =
-    at_found c.args.number c.args.packets.now.items c.args.place c.index.result.now c.requires.rises c.requires.place
-    (omega (arith, c.if-place-len.true, c.len.ensures, c.args.packets.now.ok.0)) c.index.ensures
+    at_found c.args.number c.args.packets.now.items c.args.place c.at.result.now c.requires.rises c.requires.place
+    (omega (arith, c.if-place-len.true, c.len.ensures)) c.at.ensures
 
 pub returns-else-place-len : goal.returns-else-place-len
 returns-else-place-len c =
     let hs = map held_of c.args.packets.now.items in
-    let past : length hs ≤ place_of c.args.number hs = omega (arith, length-map c.args.packets.now.items held_of, c.args.packets.now.ok.0) in
+    let past : length hs ≤ place_of c.args.number hs = omega (arith, length-map c.args.packets.now.items held_of) in
     let no : has_number c.args.number hs ≡ false = past_place c.args.number hs c.requires.rises past in
     grind (arith, nat_tests)
