@@ -12,6 +12,7 @@
   receiver_life      a receiver from its first packet to its end: what arrives, what it reports, what the caller does
   session_life       a session with two senders: what arrives, the stages of its streams, what polls return, what the caller does
   buffer_layout      what a buffer holds: entries, blocks of packets, the ends of rows, the lowest complete frames
+  queue_tiers        an insertion into the queue of packets: which entries move, tier by tier
   copies             where the bytes of a frame are copied
   descriptors        the bytes in front of a frame's: VP8, VP9, AV1 and RED, by their RFCs
 
@@ -467,9 +468,33 @@ def buffer_layout():
     keep("buffer_layout", figure)
 
 
+# The tiers of the picture of a queue, each drawn with seven of its entries: the numbers before an insertion, and after it.
+TIERS = (("first tier,\n1,024 entries", "10 12 14 … 30 32 34", "10 12 13 14 … 30 32"), ("1,024 entries", "36 38 40 … 54 56 58", "34 36 38 40 … 54 56"),
+         ("last tier", "60 62 64", "58 60 62 64"))
+
+
+def queue_tiers():
+    pyplot = plotting()
+    figure, axes = bare(pyplot, 112, 34)
+    for left, title in ((20, "before"), (68, "after 13 was inserted")):
+        axes.text(left, 1.4, title, va="center", weight="bold", fontsize=10)
+    for row, (title, before, after) in enumerate(TIERS):
+        top = 4 + 10 * row
+        axes.text(1, top + 2, title, va="center", fontsize=10)
+        for left, numbers in ((20, before), (68, after)):
+            for place, number in enumerate(numbers.split()):
+                carried = number in ("34", "58") and left == 68 or number in ("34", "58") and place == len(numbers.split()) - 1
+                color = GREEN if number == "13" else ORANGE if carried else BLUE
+                box(axes, left + 6 * place, top, 5.4, 4, number, color=FAINT if number == "…" else color, weight="bold" if number == "13" else "normal")
+        if row < 2:
+            axes.annotate("", (70.7, top + 9.6), (107, top + 4.4), arrowprops={"arrowstyle": "->", "color": ORANGE, "linewidth": 1.2})
+            axes.text(76, top + 6.4, ("34", "58")[row] + " moves up", va="center", fontsize=9, color=ORANGE)
+    keep("queue_tiers", figure)
+
+
 PICTURES = {
     it.__name__: it
-    for it in (units_under_loss, crates, over_a_copy, beside, receiver_life, session_life, buffer_layout, copies, descriptors)
+    for it in (units_under_loss, crates, over_a_copy, beside, receiver_life, session_life, buffer_layout, queue_tiers, copies, descriptors)
 }
 
 
