@@ -1,7 +1,7 @@
 """Removes the allocator and the runtime handle: parameters, fields, arguments and variables."""
 import re
 
-from source import without_doc
+from source import drop_item, without_doc
 from tokens import OPEN, Refused, Token, close, elements, plain
 
 RUNTIMES = ("HostRuntime", "& HostRuntime", "& impl Abort", "& impl Clock", "& R")
@@ -47,14 +47,22 @@ def remove_element(f, start, end, closing):
 
 def is_memory(text):
     """Whether a value is the allocator or a handle."""
-    return text in ALLOC_VALUES or re.fullmatch(r"\* [\w. ]+ \. allocator \( \)|(?:\w+ \. )+alloc", text) is not None
+    return text in ALLOC_VALUES or re.fullmatch(r"\* [\w. ]+ \. allocator \( \)|(?:\w+ \. )+alloc(?: \( \))?", text) is not None
 
 
 def drop_memory(f):
-    """The allocator and the handle: parameters, fields, arguments and `let`s."""
+    """The allocator and the handle: parameters, fields, arguments and `let`s, and methods that return the allocator."""
+    drop_getters(f)
     drop_lets(f)
     drop_from_macros(f)
     drop_from_lists(f)
+
+
+def drop_getters(f):
+    """Drops each method `fn alloc(&self) -> Global`."""
+    i = 0
+    while i < len(f.ts):
+        i = drop_item(f, i) if plain(f.ts[i:i + 9]) == "fn alloc ( & self ) -> Global {" else i + 1
 
 
 def drop_lets(f):

@@ -6,7 +6,7 @@ from source import base, enclosing, item_end
 from tokens import Token, angles, close, opens, plain
 
 # Receivers whose types the eraser does not find by itself: file below `crates`, and text, to the name of the type.
-HINTS = {}
+HINTS = {("codec_payload_queue/src/above.rt", "tiers[tier]"): "VecDeque"}
 
 FALLIBLE = {"push": "try_push", "push_front": "try_push_front", "push_back": "try_push_back", "extend_from_slice": "try_extend",
             "resize": "try_resize", "insert": "try_insert", "reserve": "try_room", "reserve_exact": "try_exact",
@@ -152,7 +152,8 @@ def rename_fallible(f, i):
             del f.ts[end + 1:end + 5]  # room was made before, which is proved
         else:
             t.text = FALLIBLE[t.text]
-            f.needs |= {TRAIT[x] for x in types if x in TRAIT}
+            if t.text not in FALLIBLE:  # a method of a trait of `crate::memory`
+                f.needs |= {TRAIT[x] for x in types if x in TRAIT}
     elif not types or not types <= own:
         f.refuse(t, f"{t.text} on {plain(f.ts[first:i - 1])!r} of types {sorted(map(str, types))}; "
                     f"of its own it is a method of {sorted(own)}")

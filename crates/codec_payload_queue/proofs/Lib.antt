@@ -1,1 +1,2 @@
-mod SearchLemmas
+pub mod SearchLemmas
+pub mod TierLemmas

@@ -1,6 +1,7 @@
 -- A queue in tiers, and what it holds.
-use Rattle.std.specs.Prelude.{◌≡◌, ℕ, ◌+◌, ◌-◌, ◌<◌, ◌≤◌, List, [], ◌∷◌, ◌++◌, length, min, Option, Some, None, slice_index_or, slice_set, vec_capacity, vec_len}
+use Rattle.std.specs.Prelude.{◌≡◌, ℕ, zero, suc, ◌-◌, ◌*◌, ◌<◌, ◌≤◌, List, [], ◌∷◌, ◌++◌, length, min, Option, Some, None, slice_index_or, slice_set}
 use Rattle.std.specs.VecDeque.{deque_len, deque_capacity}
+use Rattle.std.specs.Vec.{vec_len, vec_capacity}
 use Rattle.std.specs.Global.{Vec, Global}
 use Rattle.std.specs.declared.collections.VecDeque.{VecDeque}
 
@@ -22,19 +23,50 @@ abbrev pub in_tiers : {X : Type 0} → List (VecDeque X Global) → List X
 in_tiers [] = []
 in_tiers (t ∷ ts) = t.items ++ in_tiers ts
 
--- all tiers but the last are full, the last one has an item, and each has memory for 1,024
-abbrev pub AreTiers : {X : Type 0} → List (VecDeque X Global) → Type 0
-AreTiers [] = Unit {0}
-AreTiers (t ∷ []) = (0 < deque_len t) × (deque_len t ≤ 1024) × (1024 ≤ deque_capacity t)
-AreTiers (t ∷ u ∷ us) = (deque_len t ≡ 1024) × (1024 ≤ deque_capacity t) × AreTiers (u ∷ us)
+-- the same with one more item in front of tier k
+abbrev pub with_carried : {X : Type 0} → ℕ → X → List (VecDeque X Global) → List X
+with_carried k x [] = x ∷ []
+with_carried zero x (t ∷ ts) = x ∷ (t.items ++ in_tiers ts)
+with_carried (suc k) x (t ∷ ts) = t.items ++ with_carried k x ts
 
--- for how many insertions the last tier has memory
+-- a tier below the tiers ts has memory for 1,024 items. It holds at least so many, and is full if there is another tier
+pub record IsTier {X : Type 0} (least : ℕ) (t : VecDeque X Global) (ts : List (VecDeque X Global)) : Type 0 where
+  pub memory : 1024 ≤ deque_capacity t
+  pub some : least ≤ deque_len t
+  pub few : deque_len t ≤ 1024
+  pub full : 0 < length ts → deque_len t ≡ 1024
+
+-- all tiers but the last are full
+abbrev pub AreTiers : {X : Type 0} → ℕ → List (VecDeque X Global) → Type 0
+AreTiers least [] = Unit {0}
+AreTiers least (t ∷ ts) = IsTier least t ts × AreTiers least ts
+
+-- for how many items there is memory in the last tier
+abbrev pub room_above : {X : Type 0} → List (VecDeque X Global) → ℕ
+room_above ts = 1024 * length ts - length (in_tiers ts)
+
+-- for how many insertions there is memory without a spare tier
 abbrev pub room_at_end : {X : Type 0} → VecDeque X Global → List (VecDeque X Global) → ℕ
 room_at_end first [] = min (deque_capacity first) 1024 - deque_len first
-room_at_end first (t ∷ []) = 1024 - deque_len t
-room_at_end first (t ∷ u ∷ us) = room_at_end first (u ∷ us)
+room_at_end first (t ∷ ts) = room_above (t ∷ ts)
 
--- for how many insertions a spare tier has memory
-abbrev pub spare_room : {X : Type 0} → Option X → ℕ
+-- for how many insertions there is memory in a spare tier
+abbrev pub spare_room : {X : Type 0} → Option (VecDeque X Global) → ℕ
 spare_room None = 0
-spare_room (Some _) = 1024
+spare_room (Some t) = 1024
+
+-- a spare tier is empty, has memory for 1,024 items, and there is a place for it
+abbrev pub IsSpare : {X : Type 0} → Vec (VecDeque X Global) → Option (VecDeque X Global) → Type 0
+IsSpare rest None = Unit {0}
+IsSpare rest (Some t) = (deque_len t ≡ 0) × (1024 ≤ deque_capacity t) × (vec_len rest < vec_capacity rest) × (vec_len rest < 1048576)
+
+-- an invariant of all queues in tiers
+pub record IsTiered {X : Type 0} (first : VecDeque X Global) (rest : Vec (VecDeque X Global)) (spare : Option (VecDeque X Global)) (above : ℕ) : Type 0 where
+  pub counted : above ≡ length (in_tiers rest.items)
+  pub few : deque_len first ≤ 1024
+  pub some : 0 < length rest.items → 0 < deque_len first
+  pub wide : 0 < length rest.items → 1024 ≤ deque_capacity first
+  pub ready : 0 < spare_room spare → 1024 ≤ deque_capacity first
+  pub tiers : AreTiers 1 rest.items
+  pub next : IsSpare rest spare
+  pub limit : length rest.items ≤ 1048576

@@ -1,16 +1,19 @@
 //! A queue in tiers of at most 1,024 items.
 
-ghost use Rattle.std.specs.Prelude.{◌≡◌, ◌<◌, ◌≤◌, ◌+◌, ◌-◌, ◌++◌, ◌==◌, [], length, OnOk, IfSome, IsSome, ◌↔◌, slice_index_or};
+ghost use Rattle.std.specs.Prelude.{◌≡◌, ◌<◌, ◌≤◌, ◌+◌, ◌-◌, ◌++◌, [], length, OnOk, IfSome, IsSome, ◌↔◌, slice_index_or};
 ghost use Rattle.std.specs.Option.{option_to_list};
 ghost use Rattle.std.specs.List.{insert};
 ghost use Rattle.std.specs.List.Sorted.{IsNonDecreasingBy, IsPartitionPoint};
-ghost use Rattle.std.specs.VecDeque.{deque_len, deque_capacity};
-ghost use Rattle.codec_payload_queue.specs.Tiers.{IsNotedAt, Queue};
+ghost use Rattle.codec_payload_queue.specs.Tiers.{IsNotedAt};
 
-use crate::search::{Numbered, place_of_number, put_at};
+use crate::above::{TIER, item_of, last_of, note_in, open_tier, put_far, refill, search_tiers};
+use crate::search::{Numbered, put_at, search_in};
 use std::alloc::{AllocError, Global};
 use std::collections::VecDeque;
 use std::marker::Model;
+
+/// The largest number of tiers above the first one. They have place for more than a thousand million items.
+const MOST_TIERS: usize = 1_048_576;
 
 /// The smallest number of items for which a queue keeps memory.
 const KEPT: usize = 64;
@@ -24,20 +27,28 @@ pub trait Noted<N> {
         ensures { is_noted self.old note self.new };
 }
 
-/// Stub.
+/// A queue in tiers of at most 1,024 items. An insertion moves items of one tier, and one item of each tier above it.
+///
+/// Up to 1,024 items it is one tier, a plain `VecDeque`. All tiers but the first and the last are full.
 #[derive(Debug, Drop)]
 pub struct TieredQueue<T: Numbered + Drop> {
     first: VecDeque<T>,
+    rest: Vec<VecDeque<T>>,
+    /// An empty tier, for the next one that is needed.
+    spare: Option<VecDeque<T>>,
+    /// The number of items in `rest`.
+    above: usize,
 }
 
 impl<T: Numbered + Drop> Model for TieredQueue<T> {
-    ghost use Rattle.codec_payload_queue.specs.Tiers.{Queue};
-    ghost use Rattle.std.specs.Prelude.{◌-◌};
-    ghost use Rattle.std.specs.VecDeque.{deque_len, deque_capacity};
+    ghost use Rattle.std.specs.Prelude.{◌+◌, ◌++◌};
+    ghost use Rattle.codec_payload_queue.specs.Tiers.{IsTiered, Queue, in_tiers, room_at_end, spare_room};
 
     ghost Value = { Queue T };
 
-    ghost view = { λ q. record { items = q.first.items; room = deque_capacity q.first - deque_len q.first } };
+    ghost view = { λ q. record { items = q.first.items ++ in_tiers q.rest.items; room = room_at_end q.first q.rest.items + spare_room q.spare } };
+
+    ghost invariant = { λ q. IsTiered q.first q.rest q.spare q.above };
 }
 
 impl<T: Numbered + Drop> TieredQueue<T> {
@@ -47,6 +58,9 @@ impl<T: Numbered + Drop> TieredQueue<T> {
     {
         TieredQueue {
             first: VecDeque::new(alloc),
+            rest: Vec::new(alloc),
+            spare: None,
+            above: 0,
         }
     }
 
@@ -60,7 +74,7 @@ impl<T: Numbered + Drop> TieredQueue<T> {
     pub fn len(&self) -> usize
         ensures { result ≡ length self.now.items }
     {
-        self.first.len()
+        self.first.len() + self.above
     }
 
     /// Returns the first item.
@@ -78,7 +92,11 @@ impl<T: Numbered + Drop> TieredQueue<T> {
         ensures variant { IsSome result ↔ (0 < length self.now.items) }
         ensures value { IfSome result (λ x. x.now ≡ slice_index_or self.now.items (length self.now.items - 1) x.now) }
     {
-        self.first.back()
+        if self.above == 0 {
+            self.first.back()
+        } else {
+            last_of(&self.rest)
+        }
     }
 
     /// Returns the item at a place.
@@ -87,7 +105,11 @@ impl<T: Numbered + Drop> TieredQueue<T> {
         requires { place < length self.now.items }
         ensures { result.now ≡ slice_index_or self.now.items place result.now }
     {
-        &self.first[place]
+        if place < self.first.len() {
+            &self.first[place]
+        } else {
+            item_of(&self.rest, place - self.first.len())
+        }
     }
 
     /// Writes a note into the item at a place.
@@ -99,7 +121,11 @@ impl<T: Numbered + Drop> TieredQueue<T> {
         ensures items { IsNotedAt T.is_noted place note self.old.items self.new.items }
         ensures room { self.new.room ≡ self.old.room }
     {
-        self.first[place].note(note);
+        if place < self.first.len() {
+            self.first[place].note(note);
+        } else {
+            note_in(&mut self.rest, place - self.first.len(), note);
+        }
     }
 
     /// Finds memory for this number of insertions, at most 1,024.
@@ -113,7 +139,13 @@ impl<T: Numbered + Drop> TieredQueue<T> {
         ensures items { self.new.items ≡ self.old.items }
         ensures room { OnOk result (count ≤ self.new.room) }
     {
-        self.first.reserve(count)
+        if self.above == 0 && self.first.len() + count <= TIER {
+            return self.first.reserve(count);
+        }
+        if self.spare.is_some() {
+            return Ok(());
+        }
+        self.find_spare()
     }
 
     /// Inserts an item at a place. Memory was found by [`TieredQueue::reserve`].
@@ -124,7 +156,13 @@ impl<T: Numbered + Drop> TieredQueue<T> {
         ensures items { self.new.items ≡ insert self.old.items place item }
         ensures room { self.old.room ≤ self.new.room + 1 }
     {
-        put_at(&mut self.first, place, item);
+        if place <= self.first.len() && self.first.len() < TIER {
+            put_at(&mut self.first, place, item);
+        } else {
+            open_tier(&mut self.rest, &mut self.spare, self.above);
+            self.above += 1;
+            put_far(&mut self.first, &mut self.rest, place, item);
+        }
     }
 
     /// Removes the first item.
@@ -134,7 +172,12 @@ impl<T: Numbered + Drop> TieredQueue<T> {
         ensures variant { IsSome result ↔ (0 < length self.old.items) }
         ensures room { self.old.room ≤ self.new.room }
     {
-        self.first.pop_front()
+        let item = self.first.pop_front();
+        if self.above > 0 && self.first.is_empty() {
+            refill(&mut self.first, &mut self.rest, &mut self.spare);
+            self.above -= self.first.len();
+        }
+        item
     }
 
     /// Gives memory back, if one tier is left that is at most a quarter full: down to twice its items, or room for 64.
@@ -143,7 +186,7 @@ impl<T: Numbered + Drop> TieredQueue<T> {
         ensures { self.new.items ≡ self.old.items }
     {
         if self.first.capacity() > KEPT && self.first.len() <= self.first.capacity() / 4 {
-            self.first.shrink_to((2 * self.first.len()).max(KEPT));
+            self.shrink();
         }
     }
 
@@ -155,6 +198,102 @@ impl<T: Numbered + Drop> TieredQueue<T> {
         ensures bound { result ≤ length self.now.items }
         ensures point { IsPartitionPoint (λ x. T.number_of x < number) (λ x. number ≤ T.number_of x) self.now.items result }
     {
-        place_of_number(&self.first, number)
+        match self.back() {
+            Some(last) if number <= last.number() => self.place_inside(number),
+            _ => self.len(),
+        }
+    }
+
+    /// Finds memory for a spare tier.
+    #[cold]
+    #[inline(never)]
+    fn find_spare(&mut self) -> Result<(), AllocError>
+        ensures items { self.new.items ≡ self.old.items }
+        ensures room { OnOk result (1024 ≤ self.new.room) }
+    {
+        if self.rest.len() >= MOST_TIERS {
+            return Err(AllocError);
+        }
+        let alloc = self.alloc();
+        self.first.reserve_exact(TIER - self.first.len())?;
+        self.rest.reserve(1)?;
+        let mut tier = VecDeque::new(alloc);
+        tier.reserve_exact(TIER)?;
+        self.spare = Some(tier);
+        Ok(())
+    }
+
+    /// Gives memory back, if one tier is left.
+    #[cold]
+    #[inline(never)]
+    fn shrink(&mut self)
+        ensures { self.new.items ≡ self.old.items }
+    {
+        if self.above > 0 {
+            return;
+        }
+        let alloc = self.alloc();
+        self.first.shrink_to((2 * self.first.len()).max(KEPT));
+        self.rest = Vec::new(alloc);
+        self.spare = None;
+    }
+
+    /// Returns how many items have a lower number. The first item is inspected, then the place that is as far from the end as
+    /// the number is from the last number. Then it searches.
+    #[inline(never)]
+    fn place_inside(&self, number: u64) -> usize
+        requires { IsNonDecreasingBy T.number_of self.now.items }
+        ensures bound { result ≤ length self.now.items }
+        ensures point { IsPartitionPoint (λ x. T.number_of x < number) (λ x. number ≤ T.number_of x) self.now.items result }
+    {
+        if let Some(item) = self.front()
+            && number <= item.number()
+        {
+            return 0;
+        }
+        if let Some(place) = self.place_by_distance(number) {
+            return place;
+        }
+        self.search(number)
+    }
+
+    /// Returns the place that is as far from the end as the number is from the last number, if it is the place of the number.
+    #[inline(always)]
+    fn place_by_distance(&self, number: u64) -> Option<usize>
+        requires { IsNonDecreasingBy T.number_of self.now.items }
+        ensures bound { IfSome result (λ place. place ≤ length self.now.items) }
+        ensures point { IfSome result (λ place. IsPartitionPoint (λ x. T.number_of x < number) (λ x. number ≤ T.number_of x) self.now.items place) }
+    {
+        let len = self.len();
+        if len == 0 {
+            return None;
+        }
+        let last = self.at(len - 1).number();
+        if last <= number || last - number >= len as u64 {
+            return None;
+        }
+        let place = len - (last - number) as usize;
+        if self.at(place - 1).number() < number && number <= self.at(place).number() {
+            Some(place)
+        } else {
+            None
+        }
+    }
+
+    /// Returns how many items have a lower number, by a search in the first tier or in the others.
+    fn search(&self, number: u64) -> usize
+        requires { IsNonDecreasingBy T.number_of self.now.items }
+        ensures bound { result ≤ length self.now.items }
+        ensures point { IsPartitionPoint (λ x. T.number_of x < number) (λ x. number ≤ T.number_of x) self.now.items result }
+    {
+        if self.above == 0 {
+            return search_in(&self.first, number);
+        }
+        let len = self.first.len();
+        if number <= self.first[len - 1].number() {
+            search_in(&self.first, number)
+        } else {
+            len + search_tiers(&self.rest, number)
+        }
     }
 }

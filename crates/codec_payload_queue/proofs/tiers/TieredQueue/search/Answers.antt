@@ -1,0 +1,50 @@
+use Rattle.std.proofs.Common.{◌≡◌, ◌<◌, ◌-◌, ◌++◌, ◌∙◌, sym, length, get_or, arith, length-append}
+use Rattle.std.proofs.lemmas.List.{get_or_append_left}
+use Rattle.codec_payload_queue.specs.Tiers.{in_tiers}
+use Rattle.codec_payload_queue.proofs.SearchLemmas.{all_below, none_below, front_rises, back_rises, front_point, back_point}
+use Rattle.codec_payload_queue.proofs.TierLemmas.{length_most}
+use Rattle.codec_payload_queue.proofs.tiers.TieredQueue.search.Goals as goal
+
+pub search_in-requires-then-number : goal.search_in-requires-then-number
+search_in-requires-then-number g c =
+    front_rises g.T.Numbered.number_of c.self.inside.first.items (in_tiers c.self.inside.rest.items) (rw (← c.self.view_is) at c.requires)
+
+pub search_tiers-requires-clause-rises : goal.search_tiers-requires-clause-rises
+search_tiers-requires-clause-rises g c =
+    back_rises g.T.Numbered.number_of c.self.inside.first.items (in_tiers c.self.inside.rest.items) (rw (← c.self.view_is) at c.requires)
+
+pub overflow_add-result : goal.overflow_add-result
+overflow_add-result g c =
+    omega (arith, length_most 1 c.self.inside.rest.items c.self.invariant.tiers, c.self.invariant.limit, c.self.invariant.few, c.len-len.ensures, c.search_tiers.ensures.bound)
+
+pub returns-then-number-clause-point : goal.returns-then-number-clause-point
+returns-then-number-clause-point g c =
+    let n = g.T.Numbered.number_of in
+    let xs = c.self.inside.first.items in
+    let ys = in_tiers c.self.inside.rest.items in
+    let x = c.index.result.now in
+    let rises = rw (← c.self.view_is) at c.requires in
+    let most = length_most 1 c.self.inside.rest.items c.self.invariant.tiers in
+    let tiers : 0 < length c.self.inside.rest.items = omega (arith, most, c.self.invariant.counted, c.if-self-eq0.false) in
+    let some : 0 < length xs = omega (arith, c.self.invariant.some tiers, c.self.inside.first.ok.0) in
+    let l : c.len-len.result - 1 < length xs = omega (arith, some, c.len-len.ensures, c.self.inside.first.ok.0) in
+    let there : x ≡ get_or (xs ++ ys) (c.len-len.result - 1) x = c.index.ensures ∙ sym (get_or_append_left xs ys x (c.len-len.result - 1) l) in
+    let high = none_below n (xs ++ ys) c.args.number (c.len-len.result - 1) x rises (omega (arith, l, length-append xs ys)) there (omega (arith, c.number.ensures, c.if-number.true)) in
+    rw (← c.self.view_is) (front_point n c.args.number c.search_in-then-number.result xs ys (omega (arith, c.search_in-then-number.ensures.bound, c.self.inside.first.ok.0))
+    (λ i d from w. high i d (omega (arith, from, l)) w) c.search_in-then-number.ensures.point)
+
+pub returns-else-number-clause-point : goal.returns-else-number-clause-point
+returns-else-number-clause-point g c =
+    let n = g.T.Numbered.number_of in
+    let xs = c.self.inside.first.items in
+    let ys = in_tiers c.self.inside.rest.items in
+    let x = c.index.result.now in
+    let rises = rw (← c.self.view_is) at c.requires in
+    let most = length_most 1 c.self.inside.rest.items c.self.invariant.tiers in
+    let tiers : 0 < length c.self.inside.rest.items = omega (arith, most, c.self.invariant.counted, c.if-self-eq0.false) in
+    let some : 0 < length xs = omega (arith, c.self.invariant.some tiers, c.self.inside.first.ok.0) in
+    let same : c.len-len.result ≡ length xs = omega (arith, c.len-len.ensures, c.self.inside.first.ok.0) in
+    let l : c.len-len.result - 1 < length xs = omega (arith, some, same) in
+    let there : x ≡ get_or (xs ++ ys) (c.len-len.result - 1) x = c.index.ensures ∙ sym (get_or_append_left xs ys x (c.len-len.result - 1) l) in
+    let low = all_below n (xs ++ ys) c.args.number (c.len-len.result - 1) x rises (omega (arith, l, length-append xs ys)) there (omega (arith, c.number.ensures, c.if-number.false)) in
+    rw (← c.self.view_is) (back_point n c.args.number c.len-len.result c.search_tiers.result xs ys same (λ i d from w. low i d from (omega (arith, w, some, same))) c.search_tiers.ensures.point)
