@@ -2,7 +2,7 @@
 
 //! The depacketizing buffer: it restores the order of packets and reassembles units, with a bounded number of packets.
 
-use crate::memory::{One, TryQueue};
+use crate::memory::One;
 use alloc::vec::Vec;
 
 mod ends;
@@ -26,6 +26,7 @@ use crate::codec::{CodecDepacketizer, Depacketizer, NoBox};
 use crate::contiguity::Contiguity;
 use crate::error::PacketError;
 use crate::interface::CodecExtra;
+use crate::queue::tiers::TieredQueue;
 use crate::wire::{SeqNo, Ticks};
 use alloc::collections::VecDeque;
 use ends::{evict, is_new_end, place_at, row_with};
@@ -38,8 +39,8 @@ use known::are_plain;
 pub use leaving::Left;
 pub use packed_header::PackedHeader;
 use packets::{
-    copy_metas, drop_front, find_place, frame_range, give_back, hold, is_at, is_too_late,
-    make_room, received_at, starts_next, unpack,
+    copy_metas, drop_front, find_place, frame_range, hold, is_at, is_too_late, make_room,
+    received_at, starts_next, unpack,
 };
 pub use pair::Incoming;
 pub use placed::Placed;
@@ -58,7 +59,7 @@ const HELD_LIMIT: usize = 4_096;
 /// the last number of the latest released or discarded frame, or the number of the latest evicted packet.
 #[derive(Debug)]
 pub struct DepacketizingBuffer<B = NoBox> {
-    packets: VecDeque<HeldPacket>,
+    packets: TieredQueue<HeldPacket>,
     /// Memory blocks of packets that have left, for later packets.
     spare: Vec<One<Packet>>,
     complete: CompleteFrames,
@@ -95,7 +96,7 @@ impl<B: Depacketizer> DepacketizingBuffer<B> {
     pub fn with_limit(depacketizer: CodecDepacketizer<B>, hold_back: usize, limit: usize) -> Self {
         assert!((1..=65_536).contains(&limit));
         DepacketizingBuffer {
-            packets: VecDeque::new(),
+            packets: TieredQueue::new(),
             spare: Vec::new(),
             complete: CompleteFrames {
                 ready: 0,
@@ -158,7 +159,7 @@ impl<B: Depacketizer> DepacketizingBuffer<B> {
         let placed = placed_among(&self.packets, self.limit);
         let head = self.depacketizer.is_partition_head(&data);
         let tail = self.depacketizer.is_partition_tail(meta.marker(), &data);
-        self.packets.try_room(1)?;
+        self.packets.reserve(1)?;
         reserve_known(&mut self.complete.known, 1)?;
         let entry = hold(&mut self.spare, Packet::of(meta, data, head, tail))?;
         let row = row_with(&self.packets, place, row_of_packet(&entry));
@@ -323,7 +324,7 @@ impl<B: Depacketizer> DepacketizingBuffer<B> {
     #[inline(always)]
     fn leave(&mut self, frame: CompleteFrame, count: usize) {
         drop_front(&mut self.packets, &mut self.spare, count);
-        give_back(&mut self.packets);
+        self.packets.give_back();
         drop_first(&mut self.complete, &self.packets);
         self.cutoff = Some(frame.last);
     }

@@ -123,6 +123,7 @@ pub mod payloads;
 #[doc(hidden)]
 pub mod picture_id;
 pub mod plain;
+mod queue;
 pub mod red;
 pub mod red_writer;
 pub mod requests;

@@ -254,4 +254,4 @@ room_when_full first (t ∷ ts) l = refl
 -- a spare tier stays one while the tiers keep their length
 pub spare_stays : {X : Type 0} (us vs : Vec (VecDeque X Global)) (spare : Option (VecDeque X Global)) → vec_len vs ≡ vec_len us → vec_capacity vs ≡ vec_capacity us → IsSpare us spare → IsSpare vs spare
 spare_stays us vs None long wide is = tt
-spare_stays us vs (Some t) long wide is = (is.0, is.1, omega (arith, is.2, long, wide), omega (arith, is.2, long))
+spare_stays us vs (Some t) long wide is = (is.0, is.1, omega (arith, is.2, long, wide))

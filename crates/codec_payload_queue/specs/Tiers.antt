@@ -1,5 +1,5 @@
 -- A queue in tiers, and what it holds.
-use Rattle.std.specs.Prelude.{◌≡◌, ℕ, zero, suc, ◌-◌, ◌*◌, ◌<◌, ◌≤◌, List, [], ◌∷◌, ◌++◌, length, min, Option, Some, None, slice_index_or, slice_set}
+use Rattle.std.specs.Prelude.{◌≡◌, ℕ, zero, suc, ◌+◌, ◌-◌, ◌*◌, ◌<◌, ◌≤◌, List, [], ◌∷◌, ◌++◌, length, min, Option, Some, None, slice_index_or, slice_set}
 use Rattle.std.specs.VecDeque.{deque_len, deque_capacity}
 use Rattle.std.specs.Vec.{vec_len, vec_capacity}
 use Rattle.std.specs.Global.{Vec, Global}
@@ -58,15 +58,14 @@ spare_room (Some t) = 1024
 -- a spare tier is empty, has memory for 1,024 items, and there is a place for it
 abbrev pub IsSpare : {X : Type 0} → Vec (VecDeque X Global) → Option (VecDeque X Global) → Type 0
 IsSpare rest None = Unit {0}
-IsSpare rest (Some t) = (deque_len t ≡ 0) × (1024 ≤ deque_capacity t) × (vec_len rest < vec_capacity rest) × (vec_len rest < 1048576)
+IsSpare rest (Some t) = (deque_len t ≡ 0) × (1024 ≤ deque_capacity t) × (vec_len rest < vec_capacity rest)
 
 -- an invariant of all queues in tiers
-pub record IsTiered {X : Type 0} (first : VecDeque X Global) (rest : Vec (VecDeque X Global)) (spare : Option (VecDeque X Global)) (above : ℕ) : Type 0 where
-  pub counted : above ≡ length (in_tiers rest.items)
+pub record IsTiered {X : Type 0} (first : VecDeque X Global) (rest : Vec (VecDeque X Global)) (spare : Option (VecDeque X Global)) (count : ℕ) : Type 0 where
+  pub counted : count ≡ length first.items + length (in_tiers rest.items)
   pub few : deque_len first ≤ 1024
   pub some : 0 < length rest.items → 0 < deque_len first
   pub wide : 0 < length rest.items → 1024 ≤ deque_capacity first
   pub ready : 0 < spare_room spare → 1024 ≤ deque_capacity first
   pub tiers : AreTiers 1 rest.items
   pub next : IsSpare rest spare
-  pub limit : length rest.items ≤ 1048576

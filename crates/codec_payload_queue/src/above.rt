@@ -155,14 +155,12 @@ pub(super) fn open_tier<T: Drop>(
     requires counted { above ≡ length (in_tiers tiers.old.items) }
     requires spare { IsSpare tiers.old spare.old }
     requires room { 0 < room_above tiers.old.items + spare_room spare.old }
-    requires limit { length tiers.old.items ≤ 1048576 }
     ensures tiers { AreTiers 0 tiers.new.items }
     ensures items { in_tiers tiers.new.items ≡ in_tiers tiers.old.items }
     ensures place { above < 1024 * length tiers.new.items }
     ensures room { room_above tiers.new.items + spare_room spare.new ≡ room_above tiers.old.items + spare_room spare.old }
     ensures spare { IsSpare tiers.new spare.new }
     ensures less { spare_room spare.new ≤ spare_room spare.old }
-    ensures limit { length tiers.new.items ≤ 1048576 }
     ensures more { length tiers.old.items ≤ length tiers.new.items }
     ensures wide { length tiers.old.items < length tiers.new.items → 0 < spare_room spare.old }
 {
@@ -187,7 +185,6 @@ pub(super) fn refill<T: Drop>(
     requires some { 0 < length tiers.old.items }
     requires tiers { AreTiers 1 tiers.old.items }
     requires spare { IsSpare tiers.old spare.old }
-    requires limit { length tiers.old.items ≤ 1048576 }
     ensures items { first.new.items ++ in_tiers tiers.new.items ≡ in_tiers tiers.old.items }
     ensures some { 0 < deque_len first.new }
     ensures few { deque_len first.new ≤ 1024 }
@@ -211,7 +208,7 @@ pub(super) fn search_tiers<T: Numbered>(tiers: &Vec<VecDeque<T>>, number: u64) -
     requires some { 0 < length tiers.now.items }
     requires tiers { AreTiers 1 tiers.now.items }
     requires rises { IsNonDecreasingBy T.number_of (in_tiers tiers.now.items) }
-    requires limit { length tiers.now.items ≤ 1048576 }
+    requires limit { length (in_tiers tiers.now.items) ≤ usize.MAX }
     ensures bound { result ≤ length (in_tiers tiers.now.items) }
     ensures point { IsPartitionPoint (λ x. T.number_of x < number) (λ x. number ≤ T.number_of x) (in_tiers tiers.now.items) result }
 {

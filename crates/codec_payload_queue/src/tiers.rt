@@ -12,9 +12,6 @@ use std::alloc::{AllocError, Global};
 use std::collections::VecDeque;
 use std::marker::Model;
 
-/// The largest number of tiers above the first one. They have place for more than a thousand million items.
-const MOST_TIERS: usize = 1_048_576;
-
 /// The smallest number of items for which a queue keeps memory.
 const KEPT: usize = 64;
 
@@ -36,8 +33,8 @@ pub struct TieredQueue<T: Numbered + Drop> {
     rest: Vec<VecDeque<T>>,
     /// An empty tier, for the next one that is needed.
     spare: Option<VecDeque<T>>,
-    /// The number of items in `rest`.
-    above: usize,
+    /// The number of items.
+    count: usize,
 }
 
 impl<T: Numbered + Drop> Model for TieredQueue<T> {
@@ -48,7 +45,7 @@ impl<T: Numbered + Drop> Model for TieredQueue<T> {
 
     ghost view = { λ q. record { items = q.first.items ++ in_tiers q.rest.items; room = room_at_end q.first q.rest.items + spare_room q.spare } };
 
-    ghost invariant = { λ q. IsTiered q.first q.rest q.spare q.above };
+    ghost invariant = { λ q. IsTiered q.first q.rest q.spare q.count };
 }
 
 impl<T: Numbered + Drop> TieredQueue<T> {
@@ -60,7 +57,7 @@ impl<T: Numbered + Drop> TieredQueue<T> {
             first: VecDeque::new(alloc),
             rest: Vec::new(alloc),
             spare: None,
-            above: 0,
+            count: 0,
         }
     }
 
@@ -74,7 +71,7 @@ impl<T: Numbered + Drop> TieredQueue<T> {
     pub fn len(&self) -> usize
         ensures { result ≡ length self.now.items }
     {
-        self.first.len() + self.above
+        self.count
     }
 
     /// Returns the first item.
@@ -92,7 +89,7 @@ impl<T: Numbered + Drop> TieredQueue<T> {
         ensures variant { IsSome result ↔ (0 < length self.now.items) }
         ensures value { IfSome result (λ x. x.now ≡ slice_index_or self.now.items (length self.now.items - 1) x.now) }
     {
-        if self.above == 0 {
+        if self.rest.is_empty() {
             self.first.back()
         } else {
             last_of(&self.rest)
@@ -132,14 +129,14 @@ impl<T: Numbered + Drop> TieredQueue<T> {
     ///
     /// # Errors
     ///
-    /// `AllocError`: the items are unchanged.
+    /// `AllocError`: out of memory. The items are unchanged.
     #[inline(always)]
     pub fn reserve(&mut self, count: usize) -> Result<(), AllocError>
         requires { count ≤ 1024 }
         ensures items { self.new.items ≡ self.old.items }
         ensures room { OnOk result (count ≤ self.new.room) }
     {
-        if self.above == 0 && self.first.len() + count <= TIER {
+        if self.rest.is_empty() && self.first.len() + count <= TIER {
             return self.first.reserve(count);
         }
         if self.spare.is_some() {
@@ -148,36 +145,40 @@ impl<T: Numbered + Drop> TieredQueue<T> {
         self.find_spare()
     }
 
-    /// Inserts an item at a place. Memory was found by [`TieredQueue::reserve`].
+    /// Inserts an item at a place. Memory was found by [`TieredQueue::reserve`]. At most 512 items of one tier move, and one item of
+    /// each tier above it. At the end nothing moves.
     #[inline(always)]
     pub fn insert(&mut self, place: usize, item: T)
         requires place { place ≤ length self.old.items }
         requires room { 0 < self.old.room }
+        requires few { length self.old.items < usize.MAX }
         ensures items { self.new.items ≡ insert self.old.items place item }
         ensures room { self.old.room ≤ self.new.room + 1 }
     {
         if place <= self.first.len() && self.first.len() < TIER {
             put_at(&mut self.first, place, item);
+            self.count += 1;
         } else {
-            open_tier(&mut self.rest, &mut self.spare, self.above);
-            self.above += 1;
+            let above = self.count - self.first.len();
+            self.count += 1;
+            open_tier(&mut self.rest, &mut self.spare, above);
             put_far(&mut self.first, &mut self.rest, place, item);
         }
     }
 
-    /// Removes the first item.
+    /// Removes the first item. No other item moves. If the first tier has no items left, the places of the other tiers move.
     #[inline(always)]
     pub fn pop_front(&mut self) -> Option<T>
         ensures items { self.old.items ≡ option_to_list result ++ self.new.items }
         ensures variant { IsSome result ↔ (0 < length self.old.items) }
         ensures room { self.old.room ≤ self.new.room }
     {
-        let item = self.first.pop_front();
-        if self.above > 0 && self.first.is_empty() {
+        let item = self.first.pop_front()?;
+        self.count -= 1;
+        if self.first.is_empty() && !self.rest.is_empty() {
             refill(&mut self.first, &mut self.rest, &mut self.spare);
-            self.above -= self.first.len();
         }
-        item
+        Some(item)
     }
 
     /// Gives memory back, if one tier is left that is at most a quarter full: down to twice its items, or room for 64.
@@ -191,7 +192,7 @@ impl<T: Numbered + Drop> TieredQueue<T> {
     }
 
     /// Returns how many items have a lower number. The last item and the first one are inspected first, then the place that is
-    /// right if no number is missing above it. Then it searches.
+    /// right if no number is missing above it. Then it searches: the time grows with the logarithm of the number of items.
     #[inline(always)]
     pub fn place_of(&self, number: u64) -> usize
         requires { IsNonDecreasingBy T.number_of self.now.items }
@@ -211,9 +212,6 @@ impl<T: Numbered + Drop> TieredQueue<T> {
         ensures items { self.new.items ≡ self.old.items }
         ensures room { OnOk result (1024 ≤ self.new.room) }
     {
-        if self.rest.len() >= MOST_TIERS {
-            return Err(AllocError);
-        }
         let alloc = self.alloc();
         self.first.reserve_exact(TIER - self.first.len())?;
         self.rest.reserve(1)?;
@@ -229,7 +227,7 @@ impl<T: Numbered + Drop> TieredQueue<T> {
     fn shrink(&mut self)
         ensures { self.new.items ≡ self.old.items }
     {
-        if self.above > 0 {
+        if !self.rest.is_empty() {
             return;
         }
         let alloc = self.alloc();
@@ -280,16 +278,17 @@ impl<T: Numbered + Drop> TieredQueue<T> {
         }
     }
 
-    /// Returns how many items have a lower number, by a search in the first tier or in the others.
+    /// Returns how many items have a lower number, by a search in the first tier or in the others. The time grows with the
+    /// logarithm of the number of items.
     fn search(&self, number: u64) -> usize
         requires { IsNonDecreasingBy T.number_of self.now.items }
         ensures bound { result ≤ length self.now.items }
         ensures point { IsPartitionPoint (λ x. T.number_of x < number) (λ x. number ≤ T.number_of x) self.now.items result }
     {
-        if self.above == 0 {
+        let len = self.first.len();
+        if self.len() == len {
             return search_in(&self.first, number);
         }
-        let len = self.first.len();
         if number <= self.first[len - 1].number() {
             search_in(&self.first, number)
         } else {

@@ -8,15 +8,14 @@ use super::frames::{CompleteFrame, frame_of};
 use super::held_packet::{HeldPacket, Packet};
 use super::packets::take_lowest;
 use super::rows::{Row, frame_of_left, join, meets, shorten};
-use super::search::put_at;
 use crate::memory::One;
-use alloc::collections::VecDeque;
+use crate::queue::tiers::{Noted, TieredQueue};
 use alloc::vec::Vec;
 
 /// Returns the row from `first` to the packet at `place`, which is its last.
 #[inline(always)]
-fn row_to(packets: &VecDeque<HeldPacket>, first: u64, place: usize) -> Row {
-    let last = &packets[place];
+fn row_to(packets: &TieredQueue<HeldPacket>, first: u64, place: usize) -> Row {
+    let last = packets.at(place);
     Row {
         first,
         last: last.number,
@@ -33,11 +32,11 @@ fn is_next(earlier: u64, later: u64) -> bool {
 
 /// Joins a row with the row that begins at `place`, if they meet.
 #[inline(always)]
-fn join_next(packets: &VecDeque<HeldPacket>, place: usize, row: Row) -> Row {
+fn join_next(packets: &TieredQueue<HeldPacket>, place: usize, row: Row) -> Row {
     if place == packets.len() {
         return row;
     }
-    let entry = &packets[place];
+    let entry = packets.at(place);
     if !is_next(row.last, entry.number) {
         return row;
     }
@@ -52,11 +51,11 @@ fn join_next(packets: &VecDeque<HeldPacket>, place: usize, row: Row) -> Row {
 
 /// Joins a row with the row that ends in front of `place`, if they meet.
 #[inline(always)]
-fn join_previous(packets: &VecDeque<HeldPacket>, place: usize, row: Row) -> Row {
+fn join_previous(packets: &TieredQueue<HeldPacket>, place: usize, row: Row) -> Row {
     if place == 0 {
         return row;
     }
-    let entry = &packets[place - 1];
+    let entry = packets.at(place - 1);
     if !is_next(entry.number, row.first) {
         return row;
     }
@@ -70,49 +69,91 @@ fn join_previous(packets: &VecDeque<HeldPacket>, place: usize, row: Row) -> Row 
 
 /// Returns the row of a new packet once it is at its place: `row` is the packet alone.
 #[inline(always)]
-pub(super) fn row_with(packets: &VecDeque<HeldPacket>, place: usize, row: Row) -> Row {
+pub(super) fn row_with(packets: &TieredQueue<HeldPacket>, place: usize, row: Row) -> Row {
     let row = join_next(packets, place, row);
     join_previous(packets, place, row)
 }
 
-/// Notes the other end of a row, and its head, in a packet.
-fn mark(entry: &mut HeldPacket, other_end: u64, row_head: Option<u64>) {
-    entry.packet.other_end = other_end;
-    entry.packet.row_head = row_head;
+/// What the first and the last packet of a row hold of it.
+#[derive(Clone, Copy, Debug)]
+pub(super) struct RowNote {
+    other_end: u64,
+    row_head: Option<u64>,
+}
+
+impl Noted<RowNote> for HeldPacket {
+    #[inline(always)]
+    fn note(&mut self, note: RowNote) {
+        self.packet.other_end = note.other_end;
+        self.packet.row_head = note.row_head;
+    }
 }
 
 /// Notes the other end of a row, and its head, in the packet at `place`.
 #[inline(always)]
 fn set_mark(
-    packets: &mut VecDeque<HeldPacket>,
+    packets: &mut TieredQueue<HeldPacket>,
     place: usize,
     other_end: u64,
     row_head: Option<u64>,
 ) {
-    mark(&mut packets[place], other_end, row_head);
+    packets.note(
+        place,
+        RowNote {
+            other_end,
+            row_head,
+        },
+    );
 }
 
 /// Notes a row at both of its ends, the packets at `from` and `to`.
 #[inline(always)]
-fn set_ends(packets: &mut VecDeque<HeldPacket>, from: usize, to: usize, row: Row) {
+fn set_ends(packets: &mut TieredQueue<HeldPacket>, from: usize, to: usize, row: Row) {
     set_mark(packets, from, row.last, None);
     set_mark(packets, to, row.first, row.head);
 }
 
-/// Inserts a packet at its place; `row` is its row after that. The caller has reserved the room. At the end of the queue
-/// nothing moves.
+/// Notes its row in a packet that is not held yet, if it is the first or the last packet of the row.
+#[inline(always)]
+fn noted(packet: HeldPacket, row: Row) -> HeldPacket {
+    let number = packet.number;
+    let mut packet = packet;
+    if number == row.last {
+        packet.note(RowNote {
+            other_end: row.first,
+            row_head: row.head,
+        });
+    } else {
+        packet.note(RowNote {
+            other_end: row.last,
+            row_head: None,
+        });
+    }
+    packet
+}
+
+/// Inserts a packet at its place; `row` is its row after that. The caller has reserved the room.
 #[inline(always)]
 pub(super) fn place_at(
-    packets: &mut VecDeque<HeldPacket>,
+    packets: &mut TieredQueue<HeldPacket>,
     place: usize,
     packet: HeldPacket,
     row: Row,
 ) {
+    let first = row.first;
+    let last = row.last;
+    let head = row.head;
     let number = packet.number;
-    put_at(packets, place, packet);
-    let from = place - (number - row.first) as usize;
-    let to = place + (row.last - number) as usize;
-    set_ends(packets, from, to, row);
+    let before = (number - first) as usize;
+    let after = (last - number) as usize;
+    let packet = noted(packet, row);
+    packets.insert(place, packet);
+    if before > 0 {
+        set_mark(packets, place - before, last, None);
+    }
+    if after > 0 {
+        set_mark(packets, place + after, first, head);
+    }
 }
 
 /// Returns the complete frame that ends at this packet, if one does.
@@ -130,7 +171,7 @@ pub(super) fn frame_to(entry: &HeldPacket) -> Option<CompleteFrame> {
 /// Returns whether no complete frame ends where `row` ends, the row of a new packet. `place` is the place of the packet.
 #[inline(always)]
 pub(super) fn is_new_end(
-    packets: &VecDeque<HeldPacket>,
+    packets: &TieredQueue<HeldPacket>,
     place: usize,
     packet: &HeldPacket,
     row: &Row,
@@ -139,18 +180,18 @@ pub(super) fn is_new_end(
     if after == 0 {
         return true;
     }
-    frame_to(&packets[place + after - 1]).is_none()
+    frame_to(packets.at(place + after - 1)).is_none()
 }
 
 /// Returns the lowest row.
-fn lowest_row(packets: &VecDeque<HeldPacket>) -> Row {
-    let entry = &packets[0];
+fn lowest_row(packets: &TieredQueue<HeldPacket>) -> Row {
+    let entry = packets.at(0);
     let after = (entry.packet.other_end - entry.number) as usize;
     row_to(packets, entry.number, after)
 }
 
 /// Notes the rest of the lowest row at both of its ends.
-fn set_lowest_ends(packets: &mut VecDeque<HeldPacket>, rest: &Option<Row>) {
+fn set_lowest_ends(packets: &mut TieredQueue<HeldPacket>, rest: &Option<Row>) {
     match rest {
         Some(row) => set_ends(packets, 0, (row.last - row.first) as usize, *row),
         None => {}
@@ -159,7 +200,7 @@ fn set_lowest_ends(packets: &mut VecDeque<HeldPacket>, rest: &Option<Row>) {
 
 /// Removes the lowest packet. Returns its number, the frame of its row before that, and the frame of the row after that.
 pub(super) fn evict(
-    packets: &mut VecDeque<HeldPacket>,
+    packets: &mut TieredQueue<HeldPacket>,
     spare: &mut Vec<One<Packet>>,
 ) -> (u64, Option<CompleteFrame>, Option<CompleteFrame>) {
     let row = lowest_row(packets);

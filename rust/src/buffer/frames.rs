@@ -5,8 +5,9 @@
 use super::ends::frame_to;
 use super::held_packet::HeldPacket;
 use super::rows::Row;
-use super::search::{place_of_number, put_at};
 use crate::memory::{AllocError, TryQueue};
+use crate::queue::search::{place_of_number, put_at};
+use crate::queue::tiers::TieredQueue;
 use alloc::collections::VecDeque;
 
 /// A complete frame: the sequence numbers of its first and last packet.
@@ -120,13 +121,17 @@ pub(super) fn note(complete: &mut CompleteFrames, frame: Option<CompleteFrame>, 
 
 /// Reads the lowest frames from the packets, as many as there is room for. Allocates nothing.
 #[inline(never)]
-fn read_known(known: &mut VecDeque<CompleteFrame>, ready: usize, packets: &VecDeque<HeldPacket>) {
+fn read_known(
+    known: &mut VecDeque<CompleteFrame>,
+    ready: usize,
+    packets: &TieredQueue<HeldPacket>,
+) {
     let wanted = ready.min(known.capacity());
-    for packet in packets {
+    for place in 0..packets.len() {
         if known.len() == wanted {
             return;
         }
-        if let Some(frame) = frame_to(packet) {
+        if let Some(frame) = frame_to(packets.at(place)) {
             known.push_back(frame);
         }
     }
@@ -134,7 +139,7 @@ fn read_known(known: &mut VecDeque<CompleteFrame>, ready: usize, packets: &VecDe
 
 /// Removes the lowest frame; `packets` are the remaining packets.
 #[inline(always)]
-pub(super) fn drop_first(complete: &mut CompleteFrames, packets: &VecDeque<HeldPacket>) {
+pub(super) fn drop_first(complete: &mut CompleteFrames, packets: &TieredQueue<HeldPacket>) {
     complete.known.pop_front();
     complete.ready -= 1;
     if complete.known.is_empty() && complete.ready > 0 {
@@ -147,7 +152,7 @@ pub(super) fn mend_first(
     complete: &mut CompleteFrames,
     before: Option<CompleteFrame>,
     after: Option<CompleteFrame>,
-    packets: &VecDeque<HeldPacket>,
+    packets: &TieredQueue<HeldPacket>,
 ) {
     match (before, after) {
         (Some(_), Some(frame)) => complete.known[0] = frame,

@@ -8,7 +8,7 @@ use crate::codec::{CodecDepacketizer, Depacketizer};
 use crate::error::PacketError;
 use crate::interface::CodecExtra;
 use crate::memory::{AllocError, TryVec};
-use alloc::collections::VecDeque;
+use crate::queue::tiers::TieredQueue;
 use alloc::vec::Vec;
 
 /// Starts an empty unit for a frame, as [`make_room`] does.
@@ -16,7 +16,7 @@ use alloc::vec::Vec;
 pub(super) fn make_room_for<B: Depacketizer>(
     bytes: &mut Vec<u8>,
     depacketizer: &CodecDepacketizer<B>,
-    packets: &VecDeque<HeldPacket>,
+    packets: &TieredQueue<HeldPacket>,
     from: usize,
     to: usize,
 ) -> Result<(), AllocError> {
@@ -24,7 +24,7 @@ pub(super) fn make_room_for<B: Depacketizer>(
         return make_room(bytes, depacketizer, packets, from, to);
     }
     bytes.clear();
-    match depacketizer.out_size_hint(packets[from].packet.bytes.len()) {
+    match depacketizer.out_size_hint(packets.at(from).packet.bytes.len()) {
         Some(size) => bytes.try_exact(size),
         None => Ok(()),
     }
@@ -34,7 +34,7 @@ pub(super) fn make_room_for<B: Depacketizer>(
 #[inline(always)]
 pub(super) fn unpack_frame<B: Depacketizer>(
     depacketizer: &mut CodecDepacketizer<B>,
-    packets: &VecDeque<HeldPacket>,
+    packets: &TieredQueue<HeldPacket>,
     from: usize,
     to: usize,
     bytes: &mut Vec<u8>,
@@ -43,5 +43,5 @@ pub(super) fn unpack_frame<B: Depacketizer>(
     if to - from != 1 {
         return unpack(depacketizer, packets, from, to, bytes, codec_extra);
     }
-    depacketizer.depacketize(&packets[from].packet.bytes, bytes, codec_extra)
+    depacketizer.depacketize(&packets.at(from).packet.bytes, bytes, codec_extra)
 }

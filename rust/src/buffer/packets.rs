@@ -5,14 +5,13 @@
 use super::frames::CompleteFrame;
 use super::held_packet::{HeldPacket, Packet, Tells};
 use super::known::PackedMeta;
-use super::search::place_of_number;
 use super::unit::RtpMeta;
 use crate::codec::{CodecDepacketizer, Depacketizer};
 use crate::error::PacketError;
 use crate::interface::CodecExtra;
-use crate::memory::{AllocError, One, TryQueue, TryVec};
+use crate::memory::{AllocError, One, TryVec};
+use crate::queue::tiers::TieredQueue;
 use crate::wire::Ticks;
-use alloc::collections::VecDeque;
 use alloc::vec::Vec;
 
 /// The largest number of memory blocks that are kept for later packets.
@@ -67,23 +66,23 @@ pub(super) fn starts_next(cutoff: Option<u64>, first: u64) -> bool {
 
 /// Returns the place of the first packet with this number or a higher one.
 #[inline(always)]
-pub(super) fn find_place(packets: &VecDeque<HeldPacket>, number: u64) -> usize {
-    place_of_number(packets, number)
+pub(super) fn find_place(packets: &TieredQueue<HeldPacket>, number: u64) -> usize {
+    packets.place_of(number)
 }
 
 /// Returns whether the packet at `place` has this number.
-pub(super) fn is_at(packets: &VecDeque<HeldPacket>, place: usize, number: u64) -> bool {
-    place < packets.len() && packets[place].number == number
+pub(super) fn is_at(packets: &TieredQueue<HeldPacket>, place: usize, number: u64) -> bool {
+    place < packets.len() && packets.at(place).number == number
 }
 
 /// Returns the time at which the packet with this number arrived, if it is held.
 #[inline(always)]
-pub(super) fn received_at(packets: &VecDeque<HeldPacket>, number: u64) -> Option<Ticks> {
+pub(super) fn received_at(packets: &TieredQueue<HeldPacket>, number: u64) -> Option<Ticks> {
     let place = find_place(packets, number);
     if place >= packets.len() {
         return None;
     }
-    let packet = &packets[place];
+    let packet = packets.at(place);
     if packet.number == number {
         Some(packet.packet.known.received())
     } else {
@@ -92,18 +91,35 @@ pub(super) fn received_at(packets: &VecDeque<HeldPacket>, number: u64) -> Option
 }
 
 /// Removes the lowest packet, and returns its number.
-pub(super) fn take_lowest(packets: &mut VecDeque<HeldPacket>, spare: &mut Vec<One<Packet>>) -> u64 {
+pub(super) fn take_lowest(
+    packets: &mut TieredQueue<HeldPacket>,
+    spare: &mut Vec<One<Packet>>,
+) -> u64 {
     let lowest = packets.pop_front().unwrap();
     let number = lowest.number;
     keep(spare, lowest.packet);
     number
 }
 
+/// Returns the place of the first packet with this number or a higher one, as [`find_place`] does. The first packet is looked at
+/// before the search, since most frames begin there.
+#[inline(always)]
+fn place_from_front(packets: &TieredQueue<HeldPacket>, number: u64) -> usize {
+    match packets.front() {
+        Some(lowest) if lowest.number < number => find_place(packets, number),
+        _ => 0,
+    }
+}
+
 /// Returns the places at which the packets of a frame begin and end. The numbers of a frame are consecutive, so only its first
 /// packet is searched.
 #[inline(always)]
-pub(super) fn frame_range(packets: &VecDeque<HeldPacket>, frame: CompleteFrame) -> (usize, usize) {
-    let from = find_place(packets, frame.first);
+pub(super) fn frame_range(
+    packets: &TieredQueue<HeldPacket>,
+    frame: CompleteFrame,
+) -> (usize, usize) {
+    let from = place_from_front(packets, frame.first);
+    debug_assert!(from < packets.len());
     (from, from + (frame.last - frame.first) as usize + 1)
 }
 
@@ -122,24 +138,24 @@ fn push_told<T, I: Tells<T>>(all: &mut Vec<T>, item: &I) -> Result<(), AllocErro
 #[inline(always)]
 pub(super) fn copy_metas(
     metas: &mut Vec<RtpMeta>,
-    packets: &VecDeque<HeldPacket>,
+    packets: &TieredQueue<HeldPacket>,
     from: usize,
     to: usize,
 ) -> Result<(), AllocError> {
     metas.clear();
     metas.try_exact(to - from)?;
-    for packet in packets.range(from..to) {
-        push_told(metas, packet)?;
+    for place in from..to {
+        push_told(metas, packets.at(place))?;
     }
     Ok(())
 }
 
 /// Returns the number of payload bytes of these packets, at most `usize::MAX`.
 #[inline(always)]
-fn payload_size(packets: &VecDeque<HeldPacket>, from: usize, to: usize) -> usize {
+fn payload_size(packets: &TieredQueue<HeldPacket>, from: usize, to: usize) -> usize {
     let mut size = 0usize;
-    for packet in packets.range(from..to) {
-        size = size.saturating_add(packet.packet.bytes.len());
+    for place in from..to {
+        size = size.saturating_add(packets.at(place).packet.bytes.len());
     }
     size
 }
@@ -149,7 +165,7 @@ fn payload_size(packets: &VecDeque<HeldPacket>, from: usize, to: usize) -> usize
 pub(super) fn make_room<B: Depacketizer>(
     bytes: &mut Vec<u8>,
     depacketizer: &CodecDepacketizer<B>,
-    packets: &VecDeque<HeldPacket>,
+    packets: &TieredQueue<HeldPacket>,
     from: usize,
     to: usize,
 ) -> Result<(), AllocError> {
@@ -164,14 +180,14 @@ pub(super) fn make_room<B: Depacketizer>(
 #[inline(always)]
 pub(super) fn unpack<B: Depacketizer>(
     depacketizer: &mut CodecDepacketizer<B>,
-    packets: &VecDeque<HeldPacket>,
+    packets: &TieredQueue<HeldPacket>,
     from: usize,
     to: usize,
     bytes: &mut Vec<u8>,
     codec_extra: &mut CodecExtra,
 ) -> Result<(), PacketError> {
-    for packet in packets.range(from..to) {
-        match depacketizer.depacketize(&packet.packet.bytes, bytes, codec_extra) {
+    for place in from..to {
+        match depacketizer.depacketize(&packets.at(place).packet.bytes, bytes, codec_extra) {
             Ok(()) => {}
             Err(fault) => return Err(fault),
         }
@@ -179,22 +195,10 @@ pub(super) fn unpack<B: Depacketizer>(
     Ok(())
 }
 
-/// The smallest number of entries for which a queue keeps memory.
-const KEPT_ENTRIES: usize = 64;
-
-/// Shrinks a queue that is at most a quarter full to twice its contents, or to 64 entries. So a call that moves entries comes
-/// after at least as many packets that left. If the smaller memory cannot be allocated, the queue stays as it is.
-#[inline(always)]
-pub(super) fn give_back<T>(queue: &mut VecDeque<T>) {
-    if queue.capacity() > KEPT_ENTRIES && queue.len() <= queue.capacity() / 4 {
-        queue.shrink_if_possible((2 * queue.len()).max(KEPT_ENTRIES));
-    }
-}
-
 /// Removes the first `count` packets.
 #[inline(always)]
 pub(super) fn drop_front(
-    packets: &mut VecDeque<HeldPacket>,
+    packets: &mut TieredQueue<HeldPacket>,
     spare: &mut Vec<One<Packet>>,
     count: usize,
 ) {
@@ -210,7 +214,7 @@ pub(super) fn drop_front(
 /// Removes the first `count` packets, and appends their metadata to `metas`, which has room for them. Allocates nothing.
 #[inline(always)]
 fn move_front(
-    packets: &mut VecDeque<HeldPacket>,
+    packets: &mut TieredQueue<HeldPacket>,
     spare: &mut Vec<One<Packet>>,
     metas: &mut Vec<PackedMeta>,
     count: usize,
@@ -230,7 +234,7 @@ fn move_front(
 /// them. Allocates nothing.
 #[inline(always)]
 pub(super) fn move_frame(
-    packets: &mut VecDeque<HeldPacket>,
+    packets: &mut TieredQueue<HeldPacket>,
     spare: &mut Vec<One<Packet>>,
     metas: &mut Vec<PackedMeta>,
     from: usize,

@@ -13,8 +13,8 @@ use super::rows::row_of_packet;
 use super::unit::RtpMeta;
 use crate::codec::{CodecDepacketizer, Depacketizer};
 use crate::error::PacketError;
-use crate::memory::{One, TryQueue};
-use alloc::collections::VecDeque;
+use crate::memory::One;
+use crate::queue::tiers::TieredQueue;
 use alloc::vec::Vec;
 
 /// The metadata of a packet, and its payload.
@@ -43,7 +43,7 @@ impl<B: Depacketizer> DepacketizingBuffer<B> {
         first: Incoming,
         second: Incoming,
     ) -> Result<(Placed, Placed), PacketError> {
-        self.packets.try_room(2)?;
+        self.packets.reserve(2)?;
         reserve_known(&mut self.complete.known, 2)?;
         let first = entry_of(&mut self.spare, &self.depacketizer, first)?;
         let second = entry_of(&mut self.spare, &self.depacketizer, second)?;
@@ -95,7 +95,7 @@ fn entry_of<B: Depacketizer>(
 
 /// Stores a packet for which there is memory. Returns the result, and the number of the packet that was evicted.
 fn store_entry(
-    packets: &mut VecDeque<HeldPacket>,
+    packets: &mut TieredQueue<HeldPacket>,
     complete: &mut CompleteFrames,
     spare: &mut Vec<One<Packet>>,
     bounds: Bounds,

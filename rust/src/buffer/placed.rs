@@ -3,7 +3,7 @@
 //! What was done with pushed packets.
 
 use super::held_packet::HeldPacket;
-use alloc::collections::VecDeque;
+use crate::queue::tiers::TieredQueue;
 
 /// What was done with a pushed packet.
 #[derive(Clone, Copy, Debug, PartialEq, Eq)]
@@ -19,7 +19,7 @@ pub enum Placed {
 }
 
 /// Returns what is done with a packet whose number is not held, beside these packets.
-pub(super) fn placed_among(packets: &VecDeque<HeldPacket>, limit: usize) -> Placed {
+pub(super) fn placed_among(packets: &TieredQueue<HeldPacket>, limit: usize) -> Placed {
     if packets.len() < limit {
         Placed::Held
     } else {

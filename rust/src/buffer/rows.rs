@@ -4,8 +4,8 @@
 
 use super::frames::{CompleteFrame, frame_of};
 use super::held_packet::HeldPacket;
+use crate::queue::tiers::TieredQueue;
 use crate::wire::MediaTime;
-use alloc::collections::VecDeque;
 
 /// A row: the longest range of held packets with consecutive numbers and one time, in which only the last packet can end a
 /// unit.
@@ -56,8 +56,9 @@ pub(super) fn join(earlier: Row, later: Row) -> Row {
 }
 
 /// Returns the lowest number, up to `last`, of a packet that begins a unit.
-fn find_head(packets: &VecDeque<HeldPacket>, last: u64) -> Option<u64> {
-    for packet in packets {
+fn find_head(packets: &TieredQueue<HeldPacket>, last: u64) -> Option<u64> {
+    for place in 0..packets.len() {
+        let packet = packets.at(place);
         if packet.number > last {
             return None;
         }
@@ -70,7 +71,7 @@ fn find_head(packets: &VecDeque<HeldPacket>, last: u64) -> Option<u64> {
 
 /// Returns the rest of a row after its first packet has left; `packets` are the remaining packets. It searches for the next
 /// packet that begins a unit only if the first packet began one.
-pub(super) fn shorten(row: &Row, packets: &VecDeque<HeldPacket>) -> Option<Row> {
+pub(super) fn shorten(row: &Row, packets: &TieredQueue<HeldPacket>) -> Option<Row> {
     if row.first == row.last {
         return None;
     }

@@ -6,7 +6,7 @@ use super::frames::{CompleteFrame, drop_first};
 use super::known::PackedMeta;
 use super::leaving::{Left, left_by, refused_by};
 use super::one_packet::{make_room_for, unpack_frame};
-use super::packets::{frame_range, give_back, move_frame, starts_next};
+use super::packets::{frame_range, move_frame, starts_next};
 use super::popped::PoppedUnit;
 use super::{DepacketizingBuffer, is_out_of_memory};
 use crate::codec::Depacketizer;
@@ -33,19 +33,27 @@ impl<B: Depacketizer> DepacketizingBuffer<B> {
         unit: &mut PoppedUnit,
     ) -> (Option<Result<(), PacketError>>, Left) {
         match self.due() {
-            Some(_) => self.pop_due_unit(unit),
+            Some(frame) => self.pop_due_unit(frame, unit),
             None => (None, left_by(0, 0, 0, 0)),
         }
     }
 
-    /// Pops a unit, as [`DepacketizingBuffer::pop_unit_counted`] does.
+    /// Pops a unit, as [`DepacketizingBuffer::pop_unit_counted`] does. `frame` is due.
     #[inline(never)]
-    fn pop_due_unit(&mut self, unit: &mut PoppedUnit) -> (Option<Result<(), PacketError>>, Left) {
+    fn pop_due_unit(
+        &mut self,
+        frame: CompleteFrame,
+        unit: &mut PoppedUnit,
+    ) -> (Option<Result<(), PacketError>>, Left) {
         let before = self.held();
         let mut skipped = 0usize;
-        while let Some(frame) = self.due() {
+        let mut due = Some(frame);
+        while let Some(frame) = due {
             match self.take_unit(frame, unit) {
-                Ok(Taken::Skipped) => skipped += unit.packets(),
+                Ok(Taken::Skipped) => {
+                    skipped += unit.packets();
+                    due = self.due();
+                }
                 Ok(Taken::Released) => {
                     let left = left_by(before - self.held(), unit.packets(), skipped, 0);
                     return (Some(Ok(())), left);
@@ -108,7 +116,7 @@ impl<B: Depacketizer> DepacketizingBuffer<B> {
         metas: &mut Vec<PackedMeta>,
     ) {
         move_frame(&mut self.packets, &mut self.spare, metas, from, to);
-        give_back(&mut self.packets);
+        self.packets.give_back();
         drop_first(&mut self.complete, &self.packets);
         self.cutoff = Some(frame.last);
     }

@@ -195,7 +195,7 @@ pub(super) fn place_at(
     requires fresh { has_number packet.number (map held_of packets.old.items) ≡ false }
     requires room { 0 < packets.old.room }
     requires row { row ≡ merged (row_of (held_of packet)) (rows (map held_of packets.old.items)) }
-    requires few { length packets.old.items ≤ usize.MAX }
+    requires few { length packets.old.items < usize.MAX }
     ensures held { map held_of packets.new.items ≡ placed (held_of packet) (map held_of packets.old.items) }
     ensures told { AreTold (rows (map held_of packets.new.items)) (map mark_of packets.new.items) }
     ensures room { packets.old.room ≤ packets.new.room + 1 }

@@ -1,7 +1,7 @@
 use Rattle.std.proofs.Common.{◌≡◌, ◌<◌, ◌+◌, ◌-◌, ◌*◌, ◌/◌, ◌∙◌, ℕ, sym, length, get_or, arith}
 use Rattle.codec_payload_queue.specs.Tiers.{in_tiers}
 use Rattle.codec_payload_queue.proofs.SearchLemmas.{all_below, none_below}
-use Rattle.codec_payload_queue.proofs.TierLemmas.{tier_at, length_most, item_in_tier, length_up_to, tier_rises, point_in_tiers}
+use Rattle.codec_payload_queue.proofs.TierLemmas.{tier_at, length_most, length_least, item_in_tier, length_up_to, tier_rises, point_in_tiers}
 use Rattle.codec_payload_queue.proofs.above.search_tiers.Goals as goal
 
 pub loop-low-init : goal.loop-low-init
@@ -73,3 +73,13 @@ returns-clause-point g c =
     let same : c.loop-low.high ≡ k = omega (arith, c.loop-low.invariant.order, c.loop-low-test.false) in
     point_in_tiers g.T.Numbered.number_of 1 c.args.number k c.search_in.result c.index-2.result.now ts c.requires.tiers (omega (arith, c.loop-low.invariant.order, c.loop-low.invariant.bound)) c.index-2.ensures
     c.loop-low.invariant.below (λ i d from l. c.loop-low.invariant.behind i d (omega (arith, from, same)) l) c.search_in.ensures.bound c.search_in.ensures.point
+
+pub overflow_mul-result : goal.overflow_mul-result
+overflow_mul-result g c =
+    let least = length_least 1 c.args.tiers.now.items c.requires.tiers c.requires.some in
+    omega (arith, least, c.loop-low.invariant.order, c.loop-low.invariant.bound, c.requires.limit)
+
+pub overflow_add-result : goal.overflow_add-result
+overflow_add-result g c =
+    let up = length_up_to 1 c.loop-low.low c.index-2.result.now c.args.tiers.now.items c.requires.tiers (omega (arith, c.loop-low.invariant.order, c.loop-low.invariant.bound)) c.index-2.ensures in
+    omega (arith, up, c.search_in.ensures.bound, c.requires.limit)

@@ -1,4 +1,4 @@
-use Rattle.std.proofs.Common.{◌≡◌, ◌<◌, ◌≤◌, ◌+◌, ◌++◌, ◌∙◌, inl, inr, ap, sym, length, arith, length-append}
+use Rattle.std.proofs.Common.{◌≡◌, ◌<◌, ◌≤◌, ◌+◌, ◌++◌, inl, inr, ap, sym, length, arith, length-append}
 use Rattle.std.specs.VecDeque.{deque_len, deque_capacity}
 use Rattle.std.proofs.lemmas.Bool.{cases_lt}
 use Rattle.codec_payload_queue.specs.Tiers.{Queue, in_tiers, room_above, room_at_end, spare_room}
@@ -28,12 +28,12 @@ some_tiers g c = omega (arith, c.open_tier.ensures.place)
 same_tiers : (g : Over) (c : After-put_far g) → length c.put_far.new.tiers.items ≡ length c.open_tier.new.tiers.items
 same_tiers g c = omega (arith, c.put_far.ensures.len, c.put_far.new.tiers.ok.0, c.open_tier.new.tiers.ok.0)
 
-one_more : (g : Over) (c : After-put_far g) → length (in_tiers c.put_far.new.tiers.items) ≡ c.self.inside.above + 1
+one_more : (g : Over) (c : After-put_far g) → length (in_tiers c.put_far.new.tiers.items) ≡ length (in_tiers c.self.inside.rest.items) + 1
 one_more g c =
     let xs = c.self.inside.first.items in
     let ys = in_tiers c.open_tier.new.tiers.items in
-    let same : length ys ≡ c.self.inside.above = ap length c.open_tier.ensures.items ∙ sym c.self.invariant.counted in
-    let within : c.args.place ≤ length (xs ++ ys) = omega (arith, place_within g c, same, c.self.invariant.counted, length-append xs ys, c.self.inside.first.ok.0) in
+    let same : length ys ≡ length (in_tiers c.self.inside.rest.items) = ap length c.open_tier.ensures.items in
+    let within : c.args.place ≤ length (xs ++ ys) = omega (arith, place_within g c, same, length-append xs ys, c.self.inside.first.ok.0) in
     let more = one_more_above xs c.put_far.new.first.items ys (in_tiers c.put_far.new.tiers.items) c.args.place c.args.item c.put_far.ensures.items within
     (omega (arith, c.put_far.ensures.first_len, c.put_far.new.first.ok.0, c.self.inside.first.ok.0)) in
     omega (arith, more, same)
@@ -52,14 +52,13 @@ not_empty g c = elim (cases_lt 0 (length c.self.inside.rest.items)) [
 
 pub invariant_of-self-else-place-len : goal.invariant_of-self-else-place-len
 invariant_of-self-else-place-len g c = record {
-  counted = sym (one_more g c);
+  counted = omega (arith, one_more g c, c.self.invariant.counted, c.put_far.ensures.first_len, c.put_far.new.first.ok.0, c.self.inside.first.ok.0);
   few = omega (arith, c.self.invariant.few, c.put_far.ensures.first_len);
   some = λ l. not_empty g c;
   wide = λ l. wide g c;
   ready = λ l. wide g c;
   tiers = c.put_far.ensures.tiers;
   next = spare_stays c.open_tier.new.tiers c.put_far.new.tiers c.open_tier.new.spare c.put_far.ensures.len c.put_far.ensures.capacity c.open_tier.ensures.spare;
-  limit = omega (arith, c.open_tier.ensures.limit, same_tiers g c);
 }
 
 pub returns-else-place-len-clause-room : goal.returns-else-place-len-clause-room
@@ -72,5 +71,5 @@ returns-else-place-len-clause-room g c =
     ] in
     let after = room_with_tiers c.put_far.new.first c.put_far.new.tiers.items (omega (arith, some_tiers g c, same_tiers g c)) in
     let room : c.args.self.now.room ≡ room_at_end first ts + spare_room c.self.inside.spare = sym (ap (λ (v : Queue _). v.room) c.self.view_is) in
-    let same : length (in_tiers c.open_tier.new.tiers.items) ≡ c.self.inside.above = ap length c.open_tier.ensures.items ∙ sym c.self.invariant.counted in
+    let same : length (in_tiers c.open_tier.new.tiers.items) ≡ length (in_tiers ts) = ap length c.open_tier.ensures.items in
     omega (arith, before, after, room, same, one_more g c, same_tiers g c, c.open_tier.ensures.room, c.open_tier.ensures.place)

@@ -1,8 +1,10 @@
-use Rattle.std.proofs.Common.{◌≡◌, ◌<◌, ◌-◌, ◌++◌, ◌∙◌, sym, length, get_or, arith, length-append}
+use Rattle.std.proofs.Common.{◌≡◌, ◌+◌, ◌<◌, ◌-◌, ◌++◌, ◌∙◌, sym, length, get_or, arith, length-append}
 use Rattle.std.proofs.lemmas.List.{get_or_append_left}
 use Rattle.codec_payload_queue.specs.Tiers.{in_tiers}
 use Rattle.codec_payload_queue.proofs.SearchLemmas.{all_below, none_below, front_rises, back_rises, front_point, back_point}
 use Rattle.codec_payload_queue.proofs.TierLemmas.{length_most}
+use Rattle.codec_payload_queue.proofs.tiers.TieredQueue.search.Given.{Over}
+use Rattle.codec_payload_queue.proofs.tiers.TieredQueue.search.Goals.{Else-number}
 use Rattle.codec_payload_queue.proofs.tiers.TieredQueue.search.Goals as goal
 
 pub search_in-requires-then-number : goal.search_in-requires-then-number
@@ -13,9 +15,23 @@ pub search_tiers-requires-clause-rises : goal.search_tiers-requires-clause-rises
 search_tiers-requires-clause-rises g c =
     back_rises g.T.Numbered.number_of c.self.inside.first.items (in_tiers c.self.inside.rest.items) (rw (← c.self.view_is) at c.requires)
 
+-- the queue's length is that of all tiers
+total : (g : Over) (c : Else-number g) → c.len.result ≡ length c.self.inside.first.items + length (in_tiers c.self.inside.rest.items)
+total g c =
+    let xs = c.self.inside.first.items in
+    let ys = in_tiers c.self.inside.rest.items in
+    let is : c.len.result ≡ length (xs ++ ys) = rw (← c.self.view_is) at c.len.ensures in
+    omega (arith, is, length-append xs ys)
+
+pub search_tiers-requires-clause-limit : goal.search_tiers-requires-clause-limit
+search_tiers-requires-clause-limit g c = omega (arith, total g c)
+
 pub overflow_add-result : goal.overflow_add-result
 overflow_add-result g c =
-    omega (arith, length_most 1 c.self.inside.rest.items c.self.invariant.tiers, c.self.invariant.limit, c.self.invariant.few, c.len-len.ensures, c.search_tiers.ensures.bound)
+    let xs = c.self.inside.first.items in
+    let ys = in_tiers c.self.inside.rest.items in
+    let is : c.len.result ≡ length (xs ++ ys) = rw (← c.self.view_is) at c.len.ensures in
+    omega (arith, is, length-append xs ys, c.len-len.ensures, c.self.inside.first.ok.0, c.search_tiers.ensures.bound)
 
 pub returns-then-number-clause-point : goal.returns-then-number-clause-point
 returns-then-number-clause-point g c =
@@ -25,7 +41,8 @@ returns-then-number-clause-point g c =
     let x = c.index.result.now in
     let rises = rw (← c.self.view_is) at c.requires in
     let most = length_most 1 c.self.inside.rest.items c.self.invariant.tiers in
-    let tiers : 0 < length c.self.inside.rest.items = omega (arith, most, c.self.invariant.counted, c.if-self-eq0.false) in
+    let is : c.len.result ≡ length (xs ++ ys) = rw (← c.self.view_is) at c.len.ensures in
+    let tiers : 0 < length c.self.inside.rest.items = omega (arith, most, is, length-append xs ys, c.len-len.ensures, c.self.inside.first.ok.0, c.if-len.false) in
     let some : 0 < length xs = omega (arith, c.self.invariant.some tiers, c.self.inside.first.ok.0) in
     let l : c.len-len.result - 1 < length xs = omega (arith, some, c.len-len.ensures, c.self.inside.first.ok.0) in
     let there : x ≡ get_or (xs ++ ys) (c.len-len.result - 1) x = c.index.ensures ∙ sym (get_or_append_left xs ys x (c.len-len.result - 1) l) in
@@ -41,7 +58,8 @@ returns-else-number-clause-point g c =
     let x = c.index.result.now in
     let rises = rw (← c.self.view_is) at c.requires in
     let most = length_most 1 c.self.inside.rest.items c.self.invariant.tiers in
-    let tiers : 0 < length c.self.inside.rest.items = omega (arith, most, c.self.invariant.counted, c.if-self-eq0.false) in
+    let is : c.len.result ≡ length (xs ++ ys) = rw (← c.self.view_is) at c.len.ensures in
+    let tiers : 0 < length c.self.inside.rest.items = omega (arith, most, is, length-append xs ys, c.len-len.ensures, c.self.inside.first.ok.0, c.if-len.false) in
     let some : 0 < length xs = omega (arith, c.self.invariant.some tiers, c.self.inside.first.ok.0) in
     let same : c.len-len.result ≡ length xs = omega (arith, c.len-len.ensures, c.self.inside.first.ok.0) in
     let l : c.len-len.result - 1 < length xs = omega (arith, some, same) in
