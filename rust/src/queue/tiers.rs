@@ -10,9 +10,6 @@ use crate::queue::search::{Numbered, put_at, search_in};
 use alloc::collections::VecDeque;
 use alloc::vec::Vec;
 
-/// The largest number of tiers above the first one. They have place for more than a thousand million items.
-const MOST_TIERS: usize = 1_048_576;
-
 /// The smallest number of items for which a queue keeps memory.
 const KEPT: usize = 64;
 
@@ -32,8 +29,8 @@ pub struct TieredQueue<T: Numbered> {
     rest: Vec<VecDeque<T>>,
     /// An empty tier, for the next one that is needed.
     spare: Option<VecDeque<T>>,
-    /// The number of items in `rest`.
-    above: usize,
+    /// The number of items.
+    count: usize,
 }
 
 impl<T: Numbered> TieredQueue<T> {
@@ -43,14 +40,14 @@ impl<T: Numbered> TieredQueue<T> {
             first: VecDeque::new(),
             rest: Vec::new(),
             spare: None,
-            above: 0,
+            count: 0,
         }
     }
 
     /// Returns the number of items.
     #[inline(always)]
     pub fn len(&self) -> usize {
-        self.first.len() + self.above
+        self.count
     }
 
     /// Returns the first item.
@@ -62,7 +59,7 @@ impl<T: Numbered> TieredQueue<T> {
     /// Returns the last item.
     #[inline(always)]
     pub fn back(&self) -> Option<&T> {
-        if self.above == 0 {
+        if self.rest.is_empty() {
             self.first.back()
         } else {
             last_of(&self.rest)
@@ -96,10 +93,10 @@ impl<T: Numbered> TieredQueue<T> {
     ///
     /// # Errors
     ///
-    /// `AllocError`: the items are unchanged.
+    /// `AllocError`: out of memory. The items are unchanged.
     #[inline(always)]
     pub fn reserve(&mut self, count: usize) -> Result<(), AllocError> {
-        if self.above == 0 && self.first.len() + count <= TIER {
+        if self.rest.is_empty() && self.first.len() + count <= TIER {
             return self.first.try_room(count);
         }
         if self.spare.is_some() {
@@ -108,27 +105,30 @@ impl<T: Numbered> TieredQueue<T> {
         self.find_spare()
     }
 
-    /// Inserts an item at a place. Memory was found by [`TieredQueue::reserve`].
+    /// Inserts an item at a place. Memory was found by [`TieredQueue::reserve`]. At most 512 items of one tier move, and one item of
+    /// each tier above it. At the end nothing moves.
     #[inline(always)]
     pub fn insert(&mut self, place: usize, item: T) {
         if place <= self.first.len() && self.first.len() < TIER {
             put_at(&mut self.first, place, item);
+            self.count += 1;
         } else {
-            open_tier(&mut self.rest, &mut self.spare, self.above);
-            self.above += 1;
+            let above = self.count - self.first.len();
+            self.count += 1;
+            open_tier(&mut self.rest, &mut self.spare, above);
             put_far(&mut self.first, &mut self.rest, place, item);
         }
     }
 
-    /// Removes the first item.
+    /// Removes the first item. No other item moves. If the first tier has no items left, the places of the other tiers move.
     #[inline(always)]
     pub fn pop_front(&mut self) -> Option<T> {
-        let item = self.first.pop_front();
-        if self.above > 0 && self.first.is_empty() {
+        let item = self.first.pop_front()?;
+        self.count -= 1;
+        if self.first.is_empty() && !self.rest.is_empty() {
             refill(&mut self.first, &mut self.rest, &mut self.spare);
-            self.above -= self.first.len();
         }
-        item
+        Some(item)
     }
 
     /// Gives memory back, if one tier is left that is at most a quarter full: down to twice its items, or room for 64.
@@ -140,7 +140,7 @@ impl<T: Numbered> TieredQueue<T> {
     }
 
     /// Returns how many items have a lower number. The last item and the first one are inspected first, then the place that is
-    /// right if no number is missing above it. Then it searches.
+    /// right if no number is missing above it. Then it searches: the time grows with the logarithm of the number of items.
     #[inline(always)]
     pub fn place_of(&self, number: u64) -> usize {
         match self.back() {
@@ -153,9 +153,6 @@ impl<T: Numbered> TieredQueue<T> {
     #[cold]
     #[inline(never)]
     fn find_spare(&mut self) -> Result<(), AllocError> {
-        if self.rest.len() >= MOST_TIERS {
-            return Err(AllocError);
-        }
         self.first.try_exact(TIER - self.first.len())?;
         self.rest.try_room(1)?;
         let mut tier = VecDeque::new();
@@ -168,7 +165,7 @@ impl<T: Numbered> TieredQueue<T> {
     #[cold]
     #[inline(never)]
     fn shrink(&mut self) {
-        if self.above > 0 {
+        if !self.rest.is_empty() {
             return;
         }
         self.first
@@ -211,12 +208,13 @@ impl<T: Numbered> TieredQueue<T> {
         }
     }
 
-    /// Returns how many items have a lower number, by a search in the first tier or in the others.
+    /// Returns how many items have a lower number, by a search in the first tier or in the others. The time grows with the
+    /// logarithm of the number of items.
     fn search(&self, number: u64) -> usize {
-        if self.above == 0 {
+        let len = self.first.len();
+        if self.len() == len {
             return search_in(&self.first, number);
         }
-        let len = self.first.len();
         if number <= self.first[len - 1].number() {
             search_in(&self.first, number)
         } else {
