@@ -71,6 +71,7 @@ pub(super) fn find_place(packets: &TieredQueue<HeldPacket>, number: u64) -> usiz
 }
 
 /// Returns whether the packet at `place` has this number.
+#[inline(always)]
 pub(super) fn is_at(packets: &TieredQueue<HeldPacket>, place: usize, number: u64) -> bool {
     place < packets.len() && packets.at(place).number == number
 }
@@ -78,7 +79,7 @@ pub(super) fn is_at(packets: &TieredQueue<HeldPacket>, place: usize, number: u64
 /// Returns the time at which the packet with this number arrived, if it is held.
 #[inline(always)]
 pub(super) fn received_at(packets: &TieredQueue<HeldPacket>, number: u64) -> Option<Ticks> {
-    let place = find_place(packets, number);
+    let place = place_from_front(packets, number);
     if place >= packets.len() {
         return None;
     }
@@ -101,7 +102,7 @@ pub(super) fn take_lowest(
     number
 }
 
-/// Returns the place of the first packet with this number or a higher one, as [`find_place`] does. The first packet is looked at
+/// Returns the place of the first packet with this number or a higher one, as [`find_place`] does. The first packet is inspected
 /// before the search, since most frames begin there.
 #[inline(always)]
 fn place_from_front(packets: &TieredQueue<HeldPacket>, number: u64) -> usize {
