@@ -4,6 +4,7 @@ use Rattle.std.specs.VecDeque.{deque_len, deque_capacity}
 use Rattle.std.specs.Vec.{vec_len, vec_capacity}
 use Rattle.std.specs.Global.{Vec, Global}
 use Rattle.std.specs.declared.collections.VecDeque.{VecDeque}
+use Rattle.codec_payload_queue.specs.declared.above.Above.{Above}
 
 -- what a queue holds: its items, and for how many insertions there is memory
 pub record Queue (X : Type 0) : Type 0 where
@@ -60,12 +61,34 @@ abbrev pub IsSpare : {X : Type 0} → Vec (VecDeque X Global) → Option (VecDeq
 IsSpare rest None = Unit {0}
 IsSpare rest (Some t) = (deque_len t ≡ 0) × (1024 ≤ deque_capacity t) × (vec_len rest < vec_capacity rest)
 
+-- the tiers above the first one, the spare tier, and the number of items in these tiers
+abbrev pub tiers_of : {X : Type 0} → Option (Above X) → List (VecDeque X Global)
+tiers_of None = []
+tiers_of (Some a) = a.tiers.items
+
+abbrev pub spare_of : {X : Type 0} → Option (Above X) → Option (VecDeque X Global)
+spare_of None = None
+spare_of (Some a) = a.spare
+
+abbrev pub count_of : {X : Type 0} → Option (Above X) → ℕ
+count_of None = 0
+count_of (Some a) = a.count
+
+abbrev pub IsNext : {X : Type 0} → Option (Above X) → Type 0
+IsNext None = Unit {0}
+IsNext (Some a) = IsSpare a.tiers a.spare
+
+-- for how many insertions there is memory
+abbrev pub room_of : {X : Type 0} → VecDeque X Global → Option (Above X) → ℕ
+room_of first above = room_at_end first (tiers_of above) + spare_room (spare_of above)
+
 -- an invariant of all queues in tiers
-pub record IsTiered {X : Type 0} (first : VecDeque X Global) (rest : Vec (VecDeque X Global)) (spare : Option (VecDeque X Global)) (count : ℕ) : Type 0 where
-  pub counted : count ≡ length first.items + length (in_tiers rest.items)
+pub record IsTiered {X : Type 0} (first : VecDeque X Global) (above : Option (Above X)) : Type 0 where
+  pub counted : count_of above ≡ length (in_tiers (tiers_of above))
   pub few : deque_len first ≤ 1024
-  pub some : 0 < length rest.items → 0 < deque_len first
-  pub wide : 0 < length rest.items → 1024 ≤ deque_capacity first
-  pub ready : 0 < spare_room spare → 1024 ≤ deque_capacity first
-  pub tiers : AreTiers 1 rest.items
-  pub next : IsSpare rest spare
+  pub fits : length first.items + length (in_tiers (tiers_of above)) < 18446744073709551616
+  pub some : 0 < length (tiers_of above) → 0 < deque_len first
+  pub wide : 0 < length (tiers_of above) → 1024 ≤ deque_capacity first
+  pub ready : 0 < spare_room (spare_of above) → 1024 ≤ deque_capacity first
+  pub tiers : AreTiers 1 (tiers_of above)
+  pub next : IsNext above

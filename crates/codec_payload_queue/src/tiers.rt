@@ -6,7 +6,10 @@ ghost use Rattle.std.specs.List.{insert};
 ghost use Rattle.std.specs.List.Sorted.{IsNonDecreasingBy, IsPartitionPoint};
 ghost use Rattle.codec_payload_queue.specs.Tiers.{IsNotedAt};
 
-use crate::above::{TIER, item_of, last_of, note_in, open_tier, put_far, refill, search_tiers};
+use crate::above::{
+    Above, TIER, find_spare, insert_above, item_above, last_above, note_above, refill_above,
+    search_above,
+};
 use crate::search::{Numbered, put_at, search_in};
 use std::alloc::{AllocError, Global};
 use std::collections::VecDeque;
@@ -30,22 +33,19 @@ pub trait Noted<N> {
 #[derive(Debug, Drop)]
 pub struct TieredQueue<T: Numbered + Drop> {
     first: VecDeque<T>,
-    rest: Vec<VecDeque<T>>,
-    /// An empty tier, for the next one that is needed.
-    spare: Option<VecDeque<T>>,
-    /// The number of items.
-    count: usize,
+    /// The tiers above the first one, in memory that only a queue of more than 1,024 items allocates.
+    above: Option<Box<Above<T>>>,
 }
 
 impl<T: Numbered + Drop> Model for TieredQueue<T> {
-    ghost use Rattle.std.specs.Prelude.{◌+◌, ◌++◌};
-    ghost use Rattle.codec_payload_queue.specs.Tiers.{IsTiered, Queue, in_tiers, room_at_end, spare_room};
+    ghost use Rattle.std.specs.Prelude.{◌++◌, option_map};
+    ghost use Rattle.codec_payload_queue.specs.Tiers.{IsTiered, Queue, in_tiers, room_of, tiers_of};
 
     ghost Value = { Queue T };
 
-    ghost view = { λ q. record { items = q.first.items ++ in_tiers q.rest.items; room = room_at_end q.first q.rest.items + spare_room q.spare } };
+    ghost view = { λ q. record { items = q.first.items ++ in_tiers (tiers_of (option_map (λ b. b.value) q.above)); room = room_of q.first (option_map (λ b. b.value) q.above) } };
 
-    ghost invariant = { λ q. IsTiered q.first q.rest q.spare q.count };
+    ghost invariant = { λ q. IsTiered q.first (option_map (λ b. b.value) q.above) };
 }
 
 impl<T: Numbered + Drop> TieredQueue<T> {
@@ -55,9 +55,7 @@ impl<T: Numbered + Drop> TieredQueue<T> {
     {
         TieredQueue {
             first: VecDeque::new(alloc),
-            rest: Vec::new(alloc),
-            spare: None,
-            count: 0,
+            above: None,
         }
     }
 
@@ -71,7 +69,10 @@ impl<T: Numbered + Drop> TieredQueue<T> {
     pub fn len(&self) -> usize
         ensures { result ≡ length self.now.items }
     {
-        self.count
+        match &self.above {
+            Some(above) => self.first.len() + above.count,
+            None => self.first.len(),
+        }
     }
 
     /// Returns the first item.
@@ -89,10 +90,9 @@ impl<T: Numbered + Drop> TieredQueue<T> {
         ensures variant { IsSome result ↔ (0 < length self.now.items) }
         ensures value { IfSome result (λ x. x.now ≡ slice_index_or self.now.items (length self.now.items - 1) x.now) }
     {
-        if self.rest.is_empty() {
-            self.first.back()
-        } else {
-            last_of(&self.rest)
+        match &self.above {
+            Some(_) if self.len() > self.first.len() => last_above(&self.above),
+            _ => self.first.back(),
         }
     }
 
@@ -105,7 +105,7 @@ impl<T: Numbered + Drop> TieredQueue<T> {
         if place < self.first.len() {
             &self.first[place]
         } else {
-            item_of(&self.rest, place - self.first.len())
+            item_above(&self.above, place - self.first.len())
         }
     }
 
@@ -121,7 +121,7 @@ impl<T: Numbered + Drop> TieredQueue<T> {
         if place < self.first.len() {
             self.first[place].note(note);
         } else {
-            note_in(&mut self.rest, place - self.first.len(), note);
+            note_above(&mut self.above, place - self.first.len(), note);
         }
     }
 
@@ -136,13 +136,12 @@ impl<T: Numbered + Drop> TieredQueue<T> {
         ensures items { self.new.items ≡ self.old.items }
         ensures room { OnOk result (count ≤ self.new.room) }
     {
-        if self.rest.is_empty() && self.first.len() + count <= TIER {
-            return self.first.reserve(count);
+        if self.above.is_none() && self.first.len() + count <= TIER {
+            self.first.reserve(count)
+        } else {
+            let alloc = self.alloc();
+            find_spare(alloc, &mut self.first, &mut self.above)
         }
-        if self.spare.is_some() {
-            return Ok(());
-        }
-        self.find_spare()
     }
 
     /// Inserts an item at a place. Memory was found by [`TieredQueue::reserve`]. At most 512 items of one tier move, and one item of
@@ -157,12 +156,8 @@ impl<T: Numbered + Drop> TieredQueue<T> {
     {
         if place <= self.first.len() && self.first.len() < TIER {
             put_at(&mut self.first, place, item);
-            self.count += 1;
         } else {
-            let above = self.count - self.first.len();
-            self.count += 1;
-            open_tier(&mut self.rest, &mut self.spare, above);
-            put_far(&mut self.first, &mut self.rest, place, item);
+            insert_above(&mut self.first, &mut self.above, place, item);
         }
     }
 
@@ -173,12 +168,11 @@ impl<T: Numbered + Drop> TieredQueue<T> {
         ensures variant { IsSome result ↔ (0 < length self.old.items) }
         ensures room { self.old.room ≤ self.new.room }
     {
-        let item = self.first.pop_front()?;
-        self.count -= 1;
-        if self.first.is_empty() && !self.rest.is_empty() {
-            refill(&mut self.first, &mut self.rest, &mut self.spare);
+        let item = self.first.pop_front();
+        if self.above.is_some() && self.first.is_empty() {
+            refill_above(&mut self.first, &mut self.above);
         }
-        Some(item)
+        item
     }
 
     /// Gives memory back, if one tier is left that is at most a quarter full: down to twice its items, or room for 64.
@@ -205,35 +199,17 @@ impl<T: Numbered + Drop> TieredQueue<T> {
         }
     }
 
-    /// Finds memory for a spare tier.
-    #[cold]
-    #[inline(never)]
-    fn find_spare(&mut self) -> Result<(), AllocError>
-        ensures items { self.new.items ≡ self.old.items }
-        ensures room { OnOk result (1024 ≤ self.new.room) }
-    {
-        let alloc = self.alloc();
-        self.first.reserve_exact(TIER - self.first.len())?;
-        self.rest.reserve(1)?;
-        let mut tier = VecDeque::new(alloc);
-        tier.reserve_exact(TIER)?;
-        self.spare = Some(tier);
-        Ok(())
-    }
-
     /// Gives memory back, if one tier is left.
     #[cold]
     #[inline(never)]
     fn shrink(&mut self)
         ensures { self.new.items ≡ self.old.items }
     {
-        if !self.rest.is_empty() {
+        if self.len() > self.first.len() {
             return;
         }
-        let alloc = self.alloc();
         self.first.shrink_to((2 * self.first.len()).max(KEPT));
-        self.rest = Vec::new(alloc);
-        self.spare = None;
+        self.above = None;
     }
 
     /// Returns how many items have a lower number. The first item is inspected, then the place that is as far from the end as
@@ -292,7 +268,7 @@ impl<T: Numbered + Drop> TieredQueue<T> {
         if number <= self.first[len - 1].number() {
             search_in(&self.first, number)
         } else {
-            len + search_tiers(&self.rest, number)
+            len + search_above(&self.above, number)
         }
     }
 }

@@ -2,6 +2,7 @@
 
 //! The tiers above the first one.
 
+use crate::memory::{AllocError, One, TryQueue, TryVec};
 use crate::queue::search::{Numbered, put_at, search_in};
 use crate::queue::tiers::Noted;
 use alloc::collections::VecDeque;
@@ -10,6 +11,16 @@ use core::mem;
 
 /// The largest number of items in a tier.
 pub(super) const TIER: usize = 1_024;
+
+/// The tiers above the first one. All are full, except the last one.
+#[derive(Debug)]
+pub(super) struct Above<T> {
+    pub(super) tiers: Vec<VecDeque<T>>,
+    /// An empty tier, for the next one that is needed.
+    pub(super) spare: Option<VecDeque<T>>,
+    /// The number of items in the tiers.
+    pub(super) count: usize,
+}
 
 /// Returns the last item of these tiers.
 #[cold]
@@ -131,4 +142,115 @@ pub(super) fn search_tiers<T: Numbered>(tiers: &Vec<VecDeque<T>>, number: u64) -
         }
     }
     low * TIER + search_in(&tiers[low], number)
+}
+
+/// Returns the last item of the tiers above the first one.
+#[cold]
+#[inline(never)]
+pub(super) fn last_above<T>(above: &Option<One<Above<T>>>) -> Option<&T> {
+    match above {
+        Some(above) if above.tiers.len() > 0 => last_of(&above.tiers),
+        _ => None,
+    }
+}
+
+/// Returns the item at a place in the tiers above the first one.
+#[cold]
+#[inline(never)]
+pub(super) fn item_above<T>(above: &Option<One<Above<T>>>, place: usize) -> &T {
+    match above {
+        Some(above) => item_of(&above.tiers, place),
+        None => unreachable!(),
+    }
+}
+
+/// Writes a note into the item at a place in the tiers above the first one.
+#[cold]
+#[inline(never)]
+pub(super) fn note_above<N, T: Noted<N>>(above: &mut Option<One<Above<T>>>, place: usize, note: N) {
+    match above {
+        Some(above) => note_in(&mut above.tiers, place, note),
+        None => unreachable!(),
+    }
+}
+
+/// Inserts an item at a place in the first tier, which is full, or above it.
+fn insert_into<T>(first: &mut VecDeque<T>, above: &mut Above<T>, place: usize, item: T) {
+    let count = above.count;
+    above.count += 1;
+    open_tier(&mut above.tiers, &mut above.spare, count);
+    put_far(first, &mut above.tiers, place, item);
+}
+
+/// Inserts an item at a place in the first tier, which is full, or above it.
+#[inline(never)]
+pub(super) fn insert_above<T>(
+    first: &mut VecDeque<T>,
+    above: &mut Option<One<Above<T>>>,
+    place: usize,
+    item: T,
+) {
+    match above {
+        Some(above) => insert_into(first, above, place, item),
+        None => unreachable!(),
+    }
+}
+
+/// Makes the next tier the first one, which has no items left, if there is another tier.
+fn refill_from<T>(first: &mut VecDeque<T>, above: &mut Above<T>) {
+    if above.tiers.len() > 0 {
+        refill(first, &mut above.tiers, &mut above.spare);
+        above.count -= first.len();
+    }
+}
+
+/// Does the same if there are tiers above the first one.
+#[cold]
+#[inline(never)]
+pub(super) fn refill_above<T>(first: &mut VecDeque<T>, above: &mut Option<One<Above<T>>>) {
+    if let Some(above) = above {
+        refill_from(first, above);
+    }
+}
+
+/// Finds memory for a spare tier, if there is none.
+fn find_tier<T>(above: &mut Above<T>) -> Result<(), AllocError> {
+    if above.spare.is_some() {
+        return Ok(());
+    }
+    above.tiers.try_room(1)?;
+    let mut tier = VecDeque::new();
+    tier.try_exact(TIER)?;
+    above.spare = Some(tier);
+    Ok(())
+}
+
+/// Finds memory for a full first tier, and for a spare tier.
+#[inline(never)]
+pub(super) fn find_spare<T>(
+    first: &mut VecDeque<T>,
+    above: &mut Option<One<Above<T>>>,
+) -> Result<(), AllocError> {
+    first.try_exact(TIER - first.len())?;
+    match above {
+        Some(above) => find_tier(above),
+        None => {
+            let mut made = Above {
+                tiers: Vec::new(),
+                spare: None,
+                count: 0,
+            };
+            find_tier(&mut made)?;
+            *above = Some(One::try_new(made)?);
+            Ok(())
+        }
+    }
+}
+
+/// Returns how many items in the tiers above the first one have a lower number.
+pub(super) fn search_above<T: Numbered>(above: &Option<One<Above<T>>>, number: u64) -> usize {
+    match above {
+        Some(above) => search_tiers(&above.tiers, number),
+        None => unreachable!(),
+    }
 }

@@ -2,13 +2,13 @@
 
 //! A queue in tiers of at most 1,024 items.
 
-use crate::memory::{AllocError, TryQueue, TryVec};
+use crate::memory::{AllocError, One, TryQueue};
 use crate::queue::above::{
-    TIER, item_of, last_of, note_in, open_tier, put_far, refill, search_tiers,
+    Above, TIER, find_spare, insert_above, item_above, last_above, note_above, refill_above,
+    search_above,
 };
 use crate::queue::search::{Numbered, put_at, search_in};
 use alloc::collections::VecDeque;
-use alloc::vec::Vec;
 
 /// The smallest number of items for which a queue keeps memory.
 const KEPT: usize = 64;
@@ -26,11 +26,8 @@ pub trait Noted<N> {
 #[derive(Debug)]
 pub struct TieredQueue<T: Numbered> {
     first: VecDeque<T>,
-    rest: Vec<VecDeque<T>>,
-    /// An empty tier, for the next one that is needed.
-    spare: Option<VecDeque<T>>,
-    /// The number of items.
-    count: usize,
+    /// The tiers above the first one, in memory that only a queue of more than 1,024 items allocates.
+    above: Option<One<Above<T>>>,
 }
 
 impl<T: Numbered> TieredQueue<T> {
@@ -38,16 +35,17 @@ impl<T: Numbered> TieredQueue<T> {
     pub fn new() -> Self {
         TieredQueue {
             first: VecDeque::new(),
-            rest: Vec::new(),
-            spare: None,
-            count: 0,
+            above: None,
         }
     }
 
     /// Returns the number of items.
     #[inline(always)]
     pub fn len(&self) -> usize {
-        self.count
+        match &self.above {
+            Some(above) => self.first.len() + above.count,
+            None => self.first.len(),
+        }
     }
 
     /// Returns the first item.
@@ -59,10 +57,9 @@ impl<T: Numbered> TieredQueue<T> {
     /// Returns the last item.
     #[inline(always)]
     pub fn back(&self) -> Option<&T> {
-        if self.rest.is_empty() {
-            self.first.back()
-        } else {
-            last_of(&self.rest)
+        match &self.above {
+            Some(_) if self.len() > self.first.len() => last_above(&self.above),
+            _ => self.first.back(),
         }
     }
 
@@ -72,7 +69,7 @@ impl<T: Numbered> TieredQueue<T> {
         if place < self.first.len() {
             &self.first[place]
         } else {
-            item_of(&self.rest, place - self.first.len())
+            item_above(&self.above, place - self.first.len())
         }
     }
 
@@ -85,7 +82,7 @@ impl<T: Numbered> TieredQueue<T> {
         if place < self.first.len() {
             self.first[place].note(note);
         } else {
-            note_in(&mut self.rest, place - self.first.len(), note);
+            note_above(&mut self.above, place - self.first.len(), note);
         }
     }
 
@@ -96,13 +93,11 @@ impl<T: Numbered> TieredQueue<T> {
     /// `AllocError`: out of memory. The items are unchanged.
     #[inline(always)]
     pub fn reserve(&mut self, count: usize) -> Result<(), AllocError> {
-        if self.rest.is_empty() && self.first.len() + count <= TIER {
-            return self.first.try_room(count);
+        if self.above.is_none() && self.first.len() + count <= TIER {
+            self.first.try_room(count)
+        } else {
+            find_spare(&mut self.first, &mut self.above)
         }
-        if self.spare.is_some() {
-            return Ok(());
-        }
-        self.find_spare()
     }
 
     /// Inserts an item at a place. Memory was found by [`TieredQueue::reserve`]. At most 512 items of one tier move, and one item of
@@ -111,24 +106,19 @@ impl<T: Numbered> TieredQueue<T> {
     pub fn insert(&mut self, place: usize, item: T) {
         if place <= self.first.len() && self.first.len() < TIER {
             put_at(&mut self.first, place, item);
-            self.count += 1;
         } else {
-            let above = self.count - self.first.len();
-            self.count += 1;
-            open_tier(&mut self.rest, &mut self.spare, above);
-            put_far(&mut self.first, &mut self.rest, place, item);
+            insert_above(&mut self.first, &mut self.above, place, item);
         }
     }
 
     /// Removes the first item. No other item moves. If the first tier has no items left, the places of the other tiers move.
     #[inline(always)]
     pub fn pop_front(&mut self) -> Option<T> {
-        let item = self.first.pop_front()?;
-        self.count -= 1;
-        if self.first.is_empty() && !self.rest.is_empty() {
-            refill(&mut self.first, &mut self.rest, &mut self.spare);
+        let item = self.first.pop_front();
+        if self.above.is_some() && self.first.is_empty() {
+            refill_above(&mut self.first, &mut self.above);
         }
-        Some(item)
+        item
     }
 
     /// Gives memory back, if one tier is left that is at most a quarter full: down to twice its items, or room for 64.
@@ -149,29 +139,16 @@ impl<T: Numbered> TieredQueue<T> {
         }
     }
 
-    /// Finds memory for a spare tier.
-    #[cold]
-    #[inline(never)]
-    fn find_spare(&mut self) -> Result<(), AllocError> {
-        self.first.try_exact(TIER - self.first.len())?;
-        self.rest.try_room(1)?;
-        let mut tier = VecDeque::new();
-        tier.try_exact(TIER)?;
-        self.spare = Some(tier);
-        Ok(())
-    }
-
     /// Gives memory back, if one tier is left.
     #[cold]
     #[inline(never)]
     fn shrink(&mut self) {
-        if !self.rest.is_empty() {
+        if self.len() > self.first.len() {
             return;
         }
         self.first
             .shrink_if_possible((2 * self.first.len()).max(KEPT));
-        self.rest = Vec::new();
-        self.spare = None;
+        self.above = None;
     }
 
     /// Returns how many items have a lower number. The first item is inspected, then the place that is as far from the end as
@@ -218,7 +195,7 @@ impl<T: Numbered> TieredQueue<T> {
         if number <= self.first[len - 1].number() {
             search_in(&self.first, number)
         } else {
-            len + search_tiers(&self.rest, number)
+            len + search_above(&self.above, number)
         }
     }
 }
