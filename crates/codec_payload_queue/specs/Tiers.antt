@@ -82,7 +82,7 @@ IsNext (Some a) = IsSpare a.tiers a.spare
 abbrev pub room_of : {X : Type 0} → VecDeque X Global → Option (Above X) → ℕ
 room_of first above = room_at_end first (tiers_of above) + spare_room (spare_of above)
 
--- an invariant of all queues in tiers
+-- the tiers fit each other
 pub record IsTiered {X : Type 0} (first : VecDeque X Global) (above : Option (Above X)) : Type 0 where
   pub counted : count_of above ≡ length (in_tiers (tiers_of above))
   pub few : deque_len first ≤ 1024
@@ -92,3 +92,8 @@ pub record IsTiered {X : Type 0} (first : VecDeque X Global) (above : Option (Ab
   pub ready : 0 < spare_room (spare_of above) → 1024 ≤ deque_capacity first
   pub tiers : AreTiers 1 (tiers_of above)
   pub next : IsNext above
+
+-- an invariant of all queues in tiers
+pub record IsQueue {X : Type 0} (first : VecDeque X Global) (above : Option (Above X)) (count : ℕ) : Type 0 where
+  pub all : count ≡ length first.items + length (in_tiers (tiers_of above))
+  pub fit : IsTiered first above

@@ -35,17 +35,19 @@ pub struct TieredQueue<T: Numbered + Drop> {
     first: VecDeque<T>,
     /// The tiers above the first one, in memory that only a queue of more than 1,024 items allocates.
     above: Option<Box<Above<T>>>,
+    /// The number of all items.
+    count: usize,
 }
 
 impl<T: Numbered + Drop> Model for TieredQueue<T> {
     ghost use Rattle.std.specs.Prelude.{◌++◌, option_map};
-    ghost use Rattle.codec_payload_queue.specs.Tiers.{IsTiered, Queue, in_tiers, room_of, tiers_of};
+    ghost use Rattle.codec_payload_queue.specs.Tiers.{IsQueue, Queue, in_tiers, room_of, tiers_of};
 
     ghost Value = { Queue T };
 
     ghost view = { λ q. record { items = q.first.items ++ in_tiers (tiers_of (option_map (λ b. b.value) q.above)); room = room_of q.first (option_map (λ b. b.value) q.above) } };
 
-    ghost invariant = { λ q. IsTiered q.first (option_map (λ b. b.value) q.above) };
+    ghost invariant = { λ q. IsQueue q.first (option_map (λ b. b.value) q.above) q.count };
 }
 
 impl<T: Numbered + Drop> TieredQueue<T> {
@@ -56,6 +58,7 @@ impl<T: Numbered + Drop> TieredQueue<T> {
         TieredQueue {
             first: VecDeque::new(alloc),
             above: None,
+            count: 0,
         }
     }
 
@@ -69,10 +72,7 @@ impl<T: Numbered + Drop> TieredQueue<T> {
     pub fn len(&self) -> usize
         ensures { result ≡ length self.now.items }
     {
-        match &self.above {
-            Some(above) => self.first.len() + above.count,
-            None => self.first.len(),
-        }
+        self.count
     }
 
     /// Returns the first item.
@@ -154,6 +154,7 @@ impl<T: Numbered + Drop> TieredQueue<T> {
         ensures items { self.new.items ≡ insert self.old.items place item }
         ensures room { self.old.room ≤ self.new.room + 1 }
     {
+        self.count += 1;
         if place <= self.first.len() && self.first.len() < TIER {
             put_at(&mut self.first, place, item);
         } else {
@@ -168,11 +169,12 @@ impl<T: Numbered + Drop> TieredQueue<T> {
         ensures variant { IsSome result ↔ (0 < length self.old.items) }
         ensures room { self.old.room ≤ self.new.room }
     {
-        let item = self.first.pop_front();
+        let item = self.first.pop_front()?;
+        self.count -= 1;
         if self.above.is_some() && self.first.is_empty() {
             refill_above(&mut self.first, &mut self.above);
         }
-        item
+        Some(item)
     }
 
     /// Gives memory back, if one tier is left that is at most a quarter full: down to twice its items, or room for 64.
