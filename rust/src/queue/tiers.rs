@@ -4,7 +4,7 @@
 
 use crate::memory::{AllocError, TryQueue, TryVec};
 use crate::queue::above::{
-    TIER, item_of, last_of, note_in, open_tier, put_far, refill, search_tiers,
+    TIER, item_of, last_of, note_in, open_tier, put_far, refill, search_tiers, tier_above,
 };
 use crate::queue::search::{Numbered, put_at, search_in};
 use alloc::collections::VecDeque;
@@ -73,6 +73,16 @@ impl<T: Numbered> TieredQueue<T> {
             &self.first[place]
         } else {
             item_of(&self.rest, place - self.first.len())
+        }
+    }
+
+    /// Returns the tier that holds the item at a place, and the place in that tier. It is for loops over many items.
+    #[inline(always)]
+    pub fn tier_of(&self, place: usize) -> (&VecDeque<T>, usize) {
+        if place < self.first.len() {
+            (&self.first, place)
+        } else {
+            tier_above(&self.rest, place - self.first.len())
         }
     }
 
