@@ -1,6 +1,6 @@
 -- The lowest of all frames, after one more was noted.
 use Rattle.std.proofs.Common.{◌≡◌, ℕ, zero, suc, ◌<◌, ◌≤◌, ◌+◌, ◌-◌, [], ◌∷◌, ◌++◌, ◌||◌, List, length, get_or, take, drop, refl, ap, sym, ◌∙◌, arith, Bool, true, false, cond, ltb, leb, eqb}
-use Rattle.std.specs.Prelude.{not}
+use Rattle.std.specs.Prelude.{min, not}
 use Rattle.std.specs.List.{insert}
 use Rattle.std.proofs.lemmas.Bool.Decides.{nat_tests}
 use Rattle.std.proofs.lemmas.List.{take-append-drop, take-append-le, length-take}
@@ -88,9 +88,38 @@ lowest_more f all known new lowest same at is =
     let noted_is : new ≡ noted f all = is ∙ sym (noted_last f known at) ∙ ap (noted f) whole in
     noted_is ∙ sym (take-length (noted f all)) ∙ ap (λ (xs : List CompleteFrame). take (length xs) (noted f all)) (sym noted_is)
 
--- the frames that were read, in front of the frames still to read
-pub lowest_read : (all known rest : List CompleteFrame) → known ++ rest ≡ all → known ≡ take (length known) all
-lowest_read all known rest whole = sym (take-append_seam known rest) ∙ ap (take (length known)) whole
+-- at most so many frames, where more come behind them
+pub take_of_take : (n : ℕ) (xs ys : List CompleteFrame) → take n (take n xs ++ ys) ≡ take n (xs ++ ys)
+take_of_take zero xs ys = refl
+take_of_take (suc n) [] ys = refl
+take_of_take (suc n) (x ∷ xs) ys = ap (λ (zs : List CompleteFrame). x ∷ zs) (take_of_take n xs ys)
+
+pub take_all : (n : ℕ) (xs : List CompleteFrame) → length xs ≤ n → take n xs ≡ xs
+take_all zero [] le = refl
+take_all zero (x ∷ xs) le = absurd (omega arith)
+take_all (suc n) [] le = refl
+take_all (suc n) (x ∷ xs) le = ap (λ (zs : List CompleteFrame). x ∷ zs) (take_all n xs (omega arith))
+
+-- so many frames are known
+pub take_known : (n : ℕ) (xs ys : List CompleteFrame) → length xs ≡ n → take n (xs ++ ys) ≡ xs
+take_known n xs ys long = ap (λ m. take m (xs ++ ys)) (sym long) ∙ take-append_seam xs ys
+
+-- the first n of all frames, by their own number
+pub lowest_taken : (n : ℕ) (known all : List CompleteFrame) → known ≡ take n all → known ≡ take (length known) all
+lowest_taken n known all is = is ∙ lowest n all ∙ ap (λ (ks : List CompleteFrame). take (length ks) all) (sym is)
+  where
+    lowest : (n : ℕ) (all : List CompleteFrame) → take n all ≡ take (length (take n all)) all
+    lowest zero all = refl
+    lowest (suc n) [] = refl
+    lowest (suc n) (f ∷ fs) = ap (λ (zs : List CompleteFrame). f ∷ zs) (lowest n fs)
+
+-- as many of the lowest frames as there is room for
+pub kept_lowest : (all known : List CompleteFrame) (ready room n : ℕ) → ready ≡ length all → n ≡ min ready room → 0 < room → known ≡ take n all → AreKept all ready known
+kept_lowest all known ready room n count wanted some is = record {
+  count = count;
+  lowest = lowest_taken n known all is;
+  some = λ l. omega (arith, l, ap length is, length-take n all, count, wanted, some);
+}
 
 -- an insertion into the lowest frames
 pub insert_take : (ks : List CompleteFrame) (k m : ℕ) (f : CompleteFrame) → k ≤ m → m ≤ length ks → insert (take m ks) k f ≡ take (suc m) (insert ks k f)

@@ -1,5 +1,5 @@
 -- The complete frames, as noted in the packets at their ends.
-use Rattle.std.proofs.Common.{◌≡◌, ℕ, zero, suc, ◌<◌, ◌≤◌, ◌+◌, ◌-◌, [], ◌∷◌, List, length, get_or, map, take, drop, subst, refl, ap, sym, ◌∙◌, arith, Bool, true, false, cond, Option, Some, None, ltb, eqb}
+use Rattle.std.proofs.Common.{◌≡◌, ℕ, zero, suc, ◌<◌, ◌≤◌, ◌+◌, ◌-◌, [], ◌∷◌, ◌++◌, List, length, get_or, map, take, drop, subst, refl, ap, sym, ◌∙◌, arith, Bool, true, false, cond, Option, Some, None, ltb, eqb}
 use Rattle.std.specs.Prelude.{not, IfSome}
 use Rattle.std.specs.Option.{is_some}
 use Rattle.std.specs.List.{insert}
@@ -99,6 +99,15 @@ frames_are_told xs rises told =
 pub all_told : (rest : List HeldPacket) → length rest ≡ 0 → length (frames_told rest) ≡ 0
 all_told [] none = refl
 all_told (x ∷ xs) none = absurd (omega arith)
+
+with_frames : (o : Option CompleteFrame) (fs gs : List CompleteFrame) → with_frame o (fs ++ gs) ≡ with_frame o fs ++ gs
+with_frames None fs gs = refl
+with_frames (Some f) fs gs = refl
+
+-- the frames of one part of the packets, and those of the other part
+pub told_parts : (xs ys : List HeldPacket) → frames_told (xs ++ ys) ≡ frames_told xs ++ frames_told ys
+told_parts [] ys = refl
+told_parts (x ∷ xs) ys = ap (with_frame (frame_told x)) (told_parts xs ys) ∙ with_frames (frame_told x) (frames_told xs) (frames_told ys)
 
 -- Whether a frame ends at a number
 

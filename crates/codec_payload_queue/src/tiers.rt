@@ -1,14 +1,15 @@
 //! A queue in tiers of at most 1,024 items.
 
-ghost use Rattle.std.specs.Prelude.{◌≡◌, ◌<◌, ◌≤◌, ◌+◌, ◌-◌, ◌++◌, [], length, OnOk, IfSome, IsSome, ◌↔◌, slice_index_or};
+ghost use Rattle.std.specs.Prelude.{◌≡◌, ◌<◌, ◌≤◌, ◌+◌, ◌-◌, ◌++◌, [], drop, length, OnOk, IfSome, IsSome, ◌↔◌, slice_index_or};
 ghost use Rattle.std.specs.Option.{option_to_list};
 ghost use Rattle.std.specs.List.{insert};
 ghost use Rattle.std.specs.List.Sorted.{IsNonDecreasingBy, IsPartitionPoint};
+ghost use Rattle.std.specs.VecDeque.{deque_len};
 ghost use Rattle.codec_payload_queue.specs.Tiers.{IsNotedAt};
 
 use crate::above::{
     Above, TIER, find_spare, insert_above, item_above, last_above, note_above, refill_above,
-    search_above,
+    search_above, tier_above,
 };
 use crate::search::{Numbered, put_at, search_in};
 use std::alloc::{AllocError, Global};
@@ -106,6 +107,20 @@ impl<T: Numbered + Drop> TieredQueue<T> {
             &self.first[place]
         } else {
             item_above(&self.above, place - self.first.len())
+        }
+    }
+
+    /// Returns the tier that holds the item at a place, and the place in that tier. It is for loops over many items.
+    #[inline(always)]
+    pub fn tier_of(&self, place: usize) -> (&VecDeque<T>, usize)
+        requires { place < length self.now.items }
+        ensures within { result.1 < deque_len result.0.now }
+        ensures part { drop place self.now.items ≡ drop result.1 result.0.now.items ++ drop (place + (deque_len result.0.now - result.1)) self.now.items }
+    {
+        if place < self.first.len() {
+            (&self.first, place)
+        } else {
+            tier_above(&self.above, place - self.first.len())
         }
     }
 

@@ -119,6 +119,24 @@ pub(super) fn note(complete: &mut CompleteFrames, frame: Option<CompleteFrame>, 
     }
 }
 
+/// Reads the frames of the packets of one tier, from a place on, until so many frames are known.
+#[inline(always)]
+fn read_tier(
+    known: &mut VecDeque<CompleteFrame>,
+    wanted: usize,
+    tier: &VecDeque<HeldPacket>,
+    from: usize,
+) {
+    for packet in tier.range(from..) {
+        if known.len() == wanted {
+            return;
+        }
+        if let Some(frame) = frame_to(packet) {
+            known.push_back(frame);
+        }
+    }
+}
+
 /// Reads the lowest frames from the packets, as many as there is room for. Allocates nothing.
 #[inline(never)]
 fn read_known(
@@ -127,13 +145,11 @@ fn read_known(
     packets: &TieredQueue<HeldPacket>,
 ) {
     let wanted = ready.min(known.capacity());
-    for place in 0..packets.len() {
-        if known.len() == wanted {
-            return;
-        }
-        if let Some(frame) = frame_to(packets.at(place)) {
-            known.push_back(frame);
-        }
+    let mut place = 0;
+    while place < packets.len() && known.len() < wanted {
+        let (tier, from) = packets.tier_of(place);
+        read_tier(known, wanted, tier, from);
+        place += tier.len() - from;
     }
 }
 

@@ -36,6 +36,13 @@ pub(super) fn item_of<T>(tiers: &Vec<VecDeque<T>>, place: usize) -> &T {
     &tiers[place / TIER][place % TIER]
 }
 
+/// Returns the tier that holds the item at a place in these tiers, and the place in that tier.
+#[cold]
+#[inline(never)]
+pub(super) fn tier_above<T>(tiers: &Vec<VecDeque<T>>, place: usize) -> (&VecDeque<T>, usize) {
+    (&tiers[place / TIER], place % TIER)
+}
+
 /// Writes a note into the item at a place in these tiers.
 #[cold]
 #[inline(never)]

@@ -1,11 +1,11 @@
 //! The complete frames among the held packets: their number, and the lowest of them.
 
-ghost use Rattle.std.specs.Prelude.{◌≡◌, ◌≤◌, ◌<◌, ◌+◌, ◌∷◌, IfSome, OnOk, List, [], length, map, nat_lt, not, take};
+ghost use Rattle.std.specs.Prelude.{◌≡◌, ◌≤◌, ◌<◌, ◌+◌, ◌++◌, ◌∷◌, IfSome, OnOk, List, [], drop, length, map, nat_lt, not, take};
 ghost use Rattle.std.specs.VecDeque.{deque_len, deque_capacity};
 ghost use Rattle.codec_payload_buffer.specs.Ends.{mark_of, AreTold};
 ghost use Rattle.codec_payload_buffer.specs.Frames.{frames};
 ghost use Rattle.codec_payload_buffer.specs.Held.{held_of, Rises};
-ghost use Rattle.codec_payload_buffer.specs.KnownFrames.{AreKept, has_end};
+ghost use Rattle.codec_payload_buffer.specs.KnownFrames.{AreKept, frames_told, has_end};
 ghost use Rattle.codec_payload_buffer.specs.Rows.{EndsRise, frame_of_row, frame_place, noted, noted_if, first_mended, rows};
 ghost use Rattle.codec_payload_buffer.specs.Scan.{first_of};
 ghost use Rattle.codec_payload_buffer.specs.declared.buffer.frames.CompleteFrame.{CompleteFrame as Frame};
@@ -166,6 +166,30 @@ pub(super) fn note(complete: &mut CompleteFrames, frame: Option<CompleteFrame>, 
     }
 }
 
+/// Reads the frames of the packets of one tier, from a place on, until so many frames are known.
+#[inline(always)]
+fn read_tier(
+    known: &mut VecDeque<CompleteFrame>,
+    wanted: usize,
+    tier: &VecDeque<HeldPacket>,
+    from: usize,
+)
+    requires from { from ≤ deque_len tier.now }
+    requires few { length known.old.items ≤ wanted }
+    requires room { wanted ≤ deque_capacity known.old }
+    ensures items { known.new.items ≡ take wanted (known.old.items ++ frames_told (drop from tier.now.items)) }
+    ensures capacity { deque_capacity known.old ≤ deque_capacity known.new }
+{
+    for packet in tier.range(from..) {
+        if known.len() == wanted {
+            return;
+        }
+        if let Some(frame) = frame_to(packet) {
+            known.push_back_reserved(frame);
+        }
+    }
+}
+
 /// Reads the lowest frames from the packets, as many as there is room for. Allocates nothing.
 #[inline(never)]
 fn read_known(known: &mut VecDeque<CompleteFrame>, ready: usize, packets: &TieredQueue<HeldPacket>)
@@ -178,13 +202,11 @@ fn read_known(known: &mut VecDeque<CompleteFrame>, ready: usize, packets: &Tiere
     ensures capacity { deque_capacity known.old ≤ deque_capacity known.new }
 {
     let wanted = ready.min(known.capacity());
-    for place in 0..packets.len() {
-        if known.len() == wanted {
-            return;
-        }
-        if let Some(frame) = frame_to(packets.at(place)) {
-            known.push_back_reserved(frame);
-        }
+    let mut place = 0;
+    while place < packets.len() && known.len() < wanted {
+        let (tier, from) = packets.tier_of(place);
+        read_tier(known, wanted, tier, from);
+        place += tier.len() - from;
     }
 }
 
