@@ -80,11 +80,11 @@ pub(crate) struct RedStream {
 #[derive(Debug, Drop)]
 pub(crate) struct StreamKinds {
     pub(crate) alloc: Global,
-    pub(crate) payload_type: u8,
     pub(crate) no_media: Vec<u8>,
     pub(crate) red: Option<RedStream>,
     pub(crate) retransmission: Option<Retransmission>,
     pub(crate) ids: ExtensionIds,
+    pub(crate) payload_type: u8,
 }
 
 impl Model for StreamKinds {

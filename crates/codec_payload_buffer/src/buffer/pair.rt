@@ -71,7 +71,7 @@ impl<B: Depacketizer> DepacketizingBuffer<B> {
             &mut self.spare,
             Bounds {
                 cutoff: self.cutoff,
-                limit: self.limit,
+                limit: self.limit as usize,
             },
             first,
         );
@@ -83,7 +83,7 @@ impl<B: Depacketizer> DepacketizingBuffer<B> {
             &mut self.spare,
             Bounds {
                 cutoff: self.cutoff,
-                limit: self.limit,
+                limit: self.limit as usize,
             },
             second,
         );
