@@ -5,8 +5,10 @@
   scripts/rust_speed.py [--fallible] --sessions
   scripts/rust_speed.py [--fallible] --orders
   scripts/rust_speed.py [--fallible] --buffer
+  scripts/rust_speed.py [--fallible] --receiver
 
-With --buffer it prints the instructions of a push and a pop (tools/speed/src/bin/buffer.rs). With --sessions it prints what a datagram takes in a session beside a receiver alone (tools/speed/src/bin/session.rs). With
+With --buffer it prints the instructions of a push and a pop (tools/speed/src/bin/buffer.rs), with --receiver those of a datagram in a
+receiver. With --sessions it prints what a datagram takes in a session beside a receiver alone (tools/speed/src/bin/session.rs). With
 --orders it prints times of packets in orders of arrival, and the memory of held packets (tools/speed/src/bin/orders.rs).
 Needs cargo, and valgrind for instructions. Times depend on the machine and on what else runs on it; instructions do not.
 """
@@ -28,6 +30,9 @@ WAYS = {"into": "`push`, `pop_into`", "unit": "`push`, `pop_unit`", "packed": "`
 ROUNDS = 12
 # The streams and the hostile datagrams of tools/speed/src/bin/session.rs.
 KINDS = {"audio": "Opus", "video": "VP8", "requests": "VP8, requests"}
+POPS = {"bare": "`pop`", "into": "`pop_into`", "unit": "`pop_unit`", "once": "one `pop_into`"}
+# Settings of a build, as variables for cargo.
+BUILDS = {"as cargo builds it": {}, "`codegen-units = 1`": {"CODEGEN_UNITS": "1"}, "and `lto = \"fat\"`": {"CODEGEN_UNITS": "1", "LTO": "fat"}}
 HOSTILE = {"goodbyes": "300 BYEs of nobody, 1,200 bytes", "strays": "a packet of a new SSRC, all places taken"}
 
 
@@ -81,6 +86,17 @@ def print_buffer():
             print(f"| {name} | {held:,} | " + " | ".join(f"{of_packet(way, order, held):,.0f}" for way in WAYS) + " |", flush=True)
 
 
+def print_receiver(features):
+    print("| packets | build | " + " | ".join(POPS.values()) + " |")
+    print("|---" * (2 + len(POPS)) + "|")
+    for build, variables in BUILDS.items():
+        settings = {f"CARGO_PROFILE_RELEASE_{name}": value for name, value in variables.items()}
+        subprocess.run(["cargo", "build", "--offline", "--quiet", "--release", *features], cwd=SPEED, check=True, env=os.environ | settings)
+        for kind in "audio", "video":
+            cells = " | ".join(f"{of_datagram(way, kind, 1):,.0f}" for way in POPS)
+            print(f"| {KINDS[kind]} | {build} | {cells} |", flush=True)
+
+
 def print_orders():
     print("| order | held | copy, ns | buffer, ns | over a copy | earlier form, ns | map, ns |")
     print("|---" * 7 + "|", flush=True)
@@ -98,6 +114,9 @@ def time_of(program, codec, size, call):
 def main(words):
     features = ["--features", "codec-payload/fallible"] if "--fallible" in words else []
     subprocess.run(["cargo", "build", "--offline", "--quiet", "--release", *features], cwd=SPEED, check=True)
+    if "--receiver" in words:
+        print_receiver(features)
+        return 0
     for word, prints in ("--sessions", print_sessions), ("--orders", print_orders), ("--buffer", print_buffer):
         if word in words:
             prints()

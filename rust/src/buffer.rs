@@ -67,11 +67,12 @@ pub struct DepacketizingBuffer<B = NoBox> {
     cutoff: Option<u64>,
     /// Whether a packet was evicted since the latest released unit.
     evicted: bool,
+    /// The largest number of held packets.
+    limit: u32,
     /// The picture ids of the latest released unit, for the decision on the next one.
     contiguity: Contiguity,
     depacketizer: CodecDepacketizer<B>,
     hold_back: usize,
-    limit: usize,
 }
 
 impl<B: Depacketizer> DepacketizingBuffer<B> {
@@ -83,12 +84,12 @@ impl<B: Depacketizer> DepacketizingBuffer<B> {
 
     /// Creates an empty buffer with room for `limit` packets, 1 to 65,536. Allocates nothing.
     ///
-    /// Memory grows with the held packets, and shrinks again: a queue that is at most a quarter full shrinks to twice its
-    /// contents, or to 64 entries. The buffer keeps at most 16 memory blocks of 128 bytes for later packets, without payloads,
-    /// and a list of the lowest 64 complete frames at most.
+    /// Memory grows with the held packets, and shrinks again: the queue of packets, if at most 1,024 are held and it is at most a
+    /// quarter full, shrinks to twice its contents, or to 64 entries. The buffer keeps at most 16 memory blocks of 128 bytes for
+    /// later packets, without payloads, and a list of the lowest 64 complete frames at most.
     ///
-    /// A sender chooses the numbers of its packets. A packet far from both ends of the held numbers moves up to half of all
-    /// entries ([`DepacketizingBuffer::push`]), so choose `limit` no larger than reordering needs.
+    /// A sender chooses the numbers of its packets, so it chooses the cost of a push ([`DepacketizingBuffer::push`]) and of a pop
+    /// ([`DepacketizingBuffer::pop`]). Choose `limit` no larger than reordering needs.
     ///
     /// # Panics
     ///
@@ -107,7 +108,7 @@ impl<B: Depacketizer> DepacketizingBuffer<B> {
             contiguity: Contiguity::of(&depacketizer),
             depacketizer,
             hold_back,
-            limit,
+            limit: limit as u32,
         }
     }
 
@@ -116,12 +117,14 @@ impl<B: Depacketizer> DepacketizingBuffer<B> {
     ///
     /// It allocates one block of at most 128 bytes for the packet, unless a block of an earlier packet can be reused. It
     /// allocates one more block for rare values (a capture time, a timing, values of a sender report), and one for a layers
-    /// allocation. If the queues are full, it allocates queues of twice the size.
+    /// allocation. If the queues are full, it allocates queues of twice the size; above 1,024 held packets, 16 kB for each
+    /// further 1,024.
     ///
     /// The cost does not grow with the number of held packets if packets arrive in order, in reverse order, or near either end
-    /// of the held numbers. Far from both ends the entries of the shorter side move, 16 bytes for each packet, up to half of
-    /// all. Payloads and frames never move, and no list of packets is walked. An eviction may search for the next packet that
-    /// begins a unit; this inspects each packet at most twice over its lifetime. An eviction may read frames, as a pop does.
+    /// of the held numbers. Far from both ends at most 512 entries of 16 bytes move, and one entry for each 1,024 held packets
+    /// above. The place is found by a binary search. Payloads and frames never move, and no list of packets is walked. An
+    /// eviction may search for the next packet that begins a unit; this inspects each packet at most twice over its lifetime. An
+    /// eviction may read frames, as a pop does.
     ///
     /// # Errors
     ///
@@ -156,7 +159,7 @@ impl<B: Depacketizer> DepacketizingBuffer<B> {
         if is_at(&self.packets, place, number) {
             return Ok(Placed::Duplicate);
         }
-        let placed = placed_among(&self.packets, self.limit);
+        let placed = placed_among(&self.packets, self.limit as usize);
         let head = self.depacketizer.is_partition_head(&data);
         let tail = self.depacketizer.is_partition_tail(meta.marker(), &data);
         self.packets.reserve(1)?;
@@ -166,7 +169,7 @@ impl<B: Depacketizer> DepacketizingBuffer<B> {
         let is_new = is_new_end(&self.packets, place, &entry, &row);
         place_at(&mut self.packets, place, entry, row);
         note(&mut self.complete, frame_of(&row), is_new);
-        if self.packets.len() > self.limit {
+        if self.packets.len() > self.limit as usize {
             let (number, before, after) = evict(&mut self.packets, &mut self.spare);
             mend_first(&mut self.complete, before, after, &self.packets);
             self.cutoff = Some(number);
@@ -224,7 +227,7 @@ impl<B: Depacketizer> DepacketizingBuffer<B> {
 
     /// Returns the largest number of held packets, 1 to 65,536. No call changes it.
     pub fn limit(&self) -> usize {
-        self.limit
+        self.limit as usize
     }
 
     /// Returns the number of complete frames, due or not. Allocates nothing; the cost does not grow with the number of packets.

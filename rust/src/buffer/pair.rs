@@ -53,7 +53,7 @@ impl<B: Depacketizer> DepacketizingBuffer<B> {
             &mut self.spare,
             Bounds {
                 cutoff: self.cutoff,
-                limit: self.limit,
+                limit: self.limit as usize,
             },
             first,
         );
@@ -65,7 +65,7 @@ impl<B: Depacketizer> DepacketizingBuffer<B> {
             &mut self.spare,
             Bounds {
                 cutoff: self.cutoff,
-                limit: self.limit,
+                limit: self.limit as usize,
             },
             second,
         );

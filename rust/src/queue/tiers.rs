@@ -5,7 +5,7 @@
 use crate::memory::{AllocError, One, TryQueue};
 use crate::queue::above::{
     Above, TIER, find_spare, insert_above, item_above, last_above, note_above, refill_above,
-    search_above,
+    search_above, tier_above,
 };
 use crate::queue::search::{Numbered, put_at, search_in};
 use alloc::collections::VecDeque;
@@ -28,6 +28,8 @@ pub struct TieredQueue<T: Numbered> {
     first: VecDeque<T>,
     /// The tiers above the first one, in memory that only a queue of more than 1,024 items allocates.
     above: Option<One<Above<T>>>,
+    /// The number of all items.
+    count: usize,
 }
 
 impl<T: Numbered> TieredQueue<T> {
@@ -36,16 +38,14 @@ impl<T: Numbered> TieredQueue<T> {
         TieredQueue {
             first: VecDeque::new(),
             above: None,
+            count: 0,
         }
     }
 
     /// Returns the number of items.
     #[inline(always)]
     pub fn len(&self) -> usize {
-        match &self.above {
-            Some(above) => self.first.len() + above.count,
-            None => self.first.len(),
-        }
+        self.count
     }
 
     /// Returns the first item.
@@ -70,6 +70,16 @@ impl<T: Numbered> TieredQueue<T> {
             &self.first[place]
         } else {
             item_above(&self.above, place - self.first.len())
+        }
+    }
+
+    /// Returns the tier that holds the item at a place, and the place in that tier. It is for loops over many items.
+    #[inline(always)]
+    pub fn tier_of(&self, place: usize) -> (&VecDeque<T>, usize) {
+        if place < self.first.len() {
+            (&self.first, place)
+        } else {
+            tier_above(&self.above, place - self.first.len())
         }
     }
 
@@ -104,6 +114,7 @@ impl<T: Numbered> TieredQueue<T> {
     /// each tier above it. At the end nothing moves.
     #[inline(always)]
     pub fn insert(&mut self, place: usize, item: T) {
+        self.count += 1;
         if place <= self.first.len() && self.first.len() < TIER {
             put_at(&mut self.first, place, item);
         } else {
@@ -114,11 +125,12 @@ impl<T: Numbered> TieredQueue<T> {
     /// Removes the first item. No other item moves. If the first tier has no items left, the places of the other tiers move.
     #[inline(always)]
     pub fn pop_front(&mut self) -> Option<T> {
-        let item = self.first.pop_front();
+        let item = self.first.pop_front()?;
+        self.count -= 1;
         if self.above.is_some() && self.first.is_empty() {
             refill_above(&mut self.first, &mut self.above);
         }
-        item
+        Some(item)
     }
 
     /// Gives memory back, if one tier is left that is at most a quarter full: down to twice its items, or room for 64.

@@ -72,11 +72,11 @@ pub(crate) struct RedStream {
 /// The settings by which a stream recognises its datagrams.
 #[derive(Debug)]
 pub(crate) struct StreamKinds {
-    pub(crate) payload_type: u8,
     pub(crate) no_media: Vec<u8>,
     pub(crate) red: Option<RedStream>,
     pub(crate) retransmission: Option<Retransmission>,
     pub(crate) ids: ExtensionIds,
+    pub(crate) payload_type: u8,
 }
 
 /// Returns whether the payload type is in the list.

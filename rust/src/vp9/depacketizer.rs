@@ -34,8 +34,6 @@ pub struct Vp9Depacketizer {
     pub v: bool,
     /// Whether upper spatial layers do without this frame.
     pub z: bool,
-    /// The last picture id that was read, of 7 or 15 bits.
-    pub picture_id: u16,
     /// The picture id, extended beyond the bits that were sent, modulo 2^64; `None` before one was read.
     pub extended_pid: Option<u64>,
     /// The temporal layer, 0 to 7, of the last descriptor that had one.
@@ -60,6 +58,8 @@ pub struct Vp9Depacketizer {
     pub g: bool,
     /// The number of pictures in a group.
     pub ng: u8,
+    /// The last picture id that was read, of 7 or 15 bits.
+    pub picture_id: u16,
     /// The widths of the spatial layers in pixels, from the last descriptor that had them.
     pub width: [Option<u16>; 3],
     /// The heights of the spatial layers in pixels, from the last descriptor that had them.

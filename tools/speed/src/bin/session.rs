@@ -3,7 +3,7 @@
 //!   session WAY KIND STREAMS COUNT
 //!
 //! - WAY: `bare` is one receiver for each stream, of which the one that got the datagram is popped until it has no unit. `unit`
-//!   is the same by `pop_unit`, `into` by `pop_into`. `poll` is a session that is polled until it has no event. `deadline` also asks for the next
+//!   is the same by `pop_unit`, `into` by `pop_into`. `once` is one `pop_into` after each datagram. `poll` is a session that is polled until it has no event. `deadline` also asks for the next
 //!   deadline then. `receive` is a session that is not polled.
 //! - KIND: `audio` is Opus, 120 bytes a packet. `video` is VP8, three packets of 1,000 bytes a frame. `requests` is the same
 //!   video, and the session requests what it misses; nothing is lost. After two packets of audio of each stream, `goodbyes` are
@@ -129,11 +129,14 @@ impl Load {
             }
             return;
         }
-        if way == "into" {
+        if way == "into" || way == "once" {
             let receiver = &mut self.receivers[place];
             receiver.receive(now, datagram).unwrap();
             while let Some(answer) = receiver.pop_into(now, &mut self.bytes, &mut self.metas) {
                 self.units += u64::from(answer.is_ok());
+                if way == "once" {
+                    break;
+                }
             }
             return;
         }
