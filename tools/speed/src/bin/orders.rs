@@ -212,6 +212,8 @@ fn time<F: Form>(order: Order, held: usize, numbers: &[u64]) -> f64 {
     if order == Order::Walks {
         form.push(count + 1_000 + 32 * held as u64, &frame);
     }
+    // The allocator joins the free blocks of earlier rounds now, and not while time is taken.
+    drop(black_box(Vec::<u8>::with_capacity(1 << 20)));
     let began = Instant::now();
     match order {
         Order::Ascending | Order::Junk => {
