@@ -768,3 +768,46 @@ fn pairs_of_a_session() {
     });
     assert!(refused >= 1, "{refused}");
 }
+
+/// A buffer of Opus with packets of these numbers.
+fn holding(numbers: impl Iterator<Item = u64>) -> DepacketizingBuffer {
+    let depacketizer = CodecDepacketizer::from_codec(Codec::Opus).unwrap();
+    let mut buffer = DepacketizingBuffer::with_limit(depacketizer, 9_000, 10_000);
+    for number in numbers {
+        push_number(&mut buffer, number).unwrap();
+    }
+    buffer
+}
+
+fn push_number(buffer: &mut DepacketizingBuffer, number: u64) -> Result<(), PacketError> {
+    let time = MediaTime::from_90khz(number);
+    let meta = RtpMeta::of(SeqNo(number), time, Pt::from(96), Ticks(number));
+    buffer.push(meta, Vec::new())
+}
+
+/// Above 1,024 packets the queue asks for tiers of 1,024 places, each before it is needed. A refused push changes nothing, and the
+/// next one stores the packet.
+#[test]
+fn tiers_of_a_queue() {
+    for held in [1_024, 1_025, 2_049] {
+        for number in [2 * held + 1, held + 1, 3] {
+            let make = || (holding((1..=held).map(|it| 2 * it)), Vec::with_capacity(1));
+            let count = refuse_each(
+                &format!("{number} beside {held} packets"),
+                make,
+                |(buffer, before): &mut (DepacketizingBuffer, Vec<usize>)| {
+                    let held = buffer.held();
+                    let end = end_of(push_number(buffer, number));
+                    let expected = held + usize::from(end == End::Done && before.is_empty());
+                    assert_eq!(buffer.held(), expected, "{number}");
+                    if end == End::Done {
+                        before.push(held);
+                    }
+                    assert_eq!(buffer.holds(SeqNo(number)), end == End::Done);
+                    end
+                },
+            );
+            assert!(count >= 2, "{count} allocations for {number} beside {held}");
+        }
+    }
+}

@@ -118,6 +118,8 @@ struct Both {
     bytes: [Vec<u8>; 2],
     metas: [Vec<RtpMeta>; 2],
     unit: PoppedUnit,
+    /// The largest number of packets that were held.
+    most: usize,
 }
 
 impl Both {
@@ -129,6 +131,7 @@ impl Both {
             bytes: [vec![], vec![]],
             metas: [vec![], vec![]],
             unit: PoppedUnit::new(),
+            most: 0,
         }
     }
 
@@ -136,6 +139,7 @@ impl Both {
         let now = self.now.store(meta.clone(), data.clone()).unwrap();
         let before = self.before.store(meta, data).unwrap();
         assert!(is_same(now, before), "{now:?} {before:?}");
+        self.most = self.most.max(self.now.held());
     }
 
     /// Whether a unit came.
@@ -191,25 +195,38 @@ impl Both {
     }
 }
 
-/// One schedule. Answers how many units came.
-fn round(random: &mut Random, operations: u64) -> u64 {
+/// One schedule, in which many packets are held if `is_large`. Returns how many units came, and the largest number of packets that
+/// were held.
+fn round(random: &mut Random, operations: u64, is_large: bool) -> (u64, usize) {
     let codec =
         [Codec::Opus, Codec::Vp8, Codec::Vp9, Codec::Av1, Codec::PCMU][random.below(5) as usize];
-    let most = [6, 70, 400, 5_000, 20_000][random.below(5) as usize];
+    let most = if is_large {
+        40_000
+    } else {
+        [6, 70, 400, 5_000, 20_000][random.below(5) as usize]
+    };
     let mut both = Both::of(
         codec,
         random.below(4) as usize,
         1 + random.below(most) as usize,
     );
-    let span = [4, 8, 70, 300, 3_000, 100_000, 1 << 40][random.below(7) as usize];
-    let (dense, stream) = (random.one_in(2), random.one_in(2));
+    let span = if is_large {
+        [20_000, 100_000, 1 << 40][random.below(3) as usize]
+    } else {
+        [4, 8, 70, 300, 3_000, 100_000, 1 << 40][random.below(7) as usize]
+    };
+    let (dense, stream) = (random.one_in(2), !is_large && random.one_in(2));
     let (frame, markers, rate) = (
         1 + random.below(40),
         1 + random.below(5),
         1 + random.below(20),
     );
     // Pops come once in that many operations, so that some rounds hold much.
-    let pops = [3, 9, 200, 2_000][random.below(4) as usize];
+    let pops = if is_large {
+        4_000
+    } else {
+        [3, 9, 200, 2_000][random.below(4) as usize]
+    };
     let mut base = if random.one_in(9) {
         u64::MAX - 400
     } else {
@@ -268,7 +285,7 @@ fn round(random: &mut Random, operations: u64) -> u64 {
         units += 1;
         both.compare(SeqNo(base));
     }
-    units
+    (units, both.most)
 }
 
 #[test]
@@ -276,13 +293,17 @@ fn the_buffer_answers_as_the_earlier_form() {
     let all: u64 = std::env::var("OPERATIONS").map_or(200_000, |text| text.parse().unwrap());
     let seed = std::env::var("SEED").map_or(1, |text| text.parse().unwrap());
     let mut random = Random(seed);
-    let (mut done, mut units) = (0, 0);
+    let (mut done, mut units, mut most) = (0, 0, 0);
     while done < all {
-        let most = [300, 3_000, 40_000][random.below(3) as usize];
-        let operations = 1 + random.below(most);
-        units += round(&mut random, operations);
+        let longest = [300, 3_000, 40_000][random.below(3) as usize];
+        let operations = 1 + random.below(longest);
+        let (came, held) = round(&mut random, operations, longest == 40_000);
+        units += came;
+        most = most.max(held);
         done += operations;
     }
-    println!("{done} operations, {units} units");
+    println!("{done} operations, {units} units, {most} packets held");
+    // The queue of packets has a tier for each 1,024 of them.
+    assert!(most > 3 * 1_024, "{most} packets held");
     assert!(units > all / 100, "{units} units of {done} operations");
 }
