@@ -90,7 +90,8 @@
     clippy::default_constructed_unit_structs,
     clippy::single_match,
     clippy::while_let_on_iterator,
-    clippy::len_without_is_empty
+    clippy::len_without_is_empty,
+    clippy::len_zero
 )]
 // An event holds its unit. A box would be one more allocation for each unit.
 #![allow(clippy::large_enum_variant)]

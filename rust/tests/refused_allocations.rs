@@ -790,7 +790,7 @@ fn push_number(buffer: &mut DepacketizingBuffer, number: u64) -> Result<(), Pack
 #[test]
 fn tiers_of_a_queue() {
     for held in [1_024, 1_025, 2_049] {
-        for number in [2 * held + 1, held + 1, 3] {
+        for number in [2 * held + 1, held | 1, 3] {
             let make = || (holding((1..=held).map(|it| 2 * it)), Vec::with_capacity(1));
             let count = refuse_each(
                 &format!("{number} beside {held} packets"),
