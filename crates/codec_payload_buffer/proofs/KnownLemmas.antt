@@ -88,7 +88,7 @@ lowest_more f all known new lowest same at is =
     let noted_is : new ≡ noted f all = is ∙ sym (noted_last f known at) ∙ ap (noted f) whole in
     noted_is ∙ sym (take-length (noted f all)) ∙ ap (λ (xs : List CompleteFrame). take (length xs) (noted f all)) (sym noted_is)
 
--- at most so many frames, where more come behind them
+-- at most n frames, if more follow
 pub take_of_take : (n : ℕ) (xs ys : List CompleteFrame) → take n (take n xs ++ ys) ≡ take n (xs ++ ys)
 take_of_take zero xs ys = refl
 take_of_take (suc n) [] ys = refl
@@ -100,7 +100,7 @@ take_all zero (x ∷ xs) le = absurd (omega arith)
 take_all (suc n) [] le = refl
 take_all (suc n) (x ∷ xs) le = ap (λ (zs : List CompleteFrame). x ∷ zs) (take_all n xs (omega arith))
 
--- so many frames are known
+-- n frames are known
 pub take_known : (n : ℕ) (xs ys : List CompleteFrame) → length xs ≡ n → take n (xs ++ ys) ≡ xs
 take_known n xs ys long = ap (λ m. take m (xs ++ ys)) (sym long) ∙ take-append_seam xs ys
 

@@ -26,7 +26,7 @@ none_below n xs t i x rises within is high = λ k d from l.
     let there : n x ≡ n (get_or xs i d) = ap n (is ∙ same_there xs i x d within) in
     omega (arith, le, there, high)
 
--- the place of a number is among so many items
+-- the place of a number is at most the number of items
 pub record IsNarrow {X : Type 0} (n : X → ℕ) (xs : List X) (t low size : ℕ) : Type 0 where
   pub bound : low + size ≤ length xs
   pub below : AllWithin (λ (y : X). n y < t) xs 0 low

@@ -16,7 +16,7 @@ use Rattle.codec_payload_queue.specs.Tiers.{in_tiers, with_carried, AreTiers, Is
 pub tier_length : {X : Type 0} (t : VecDeque X Global) → deque_len t ≡ length t.items
 tier_length t = t.ok.0
 
--- what holds of the tier at a place
+-- the facts about the tier at a place
 pub record IsTierAt {X : Type 0} (least k : ℕ) (t : VecDeque X Global) (ts : List (VecDeque X Global)) : Type 0 where
   pub memory : 1024 ≤ deque_capacity t
   pub some : least ≤ deque_len t
@@ -173,7 +173,7 @@ carry_from_tier least (suc k) i t u (h ∷ ts) x y are l is w new =
     ∙ ap (λ j. h.items ++ insert (in_tiers ts) j x) (let e : 1024 * k + i ≡ 1024 * suc k + i - 1024 = omega arith in e)
     ∙ sym (insert-append_right h.items (in_tiers ts) 1024 (1024 * suc k + i) x long (omega arith))
 
--- the carried item goes in front of a tier, whose last item is carried on
+-- the carried item is put in front of a tier, whose last item is carried on
 pub carried_on : {X : Type 0} (k : ℕ) (t u : VecDeque X Global) (ts : List (VecDeque X Global)) (x y : X) → k < length ts → t ≡ get_or ts k t
     → u.items ++ y ∷ [] ≡ x ∷ t.items → with_carried (suc k) y (slice_set ts k u) ≡ with_carried k x ts
 carried_on k t u [] x y l is new = absurd (omega arith)
@@ -183,7 +183,7 @@ carried_on zero t u (h ∷ ts) x y l is new =
     ∙ ap (λ (zs : List _). zs ++ in_tiers ts) (new ∙ ap (λ (v : VecDeque _ Global). x ∷ v.items) is)
 carried_on (suc k) t u (h ∷ ts) x y l is new = ap (λ (zs : List _). h.items ++ zs) (carried_on k t u ts x y (omega (arith, l)) is new)
 
--- the carried item goes in front of a tier with room
+-- the carried item is put in front of a tier with room
 pub carried_in : {X : Type 0} (k : ℕ) (t u : VecDeque X Global) (ts : List (VecDeque X Global)) (x : X) → k < length ts → t ≡ get_or ts k t → u.items ≡ x ∷ t.items → in_tiers (slice_set ts k u) ≡ with_carried k x ts
 carried_in k t u [] x l is new = absurd (omega arith)
 carried_in zero t u (h ∷ ts) x l is new = ap (λ (zs : List _). zs ++ in_tiers ts) (new ∙ ap (λ (v : VecDeque _ Global). x ∷ v.items) is)

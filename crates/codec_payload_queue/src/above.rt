@@ -97,7 +97,8 @@ fn shift<T>(tier: &mut VecDeque<T>, item: T) -> T
     last
 }
 
-/// Puts an item in front of tier `from`, whose last item goes in front of the next tier, and so on. The last tier has room.
+/// Puts an item in front of tier `from`, moves the last item of that tier in front of the next tier, and so on. The last tier has
+/// room.
 fn carry<T>(tiers: &mut Vec<VecDeque<T>>, from: usize, item: T)
     requires tiers { AreTiers 0 tiers.old.items }
     requires from { from < length tiers.old.items }

@@ -74,7 +74,7 @@ pub(super) fn row_with(packets: &TieredQueue<HeldPacket>, place: usize, row: Row
     join_previous(packets, place, row)
 }
 
-/// What the first and the last packet of a row hold of it.
+/// What the first and the last packet of a row note about it.
 #[derive(Clone, Copy, Debug)]
 pub(super) struct RowNote {
     other_end: u64,

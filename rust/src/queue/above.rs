@@ -62,7 +62,8 @@ fn shift<T>(tier: &mut VecDeque<T>, item: T) -> T {
     last
 }
 
-/// Puts an item in front of tier `from`, whose last item goes in front of the next tier, and so on. The last tier has room.
+/// Puts an item in front of tier `from`, moves the last item of that tier in front of the next tier, and so on. The last tier has
+/// room.
 fn carry<T>(tiers: &mut Vec<VecDeque<T>>, from: usize, item: T) {
     let last = tiers.len() - 1;
     let mut carried = item;

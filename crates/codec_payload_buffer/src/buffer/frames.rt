@@ -166,7 +166,7 @@ pub(super) fn note(complete: &mut CompleteFrames, frame: Option<CompleteFrame>, 
     }
 }
 
-/// Reads the frames of the packets of one tier, from a place on, until so many frames are known.
+/// Reads the frames of the packets of one tier, from a place on, until `wanted` frames are known.
 #[inline(always)]
 fn read_tier(
     known: &mut VecDeque<CompleteFrame>,
