@@ -91,9 +91,13 @@ impl<T: Numbered + Drop> TieredQueue<T> {
         ensures variant { IsSome result ↔ (0 < length self.now.items) }
         ensures value { IfSome result (λ x. x.now ≡ slice_index_or self.now.items (length self.now.items - 1) x.now) }
     {
-        match &self.above {
-            Some(_) if self.len() > self.first.len() => last_above(&self.above),
-            _ => self.first.back(),
+        let len = self.first.len();
+        if self.count > len {
+            last_above(&self.above)
+        } else if len > 0 {
+            Some(&self.first[len - 1])
+        } else {
+            None
         }
     }
 

@@ -57,9 +57,13 @@ impl<T: Numbered> TieredQueue<T> {
     /// Returns the last item.
     #[inline(always)]
     pub fn back(&self) -> Option<&T> {
-        match &self.above {
-            Some(_) if self.len() > self.first.len() => last_above(&self.above),
-            _ => self.first.back(),
+        let len = self.first.len();
+        if self.count > len {
+            last_above(&self.above)
+        } else if len > 0 {
+            Some(&self.first[len - 1])
+        } else {
+            None
         }
     }
 

@@ -40,9 +40,9 @@ fn is_next(earlier: u64, later: u64) -> bool
     earlier < later && later - earlier == 1
 }
 
-/// Joins a row with the row that begins at `place`, if they meet.
-#[inline(always)]
-fn join_next(packets: &TieredQueue<HeldPacket>, place: usize, row: Row) -> Row
+/// Does the same as [`join_next`], apart from it, since most packets have none after them.
+#[inline(never)]
+fn join_following(packets: &TieredQueue<HeldPacket>, place: usize, row: Row) -> Row
     requires rises { Rises (map held_of packets.now.items) }
     requires told { AreTold (rows (map held_of packets.now.items)) (map mark_of packets.now.items) }
     requires place { place ≡ place_of row.last (map held_of packets.now.items) }
@@ -63,6 +63,21 @@ fn join_next(packets: &TieredQueue<HeldPacket>, place: usize, row: Row) -> Row
     } else {
         row
     }
+}
+
+/// Joins a row with the row that begins at `place`, if they meet.
+#[inline(always)]
+fn join_next(packets: &TieredQueue<HeldPacket>, place: usize, row: Row) -> Row
+    requires rises { Rises (map held_of packets.now.items) }
+    requires told { AreTold (rows (map held_of packets.now.items)) (map mark_of packets.now.items) }
+    requires place { place ≡ place_of row.last (map held_of packets.now.items) }
+    requires fresh { has_number row.last (map held_of packets.now.items) ≡ false }
+    ensures { result ≡ ahead row (next_of row.last (rows (map held_of packets.now.items))) }
+{
+    if place == packets.len() {
+        return row;
+    }
+    join_following(packets, place, row)
 }
 
 /// Joins a row with the row that ends in front of `place`, if they meet.
@@ -121,7 +136,7 @@ impl Noted<RowNote> for HeldPacket {
 }
 
 /// Notes the other end of a row, and its head, in the packet at `place`.
-#[inline(always)]
+#[inline(never)]
 fn set_mark(
     packets: &mut TieredQueue<HeldPacket>,
     place: usize,
