@@ -30,9 +30,9 @@ fn is_next(earlier: u64, later: u64) -> bool {
     earlier < later && later - earlier == 1
 }
 
-/// Does the same as [`join_next`], apart from it, since most packets have none after them.
-#[inline(never)]
-fn join_following(packets: &TieredQueue<HeldPacket>, place: usize, row: Row) -> Row {
+/// Joins a row with the row that begins at `place`, if they meet.
+#[inline(always)]
+fn join_next(packets: &TieredQueue<HeldPacket>, place: usize, row: Row) -> Row {
     if place == packets.len() {
         return row;
     }
@@ -47,15 +47,6 @@ fn join_following(packets: &TieredQueue<HeldPacket>, place: usize, row: Row) -> 
     } else {
         row
     }
-}
-
-/// Joins a row with the row that begins at `place`, if they meet.
-#[inline(always)]
-fn join_next(packets: &TieredQueue<HeldPacket>, place: usize, row: Row) -> Row {
-    if place == packets.len() {
-        return row;
-    }
-    join_following(packets, place, row)
 }
 
 /// Joins a row with the row that ends in front of `place`, if they meet.

@@ -87,7 +87,7 @@ fn make_place(known: &mut VecDeque<CompleteFrame>) {
 }
 
 /// Adds a frame below the end of the last known frame, or replaces the frame with the same end.
-#[inline(always)]
+#[inline(never)]
 fn put_known(known: &mut VecDeque<CompleteFrame>, frame: CompleteFrame) {
     let place = find_end(known, frame.last);
     if known[place].last == frame.last {

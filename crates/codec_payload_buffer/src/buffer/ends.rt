@@ -40,9 +40,9 @@ fn is_next(earlier: u64, later: u64) -> bool
     earlier < later && later - earlier == 1
 }
 
-/// Does the same as [`join_next`], apart from it, since most packets have none after them.
-#[inline(never)]
-fn join_following(packets: &TieredQueue<HeldPacket>, place: usize, row: Row) -> Row
+/// Joins a row with the row that begins at `place`, if they meet.
+#[inline(always)]
+fn join_next(packets: &TieredQueue<HeldPacket>, place: usize, row: Row) -> Row
     requires rises { Rises (map held_of packets.now.items) }
     requires told { AreTold (rows (map held_of packets.now.items)) (map mark_of packets.now.items) }
     requires place { place ≡ place_of row.last (map held_of packets.now.items) }
@@ -63,21 +63,6 @@ fn join_following(packets: &TieredQueue<HeldPacket>, place: usize, row: Row) -> 
     } else {
         row
     }
-}
-
-/// Joins a row with the row that begins at `place`, if they meet.
-#[inline(always)]
-fn join_next(packets: &TieredQueue<HeldPacket>, place: usize, row: Row) -> Row
-    requires rises { Rises (map held_of packets.now.items) }
-    requires told { AreTold (rows (map held_of packets.now.items)) (map mark_of packets.now.items) }
-    requires place { place ≡ place_of row.last (map held_of packets.now.items) }
-    requires fresh { has_number row.last (map held_of packets.now.items) ≡ false }
-    ensures { result ≡ ahead row (next_of row.last (rows (map held_of packets.now.items))) }
-{
-    if place == packets.len() {
-        return row;
-    }
-    join_following(packets, place, row)
 }
 
 /// Joins a row with the row that ends in front of `place`, if they meet.

@@ -116,7 +116,7 @@ fn make_place(known: &mut VecDeque<CompleteFrame>)
 }
 
 /// Adds a frame below the end of the last known frame, or replaces the frame with the same end.
-#[inline(always)]
+#[inline(never)]
 fn put_known(known: &mut VecDeque<CompleteFrame>, frame: CompleteFrame)
     requires rises { EndsRise known.old.items }
     requires place { frame_place frame.last known.old.items < deque_len known.old }
