@@ -47,7 +47,7 @@ pages = $(wildcard docs/*.md)
 pictures = $(wildcard docs/pictures/*.svg)
 manual = $(out)/man/man3
 recorder = tools/rtp_record
-vectors = tools/lines/payload_vectors
+vectors = crates/payload_vectors
 shipped = Makefile include packaging $(documents) $(pages) $(pictures) $(wildcard c/*.c c/*.cpp c/*.h c/*.sh c/*.txt c/sdp/* c/generated/*.S) \
     $(vectors)/stdin $(vectors)/stdout \
     $(addprefix $(recorder)/,Makefile README.md rtp_record.1 completion.bash) $(wildcard $(recorder)/*.c $(recorder)/*.h)
@@ -65,7 +65,9 @@ assembly = c/generated/$(architecture)-linux.S
 protection_x86_64 = -fcf-protection
 protection_aarch64 = -mbranch-protection=standard
 warnings = -pedantic -Wall -Wextra -Wconversion
-compile = $(CC) -std=c99 $(warnings) $(CPPFLAGS) $(CFLAGS) -fPIC -fno-lto $(protection_$(architecture)) -Iinclude
+# Each function has a section of its own, as in the assembly. So a program that is linked with --gc-sections has only what it calls.
+sections = -ffunction-sections -fdata-sections
+compile = $(CC) -std=c99 $(warnings) $(CPPFLAGS) $(CFLAGS) -fPIC -fno-lto $(sections) $(protection_$(architecture)) -Iinclude
 
 all: $(archive) $(shared)
 
@@ -102,14 +104,14 @@ programs = $(addprefix $(tests)/,example checks datagrams session history waitin
 
 $(tests)/%: c/%.c $(wildcard c/*.h) $(headers) $(LIBRARY)
 	@mkdir -p $(tests)
-	$(CC) -std=c99 $(warnings) $(strict) $(CPPFLAGS) $(CFLAGS) $(SANITIZERS) $(LDFLAGS) -Iinclude $< $(LIBRARY) $(wrapped) -o $@
+	$(CC) -std=c99 $(warnings) $(strict) $(CPPFLAGS) $(CFLAGS) $(SANITIZERS) $(LDFLAGS) -Wl,--gc-sections -Iinclude $< $(LIBRARY) $(wrapped) -o $@
 
 $(tests)/oom: wrapped = -Wl,--wrap=malloc,--wrap=realloc,--wrap=free
 
 check: $(programs)
 	c/check.sh $(tests) $(RUN)
 
-# The header for C++, as two standards.
+# The header for C++, as two standards; the examples compile as C++ too.
 $(tests)/plus%: c/plus.cpp c/check.h $(headers) $(LIBRARY)
 	@mkdir -p $(tests)
 	$(CXX) -std=c++$* $(warnings) $(strict) $(CPPFLAGS) $(CFLAGS) $(SANITIZERS) $(LDFLAGS) -Iinclude $< $(LIBRARY) -o $@
@@ -117,6 +119,8 @@ $(tests)/plus%: c/plus.cpp c/check.h $(headers) $(LIBRARY)
 check-plus: $(tests)/plus17 $(tests)/plus20
 	$(RUN) $(tests)/plus17
 	$(RUN) $(tests)/plus20
+	for it in c/example.c c/loopback.c c/port.c $(wildcard examples/*.c); do \
+	    $(CXX) -std=c++20 -x c++ -Wall $(strict) -Iinclude -fsyntax-only $$it || exit 1; done
 
 check-sanitized:
 	$(MAKE) check tests=$(tests)-sanitized SANITIZERS="-fsanitize=address,undefined -fno-sanitize-recover=all"

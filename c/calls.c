@@ -198,16 +198,18 @@ cpay_status cpay_history_new(cpay_history *history, const cpay_history_settings 
     return proved_cpay_history_new(&history->handle, settings);
 }
 
-cpay_status proved_cpay_history_keep(cpay_handle *history, const uint8_t *datagram, size_t datagram_len);
-cpay_status cpay_history_keep(cpay_history *history, const uint8_t *datagram, size_t datagram_len) {
+cpay_status proved_cpay_history_keep(cpay_handle *history, const uint8_t *datagram, size_t datagram_len, cpay_kept *kept);
+cpay_status cpay_history_keep(cpay_history *history, const uint8_t *datagram, size_t datagram_len, cpay_kept *kept) {
+    cpay_kept no_kept = (cpay_kept)0;
     if (!datagram && datagram_len) return CPAY_INVALID;
-    return proved_cpay_history_keep(&history->handle, datagram ? datagram : (const uint8_t *)nothing, datagram_len);
+    return proved_cpay_history_keep(&history->handle, datagram ? datagram : (const uint8_t *)nothing, datagram_len,
+                                    kept ? kept : &no_kept);
 }
 
 cpay_status proved_cpay_history_resend(cpay_handle *history, uint64_t now, uint16_t number, uint8_t *bytes, size_t bytes_len,
-                                       size_t *size, uint32_t *resent);
+                                       size_t *size, cpay_resent *resent);
 cpay_status cpay_history_resend(cpay_history *history, uint64_t now, uint16_t number, uint8_t *bytes, size_t bytes_len,
-                                size_t *size, uint32_t *resent) {
+                                size_t *size, cpay_resent *resent) {
     if (!bytes && bytes_len) return CPAY_INVALID;
     return proved_cpay_history_resend(&history->handle, now, number, bytes ? bytes : (uint8_t *)nothing, bytes_len, size,
                                       resent);
@@ -222,6 +224,13 @@ cpay_status cpay_read_requests(const uint8_t *rtcp, size_t rtcp_len, uint32_t ss
                                      numbers ? numbers : (uint16_t *)nothing, numbers_len, count, wants_keyframe);
 }
 
+void proved_cpay_receiver_settings_init(cpay_receiver_settings *settings, cpay_codec codec, uint32_t rate, uint8_t payload_type,
+                                        cpay_purpose purpose);
+void cpay_receiver_settings_init(cpay_receiver_settings *settings, cpay_codec codec, uint32_t rate, uint8_t payload_type,
+                                 cpay_purpose purpose) {
+    proved_cpay_receiver_settings_init(settings, codec, rate, payload_type, purpose);
+}
+
 cpay_status proved_cpay_receiver_new(cpay_handle *receiver, const cpay_receiver_settings *settings, const uint8_t *no_media,
                                      size_t no_media_len);
 cpay_status cpay_receiver_new(cpay_receiver *receiver, const cpay_receiver_settings *settings, const uint8_t *no_media,
@@ -231,9 +240,9 @@ cpay_status cpay_receiver_new(cpay_receiver *receiver, const cpay_receiver_setti
 }
 
 cpay_status proved_cpay_receiver_receive(cpay_handle *receiver, uint64_t now, const uint8_t *datagram, size_t datagram_len,
-                                         uint32_t *outcome);
+                                         cpay_outcome *outcome);
 cpay_status cpay_receiver_receive(cpay_receiver *receiver, uint64_t now, const uint8_t *datagram, size_t datagram_len,
-                                  uint32_t *outcome) {
+                                  cpay_outcome *outcome) {
     if (!datagram && datagram_len) return CPAY_INVALID;
     return proved_cpay_receiver_receive(&receiver->handle, now, datagram ? datagram : (const uint8_t *)nothing, datagram_len,
                                         outcome);
@@ -296,6 +305,11 @@ cpay_status cpay_receiver_counts(cpay_receiver *receiver, cpay_receiver_counts_i
     return proved_cpay_receiver_counts(&receiver->handle, counts);
 }
 
+void proved_cpay_adaptive_wait_settings_init(cpay_adaptive_wait_settings *settings);
+void cpay_adaptive_wait_settings_init(cpay_adaptive_wait_settings *settings) {
+    proved_cpay_adaptive_wait_settings_init(settings);
+}
+
 cpay_status proved_cpay_adaptive_wait_new(cpay_handle *wait, const cpay_adaptive_wait_settings *settings);
 cpay_status cpay_adaptive_wait_new(cpay_adaptive_wait *wait, const cpay_adaptive_wait_settings *settings) {
     return proved_cpay_adaptive_wait_new(&wait->handle, settings);
@@ -315,6 +329,19 @@ cpay_status cpay_adaptive_wait_missing(cpay_adaptive_wait *wait, uint64_t now, c
 cpay_status proved_cpay_adaptive_wait_limit(cpay_handle *wait, uint64_t *limit);
 cpay_status cpay_adaptive_wait_limit(cpay_adaptive_wait *wait, uint64_t *limit) {
     return proved_cpay_adaptive_wait_limit(&wait->handle, limit);
+}
+
+void proved_cpay_session_settings_init(cpay_session_settings *settings, cpay_purpose purpose);
+void cpay_session_settings_init(cpay_session_settings *settings, cpay_purpose purpose) {
+    proved_cpay_session_settings_init(settings, purpose);
+}
+
+cpay_status proved_cpay_session_settings_feedback(cpay_session_settings *settings, uint32_t ssrc, const uint8_t *cname,
+                                                  size_t cname_len);
+cpay_status cpay_session_settings_feedback(cpay_session_settings *settings, uint32_t ssrc, const uint8_t *cname,
+                                           size_t cname_len) {
+    if (!cname && cname_len) return CPAY_INVALID;
+    return proved_cpay_session_settings_feedback(settings, ssrc, cname ? cname : (const uint8_t *)nothing, cname_len);
 }
 
 cpay_status proved_cpay_session_new(cpay_handle *session, const cpay_session_settings *settings,
@@ -556,14 +583,14 @@ bool cpay_av1_is_keyframe(const uint8_t *payload, size_t payload_len) {
     return proved_cpay_av1_is_keyframe(payload ? payload : (const uint8_t *)nothing, payload_len);
 }
 
-cpay_status proved_cpay_is_head(uint32_t codec, const uint8_t *payload, size_t payload_len, bool *is_head);
-cpay_status cpay_is_head(uint32_t codec, const uint8_t *payload, size_t payload_len, bool *is_head) {
+cpay_status proved_cpay_is_head(cpay_codec codec, const uint8_t *payload, size_t payload_len, bool *is_head);
+cpay_status cpay_is_head(cpay_codec codec, const uint8_t *payload, size_t payload_len, bool *is_head) {
     if (!payload && payload_len) return CPAY_INVALID;
     return proved_cpay_is_head(codec, payload ? payload : (const uint8_t *)nothing, payload_len, is_head);
 }
 
-cpay_status proved_cpay_is_tail(uint32_t codec, bool marker, const uint8_t *payload, size_t payload_len, bool *is_tail);
-cpay_status cpay_is_tail(uint32_t codec, bool marker, const uint8_t *payload, size_t payload_len, bool *is_tail) {
+cpay_status proved_cpay_is_tail(cpay_codec codec, bool marker, const uint8_t *payload, size_t payload_len, bool *is_tail);
+cpay_status cpay_is_tail(cpay_codec codec, bool marker, const uint8_t *payload, size_t payload_len, bool *is_tail) {
     if (!payload && payload_len) return CPAY_INVALID;
     return proved_cpay_is_tail(codec, marker, payload ? payload : (const uint8_t *)nothing, payload_len, is_tail);
 }
@@ -573,8 +600,8 @@ uint64_t cpay_extend_number(uint64_t previous, bool has_previous, uint16_t numbe
     return proved_cpay_extend_number(previous, has_previous, number);
 }
 
-cpay_status proved_cpay_frame_info(uint32_t codec, const uint8_t *frame, size_t frame_len, cpay_frame_facts *facts);
-cpay_status cpay_frame_info(uint32_t codec, const uint8_t *frame, size_t frame_len, cpay_frame_facts *facts) {
+cpay_status proved_cpay_frame_info(cpay_codec codec, const uint8_t *frame, size_t frame_len, cpay_frame_facts *facts);
+cpay_status cpay_frame_info(cpay_codec codec, const uint8_t *frame, size_t frame_len, cpay_frame_facts *facts) {
     if (!frame && frame_len) return CPAY_INVALID;
     return proved_cpay_frame_info(codec, frame ? frame : (const uint8_t *)nothing, frame_len, facts);
 }

@@ -13,7 +13,7 @@ set -eu
 folder=$1
 shift
 root=$(cd "$(dirname "$0")/.." && pwd)
-vectors=$root/tools/lines/payload_vectors
+vectors=$root/crates/payload_vectors
 work=$(mktemp -d)
 trap 'rm -rf "$work"' EXIT
 

@@ -12,10 +12,10 @@ static cpay_spec opus(void) {
 }
 
 static cpay_receiver_settings settings_of(cpay_spec spec) {
-    cpay_receiver_settings settings = CPAY_FILE;
+    cpay_receiver_settings settings;
+    cpay_receiver_settings_init(&settings, spec.codec, spec.rate, TYPE, CPAY_FOR_FILE);
     settings.hold_back = 30;
     settings.spec = spec;
-    settings.payload_type = TYPE;
     settings.has_ssrc = true;
     settings.ssrc = SSRC;
     return settings;
@@ -40,7 +40,7 @@ static size_t packet(uint8_t *out, uint8_t type, uint16_t number, uint32_t time,
 /* The outcome of a packet with this type and number; its RTP time is 960 times the number. */
 static uint32_t came(cpay_receiver *receiver, uint64_t now, uint8_t type, uint16_t number) {
     uint8_t bytes[16];
-    uint32_t outcome = 99;
+    cpay_outcome outcome = (cpay_outcome)99;
     size_t size = packet(bytes, type, number, (uint32_t)number * 960, 2);
     CHECK(cpay_receiver_receive(receiver, now, bytes, size, &outcome) == CPAY_OK);
     return outcome;
@@ -120,7 +120,7 @@ static void settings(void) {
     cpay_wait_limits wait_limits = {.hold_back = 1};
     cpay_unit unit = {.first = 7};
     uint8_t bytes[4] = {7, 7, 7, 7};
-    uint32_t outcome = 7;
+    cpay_outcome outcome = (cpay_outcome)7;
     uint64_t at = 7;
     size_t count = 7;
     bool wants = true;
@@ -304,7 +304,7 @@ static void without_media(void) {
     cpay_receiver_settings settings = settings_of(opus());
     cpay_receiver receiver = receiver_of(&settings);
     uint8_t padding[13];
-    uint32_t outcome = 99;
+    cpay_outcome outcome = (cpay_outcome)99;
     long units = 0;
     for (uint16_t number = 100; number < 200; number++) {
         if (number % 10 == 0) {
@@ -374,7 +374,7 @@ static void others(void) {
     cpay_receiver_settings settings = settings_of(opus());
     cpay_receiver receiver = receiver_of(&settings);
     uint8_t bytes[16];
-    uint32_t outcome = 99;
+    cpay_outcome outcome = (cpay_outcome)99;
     size_t size = packet(bytes, TYPE, 5, 0, 2);
     CHECK(came(&receiver, 0, TYPE, 4) == CPAY_HELD && came(&receiver, 0, TYPE, 4) == CPAY_DUPLICATE);
     CHECK(came(&receiver, 0, 96, 5) == CPAY_OTHER_STREAM);
@@ -401,6 +401,8 @@ static void small_room(void) {
     uint8_t bytes[2] = {0, 0};
     CHECK(came(&receiver, 3, TYPE, 65535) == CPAY_HELD);
     CHECK(cpay_receiver_pop(&receiver, 3, &unit, bytes, 1) == CPAY_TOO_SMALL && unit.bytes == 2 && bytes[0] == 0);
+    uint64_t at = 9;
+    CHECK(cpay_receiver_next_deadline(&receiver, &at) == CPAY_OK && at == 0); /* the next pop has it at once */
     CHECK(counts_of(&receiver).waiting);
     CHECK(cpay_receiver_pop(&receiver, 3, &unit, NULL, 0) == CPAY_TOO_SMALL);
     CHECK(cpay_receiver_pop(&receiver, 3, &unit, bytes, 2) == CPAY_OK && bytes[0] == 255 && unit.received == 3);
@@ -417,7 +419,7 @@ static void amr_wb(void) {
     cpay_receiver receiver = receiver_of(&settings);
     uint8_t bytes[12 + 1 + 23 + 23 * 17], unit_bytes[23 * 18];
     cpay_unit unit = {0};
-    uint32_t outcome = 99;
+    cpay_outcome outcome = (cpay_outcome)99;
     int units = 0;
     for (uint16_t number = 0; number < 10; number++) {
         size_t size = packet(bytes, TYPE, number, (uint32_t)number * 23 * 320, 1 + 23 + 23 * 17);
@@ -437,7 +439,7 @@ static void amr_wb(void) {
 /* The outcome of a packet with this SSRC and number. */
 static uint32_t came_of(cpay_receiver *receiver, uint64_t now, uint32_t ssrc, uint16_t number) {
     uint8_t bytes[16];
-    uint32_t outcome = 99;
+    cpay_outcome outcome = (cpay_outcome)99;
     size_t size = packet(bytes, TYPE, number, (uint32_t)number * 960, 2);
     for (int i = 0; i < 4; i++) bytes[8 + i] = (uint8_t)(ssrc >> (24 - 8 * i));
     CHECK(cpay_receiver_receive(receiver, now, bytes, size, &outcome) == CPAY_OK);
@@ -483,7 +485,7 @@ static void told_as(void) {
     settings.max_wait = 50;
     cpay_receiver receiver = receiver_of(&settings);
     uint8_t bytes[20];
-    uint32_t outcome = 99;
+    cpay_outcome outcome = (cpay_outcome)99;
     CHECK(came(&receiver, 0, TYPE, 7) == CPAY_HELD && next(&receiver, 0) == 7);
     CHECK(cpay_receiver_restart_as(&receiver, 3, 4) == CPAY_OK);
     CHECK(came(&receiver, 1, TYPE, 8) == CPAY_OTHER_STREAM && came_of(&receiver, 1, 3, 100) == CPAY_RESTARTED_ALONE);
@@ -504,7 +506,7 @@ static void told_anew(void) {
     cpay_receiver_settings settings = settings_of(opus());
     cpay_receiver receiver = receiver_of(&settings);
     uint8_t bytes[16];
-    uint32_t outcome = 99;
+    cpay_outcome outcome = (cpay_outcome)99;
     size_t size = packet(bytes, TYPE, 40000, 0, 2);
     CHECK(came(&receiver, 0, TYPE, 7) == CPAY_HELD && cpay_receiver_finish(&receiver) == CPAY_OK && next(&receiver, 0) == 7);
     bytes[8] ^= 1;
@@ -521,7 +523,7 @@ static void red(void) {
     cpay_red_sender sender = CPAY_INIT;
     static const uint32_t distances[1] = {1};
     uint8_t bytes[64];
-    uint32_t outcome = 99;
+    cpay_outcome outcome = (cpay_outcome)99;
     size_t size = 0;
     settings.has_red = true;
     settings.red_payload_type = 63;
@@ -546,7 +548,9 @@ static void red(void) {
 
 /* The windows by rate equal the windows of audio and video at their rates, and a receiver accepts all of them. */
 static void windows_by_rate(void) {
-    const cpay_receiver_settings audio = CPAY_LIVE_AUDIO, video = CPAY_LIVE_VIDEO;
+    cpay_receiver_settings audio, video;
+    cpay_receiver_settings_init(&audio, CPAY_OPUS, 48000, TYPE, CPAY_FOR_LIVE);
+    cpay_receiver_settings_init(&video, CPAY_VP8, 90000, TYPE, CPAY_FOR_LIVE);
     CHECK(CPAY_FORWARD_FOR(0) == audio.forward && CPAY_BACKWARD_FOR(0) == audio.backward);
     CHECK(CPAY_FORWARD_FOR(200u) == audio.forward && CPAY_BACKWARD_FOR(200u) == audio.backward);
     CHECK(CPAY_FORWARD_FOR(1000) == video.forward && CPAY_BACKWARD_FOR(1000) == video.backward);
@@ -565,7 +569,7 @@ static void windows_by_rate(void) {
 static void red_once(void) {
     cpay_receiver_settings settings = settings_of(opus());
     uint8_t bytes[64] = {0};
-    uint32_t outcome = 99;
+    cpay_outcome outcome = (cpay_outcome)99;
     settings.has_red = true;
     settings.red_payload_type = 63;
     settings.red_step = 960;
@@ -585,7 +589,7 @@ static void red_sent_again(void) {
     static const uint8_t original[] = {0, 12, 0xef, 0x0f, 0, 2, 0x6f, 11, 11, 12, 12};
     cpay_receiver_settings settings = settings_of(opus());
     uint8_t bytes[32];
-    uint32_t outcome = 99;
+    cpay_outcome outcome = (cpay_outcome)99;
     settings.has_red = settings.has_rtx = settings.has_red_rtx = true;
     settings.red_payload_type = 63;
     settings.red_step = 960;
@@ -620,7 +624,7 @@ static void red_sent_again(void) {
 static void sent_again(void) {
     cpay_receiver_settings settings = settings_of(opus());
     uint8_t bytes[20];
-    uint32_t outcome = 99;
+    cpay_outcome outcome = (cpay_outcome)99;
     settings.has_rtx = true;
     settings.rtx_ssrc = 0x0a0b0c0d;
     settings.rtx_payload_type = 112;
@@ -643,7 +647,7 @@ static void times(void) {
     cpay_receiver receiver = receiver_of(&settings);
     static const uint32_t timestamps[3] = {0xfffffc40, 0, 960};
     uint8_t bytes[16];
-    uint32_t outcome = 99;
+    cpay_outcome outcome = (cpay_outcome)99;
     cpay_unit unit = {0};
     for (uint16_t number = 0; number < 3; number++) {
         size_t size = packet(bytes, TYPE, number, timestamps[number], 2);
@@ -699,6 +703,37 @@ static void missing(void) {
     cpay_sender_free(&it.sender);
 }
 
+/* A frame of VP8 that ends in its payload descriptor (RFC 7741, section 4.2), between two good ones: the pop reports its fault and
+ * nothing else, and the next pop goes on. The values of the unit before stay. */
+static void refused_frame(void) {
+    static const uint8_t key[] = {0x10, 0x10, 0, 0, 0x9d, 0x01, 0x2a, 0x10, 0, 0x10, 0}, cut[] = {0x90, 0x40, 0};
+    cpay_spec spec = {.codec = CPAY_VP8, .rate = 90000};
+    cpay_receiver_settings settings = settings_of(spec);
+    cpay_receiver receiver = receiver_of(&settings);
+    cpay_unit unit = {0}, none = {0};
+    cpay_extension_values values = {0};
+    uint8_t bytes[24], taken[16] = {9};
+    cpay_outcome outcome = (cpay_outcome)99;
+    bool wants = false;
+    for (uint16_t number = 1; number <= 3; number++) {
+        packet(bytes, 0x80 | TYPE, number, (uint32_t)number * 3000, 0);
+        memcpy(bytes + 12, number == 2 ? cut : key, number == 2 ? sizeof cut : sizeof key);
+        size_t size = 12 + (number == 2 ? sizeof cut : sizeof key);
+        CHECK(cpay_receiver_receive(&receiver, 0, bytes, size, &outcome) == CPAY_OK && outcome == CPAY_HELD);
+    }
+    CHECK(cpay_receiver_finish(&receiver) == CPAY_OK);
+    CHECK(cpay_receiver_pop(&receiver, 0, &unit, taken, sizeof taken) == CPAY_OK && unit.fault == 0 && unit.bytes == 10);
+    memset(taken, 9, sizeof taken);
+    CHECK(cpay_receiver_pop(&receiver, 0, &unit, taken, 0) == CPAY_OK && unit.fault == CPAY_VP8_CORRUPTED);
+    CHECK(unit.first == none.first && unit.last == 0 && unit.rtp_time == 0 && unit.received == 0 && unit.bytes == 0);
+    CHECK(!unit.contiguous && !unit.starts_talk_spurt && !unit.decodable && !unit.keyframe && unit.extra.kind == none.extra.kind);
+    CHECK(taken[0] == 9 && cpay_receiver_values(&receiver, &values) == CPAY_OK);
+    CHECK(cpay_receiver_wants_keyframe(&receiver, &wants) == CPAY_OK && wants && counts_of(&receiver).refused == 1);
+    CHECK(cpay_receiver_pop(&receiver, 0, &unit, taken, sizeof taken) == CPAY_OK && unit.fault == 0 && unit.first % 65536 == 3);
+    CHECK(cpay_receiver_pop(&receiver, 0, &unit, taken, sizeof taken) == CPAY_NONE);
+    cpay_receiver_free(&receiver);
+}
+
 /* Frames of VP8 (RFC 6386, section 9.1; RFC 7741, section 4.2), in one packet each: packet 3 is lost, 1 and 6 are keyframes. */
 static void keyframes(uint8_t from_keyframe, const char *marks, const char *decodable, const char *keyframe, uint64_t undecodable) {
     static const uint8_t key[] = {0x10, 0x10, 0, 0, 0x9d, 0x01, 0x2a, 0x10, 0, 0x10, 0}, delta[] = {0x10, 0x11, 0, 0};
@@ -708,7 +743,7 @@ static void keyframes(uint8_t from_keyframe, const char *marks, const char *deco
     cpay_receiver receiver = receiver_of(&settings);
     cpay_unit unit = {0};
     uint8_t bytes[24], taken[16];
-    uint32_t outcome = 99;
+    cpay_outcome outcome = (cpay_outcome)99;
     bool wants = true;
     CHECK(cpay_receiver_wants_keyframe(&receiver, &wants) == CPAY_OK && !wants);
     for (uint16_t number = 1; number <= 7; number++) {
@@ -757,6 +792,7 @@ int main(void) {
     times();
     reports();
     missing();
+    refused_frame();
     keyframes(CPAY_KEYFRAME_MARK, "124567", "dd--dd", "k---k-", 2);
     keyframes(CPAY_KEYFRAME_DROP, "1267", "dddd", "k-k-", 2);
     keyframes(CPAY_KEYFRAME_OFF, "124567", "dddddd", "------", 0);

@@ -24,7 +24,7 @@ static const cpay_history_settings AS_RTX = {.limit = 3, .interval = 100, .rtx_s
 typedef struct {
     uint8_t bytes[64];
     size_t size;
-    uint32_t resent;
+    cpay_resent resent;
 } output;
 
 static cpay_status resend(cpay_history *history, uint64_t now, uint16_t number, size_t room, output *to) {
@@ -51,14 +51,21 @@ static bool wrote_nothing(const output *it, uint32_t resent) {
 /* The smallest packet with that number. */
 static cpay_status keep(cpay_history *history, uint16_t number) {
     const uint8_t packet[12] = {0x80, 96, (uint8_t)(number >> 8), (uint8_t)number, 0, 0, 0, 0, 0, 0, 0, 7};
-    return cpay_history_keep(history, packet, sizeof packet);
+    return cpay_history_keep(history, packet, sizeof packet, NULL);
+}
+
+/* Whether the call answers this. */
+static bool keep_as(cpay_history *history, uint16_t number, uint32_t wanted) {
+    const uint8_t packet[12] = {0x80, 96, (uint8_t)(number >> 8), (uint8_t)number, 0, 0, 0, 0, 0, 0, 0, 7};
+    cpay_kept kept = (cpay_kept)9;
+    return cpay_history_keep(history, packet, sizeof packet, &kept) == CPAY_OK && kept == wanted;
 }
 
 /* Both ways, too soon, and memory that is too small: nothing is spent then, so that the next call writes the same number. */
 static void resent(void) {
     cpay_history history = CPAY_INIT;
     output to;
-    CHECK(cpay_history_new(&history, &AS_IT_WAS) == CPAY_OK && cpay_history_keep(&history, PACKET, sizeof PACKET) == CPAY_OK);
+    CHECK(cpay_history_new(&history, &AS_IT_WAS) == CPAY_OK && cpay_history_keep(&history, PACKET, sizeof PACKET, NULL) == CPAY_OK);
     CHECK(resend(&history, 50, 0x1234, 30, &to) == CPAY_TOO_SMALL);
     CHECK(to.size == 31 && to.resent == 9 && is_untouched(&to, 0));
     CHECK(resend(&history, 50, 0x1234, 31, &to) == CPAY_OK && wrote(&to, PACKET, sizeof PACKET));
@@ -68,7 +75,7 @@ static void resent(void) {
     CHECK(resend(&history, 150, 0x1234, 64, &to) == CPAY_OK && wrote(&to, PACKET, sizeof PACKET));
     cpay_history_free(&history);
 
-    CHECK(cpay_history_new(&history, &AS_RTX) == CPAY_OK && cpay_history_keep(&history, PACKET, sizeof PACKET) == CPAY_OK);
+    CHECK(cpay_history_new(&history, &AS_RTX) == CPAY_OK && cpay_history_keep(&history, PACKET, sizeof PACKET, NULL) == CPAY_OK);
     for (size_t room = 0; room < 29; room++) {
         CHECK(resend(&history, 0, 0x1234, room, &to) == CPAY_TOO_SMALL);
         CHECK(to.size == 29 && to.resent == 9 && is_untouched(&to, 0));
@@ -82,7 +89,7 @@ static void resent(void) {
     cpay_history_free(&history);
 }
 
-/* The last packets are kept, over the wrap of numbers. A number that does not follow begins the history again. */
+/* The last packets are kept, over the wrap of numbers. A number that is `limit` or more above the highest one removes all others. */
 static void kept(void) {
     cpay_history history = CPAY_INIT;
     output to;
@@ -99,12 +106,33 @@ static void kept(void) {
     CHECK(resend(&history, 500, 3, 64, &to) == CPAY_OK && wrote_nothing(&to, CPAY_RESENT_NOT_KEPT));
     CHECK(resend(&history, 500, 9, 64, &to) == CPAY_OK && to.resent == CPAY_RESENT_WRITTEN && to.bytes[3] == 9);
     /* not RTP packets: nothing changes */
-    CHECK(cpay_history_keep(&history, PACKET, 11) == CPAY_RTP_HEADER_TOO_SHORT);
-    CHECK(cpay_history_keep(&history, NULL, 0) == CPAY_RTP_HEADER_TOO_SHORT);
-    CHECK(cpay_history_keep(&history, NULL, 12) == CPAY_INVALID);
-    CHECK(cpay_history_keep(&history, (const uint8_t *)"............", 12) == CPAY_RTP_VERSION);
-    CHECK(cpay_history_keep(&history, PACKET, 15) == CPAY_RTP_CSRCS_TOO_SHORT);
+    CHECK(cpay_history_keep(&history, PACKET, 11, NULL) == CPAY_RTP_HEADER_TOO_SHORT);
+    CHECK(cpay_history_keep(&history, NULL, 0, NULL) == CPAY_RTP_HEADER_TOO_SHORT);
+    CHECK(cpay_history_keep(&history, NULL, 12, NULL) == CPAY_INVALID);
+    CHECK(cpay_history_keep(&history, (const uint8_t *)"............", 12, NULL) == CPAY_RTP_VERSION);
+    CHECK(cpay_history_keep(&history, PACKET, 15, NULL) == CPAY_RTP_CSRCS_TOO_SHORT);
     CHECK(resend(&history, 600, 9, 64, &to) == CPAY_OK && to.resent == CPAY_RESENT_WRITTEN);
+    cpay_history_free(&history);
+}
+
+/* Packets in the order in which a forwarder gets them; the one whose number is too old, and the sender that restarts behind it. */
+static void any_order(void) {
+    static const uint8_t ORDER[] = {1, 2, 4, 5, 3, 6};
+    cpay_history_settings settings = AS_IT_WAS;
+    cpay_history history = CPAY_INIT;
+    output to;
+    settings.limit = 10;
+    CHECK(cpay_history_new(&history, &settings) == CPAY_OK);
+    for (size_t i = 0; i < sizeof ORDER; i++) CHECK(keep_as(&history, ORDER[i], CPAY_KEPT_STORED));
+    for (uint16_t number = 1; number <= 6; number++)
+        CHECK(resend(&history, 0, number, 64, &to) == CPAY_OK && to.resent == CPAY_RESENT_WRITTEN && to.bytes[3] == number);
+    CHECK(resend(&history, 0, 7, 64, &to) == CPAY_OK && wrote_nothing(&to, CPAY_RESENT_NOT_KEPT));
+    CHECK(keep_as(&history, 65532, CPAY_KEPT_TOO_OLD)); /* ten below 6 */
+    CHECK(resend(&history, 200, 6, 64, &to) == CPAY_OK && to.resent == CPAY_RESENT_WRITTEN);
+    CHECK(keep_as(&history, 40000, CPAY_KEPT_TOO_OLD));
+    CHECK(keep_as(&history, 40001, CPAY_KEPT_STORED)); /* the sender has restarted */
+    CHECK(resend(&history, 400, 6, 64, &to) == CPAY_OK && wrote_nothing(&to, CPAY_RESENT_NOT_KEPT));
+    CHECK(resend(&history, 400, 40001, 64, &to) == CPAY_OK && to.resent == CPAY_RESENT_WRITTEN);
     cpay_history_free(&history);
 }
 
@@ -121,12 +149,12 @@ static void refusals(void) {
     settings.limit = CPAY_MAX_HISTORY;
     settings.rtx_payload_type = 128;
     CHECK(cpay_history_new(&it.history, &settings) == CPAY_INVALID);
-    CHECK(cpay_history_keep(&it.history, PACKET, sizeof PACKET) == CPAY_EMPTY);
+    CHECK(cpay_history_keep(&it.history, PACKET, sizeof PACKET, NULL) == CPAY_EMPTY);
     CHECK(resend(&it.history, 0, 0x1234, 64, &to) == CPAY_EMPTY && to.size == 7 && to.resent == 9 && is_untouched(&to, 0));
     settings.has_rtx = false; /* the payload type of retransmissions is ignored */
     CHECK(cpay_history_new(&it.history, &settings) == CPAY_OK);
     CHECK(cpay_history_new(&it.history, &AS_RTX) == CPAY_FULL);
-    CHECK(cpay_history_keep(&it.history, PACKET, sizeof PACKET) == CPAY_OK);
+    CHECK(cpay_history_keep(&it.history, PACKET, sizeof PACKET, NULL) == CPAY_OK);
     CHECK(resend(&it.history, 0, 0x1234, 64, &to) == CPAY_OK && wrote(&to, PACKET, sizeof PACKET));
     CHECK(cpay_history_resend(&it.history, 0, 0x1234, NULL, 1, &to.size, &to.resent) == CPAY_INVALID);
     CHECK(cpay_depacketize(&it.depacketizer, PACKET, 1) == CPAY_OTHER_KIND);
@@ -134,7 +162,7 @@ static void refusals(void) {
     cpay_history_free(&it.history);
     cpay_history_free(NULL);
     CHECK(cpay_depacketizer_new(&it.depacketizer, &opus) == CPAY_OK);
-    CHECK(cpay_history_keep(&it.history, PACKET, sizeof PACKET) == CPAY_OTHER_KIND);
+    CHECK(cpay_history_keep(&it.history, PACKET, sizeof PACKET, NULL) == CPAY_OTHER_KIND);
     CHECK(resend(&it.history, 0, 0x1234, 64, &to) == CPAY_OTHER_KIND && to.size == 7 && to.resent == 9);
     CHECK(cpay_history_new(&it.history, &AS_RTX) == CPAY_FULL);
     cpay_history_free(&it.history);
@@ -230,6 +258,7 @@ static void faults(void) {
 int main(void) {
     resent();
     kept();
+    any_order();
     refusals();
     requests();
     faults();

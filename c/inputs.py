@@ -10,7 +10,7 @@ import os
 import sys
 
 ROOT = os.path.dirname(os.path.dirname(os.path.realpath(__file__)))
-VECTORS = f"{ROOT}/tools/lines/payload_vectors"
+VECTORS = f"{ROOT}/crates/payload_vectors"
 sys.path.insert(0, f"{ROOT}/scripts")
 
 from program_vectors import ROWS  # noqa: E402  (the folder is known only now)

@@ -56,7 +56,7 @@ static void begin(call *it) {
     struct timeval second = {.tv_sec = 1};
     cpay_spec spec = {.codec = CPAY_VP8, .rate = 90000};
     cpay_sender_settings sends = {.spec = spec, .mtu = 1200, .ssrc = 0x12345678, .payload_type = 96};
-    cpay_receiver_settings receives = CPAY_RECEIVER_SETTINGS;
+    cpay_receiver_settings receives;
     it->from = socket(AF_INET, SOCK_DGRAM, 0);
     it->to = socket(AF_INET, SOCK_DGRAM, 0);
     require(it->from >= 0 && it->to >= 0, "socket");
@@ -64,11 +64,8 @@ static void begin(call *it) {
     require(getsockname(it->to, (struct sockaddr *)&address, &size) == 0, "getsockname");
     require(connect(it->from, (struct sockaddr *)&address, size) == 0, "connect");
     require(setsockopt(it->to, SOL_SOCKET, SO_RCVTIMEO, &second, sizeof second) == 0, "setsockopt");
-    receives.spec = spec;
-    receives.payload_type = 96;
+    cpay_receiver_settings_init(&receives, CPAY_VP8, 90000, 96, CPAY_FOR_LIVE);
     receives.hold_back = 5;
-    receives.start = 1;
-    receives.has_max_wait = true;
     receives.max_wait = 200;
     check(cpay_sender_new(&it->sender, &sends), "sender");
     check(cpay_receiver_new(&it->receiver, &receives, NULL, 0), "receiver");
@@ -92,7 +89,7 @@ static size_t send_frame(call *it, uint64_t frame) {
 
 static void receive(call *it) {
     uint8_t datagram[1500];
-    uint32_t outcome = 0;
+    cpay_outcome outcome = CPAY_HELD;
     ssize_t size = recv(it->to, datagram, sizeof datagram, 0);
     require(size >= 0, "recv");
     /* A datagram that is not a packet is counted, and the stream continues. */
@@ -105,6 +102,7 @@ static void take_units(call *it) {
     cpay_unit unit = {0};
     cpay_status status;
     while (!(status = cpay_receiver_pop(&it->receiver, now(), &unit, bytes, sizeof bytes))) {
+        if (unit.fault) continue; /* a refused frame is lost */
         it->bytes += unit.bytes;
         it->gaps += !unit.contiguous;
     }

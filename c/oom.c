@@ -191,7 +191,8 @@ static int datagrams(int *met) {
                                   .extension_ids = {.layers_allocation = 1, .audio_level = 2}};
     cpay_sample sample = {.values = {.audio_level = -1, .has_audio_level = true,
                                      .layers_allocation_len = 40, .has_layers_allocation = true}};
-    cpay_receiver_settings receives = CPAY_FILE;
+    cpay_receiver_settings receives;
+    cpay_receiver_settings_init(&receives, CPAY_VP8, 90000, 96, CPAY_FOR_FILE);
     cpay_sender sender = CPAY_INIT;
     cpay_receiver receiver = CPAY_INIT;
     cpay_receiver_counts_info counts = {0};
@@ -200,7 +201,7 @@ static int datagrams(int *met) {
     static uint8_t frame[FRAME], bytes[FRAME];
     static const uint8_t no_media[1] = {101};
     uint64_t received = 0;
-    uint32_t outcome = 0;
+    cpay_outcome outcome = CPAY_HELD;
     cpay_status status;
     receives.spec = spec;
     receives.payload_type = 96;
@@ -256,13 +257,13 @@ static int history(int *met) {
     if (status) return 1;
     for (uint8_t number = 0; number < 6; number++) {
         const uint8_t sent[13] = {0x80, 96, 0, number, 0, 0, 0, 0, 0, 0, 0, 7, number};
-        AGAIN(status, cpay_history_keep(&it, sent, sizeof sent));
+        AGAIN(status, cpay_history_keep(&it, sent, sizeof sent, NULL));
         if (status) return 2;
     }
     for (uint8_t number = 3; number < 6; number++) {
         uint8_t bytes[15] = {0};
         size_t size = 99;
-        uint32_t resent = 99;
+        cpay_resent resent = (cpay_resent)99;
         refused = false;
         status = cpay_history_resend(&it, 0, number, bytes, 14, &size, &resent);
         if (status == CPAY_OUT_OF_MEMORY) {
@@ -287,7 +288,8 @@ static int history(int *met) {
 /* A limit of waiting: two numbers are missing, and one arrives. Only the first call allocates. */
 static int waiting(int *met) {
     long before = kept;
-    const cpay_adaptive_wait_settings settings = CPAY_LIVE_ADAPTIVE_WAIT;
+    cpay_adaptive_wait_settings settings;
+    cpay_adaptive_wait_settings_init(&settings);
     static const uint64_t numbers[2] = {65536, 65537};
     cpay_adaptive_wait wait = CPAY_INIT;
     uint64_t limit = 0;
@@ -310,16 +312,42 @@ static size_t packet(uint8_t *out, uint8_t type, uint8_t ssrc, uint8_t number, c
     return 12 + size;
 }
 
-/* Four packets: the second arrives in RED with the third (RFC 2198), and the last is retransmitted (RFC 4588). A packet with
- * padding only arrives too. The settings name no SSRC, so the first packet waits for the next one. */
-static int recovery(int *met) {
+/* One packet waits for the choice of the stream. If memory runs out for it at the end, it still waits, and the next call releases
+ * it. */
+static int ending(int *met) {
     long before = kept;
-    cpay_receiver_settings receives = CPAY_FILE;
+    cpay_receiver_settings receives;
     cpay_receiver receiver = CPAY_INIT;
     cpay_receiver_counts_info counts = {0};
     cpay_unit unit = {0};
     uint8_t bytes[32];
-    uint32_t outcome = 0;
+    cpay_outcome outcome = CPAY_HELD;
+    cpay_status status;
+    cpay_receiver_settings_init(&receives, CPAY_OPUS, 48000, 111, CPAY_FOR_FILE);
+    AGAIN(status, cpay_receiver_new(&receiver, &receives, NULL, 0));
+    if (status) return 1;
+    size_t size = packet(bytes, 111, 7, 10, "\x0a", 1);
+    AGAIN(status, cpay_receiver_receive(&receiver, 0, bytes, size, &outcome));
+    if (status || outcome != CPAY_UNDECIDED) return 2;
+    AGAIN(status, cpay_receiver_finish(&receiver));
+    if (status || cpay_receiver_counts(&receiver, &counts) || counts.undecided || counts.held != 1) return 3;
+    AGAIN(status, cpay_receiver_pop(&receiver, 0, &unit, bytes, 1));
+    if (status || unit.fault || unit.bytes != 1 || bytes[0] != 10) return 4;
+    cpay_receiver_free(&receiver);
+    return kept == before ? 0 : 5;
+}
+
+/* Four packets: the second arrives in RED with the third (RFC 2198), and the last is retransmitted (RFC 4588). A packet with
+ * padding only arrives too. The settings name no SSRC, so the first packet waits for the next one. */
+static int recovery(int *met) {
+    long before = kept;
+    cpay_receiver_settings receives;
+    cpay_receiver_settings_init(&receives, CPAY_OPUS, 48000, 111, CPAY_FOR_FILE);
+    cpay_receiver receiver = CPAY_INIT;
+    cpay_receiver_counts_info counts = {0};
+    cpay_unit unit = {0};
+    uint8_t bytes[32];
+    cpay_outcome outcome = CPAY_HELD;
     uint64_t received = 5;
     cpay_status status;
     receives.spec = (cpay_spec){.codec = CPAY_OPUS, .rate = 48000};
@@ -362,7 +390,8 @@ static int recovery(int *met) {
 /* The streams of a port: two senders and a BYE, a loss and its retransmission. */
 static int port(int *met) {
     long before = kept;
-    const cpay_session_settings settings = CPAY_LIVE_SESSION;
+    cpay_session_settings settings;
+    cpay_session_settings_init(&settings, CPAY_FOR_LIVE);
     const cpay_session_format format = {.spec = {.codec = CPAY_OPUS, .rate = 48000}, .payload_type = 111, .has_rtx = true,
                                         .rtx_payload_type = 112};
     const cpay_ssrc_pair pair = {.ssrc = 7, .rtx_ssrc = 9};
@@ -473,7 +502,8 @@ static int left_in_red(void) {
 static int left_in_session(void) {
     long before = kept;
     any it = ANY_INIT;
-    const cpay_session_settings settings = CPAY_LIVE_SESSION;
+    cpay_session_settings settings;
+    cpay_session_settings_init(&settings, CPAY_FOR_LIVE);
     const cpay_session_format format = {.spec = {.codec = CPAY_OPUS, .rate = 48000}, .payload_type = 111};
     cpay_arrival arrival = {0};
     cpay_event event = {0};
@@ -500,11 +530,11 @@ static int left_in_history(void) {
         any it = ANY_INIT;
         uint8_t bytes[12];
         size_t size = 0;
-        uint32_t resent = 0;
+        cpay_resent resent = CPAY_RESENT_WRITTEN;
         if (cpay_history_new(&it.history, &settings)) return 1;
         for (uint8_t number = 0; number < packets; number++) {
             const uint8_t sent[12] = {0x80, 96, 0, number, 0, 0, 0, 0, 0, 0, 0, 7};
-            if (cpay_history_keep(&it.history, sent, sizeof sent)) return 2;
+            if (cpay_history_keep(&it.history, sent, sizeof sent, NULL)) return 2;
             if (cpay_history_resend(&it.history, 0, number, bytes, 0, &size, &resent) != CPAY_TOO_SMALL) return 3;
             if (cpay_history_resend(&it.history, 0, number, bytes, 12, &size, &resent) || bytes[3] != number) return 4;
         }
@@ -522,9 +552,9 @@ static int resends_allocate(void) {
         const uint8_t sent[12] = {0x80, 96, 0, number, 0, 0, 0, 0, 0, 0, 0, 7};
         uint8_t bytes[12];
         size_t size = 0;
-        uint32_t resent = 0;
+        cpay_resent resent = CPAY_RESENT_WRITTEN;
         long steady = asked;
-        if (cpay_history_keep(&it, sent, sizeof sent)) return 2;
+        if (cpay_history_keep(&it, sent, sizeof sent, NULL)) return 2;
         if (cpay_history_resend(&it, 0, number, bytes, 12, &size, &resent) || resent != CPAY_RESENT_WRITTEN) return 3;
         if (number > 8 && asked != steady) return 4;
     }
@@ -544,12 +574,15 @@ static bool is_within(any *it, const char *type, size_t before, size_t most) {
 static int too_large(void) {
     const cpay_spec opus = {.codec = CPAY_OPUS, .rate = 48000};
     const cpay_sender_settings sends = {.spec = opus, .mtu = MTU, .ssrc = 7, .payload_type = 111};
-    const cpay_session_settings port = CPAY_LIVE_SESSION;
+    cpay_session_settings port;
+    cpay_session_settings_init(&port, CPAY_FOR_LIVE);
     const cpay_session_format format = {.spec = opus, .payload_type = 111};
     const cpay_history_settings keeps = {.limit = 512};
-    const cpay_adaptive_wait_settings waits = CPAY_LIVE_ADAPTIVE_WAIT;
+    cpay_adaptive_wait_settings waits;
+    cpay_adaptive_wait_settings_init(&waits);
     static const uint32_t distance = 1;
-    cpay_receiver_settings receives = CPAY_LIVE_AUDIO;
+    cpay_receiver_settings receives;
+    cpay_receiver_settings_init(&receives, CPAY_OPUS, 48000, 111, CPAY_FOR_LIVE);
     any it = ANY_INIT;
     int bad = 0;
     size_t before = total;
@@ -558,11 +591,11 @@ static int too_large(void) {
 #define TAKES(most, type, call) bad += (before = total, (call) != CPAY_OK) || !is_within(&it, type, before, most)
     TAKES(200, "packetizer", cpay_packetizer_new(&it.packetizer, &opus));
     TAKES(350, "depacketizer", cpay_depacketizer_new(&it.depacketizer, &opus));
-    TAKES(600, "buffer", cpay_buffer_new(&it.buffer, &opus, 0, 64));
+    TAKES(650, "buffer", cpay_buffer_new(&it.buffer, &opus, 0, 64));
     TAKES(150, "sender of RED", cpay_red_sender_new(&it.red_sender, 63, 111, &distance, 1));
     TAKES(1200, "sender", cpay_sender_new(&it.sender, &sends));
     TAKES(200, "history", cpay_history_new(&it.history, &keeps));
-    TAKES(1300, "receiver", cpay_receiver_new(&it.receiver, &receives, NULL, 0));
+    TAKES(1320, "receiver", cpay_receiver_new(&it.receiver, &receives, NULL, 0));
     TAKES(1900, "adaptive wait", cpay_adaptive_wait_new(&it.adaptive_wait, &waits));
     TAKES(1200, "session", cpay_session_new(&it.session, &port, &format, 1, NULL, 0, NULL, 0));
     return bad;
@@ -572,14 +605,15 @@ static int too_large(void) {
  * unit before stay until then, and only the first two pops allocate. */
 static int pops_allocate(void) {
     long before = kept;
-    cpay_receiver_settings receives = CPAY_LIVE_AUDIO;
+    cpay_receiver_settings receives;
+    cpay_receiver_settings_init(&receives, CPAY_OPUS, 48000, 111, CPAY_FOR_LIVE);
     const cpay_spec opus = {.codec = CPAY_OPUS, .rate = 48000};
     cpay_receiver receiver = CPAY_INIT;
     cpay_buffer buffer = CPAY_INIT;
     cpay_extension_values values;
     cpay_unit unit;
     uint8_t bytes[32];
-    uint32_t outcome;
+    cpay_outcome outcome;
     receives.spec = opus;
     receives.payload_type = 111;
     receives.start = 0;
@@ -634,6 +668,7 @@ static int session(int *met) {
     if (!ended) ended = history(met);
     if (!ended) ended = waiting(met);
     if (!ended) ended = port(met);
+    if (!ended) ended = ending(met);
     return ended ? ended : recovery(met);
 }
 

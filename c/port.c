@@ -15,7 +15,7 @@
 #include <time.h>
 #include <unistd.h>
 
-enum { FRAMES = 100, VIDEO = 96, AUDIO = 111, STREAMS = 64, MOST = 1 << 20 };
+enum { FRAMES = 100, VIDEO = 96, AUDIO = 111, STREAMS = 64 };
 
 /* What your session description names: the formats, and payload types without media. */
 static const cpay_session_format FORMATS[] = {
@@ -37,6 +37,8 @@ typedef struct {
     track tracks[STREAMS];
     size_t count;
     const char *folder;
+    uint8_t *bytes; /* memory for the bytes of an event, which grows if an event asks for more */
+    size_t room;
 } recorder;
 
 static void check(cpay_status status, const char *what) {
@@ -84,35 +86,43 @@ static void keep(track *track, const uint8_t *bytes, size_t size) {
     if (track->file) require(fwrite(length, 1, 4, track->file) == 4 && fwrite(bytes, 1, size, track->file) == size, "fwrite");
 }
 
-static void end(recorder *it, track *track, uint32_t why) {
-    static const char *const reasons[] = {"a BYE", "the time-out", "the end"};
+static void end(recorder *it, track *track, cpay_ending why) {
     printf("stream %" PRIu32 " of payload type %u: %" PRIu64 " units, %" PRIu64 " bytes, until %s\n", track->ssrc,
-           (unsigned)track->payload_type, track->units, track->bytes, reasons[why]);
+           (unsigned)track->payload_type, track->units, track->bytes, cpay_ending_text(why));
     if (track->file) require(fclose(track->file) == 0, "fclose");
     *track = it->tracks[--it->count];
 }
 
+/* The next event. Its bytes are at the front of the memory. */
+static cpay_status next_event(recorder *it, cpay_event *event) {
+    cpay_status status;
+    while ((status = cpay_session_poll(&it->session, now(), event, it->bytes, it->room)) == CPAY_TOO_SMALL) {
+        require((it->bytes = (uint8_t *)realloc(it->bytes, event->bytes)) != NULL, "realloc");
+        it->room = event->bytes;
+    }
+    return status;
+}
+
 /* Handles all events that are due. */
 static void drain(recorder *it) {
-    static uint8_t bytes[MOST];
-    cpay_event event = {0};
+    cpay_event event;
     cpay_status status;
-    while ((status = cpay_session_poll(&it->session, now(), &event, bytes, sizeof bytes)) == CPAY_OK) {
+    while ((status = next_event(it, &event)) == CPAY_OK) {
         track *track = track_of(it, &event);
         if (event.kind == CPAY_EVENT_BEGUN) begin(it, &event);
         else if (!track) continue;
-        else if (event.kind == CPAY_EVENT_UNIT) keep(track, bytes, event.unit.bytes);
+        else if (event.kind == CPAY_EVENT_UNIT) keep(track, it->bytes, event.unit.bytes);
         else if (event.kind == CPAY_EVENT_FAULT) fprintf(stderr, "a frame is lost: %s\n", cpay_status_text(event.status));
         else if (event.kind == CPAY_EVENT_ENDED) end(it, track, event.why);
     }
-    if (status != CPAY_NONE) check(status, "poll"); /* CPAY_TOO_SMALL: a unit of more than MOST bytes */
+    if (status != CPAY_NONE) check(status, "poll");
 }
 
 /* Waits for a datagram, at most until the next deadline. Returns whether one came. */
 static bool serve(recorder *it, int port) {
     uint8_t datagram[2048];
     struct pollfd one = {.fd = port, .events = POLLIN};
-    cpay_arrival arrival = {0};
+    cpay_arrival arrival;
     uint64_t at = 0, time = now();
     int wait = 1000;
     if (cpay_session_next_deadline(&it->session, &at) == CPAY_OK && at < time + 1000) wait = at > time ? (int)(at - time) : 0;
@@ -144,7 +154,7 @@ int main(int argc, char **argv) {
     static recorder it = {.session = CPAY_INIT};
     struct sockaddr_in address = {.sin_family = AF_INET, .sin_addr = {.s_addr = htonl(INADDR_LOOPBACK)}};
     socklen_t length = sizeof address;
-    const cpay_session_settings settings = CPAY_LIVE_SESSION;
+    cpay_session_settings settings;
     cpay_sender_settings video = {.spec = FORMATS[0].spec, .mtu = 1200, .ssrc = 1, .payload_type = VIDEO};
     cpay_sender_settings audio = {.spec = FORMATS[1].spec, .mtu = 1200, .ssrc = 2, .payload_type = AUDIO};
     cpay_sender senders[2] = {CPAY_INIT, CPAY_INIT};
@@ -156,6 +166,7 @@ int main(int argc, char **argv) {
     require(getsockname(port, (struct sockaddr *)&address, &length) == 0, "getsockname");
     require(connect(from, (struct sockaddr *)&address, length) == 0, "connect");
     it.folder = argc > 1 ? argv[1] : NULL;
+    cpay_session_settings_init(&settings, CPAY_FOR_LIVE);
     check(cpay_session_new(&it.session, &settings, FORMATS, 2, NO_MEDIA, sizeof NO_MEDIA, NULL, 0), "session");
     check(cpay_sender_new(&senders[0], &video), "sender");
     check(cpay_sender_new(&senders[1], &audio), "sender");
@@ -173,7 +184,8 @@ int main(int argc, char **argv) {
            counts.malformed + counts.unknown + counts.refused + counts.unassociated);
     for (int i = 0; i < 2; i++) cpay_sender_free(&senders[i]);
     cpay_session_free(&it.session);
+    free(it.bytes);
     close(port);
     close(from);
-    return counts.streams != 0 || counts.received != counts.ended + counts.rtcp;
+    return counts.streams != 0 || counts.received < counts.ended + counts.rtcp;
 }

@@ -530,10 +530,10 @@ cpay_status cpay_sdp_read(const char *text_at, size_t text_len, cpay_sdp_media *
 /* ---- Settings ---- */
 
 static cpay_receiver_settings settings_for(const cpay_sdp_media *media, const cpay_sdp_format *format) {
-    static const cpay_receiver_settings audio = CPAY_LIVE_AUDIO, video = CPAY_LIVE_VIDEO;
-    static const cpay_receiver_settings audio_with_nack = CPAY_LIVE_AUDIO_WITH_NACK, video_with_nack = CPAY_LIVE_VIDEO_WITH_NACK;
-    if (media->kind == CPAY_SDP_VIDEO) return format->nack ? video_with_nack : video;
-    return format->nack ? audio_with_nack : audio;
+    cpay_receiver_settings settings;
+    uint32_t codec = media->kind == CPAY_SDP_VIDEO ? CPAY_VP8 : CPAY_OPUS; /* windows and wait are those of the section */
+    cpay_receiver_settings_init(&settings, codec, 1, 0, format->nack ? CPAY_FOR_LIVE_WITH_NACK : CPAY_FOR_LIVE);
+    return settings;
 }
 
 /* The packet time in ticks of the RTP clock, within what RED can express (RFC 2198, section 3: 14 bits). */
@@ -668,24 +668,29 @@ static cpay_session_format session_format(const cpay_sdp_media *media, const cpa
     return it;
 }
 
-static cpay_wait_limits limits_of(const cpay_receiver_settings *it) {
-    return (cpay_wait_limits){it->max_wait, it->hold_back, it->start, it->has_max_wait};
+/* Whether an earlier format is sent in RED with this payload type, which names no payload type then. */
+static bool has_red(const cpay_sdp_session_settings *session, uint8_t red_payload_type) {
+    for (size_t i = 0; i < session->formats_len; i++)
+        if (session->formats[i].has_red && session->formats[i].red_payload_type == red_payload_type) return true;
+    return false;
 }
 
 /* Adds a format of media that no earlier section has. */
 static void add_session_format(cpay_sdp_session_settings *session, const cpay_sdp_media *media, const cpay_sdp_format *format) {
-    cpay_receiver_settings live = settings_for(media, format);
-    session->formats[session->formats_len++] = session_format(media, format);
-    if (format->nack && media->kind == CPAY_SDP_VIDEO) session->settings.video = limits_of(&live);
-    if (format->nack && media->kind == CPAY_SDP_AUDIO) session->settings.audio = limits_of(&live);
+    cpay_session_format it = session_format(media, format);
+    if (it.has_red && has_red(session, it.red_payload_type)) {
+        it.has_red = it.has_red_rtx = false;
+        it.red_step = it.red_payload_type = it.red_rtx_payload_type = 0;
+    }
+    session->formats[session->formats_len++] = it;
 }
 
 /* Joins a format of media with the one of an earlier section. */
 static void join_session_format(cpay_sdp_session_settings *session, const cpay_session_format *other) {
     cpay_session_format *it = session->formats;
     while (it->payload_type != other->payload_type) it++;
-    if (!it->has_red) {
-        it->has_red = other->has_red;
+    if (!it->has_red && other->has_red && !has_red(session, other->red_payload_type)) {
+        it->has_red = true;
         it->red_payload_type = other->red_payload_type;
         it->red_step = other->red_step;
         it->has_red_rtx = other->has_red_rtx;
@@ -745,22 +750,63 @@ static cpay_sdp_session_fault add_sections(port *it, const cpay_sdp_media *media
     return fault;
 }
 
+/* Whether the payload type is RTCP's on the same port, if a marker is set (RFC 5761, section 4). */
+static bool is_reserved(uint8_t payload_type) { return payload_type >= 64 && payload_type <= 95; }
+
+/* The payload type of the format that is reserved; 0 if none is. */
+static uint8_t reserved_type(const cpay_session_format *it) {
+    if (is_reserved(it->payload_type)) return it->payload_type;
+    if (it->has_red && is_reserved(it->red_payload_type)) return it->red_payload_type;
+    if (!it->has_rtx) return 0;
+    if (is_reserved(it->rtx_payload_type)) return it->rtx_payload_type;
+    return it->has_red_rtx && is_reserved(it->red_rtx_payload_type) ? it->red_rtx_payload_type : 0;
+}
+
+/* The first payload type without media that is reserved, of telephone events or not; 0 if none is. */
+static uint8_t reserved_listed(const cpay_sdp_session_settings *session, bool of_events) {
+    for (size_t i = 0; i < session->no_media_len; i++) {
+        uint8_t entry = session->no_media[i], type = entry % CPAY_TELEPHONE;
+        if ((entry >= CPAY_TELEPHONE) == of_events && is_reserved(type)) return type;
+    }
+    return 0;
+}
+
+/* The first payload type that is reserved; 0 if none is. */
+static uint8_t reserved_in(const cpay_sdp_session_settings *session) {
+    uint8_t type = 0;
+    for (size_t i = 0; i < session->formats_len && type == 0; i++) type = reserved_type(&session->formats[i]);
+    if (type == 0) type = reserved_listed(session, false);
+    return type == 0 ? reserved_listed(session, true) : type;
+}
+
+/* Sets how long frames wait: with retransmission if a format of their kind has `nack`. */
+static void set_wait_limits(cpay_sdp_session_settings *session) {
+    cpay_session_settings with_nack;
+    cpay_session_settings_init(&with_nack, CPAY_FOR_LIVE_WITH_NACK);
+    for (size_t i = 0; i < session->formats_len; i++) {
+        uint32_t codec = session->formats[i].spec.codec;
+        if (!session->formats[i].nack) continue;
+        if (codec == CPAY_VP8 || codec == CPAY_VP9 || codec == CPAY_AV1) session->settings.video = with_nack.video;
+        else session->settings.audio = with_nack.audio;
+    }
+}
+
 cpay_status cpay_sdp_session(const cpay_sdp_media *media, size_t media_len, cpay_sdp_session_settings *session,
                              cpay_sdp_session_fault *fault) {
-    static const cpay_session_settings live = CPAY_LIVE_SESSION;
-    static const cpay_receiver_settings audio = CPAY_LIVE_AUDIO;
     static const cpay_sdp_session_settings none;
     cpay_sdp_session_settings found = none;
     port it = {.session = &found};
     if (!media && media_len) return CPAY_INVALID;
-    found.settings = live;
-    found.settings.audio = found.settings.video = limits_of(&audio);
+    cpay_session_settings_init(&found.settings, CPAY_FOR_LIVE);
+    found.settings.video = found.settings.audio;
     cpay_sdp_session_fault what = add_sections(&it, media, media_len);
+    if (!what.error && reserved_in(&found) > 0) what = clash(CPAY_SDP_PAYLOAD_TYPE_CLASHES, reserved_in(&found));
     if (what.error) {
         *fault = what;
         return CPAY_INVALID;
     }
     found.settings.extension_ids = extension_ids_of(it.ids);
+    set_wait_limits(&found);
     *session = found;
     return CPAY_OK;
 }

@@ -20,6 +20,7 @@ static const cpay_session_format FORMATS[2] = {
 };
 static const uint8_t NO_MEDIA[2] = {NOISE, EVENTS + CPAY_TELEPHONE};
 static const cpay_ssrc_pair PAIRS[1] = {{.ssrc = 1, .rtx_ssrc = 9}};
+static const uint8_t NAME[7] = {'m', 'e', '@', 'h', 'o', 's', 't'};
 
 static cpay_session session_of(const cpay_session_settings *settings) {
     cpay_session session = CPAY_INIT;
@@ -28,7 +29,8 @@ static cpay_session session_of(const cpay_session_settings *settings) {
 }
 
 static cpay_session live(void) {
-    static const cpay_session_settings settings = CPAY_LIVE_SESSION;
+    cpay_session_settings settings;
+    cpay_session_settings_init(&settings, CPAY_FOR_LIVE);
     return session_of(&settings);
 }
 
@@ -84,7 +86,7 @@ static const char *next(cpay_session *session, uint64_t now) {
                 event.unit.decodable ? "" : "?");
         return text;
     }
-    CHECK(event.unit.bytes == 0 && event.unit.first == 0 && event.unit.extra.kind == 0 && !event.unit.decodable);
+    CHECK(event.unit.bytes == 0 && event.unit.first == 0 && event.unit.extra.kind == 0 && !event.unit.decodable && !event.unit.fault);
     unsigned more = event.kind == CPAY_EVENT_FAULT ? event.status : event.payload_type;
     if (event.kind == CPAY_EVENT_ENDED) more = event.why;
     sprintf(text, "%c%u:%u", "B?FE"[event.kind & 3], (unsigned)event.ssrc, more);
@@ -237,7 +239,8 @@ static void pairs(void) {
  * ends no audio. */
 static void change_of_format(void) {
     enum { PCMU = 0 };
-    static const cpay_session_settings settings = CPAY_LIVE_SESSION;
+    cpay_session_settings settings;
+    cpay_session_settings_init(&settings, CPAY_FOR_LIVE);
     static const cpay_session_format formats[3] = {
         {.spec = {.codec = CPAY_OPUS, .rate = 48000}, .payload_type = AUDIO},
         {.spec = {.codec = CPAY_PCMU, .rate = 8000}, .payload_type = PCMU},
@@ -261,6 +264,8 @@ static void change_of_format(void) {
             if (!strcmp(one, "E1:3")) ended = now;
     }
     CHECK(ended == 240 && CPAY_ENDED_BY_CHANGE == 3);
+    static const char *const texts[] = {"a BYE", "the idle timeout", "a call", "a change of format", "unknown reason"};
+    for (uint32_t why = 0; why < 5; why++) CHECK(strcmp(cpay_ending_text(why), texts[why]) == 0);
     CHECK(counts_of(&session).streams == 2 && counts_of(&session).ended == 2);
     cpay_session_free(&session);
 }
@@ -270,15 +275,15 @@ static void requests(void) {
     static const uint8_t delta[] = {0x10, 0x11, 0, 0, 1};
     static const uint8_t nack[] = {0x81, 205, 0, 3, 0, 0, 0, 77, 0, 0, 0, 1, 0, 3, 0, 1};
     static const uint8_t pli[] = {0x81, 206, 0, 2, 0, 0, 0, 77, 0, 0, 0, 1};
-    cpay_session_settings settings = CPAY_LIVE_SESSION;
+    cpay_session_settings settings;
+    cpay_session_settings_init(&settings, CPAY_FOR_LIVE);
     cpay_session_format formats[2];
     cpay_session session = CPAY_INIT;
     cpay_event event = {.kind = 99};
     uint8_t bytes[64];
     memcpy(formats, FORMATS, sizeof formats);
     formats[0].nack = formats[1].pli = true;
-    settings.has_feedback = true;
-    settings.feedback.ssrc = 77;
+    CHECK(cpay_session_settings_feedback(&settings, 77, NAME, sizeof NAME) == CPAY_OK);
     settings.audio.max_wait = 500;
     CHECK(cpay_session_new(&session, &settings, formats, 2, NULL, 0, NULL, 0) == CPAY_OK);
     opus(&session, 0, 1, 1);
@@ -288,6 +293,7 @@ static void requests(void) {
     CHECK(happens(&session, 0, ".") && deadline(&session) == 10);
     for (uint64_t now = 10; now < 300; now += 100) {
         CHECK(cpay_session_poll(&session, now, &event, bytes, 15) == CPAY_TOO_SMALL && event.kind == CPAY_EVENT_FEEDBACK);
+        CHECK(deadline(&session) == 0); /* the next poll has it at once */
         CHECK(cpay_session_poll(&session, now, &event, bytes, 16) == CPAY_OK && event.bytes == 16 && event.unit.bytes == 0);
         CHECK(event.ssrc == 1 && event.payload_type == AUDIO && same(bytes, (const char *)nack, 16));
         CHECK(happens(&session, now, ".") && deadline(&session) == now + 100);
@@ -300,16 +306,17 @@ static void requests(void) {
     cpay_session_free(&session);
 }
 
-/* Receiver reports (RFC 3550, section 6.4.2): one each second, with a block about the announced stream. */
+/* Receiver reports (RFC 3550, section 6.4.2): one each second, with a block about the announced stream, and the name (6.5). */
 static void sent_reports(void) {
+    static const uint8_t name[] = {0x81, 202, 0, 4, 0, 0, 0, 77, 1, 7, 'm', 'e', '@', 'h', 'o', 's', 't', 0, 0, 0};
     static const uint8_t first[] = {0x81, 201, 0, 7, 0, 0, 0, 77, 0, 0, 0, 1, 64, 0, 0, 1, 0, 0, 0, 4};
     static const uint8_t second[] = {0x81, 201, 0, 7, 0, 0, 0, 77, 0, 0, 0, 1, 0, 0, 0, 1, 0, 0, 0, 5};
-    cpay_session_settings settings = CPAY_LIVE_SESSION;
+    cpay_session_settings settings;
+    cpay_session_settings_init(&settings, CPAY_FOR_LIVE);
     cpay_session session = CPAY_INIT;
     cpay_event event = {.kind = 99};
     uint8_t bytes[64];
-    settings.has_feedback = true;
-    settings.feedback.ssrc = 77;
+    CHECK(cpay_session_settings_feedback(&settings, 77, NAME, sizeof NAME) == CPAY_OK);
     CHECK(cpay_session_new(&session, &settings, FORMATS, 2, NULL, 0, NULL, 0) == CPAY_OK);
     opus(&session, 0, 1, 1);
     opus(&session, 0, 1, 2);
@@ -318,9 +325,10 @@ static void sent_reports(void) {
     while (cpay_session_poll(&session, 999, &event, bytes, 64) == CPAY_OK) CHECK(event.kind != CPAY_EVENT_REPORT);
     CHECK(deadline(&session) == 1999);
     /* 4 are expected, and 1 is lost: 256 / 4 */
-    CHECK(cpay_session_poll(&session, 1999, &event, bytes, 31) == CPAY_TOO_SMALL && event.kind == CPAY_EVENT_REPORT);
-    CHECK(cpay_session_poll(&session, 1999, &event, bytes, 32) == CPAY_OK && event.bytes == 32 && event.unit.bytes == 0);
+    CHECK(cpay_session_poll(&session, 1999, &event, bytes, 51) == CPAY_TOO_SMALL && event.kind == CPAY_EVENT_REPORT);
+    CHECK(cpay_session_poll(&session, 1999, &event, bytes, 52) == CPAY_OK && event.bytes == 52 && event.unit.bytes == 0);
     CHECK(event.ssrc == 0 && event.payload_type == 0 && same(bytes, (const char *)first, sizeof first));
+    CHECK(same(bytes + 32, (const char *)name, sizeof name));
     CHECK(happens(&session, 1999, ".") && deadline(&session) == 2999);
     opus(&session, 2000, 1, 5);
     while (cpay_session_poll(&session, 2998, &event, bytes, 64) == CPAY_OK) CHECK(event.kind != CPAY_EVENT_REPORT);
@@ -476,7 +484,8 @@ static void small_buffers(void) {
 
 /* Values of header extensions, and streams in more places than there are. */
 static void values_and_places(void) {
-    cpay_session_settings settings = CPAY_LIVE_SESSION;
+    cpay_session_settings settings;
+    cpay_session_settings_init(&settings, CPAY_FOR_LIVE);
     cpay_sender_settings sends = {.spec = FORMATS[0].spec, .mtu = 100, .ssrc = 1, .payload_type = AUDIO};
     cpay_sample sample = {
         .values = {.audio_level = -9, .has_audio_level = true, .has_voice_activity = true, .voice_activity = true}};
@@ -511,10 +520,12 @@ static void values_and_places(void) {
 
 /* Settings out of range. */
 static void settings(void) {
-    const cpay_session_settings right = CPAY_LIVE_SESSION;
+    cpay_session_settings right;
+    cpay_session_settings_init(&right, CPAY_FOR_LIVE);
     cpay_session_settings wrong;
     cpay_session_format formats[2];
     cpay_session session = CPAY_INIT;
+    static const uint8_t long_name[256] = {1};
 #define REFUSED(field, value) \
     wrong = right; \
     wrong.field = (value); \
@@ -524,6 +535,10 @@ static void settings(void) {
     REFUSED(max_streams, 0);
     REFUSED(tick_rate, 0);
     REFUSED(from_keyframe, 3);
+    REFUSED(has_feedback, true); /* without a name */
+    CHECK(cpay_session_settings_feedback(&wrong, 1, NAME, 0) == CPAY_INVALID);
+    CHECK(cpay_session_settings_feedback(&wrong, 1, long_name, 256) == CPAY_INVALID && wrong.feedback.cname_len == 0);
+    CHECK(cpay_session_settings_feedback(&wrong, 1, long_name, 255) == CPAY_OK && wrong.feedback.cname_len == 255);
 #define REFUSED_FORMAT(field, value) \
     memcpy(formats, FORMATS, sizeof formats); \
     formats[0].field = (value); \
@@ -537,6 +552,27 @@ static void settings(void) {
     REFUSED_FORMAT(red_step, 16384);
     REFUSED_FORMAT(rtx_payload_type, 128);
     REFUSED_FORMAT(red_rtx_payload_type, 128);
+    static const uint8_t reserved[] = {64, 72, 95}; /* RTCP's with a marker (RFC 5761, section 4) */
+    for (size_t i = 0; i < sizeof reserved; i++) {
+        REFUSED_FORMAT(payload_type, reserved[i]);
+        REFUSED_FORMAT(red_payload_type, reserved[i]);
+        REFUSED_FORMAT(rtx_payload_type, reserved[i]);
+        REFUSED_FORMAT(red_rtx_payload_type, reserved[i]);
+        CHECK(cpay_session_new(&session, &right, FORMATS, 2, &reserved[i], 1, NULL, 0) == CPAY_INVALID);
+    }
+    /* payload types with two meanings */
+    static const uint8_t both[] = {NOISE, NOISE + CPAY_TELEPHONE}, taken[] = {VIDEO, RED, RTX, RED_RTX, VIDEO + CPAY_TELEPHONE};
+    REFUSED_FORMAT(payload_type, VIDEO);
+    REFUSED_FORMAT(red_payload_type, VIDEO);
+    REFUSED_FORMAT(rtx_payload_type, VIDEO);
+    REFUSED_FORMAT(rtx_payload_type, RED);
+    REFUSED_FORMAT(red_rtx_payload_type, RED);
+    REFUSED_FORMAT(red_rtx_payload_type, RTX);
+    REFUSED_FORMAT(red_rtx_payload_type, AUDIO);
+    CHECK(cpay_session_new(&session, &right, FORMATS, 2, both, 2, NULL, 0) == CPAY_INVALID);
+    for (size_t i = 0; i < sizeof taken; i++)
+        CHECK(cpay_session_new(&session, &right, FORMATS, 2, &taken[i], 1, NULL, 0) == CPAY_INVALID);
+    memcpy(formats, FORMATS, sizeof formats);
     formats[0] = FORMATS[0];
     formats[1].spec.rate = 0;
     CHECK(cpay_session_new(&session, &right, formats, 2, NULL, 0, NULL, 0) == CPAY_INVALID);
@@ -553,18 +589,23 @@ static void settings(void) {
     formats[0].red_payload_type = formats[0].rtx_payload_type = formats[0].red_rtx_payload_type = 255;
     CHECK(cpay_session_new(&session, &right, formats, 1, NO_MEDIA, 1, PAIRS, 1) == CPAY_OK);
     cpay_session_free(&session);
-    formats[0] = FORMATS[0];
-    formats[0].has_red_rtx = false;
-    formats[0].red_rtx_payload_type = 255;
-    CHECK(cpay_session_new(&session, &right, formats, 1, NO_MEDIA, 1, PAIRS, 1) == CPAY_OK);
-    cpay_session_free(&session);
+    for (int without = 0; without < 3; without++) {
+        formats[0] = FORMATS[0];
+        if (without == 0) formats[0].has_red_rtx = false;
+        if (without == 1) formats[0].has_rtx = false;
+        if (without == 2) formats[0].has_red = false;
+        formats[0].red_rtx_payload_type = 255;
+        CHECK(cpay_session_new(&session, &right, formats, 1, NO_MEDIA, 1, PAIRS, 1) == CPAY_OK);
+        cpay_session_free(&session);
+    }
 }
 
 /* A retransmitted RED packet (RFC 4588 over RFC 2198): the original number, then the RED payload, under the payload type whose
  * `apt` is that of RED. Number 4 repeats number 3; both are lost. A format that names no such payload type does not know it. */
 static void redundant_again(void) {
     static const uint8_t original[] = {0, 4, 0xef, 0x0f, 0, 1, 0x6f, 3, 4};
-    const cpay_session_settings live_settings = CPAY_LIVE_SESSION;
+    cpay_session_settings live_settings;
+    cpay_session_settings_init(&live_settings, CPAY_FOR_LIVE);
     cpay_session session = live();
     opus(&session, 0, 1, 1);
     opus(&session, 0, 1, 2);
@@ -595,8 +636,10 @@ static void redundant_again(void) {
 /* Calls on handles that are empty or of another type, which change no output. */
 static void handles(void) {
     any it = ANY_INIT;
-    const cpay_session_settings right = CPAY_LIVE_SESSION;
-    cpay_receiver_settings receives = CPAY_LIVE_AUDIO;
+    cpay_session_settings right;
+    cpay_session_settings_init(&right, CPAY_FOR_LIVE);
+    cpay_receiver_settings receives;
+    cpay_receiver_settings_init(&receives, CPAY_OPUS, 48000, AUDIO, CPAY_FOR_LIVE);
     cpay_arrival arrival = {.kind = 7};
     cpay_event event = {.kind = 7};
     cpay_extension_values values = {.audio_level = 7};
@@ -607,7 +650,7 @@ static void handles(void) {
     cpay_sender_clock_info clock = {.rtp_time = 7};
     uint8_t bytes[4] = {7, 7, 7, 7};
     uint64_t at = 7, numbers[1] = {7};
-    uint32_t outcome = 7;
+    cpay_outcome outcome = (cpay_outcome)7;
     size_t count = 7;
     bool wants = true;
     receives.spec = FORMATS[0].spec;

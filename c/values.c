@@ -55,10 +55,8 @@ static cpay_sender sender_of(uint32_t codec, uint32_t rate, cpay_extension_ids u
 
 static cpay_receiver receiver_of(uint32_t codec, uint32_t rate, cpay_extension_ids under) {
     cpay_receiver receiver = CPAY_INIT;
-    cpay_receiver_settings settings = CPAY_FILE;
-    settings.spec.codec = codec;
-    settings.spec.rate = rate;
-    settings.payload_type = TYPE;
+    cpay_receiver_settings settings;
+    cpay_receiver_settings_init(&settings, codec, rate, TYPE, CPAY_FOR_FILE);
     settings.has_ssrc = true;
     settings.ssrc = SSRC;
     settings.extension_ids = under;
@@ -70,7 +68,7 @@ static cpay_receiver receiver_of(uint32_t codec, uint32_t rate, cpay_extension_i
 static void sent(cpay_sender *sender, size_t place, const uint8_t *wanted, size_t size, cpay_receiver *receiver) {
     uint8_t bytes[512];
     size_t found = 0;
-    uint32_t outcome = 99;
+    cpay_outcome outcome = (cpay_outcome)99;
     CHECK(cpay_sender_datagram(sender, place, bytes, sizeof bytes, &found) == CPAY_OK && found == size);
     CHECK(found == size && memcmp(bytes, wanted, size) == 0);
     CHECK(cpay_receiver_receive(receiver, 0, bytes, found, &outcome) == CPAY_OK && outcome == CPAY_HELD);
@@ -102,7 +100,7 @@ static void video(void) {
     cpay_extension_values wanted = all_values(), part = {.clock_offset = 7};
     cpay_unit unit = {0};
     size_t count = 0;
-    uint32_t outcome = 99;
+    cpay_outcome outcome = (cpay_outcome)99;
     uint8_t bytes[8];
     CHECK(cpay_sender_send_sample(&sender, &sample, (const uint8_t *)"abcde", 5, &count) == CPAY_OK && count == 2);
     sent(&sender, 0, first, sizeof first, &receiver);
@@ -257,11 +255,11 @@ static void refusals(void) {
     any it = ANY_INIT;
     cpay_sender_settings settings = {.spec = {.codec = CPAY_OPUS, .rate = 48000}, .mtu = 100, .payload_type = TYPE,
                                      .extension_ids = {.video_orientation = 255, .audio_level = 255}};
-    cpay_receiver_settings receives = CPAY_RECEIVER_SETTINGS;
+    cpay_receiver_settings receives;
     cpay_sample sample = {.values = all_values()};
     cpay_wait_limits wait_limits = {.hold_back = 1};
     size_t count = 7;
-    receives.spec = settings.spec;
+    cpay_receiver_settings_init(&receives, CPAY_OPUS, 48000, 0, CPAY_FOR_LIVE);
     receives.extension_ids = settings.extension_ids;
     CHECK(cpay_sender_new(&it.sender, &settings) == CPAY_INVALID);
     CHECK(cpay_sender_send_sample(&it.sender, &sample, (const uint8_t *)"o", 1, &count) == CPAY_EMPTY);

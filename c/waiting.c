@@ -6,7 +6,7 @@
 
 enum { TYPE = 111, RTX = 112, SSRC = 7, RTX_SSRC = 9 };
 
-static const cpay_adaptive_wait_settings LIVE = CPAY_LIVE_ADAPTIVE_WAIT;
+static const cpay_adaptive_wait_settings LIVE = {.shortest = 20, .longest = 400, .first = 200, .lost_after = 1000};
 
 static cpay_adaptive_wait wait_of(const cpay_adaptive_wait_settings *settings) {
     cpay_adaptive_wait wait = CPAY_INIT;
@@ -89,7 +89,7 @@ static void handles(void) {
     cpay_adaptive_wait_free(&it.adaptive_wait);
     CHECK(cpay_adaptive_wait_new(&it.adaptive_wait, &LIVE) == CPAY_OK);
     CHECK(cpay_adaptive_wait_new(&it.adaptive_wait, &LIVE) == CPAY_FULL);
-    CHECK(cpay_history_keep(&it.history, NULL, 0) == CPAY_OTHER_KIND);
+    CHECK(cpay_history_keep(&it.history, NULL, 0, NULL) == CPAY_OTHER_KIND);
     cpay_adaptive_wait_free(&it.adaptive_wait);
     CHECK(cpay_adaptive_wait_limit(&it.adaptive_wait, &limit) == CPAY_EMPTY && limit == 7);
 }
@@ -111,7 +111,7 @@ static void receive(cpay_receiver *receiver, cpay_adaptive_wait *wait, cpay_wait
                     bool again) {
     uint8_t bytes[16];
     uint64_t missing[64];
-    uint32_t outcome = 99;
+    cpay_outcome outcome = (cpay_outcome)99;
     size_t count = 99, size = packet(bytes, number, again);
     CHECK(cpay_adaptive_wait_arrived(wait, now, number) == CPAY_OK);
     CHECK(cpay_receiver_receive(receiver, now, bytes, size, &outcome) == CPAY_OK && outcome == CPAY_HELD);
@@ -124,15 +124,14 @@ static void receive(cpay_receiver *receiver, cpay_adaptive_wait *wait, cpay_wait
 /* Packets every 20 ticks. In each six, the second is lost; its retransmission arrives 64 ticks after the third. After eight the
  * limit is 80 ticks. Then a retransmission never comes, and the packet behind the gap is released after 80 ticks. */
 static void around_a_receiver(void) {
-    cpay_receiver_settings settings = CPAY_LIVE_AUDIO;
+    cpay_receiver_settings settings;
     cpay_wait_limits limits = {.hold_back = CPAY_NO_HOLD_BACK, .start = 1, .has_max_wait = true};
     cpay_adaptive_wait wait = wait_of(&LIVE);
     cpay_receiver receiver = CPAY_INIT;
     cpay_unit unit = {0};
     uint8_t bytes[4];
     uint16_t units = 0;
-    settings.spec = (cpay_spec){.codec = CPAY_OPUS, .rate = 48000};
-    settings.payload_type = TYPE;
+    cpay_receiver_settings_init(&settings, CPAY_OPUS, 48000, TYPE, CPAY_FOR_LIVE);
     settings.has_ssrc = settings.has_rtx = true;
     settings.ssrc = SSRC;
     settings.rtx_ssrc = RTX_SSRC;

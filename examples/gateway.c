@@ -26,6 +26,13 @@ static void check(cpay_status status, const char *what) {
     exit(EXIT_FAILURE);
 }
 
+/* Passes a datagram that came from the network. One that is malformed is counted, and the stream continues. */
+static void take(cpay_receiver *receiver, uint64_t now, const uint8_t *datagram, size_t size) {
+    cpay_outcome outcome = CPAY_HELD;
+    cpay_status status = cpay_receiver_receive(receiver, now, datagram, size, &outcome);
+    if (status == CPAY_OUT_OF_MEMORY) check(status, "receive");
+}
+
 /* The same numbers in each run, so that each run prints the same. */
 static bool one_in(uint32_t times) {
     static uint32_t chance = 1;
@@ -59,6 +66,7 @@ static void play(cpay_receiver *receiver, uint64_t now, bool *came) {
     cpay_unit unit = {0};
     cpay_status status;
     while (!(status = cpay_receiver_pop(receiver, now, &unit, opus, sizeof opus))) {
+        if (unit.fault || unit.bytes == 0) continue; /* a refused frame is lost */
         uint32_t frame = (uint32_t)unit.rtp_time / STEP;
         if (frame < FRAMES && opus[0] == (frame & 255)) came[frame] = true;
     }
@@ -68,24 +76,22 @@ static void play(cpay_receiver *receiver, uint64_t now, bool *came) {
 int main(void) {
     static bool arrived[FRAMES + 3], came[FRAMES];
     uint8_t datagram[HEADER + BUDGET];
-    cpay_receiver_settings settings = CPAY_LIVE_AUDIO;
+    cpay_receiver_settings settings;
     cpay_receiver_counts_info counts = {0};
     cpay_red_sender red = CPAY_INIT;
     cpay_receiver receiver = CPAY_INIT;
     unsigned lost = 0, missing = 0, wrong = 0;
-    settings.spec = (cpay_spec){.codec = CPAY_OPUS, .rate = 48000};
-    settings.payload_type = OPUS_TYPE;
+    cpay_receiver_settings_init(&settings, CPAY_OPUS, 48000, OPUS_TYPE, CPAY_FOR_LIVE);
     settings.has_red = true;
     settings.red_payload_type = RED_TYPE;
     settings.red_step = STEP;
     check(cpay_red_sender_new(&red, RED_TYPE, OPUS_TYPE, distances, 2), "sender");
     check(cpay_receiver_new(&receiver, &settings, NULL, 0), "receiver");
     for (uint32_t frame = 0; frame < FRAMES; frame++) {
-        uint32_t outcome = 0;
         size_t size = send_frame(&red, frame, datagram);
         arrived[frame] = !one_in(6);
         lost += !arrived[frame];
-        if (arrived[frame]) check(cpay_receiver_receive(&receiver, frame * 20, datagram, size, &outcome), "receive");
+        if (arrived[frame]) take(&receiver, frame * 20, datagram, size);
         play(&receiver, frame * 20, came);
     }
     check(cpay_receiver_finish(&receiver), "finish");

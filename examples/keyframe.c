@@ -25,6 +25,13 @@ static void check(cpay_status status, const char *what) {
     exit(EXIT_FAILURE);
 }
 
+/* Passes a datagram that came from the network. One that is malformed is counted, and the stream continues. */
+static void take(cpay_receiver *receiver, uint64_t now, const uint8_t *datagram, size_t size) {
+    cpay_outcome outcome = CPAY_HELD;
+    cpay_status status = cpay_receiver_receive(receiver, now, datagram, size, &outcome);
+    if (status == CPAY_OUT_OF_MEMORY) check(status, "receive");
+}
+
 /* ---- The recipe ---- */
 
 typedef struct {
@@ -34,7 +41,7 @@ typedef struct {
 } keyframe_filter;
 
 /* Whether the decoder can use this frame. The first frame has to be a keyframe too: begin with needs_keyframe. */
-static bool is_decodable(keyframe_filter *it, uint32_t codec, const cpay_unit *unit, const uint8_t *bytes) {
+static bool is_decodable(keyframe_filter *it, cpay_codec codec, const cpay_unit *unit, const uint8_t *bytes) {
     cpay_frame_facts facts = {0};
     bool readable = cpay_frame_info(codec, bytes, unit->bytes, &facts) == CPAY_OK;
     bool keyframe = readable && facts.has_keyframe && facts.keyframe;
@@ -78,7 +85,7 @@ int main(void) {
     static uint8_t frame[FRAME], bytes[FRAME], datagram[ROOM];
     cpay_spec vp8 = {.codec = CPAY_VP8, .rate = 90000};
     cpay_sender_settings sends = {.spec = vp8, .mtu = 1200, .ssrc = 7, .payload_type = 96};
-    cpay_receiver_settings settings = CPAY_LIVE_VIDEO;
+    cpay_receiver_settings settings;
     cpay_sender sender = CPAY_INIT;
     cpay_receiver receiver = CPAY_INIT;
     keyframe_filter filter = {.needs_keyframe = true};
@@ -87,8 +94,7 @@ int main(void) {
     uint32_t number = 0, keyframes = 0, decoded_last = 0;
     uint64_t keyframe_at = 0;
     bool pending = true;
-    settings.spec = vp8;
-    settings.payload_type = 96;
+    cpay_receiver_settings_init(&settings, CPAY_VP8, 90000, 96, CPAY_FOR_LIVE);
     check(cpay_sender_new(&sender, &sends), "sender");
     check(cpay_receiver_new(&receiver, &settings, NULL, 0), "receiver");
     for (uint64_t now = 0; now < FRAMES * INTERVAL; now += INTERVAL) {
@@ -100,13 +106,11 @@ int main(void) {
         put_vp8(frame, keyframe, ++number);
         check(cpay_sender_send(&sender, now * 90, false, frame, FRAME, &count), "send");
         for (size_t i = 0; i < count; i++) {
-            uint32_t outcome = 0;
             check(cpay_sender_datagram(&sender, i, datagram, ROOM, &size), "datagram");
-            if (!lost()) check(cpay_receiver_receive(&receiver, now, datagram, size, &outcome), "receive");
+            if (!lost()) take(&receiver, now, datagram, size);
         }
-        while ((status = cpay_receiver_pop(&receiver, now, &unit, bytes, FRAME)) != CPAY_NONE) {
-            if (status != CPAY_OK) { /* 1 to 16: this frame is lost; anything else is a bug or out of memory */
-                if (status > CPAY_AMR_WB_CORRUPTED) check(status, "pop");
+        while (!(status = cpay_receiver_pop(&receiver, now, &unit, bytes, FRAME))) {
+            if (unit.fault) { /* a refused frame is lost */
                 filter.needs_keyframe = true;
                 continue;
             }

@@ -25,6 +25,13 @@ static void check(cpay_status status, const char *what) {
     exit(EXIT_FAILURE);
 }
 
+/* Passes a datagram that came from the network. One that is malformed is counted, and the stream continues. */
+static void take(cpay_receiver *receiver, uint64_t now, const uint8_t *datagram, size_t size) {
+    cpay_outcome outcome = CPAY_HELD;
+    cpay_status status = cpay_receiver_receive(receiver, now, datagram, size, &outcome);
+    if (status == CPAY_OUT_OF_MEMORY) check(status, "receive");
+}
+
 /* ---- The recipe: the receiver's half ---- */
 
 typedef struct {
@@ -102,9 +109,8 @@ static void deliver(cpay_receiver *receiver, uint64_t now) {
     size_t left = 0;
     for (size_t i = 0; i < count_on_the_way; i++) {
         const datagram *it = &on_the_way[i];
-        uint32_t outcome = 0;
         if (it->arrives_at > now) on_the_way[left++] = *it;
-        else check(cpay_receiver_receive(receiver, now, it->bytes, it->size, &outcome), "receive");
+        else take(receiver, now, it->bytes, it->size);
     }
     count_on_the_way = left;
 }
@@ -118,7 +124,7 @@ static void send_frame(cpay_sender *sender, cpay_history *history, uint64_t now,
     check(cpay_sender_send(sender, now * 90, false, frame, size, &count), "send");
     for (size_t i = 0; i < count; i++) {
         check(cpay_sender_datagram(sender, i, it.bytes, ROOM, &it.size), "datagram");
-        check(cpay_history_keep(history, it.bytes, it.size), "keep");
+        check(cpay_history_keep(history, it.bytes, it.size, NULL), "keep");
         if (!lost() || now == 0) carry(&it, now + ONE_WAY);
     }
 }
@@ -131,7 +137,7 @@ static void answer(cpay_history *history, const uint8_t *feedback, size_t size, 
     datagram it;
     if (cpay_read_requests(feedback, size, 7, false, numbers, ASKED, &count, &wants_keyframe) != CPAY_OK) return;
     for (size_t i = 0; i < count && i < ASKED; i++) {
-        uint32_t resent = CPAY_RESENT_NOT_KEPT;
+        cpay_resent resent = CPAY_RESENT_NOT_KEPT;
         check(cpay_history_resend(history, now, numbers[i], it.bytes, ROOM, &it.size, &resent), "resend");
         if (!lost() && resent == CPAY_RESENT_WRITTEN) carry(&it, now + 2 * ONE_WAY);
     }
@@ -143,15 +149,14 @@ int main(void) {
     cpay_spec vp8 = {.codec = CPAY_VP8, .rate = 90000};
     cpay_sender_settings sends = {.spec = vp8, .mtu = MTU, .ssrc = 7, .payload_type = 96};
     cpay_history_settings keeps = {.limit = 512};
-    cpay_receiver_settings settings = CPAY_LIVE_VIDEO_WITH_NACK;
+    cpay_receiver_settings settings;
     cpay_receiver_counts_info counts = {0};
     cpay_sender sender = CPAY_INIT;
     cpay_history history = CPAY_INIT;
     cpay_receiver receiver = CPAY_INIT;
     cpay_unit unit = {0};
     unsigned frames = 0, gaps = 0, nacks = 0;
-    settings.spec = vp8;
-    settings.payload_type = 96;
+    cpay_receiver_settings_init(&settings, CPAY_VP8, 90000, 96, CPAY_FOR_LIVE_WITH_NACK);
     settings.has_ssrc = true;
     settings.ssrc = 7;
     settings.max_wait = 2 * (2 * ONE_WAY) + 100;
@@ -172,6 +177,7 @@ int main(void) {
             nacks++;
         }
         while (!(status = cpay_receiver_pop(&receiver, now, &unit, unit_bytes, FRAME))) {
+            if (unit.fault) continue; /* a refused frame is lost */
             frames++;
             gaps += !unit.contiguous;
         }

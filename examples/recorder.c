@@ -9,7 +9,7 @@
  * - Begin the file with a keyframe.
  * - The time of a frame is its RTP time; it does not wrap.
  * - At the end call cpay_receiver_finish, then pop the remaining frames.
- * - From a file wait without a time limit (CPAY_FILE); from a live stream use CPAY_LIVE_VIDEO.
+ * - From a file wait without a time limit (CPAY_FOR_FILE); from a live stream use CPAY_FOR_LIVE.
  * - Report the faults of the disk: fclose reports what fwrite buffered. */
 #include "codec_payload.h"
 
@@ -69,6 +69,10 @@ static void take_frames(recording *it, uint64_t now) {
     cpay_status status;
     while (!(status = cpay_receiver_pop(&it->receiver, now, &unit, frame, sizeof frame))) {
         cpay_frame_facts facts = {0};
+        if (unit.fault) {
+            fprintf(stderr, "a frame is lost: %s\n", cpay_status_text(unit.fault));
+            continue;
+        }
         if (cpay_frame_info(CPAY_VP8, frame, unit.bytes, &facts) || (!it->frames && !facts.keyframe)) continue;
         if (!it->frames++) {
             it->first_time = unit.rtp_time;
@@ -103,7 +107,7 @@ static void record(recording *it, FILE *capture, unsigned port) {
     require((magic == MICROSECONDS || magic == NANOSECONDS) && little(file_head + 20) == 1, "no classic capture of Ethernet");
     while (fread(head, sizeof head, 1, capture) == 1) {
         size_t size = little(head + 8), payload_size = 0;
-        uint32_t outcome = 0;
+        cpay_outcome outcome = CPAY_HELD;
         require(size <= sizeof packet && fread(packet, 1, size, capture) == size, "the capture is cut off");
         now = (uint64_t)little(head) * 1000 + little(head + 4) / (magic == NANOSECONDS ? 1000000 : 1000);
         const uint8_t *payload = udp_payload(packet, size, port, &payload_size);
@@ -117,14 +121,13 @@ static void record(recording *it, FILE *capture, unsigned port) {
 }
 
 int main(int count, char **words) {
-    cpay_receiver_settings settings = CPAY_FILE;
+    cpay_receiver_settings settings;
     recording it = {.receiver = CPAY_INIT};
     require(count == 5, "usage: recorder CAPTURE PORT PAYLOAD-TYPE FILE");
     FILE *capture = fopen(words[1], "rb");
     it.file = fopen(words[4], "wb");
     require(capture && it.file, "a file cannot be opened");
-    settings.spec = (cpay_spec){.codec = CPAY_VP8, .rate = 90000};
-    settings.payload_type = (uint8_t)atoi(words[3]);
+    cpay_receiver_settings_init(&settings, CPAY_VP8, 90000, (uint8_t)atoi(words[3]), CPAY_FOR_FILE);
     check(cpay_receiver_new(&it.receiver, &settings, NULL, 0), "receiver");
     record(&it, capture, (unsigned)atoi(words[2]));
     fclose(capture);

@@ -24,6 +24,13 @@ static void check(cpay_status status, const char *what) {
     exit(EXIT_FAILURE);
 }
 
+/* Passes a datagram that came from the network. One that is malformed is counted, and the stream continues. */
+static void take(cpay_receiver *receiver, uint64_t now, const uint8_t *datagram, size_t size) {
+    cpay_outcome outcome = CPAY_HELD;
+    cpay_status status = cpay_receiver_receive(receiver, now, datagram, size, &outcome);
+    if (status == CPAY_OUT_OF_MEMORY) check(status, "receive");
+}
+
 static void put(uint8_t *at, uint32_t value, int bytes) {
     for (int i = 0; i < bytes; i++) at[i] = (uint8_t)(value >> 8 * (bytes - 1 - i));
 }
@@ -103,6 +110,7 @@ static void watch(seen_frames *seen, cpay_receiver *viewer, uint64_t now) {
     cpay_unit unit = {0};
     cpay_status status;
     while (!(status = cpay_receiver_pop(viewer, now, &unit, bytes, FRAME))) {
+        if (unit.fault || unit.bytes != FRAME) continue; /* a refused frame is lost */
         uint8_t layer = bytes[FRAME - 1];
         seen->frames++;
         seen->gaps += !unit.contiguous;
@@ -117,29 +125,27 @@ int main(void) {
     static uint8_t frame[FRAME], datagram[ROOM];
     cpay_sender layers[LAYERS] = {CPAY_INIT, CPAY_INIT};
     cpay_receiver viewer = CPAY_INIT;
-    cpay_receiver_settings settings = CPAY_LIVE_VIDEO;
-    forwarder it = {.wanted = 1, .last_number = 500, .last_id = 200, .last_time = 12345};
+    cpay_receiver_settings settings;
+    forwarder it = {.wanted = 1, .last_number = 500, .last_time = 12345, .last_id = 200};
     seen_frames seen = {.layer_before = LAYERS};
     for (uint32_t i = 0; i < LAYERS; i++) {
-        cpay_spec spec = {.codec = CPAY_VP8, .rate = 90000, .vp8_ids = true, .first_id = (uint16_t)(1000 * (i + 1))};
+        cpay_spec spec = {.codec = CPAY_VP8, .rate = 90000, .first_id = (uint16_t)(1000 * (i + 1)), .vp8_ids = true};
         cpay_sender_settings sends = {.spec = spec, .mtu = 1200, .ssrc = i + 1, .payload_type = 96};
         sends.first_number = (uint16_t)(40000 * i);
         check(cpay_sender_new(&layers[i], &sends), "sender");
     }
-    settings.spec = (cpay_spec){.codec = CPAY_VP8, .rate = 90000};
-    settings.payload_type = 96;
+    cpay_receiver_settings_init(&settings, CPAY_VP8, 90000, 96, CPAY_FOR_LIVE);
     check(cpay_receiver_new(&viewer, &settings, NULL, 0), "viewer");
     for (uint32_t f = 0; f < FRAMES; f++) {
         if (f > 0 && f % SWITCH_EVERY == 0) it.wanted = 3 - it.wanted; /* 1 and 2 in turn */
         for (uint32_t i = 0; i < LAYERS; i++) {
             size_t count = 0, size = 0;
-            uint32_t outcome = 0;
             put_vp8(frame, f % 25 == 10 * i, (uint8_t)i);
             check(cpay_sender_send(&layers[i], 90 * INTERVAL * f + 777777 * i, false, frame, FRAME, &count), "send");
             for (size_t place = 0; place < count; place++) {
                 check(cpay_sender_datagram(&layers[i], place, datagram, ROOM, &size), "datagram");
                 if (forward(&it, datagram, size))
-                    check(cpay_receiver_receive(&viewer, f * INTERVAL, datagram, size, &outcome), "receive");
+                    take(&viewer, f * INTERVAL, datagram, size);
             }
         }
         watch(&seen, &viewer, f * INTERVAL);

@@ -62,7 +62,7 @@
 
 /* Passes a datagram that came from a socket at time `now`. A datagram that is not an RTP packet is counted and skipped. */
 static cpay_status take(cpay_receiver *receiver, uint64_t now, const uint8_t *datagram, size_t size) {
-    uint32_t outcome = 0;
+    cpay_outcome outcome = CPAY_HELD;
     cpay_status status = cpay_receiver_receive(receiver, now, datagram, size, &outcome);
     if (status == CPAY_OK || status == CPAY_OUT_OF_MEMORY) return status;
     printf("skipped: %s\n", cpay_status_text(status));
@@ -73,13 +73,12 @@ int main(void) {
     static uint8_t frame[3000], datagram[1500], bytes[3000];
     cpay_spec vp8 = {.codec = CPAY_VP8, .rate = 90000};
     cpay_sender_settings sends = {.spec = vp8, .mtu = 1200, .ssrc = 0x12345678, .payload_type = 96};
-    cpay_receiver_settings receives = CPAY_LIVE_VIDEO;
+    cpay_receiver_settings receives;
     cpay_sender sender = CPAY_INIT;
     cpay_receiver receiver = CPAY_INIT;
     cpay_unit unit = {0};
     size_t count = 0, size = 0;
-    receives.spec = vp8;
-    receives.payload_type = 96;
+    cpay_receiver_settings_init(&receives, CPAY_VP8, 90000, 96, CPAY_FOR_LIVE);
     cpay_status status = cpay_sender_new(&sender, &sends);
     if (!status) status = cpay_receiver_new(&receiver, &receives, NULL, 0);
     if (!status) status = take(&receiver, 0, (const uint8_t *)"hello", 5);
@@ -88,8 +87,10 @@ int main(void) {
         status = cpay_sender_datagram(&sender, place, datagram, sizeof datagram, &size);
         if (!status) status = take(&receiver, 20, datagram, size);
     }
-    while (!status && !(status = cpay_receiver_pop(&receiver, 120, &unit, bytes, sizeof bytes)))
-        printf("packets %u to %u: a frame of %zu bytes\n", (unsigned)unit.first, (unsigned)unit.last, unit.bytes);
+    while (!status && !(status = cpay_receiver_pop(&receiver, 120, &unit, bytes, sizeof bytes))) {
+        if (unit.fault) printf("a frame is lost: %s\n", cpay_status_text(unit.fault));
+        else printf("packets %u to %u: a frame of %zu bytes\n", (unsigned)unit.first, (unsigned)unit.last, unit.bytes);
+    }
     printf("%s\n", cpay_status_text(status));
     cpay_sender_free(&sender);
     cpay_receiver_free(&receiver);
@@ -177,7 +178,7 @@ typedef enum {
 } cpay_status;
 
 /** Codecs. */
-enum {
+typedef enum {
     CPAY_OPUS = 0,
     CPAY_PCMU = 1,
     CPAY_PCMA = 2,
@@ -189,10 +190,10 @@ enum {
     CPAY_AV1 = 11,
     CPAY_NULL = 12, /**< payloads that carry any bytes */
     CPAY_TELE = 13  /**< telephone events (RFC 4733) */
-};
+} cpay_codec;
 
 /** Which codec-specific data a unit has: the field `kind` of a cpay_extra. */
-enum { CPAY_EXTRA_NONE = 0, CPAY_EXTRA_VP8 = 1, CPAY_EXTRA_VP9 = 2, CPAY_EXTRA_AV1 = 3, CPAY_EXTRA_TELE = 4 };
+typedef enum { CPAY_EXTRA_NONE = 0, CPAY_EXTRA_VP8 = 1, CPAY_EXTRA_VP9 = 2, CPAY_EXTRA_AV1 = 3, CPAY_EXTRA_TELE = 4 } cpay_extra_kind;
 
 /** A handle: the caller's memory for an object of the library. All zeros are an empty handle: initialise it with CPAY_INIT. Its
  * fields belong to the library. */
@@ -257,7 +258,7 @@ void cpay_session_free(cpay_session *session);
 /** A codec with its settings. Settings of other codecs are ignored, with two exceptions: `rate` is always checked, and
  * cpay_packetizer_new checks `first_id` for every codec. Buffers and depacketizers ignore `first_id`. */
 typedef struct {
-    uint32_t codec;    /**< CPAY_OPUS and so on */
+    cpay_codec codec;  /**< CPAY_OPUS and so on */
     uint32_t rate;     /**< rate of the RTP clock in hertz, above 0: 48000 for Opus, 90000 for video, 8000 for G.711 and G.722 */
     uint16_t first_id; /**< first picture id to send, 0 to 32767: for VP9, and for VP8 with vp8_ids */
     bool octet_align;  /**< AMR-WB payloads are octet-aligned (RFC 4867, section 4.4) */
@@ -341,7 +342,7 @@ typedef struct {
 typedef struct {
     uint64_t picture_id;     /**< VP8, VP9: extended beyond the bits of the payload */
     uint64_t tl0_picture_id; /**< VP8, VP9: id of the base layer, extended in the same way */
-    uint32_t kind;           /**< CPAY_EXTRA_NONE and so on */
+    cpay_extra_kind kind;    /**< CPAY_EXTRA_NONE and so on */
     bool has_picture_id;
     bool has_tl0_picture_id;
     bool has_temporal_layer; /**< VP8: always true */
@@ -411,7 +412,8 @@ typedef struct {
 typedef struct {
     uint64_t first;         /**< extended sequence number of its first packet */
     uint64_t last;          /**< extended sequence number of its last packet */
-    uint64_t rtp_time;      /**< RTP time of its packets, as pushed */
+    uint64_t rtp_time;      /**< RTP time of its packets. Of a cpay_buffer: as pushed. Of a receiver or a session: without wrapping;
+                                 the first unit of a stream has 4,294,967,296 plus the 32 bits of its packets */
     uint64_t received;      /**< receive time of its first packet to arrive */
     size_t bytes;           /**< size of the unit */
     bool contiguous;        /**< it directly follows the previous unit, by its sequence numbers or its picture ids */
@@ -420,6 +422,8 @@ typedef struct {
     bool keyframe;          /**< of cpay_receiver_pop: its frame header says so; false with CPAY_KEYFRAME_OFF and for audio.
                                  cpay_buffer_pop: false */
     cpay_extra extra;
+    cpay_status fault;      /**< of cpay_receiver_pop: CPAY_OK for a unit; 1 to 16 for a frame that the depacketizer refused, whose other
+                                 fields are 0. Otherwise 0 */
 } cpay_unit;
 
 /** Returns the next unit that is due. CPAY_NONE: no unit is due. CPAY_TOO_SMALL: *unit is written, and the unit waits for the
@@ -569,13 +573,14 @@ typedef struct {
  * last frame. The NTP time of the report must be of the same moment. Does not allocate. */
 CPAY_CHECKED cpay_status cpay_sender_report(cpay_sender *sender, uint64_t now, cpay_sender_report_info *report);
 
-/* ---- A history: the last sent datagrams, which are resent when a receiver requests them by NACK ---- */
+/* ---- A history: the last datagrams of a stream, which are resent when a receiver requests them by NACK ---- */
 
-/** The most packets that a history keeps. */
+/** The largest number of packets that a history keeps. */
 #define CPAY_MAX_HISTORY 32768
 
 typedef struct {
-    size_t limit;              /**< how many packets are kept, 1 to CPAY_MAX_HISTORY: the last ones */
+    size_t limit;              /**< how many numbers the history covers, 1 to CPAY_MAX_HISTORY: the highest number that was kept, and
+                                    those below it */
     uint64_t interval;         /**< how many ticks of your clock have to pass before the same packet is resent again; 0: none. About
                                     a round-trip time is useful: a receiver that requests the packet again before that has not
                                     yet seen the answer */
@@ -589,18 +594,30 @@ typedef struct {
  * range. [m] */
 CPAY_CHECKED cpay_status cpay_history_new(cpay_history *history, const cpay_history_settings *settings);
 
-/** Keeps a copy of a datagram as the newest packet. Call it when you send the datagram, before SRTP encrypts it. The oldest packet
- * leaves a full history. If the number of the packet does not follow the number of the newest packet, all packets before it
- * leave. CPAY_RTP_HEADER_TOO_SHORT to CPAY_RTP_PADDING_TOO_LONG: not an RTP packet. If the call fails, the history is unchanged.
- * Once a history is full and its memory has grown to the largest packets, the call does not allocate. [m] */
-CPAY_CHECKED cpay_status cpay_history_keep(cpay_history *history, const uint8_t *datagram, size_t datagram_len);
+/** What cpay_history_keep did with a datagram. */
+typedef enum {
+    CPAY_KEPT_STORED = 0, /**< the history keeps it at its number */
+    CPAY_KEPT_TOO_OLD = 1 /**< its number is `limit` or more below the highest one. The history does not keep it, and keeps all that
+                               it had */
+} cpay_kept;
+
+/** Keeps a copy of a datagram at the place of its number. Call it when you send the datagram or, in a forwarder, when you receive it,
+ * before SRTP encrypts it. Numbers may come in any order, and may be missing. A number above the highest one becomes the highest
+ * one, and packets `limit` or more numbers below it leave. A packet with a kept number replaces the one that was kept; the time
+ * at which that one was resent last stays. *kept is what the call did: CPAY_KEPT_STORED or CPAY_KEPT_TOO_OLD; `kept` may be NULL. If
+ * the call after CPAY_KEPT_TOO_OLD has the packet with the number after it, the sender has restarted: all others leave, and the
+ * history begins with that packet. CPAY_RTP_HEADER_TOO_SHORT to CPAY_RTP_PADDING_TOO_LONG: not an RTP packet. If the call fails,
+ * the history and *kept are unchanged. Copies the datagram once. A number ahead of the highest one costs a step for each number in
+ * between, at most `limit`. Once a history is full and its memory has grown to the largest packets, the call does not
+ * allocate. [m] */
+CPAY_CHECKED cpay_status cpay_history_keep(cpay_history *history, const uint8_t *datagram, size_t datagram_len, cpay_kept *kept);
 
 /** What a call of cpay_history_resend did. */
-enum {
+typedef enum {
     CPAY_RESENT_WRITTEN = 0,  /**< the packet is in the output buffer: send it */
-    CPAY_RESENT_NOT_KEPT = 1, /**< the packet is not in the history: it was never sent, or too long ago */
+    CPAY_RESENT_NOT_KEPT = 1, /**< the packet is not in the history: it was never kept, or its number is too old */
     CPAY_RESENT_TOO_SOON = 2  /**< the packet was resent less than `interval` ago */
-};
+} cpay_resent;
 
 /** Resends the packet with that number at time `now`, in ticks of your clock: writes the datagram to the output buffer, its size to
  * *size, and what was done to *resent: CPAY_RESENT_WRITTEN and so on. With has_rtx the datagram has the SSRC, the payload type
@@ -610,7 +627,7 @@ enum {
  * used, and the packet does not count as resent. So a first call may pass a length of 0, and you may also leave it at that.
  * If the call fails, the history is unchanged. It allocates only if a datagram is larger than all resent before it. [m] */
 CPAY_CHECKED cpay_status cpay_history_resend(cpay_history *history, uint64_t now, uint16_t number, uint8_t *bytes,
-                                             size_t bytes_len, size_t *size, uint32_t *resent);
+                                             size_t bytes_len, size_t *size, cpay_resent *resent);
 
 /** Reads what RTCP feedback requests of the stream with this SSRC: its sender answers it. `rtcp` is one datagram, a compound packet
  * (RFC 3550, section 6.1). If `full` is true, it must begin with a report; false also accepts packets of reduced size (RFC 5506).
@@ -636,8 +653,16 @@ enum {
     CPAY_KEYFRAME_DROP = 2  /**< a unit that a decoder cannot show is counted as `undecodable` and dropped */
 };
 
-/** Begin with CPAY_LIVE_AUDIO, CPAY_LIVE_VIDEO, one of the two with _WITH_NACK, or CPAY_FILE, and set at least `spec` and
- * `payload_type`. */
+/** What settings are for. Any other number counts as CPAY_FOR_LIVE. */
+typedef enum {
+    CPAY_FOR_LIVE = 0,           /**< live media without retransmission: a lost packet delays frames by at most 100 ms */
+    CPAY_FOR_LIVE_WITH_NACK = 1, /**< live media with retransmission (RFC 4585): at most 200 ms. For a known round-trip time, set
+                                      `max_wait` to twice that time plus 100 ms */
+    CPAY_FOR_FILE = 2            /**< packets from a file: a frame after a gap waits for the missing packets until the end, or until
+                                      little room is left */
+} cpay_purpose;
+
+/** Begin with cpay_receiver_settings_init. */
 typedef struct {
     cpay_spec spec;
     size_t hold_back;         /**< reordering depth: a complete frame after a gap is released once more than this many complete
@@ -670,29 +695,13 @@ typedef struct {
     cpay_extension_ids extension_ids; /**< for cpay_receiver_values; two equal ids read the same element */
 } cpay_receiver_settings;
 
-/** Settings by purpose. Set at least the codec and the payload type. All have a limit of 4096 packets, a clock of milliseconds,
- * CPAY_KEYFRAME_MARK and CPAY_NO_HOLD_BACK; RED, retransmissions and header extensions are off. The windows of audio are 3000
- * numbers ahead (MAX_DROPOUT of RFC 3550, appendix A.1) and 1000 behind. The windows of video, 12000 and 5000, hold 12 s and 5 s of
- * 1000 packets per second. */
-#define CPAY_SETTINGS_THAT_WAIT(start, max_wait, has_max_wait, forward, backward) \
-    { { 0, 0, 0, false, false, false }, CPAY_NO_HOLD_BACK, start, 4096, max_wait, 0, 1000, 0, 0, forward, backward, 0, 0, 0, \
-      0, CPAY_KEYFRAME_MARK, has_max_wait, false, false, false, false, { 0, 0, 0, 0, 0, 0 } }
-
-/** Live audio or video without retransmission: a lost packet delays frames by at most 100 ms. */
-#define CPAY_LIVE_AUDIO CPAY_SETTINGS_THAT_WAIT(1, 100, true, 3000, 1000)
-#define CPAY_LIVE_VIDEO CPAY_SETTINGS_THAT_WAIT(1, 100, true, 12000, 5000)
-
-/** Live audio or video with retransmission (RFC 4585): a lost packet delays frames by at most 200 ms. For a known round-trip
- * time, set `max_wait` to twice that time plus 100 ms. */
-#define CPAY_LIVE_AUDIO_WITH_NACK CPAY_SETTINGS_THAT_WAIT(1, 200, true, 3000, 1000)
-#define CPAY_LIVE_VIDEO_WITH_NACK CPAY_SETTINGS_THAT_WAIT(2, 200, true, 12000, 5000)
-
-/** Packets from a file, audio or video: a frame after a gap waits for the missing packets until cpay_receiver_finish, or until
- * the receiver has little room left. */
-#define CPAY_FILE CPAY_SETTINGS_THAT_WAIT(0, 0, false, 12000, 5000)
-
-/** Settings for live media of unknown type: the same as CPAY_LIVE_AUDIO. */
-#define CPAY_RECEIVER_SETTINGS CPAY_LIVE_AUDIO
+/** Sets how a receiver of this codec, clock rate and payload type begins, for a purpose (CPAY_FOR_LIVE and so on). Then change what
+ * differs. The limit is 4096 packets, your clock has ticks of milliseconds, no frame is released by count alone
+ * (CPAY_NO_HOLD_BACK), units of video are marked (CPAY_KEYFRAME_MARK), and RED, retransmissions and header extensions are off. The
+ * windows of audio are 3000 numbers ahead (MAX_DROPOUT of RFC 3550, appendix A.1) and 1000 behind. The windows of VP8, VP9 and AV1,
+ * and of files, are 12000 and 5000: 12 s and 5 s of 1000 packets per second. Does not allocate. */
+void cpay_receiver_settings_init(cpay_receiver_settings *settings, cpay_codec codec, uint32_t rate, uint8_t payload_type,
+                                 cpay_purpose purpose);
 
 /** The settings `forward` and `backward` for a stream of at most `rate` packets per second: 12 s of packets ahead and 5 s behind.
  * They are at least 3000 and 1000, and at most 32760 and 13650 (2730 packets per second). A burst that is late by more packets
@@ -707,7 +716,7 @@ CPAY_CHECKED cpay_status cpay_receiver_new(cpay_receiver *receiver, const cpay_r
                                            const uint8_t *no_media, size_t no_media_len);
 
 /** The outcome of a datagram. */
-enum {
+typedef enum {
     CPAY_HELD = 0,             /**< stored */
     CPAY_HELD_AND_EVICTED = 1, /**< stored, but there was no room: the packet with the lowest number was evicted, which can be
                                     this one */
@@ -723,7 +732,7 @@ enum {
     CPAY_OTHER_STREAM = 8,     /**< another SSRC or payload type; ignored */
     CPAY_RTCP = 9,             /**< RTCP on the same port; ignored */
     CPAY_UNDECIDED = 10        /**< the stream is not chosen yet: the datagram is kept until it is */
-};
+} cpay_outcome;
 
 /** Processes one datagram received at time `now`, in ticks of your clock, and reports its outcome: CPAY_HELD and so on. Any
  * bytes are accepted.
@@ -740,15 +749,18 @@ enum {
  * CPAY_OUT_OF_MEMORY: nothing changed, and you may pass the same datagram again. Exception: a RED packet was stored, but memory
  * ran out for a redundant block. Passed again, it is a duplicate, and its redundant blocks are stored. [m] */
 CPAY_CHECKED cpay_status cpay_receiver_receive(cpay_receiver *receiver, uint64_t now, const uint8_t *datagram,
-                                               size_t datagram_len, uint32_t *outcome);
+                                               size_t datagram_len, cpay_outcome *outcome);
 
-/** Returns the next unit that is due at time `now`: see cpay_buffer_pop. Its `rtp_time` is extended to 64 bits. The first unit
- * has the timestamp of its packets plus 2^32; each later unit has the value nearest to the previous unit's.
+/** Returns the next unit, or the next refused frame, that is due at time `now`. Call it until CPAY_NONE. CPAY_TOO_SMALL: *unit is
+ * written, and the unit waits for the next call. CPAY_OUT_OF_MEMORY: the frame stays, and the next call tries it again.
+ * With CPAY_OK look at `fault` of *unit first. 1 to 16: the depacketizer refused a frame, which is discarded, and there are no bytes.
+ * Any peer can send such a frame: count it, and continue with the next call. 0: a unit. Its `rtp_time` is extended to 64 bits. The
+ * first unit has the timestamp of its packets plus 2^32; each later unit has the value nearest to the previous unit's.
  * With CPAY_KEYFRAME_DROP the call continues after a unit that a decoder cannot show. [m] */
 CPAY_CHECKED cpay_status cpay_receiver_pop(cpay_receiver *receiver, uint64_t now, cpay_unit *unit, uint8_t *bytes,
                                            size_t bytes_len);
 
-/** Reports the header extension values of the unit that cpay_receiver_pop returned last with CPAY_OK. They come from the last
+/** Reports the header extension values of the unit that cpay_receiver_pop returned last. They come from the last
  * packet of the unit. Capture time and layers allocation come from the first packet, if it has them. CPAY_NONE: no unit was
  * returned yet. Does not allocate. */
 CPAY_CHECKED cpay_status cpay_receiver_values(cpay_receiver *receiver, cpay_extension_values *values);
@@ -759,7 +771,8 @@ CPAY_CHECKED cpay_status cpay_receiver_values(cpay_receiver *receiver, cpay_exte
  * cpay_receiver_restart. False for audio, and with CPAY_KEYFRAME_OFF. Does not allocate. */
 CPAY_CHECKED cpay_status cpay_receiver_wants_keyframe(cpay_receiver *receiver, bool *wants);
 
-/** Reports the time at which a pop may return a unit although no datagram arrives. CPAY_NONE: only a datagram can help. */
+/** Reports the time at which a pop may return a unit although no datagram arrives: 0 while a unit waits that did not fit
+ * (CPAY_TOO_SMALL). CPAY_NONE: only a datagram can help. */
 CPAY_CHECKED cpay_status cpay_receiver_next_deadline(cpay_receiver *receiver, uint64_t *at);
 
 /** How long frames wait for missing packets. */
@@ -843,7 +856,8 @@ CPAY_CHECKED cpay_status cpay_receiver_counts(cpay_receiver *receiver, cpay_rece
 
 /* ---- An adaptive wait: a limit of waiting that follows how late missing packets arrive ---- */
 
-/** Within which bounds the limit moves, in ticks of your clock. Any values are accepted. Begin with CPAY_LIVE_ADAPTIVE_WAIT. */
+/** Within which bounds the limit moves, in ticks of your clock. Any values are accepted. Begin with
+ * cpay_adaptive_wait_settings_init. */
 typedef struct {
     uint64_t shortest;   /**< the lowest limit */
     uint64_t longest;    /**< the highest limit; if it is below `shortest` or `first`, it wins */
@@ -852,8 +866,9 @@ typedef struct {
                               once, since waiting longer would not have helped */
 } cpay_adaptive_wait_settings;
 
-/** For a clock of milliseconds: 20 ms to 400 ms, at first at least 200 ms; a packet is lost after 1 s. */
-#define CPAY_LIVE_ADAPTIVE_WAIT { 20, 400, 200, 1000 }
+/** Sets how an adaptive wait begins, for a clock of milliseconds: 20 ms to 400 ms, at first at least 200 ms; a packet is lost after
+ * 1 s. Does not allocate. */
+void cpay_adaptive_wait_settings_init(cpay_adaptive_wait_settings *settings);
 
 /** Creates the limit of one stream in an empty handle. The limit is 5/4 of the greatest of the latest 32 ages, within the bounds. The
  * age of a missing packet is the time from the first report that it is missing until its arrival. If missing packets never
@@ -880,14 +895,16 @@ CPAY_CHECKED cpay_status cpay_adaptive_wait_limit(cpay_adaptive_wait *wait, uint
 typedef struct {
     cpay_spec spec;           /**< `first_id`, `vp8_ids` and `vp9_flexible` are ignored */
     uint32_t red_step;        /**< with has_red: RTP timestamp increment per packet, 1 to 16383; 960 is 20 ms at 48 kHz */
-    uint8_t payload_type;     /**< 0 to 127; if two formats have the same payload type, the first counts */
-    uint8_t red_payload_type; /**< with has_red: payload type of RED, 0 to 127; must differ from `payload_type` */
-    uint8_t rtx_payload_type; /**< with has_rtx: payload type of retransmissions, 0 to 127 */
-    uint8_t red_rtx_payload_type; /**< with has_red_rtx: payload type of retransmitted RED packets, 0 to 127: the one whose `apt`
-                                       (RFC 4588, section 8.1) is `red_payload_type`; must differ from all other payload types */
+    uint8_t payload_type;     /**< this one and the next three are 0 to 63 or 96 to 127: with a marker, packets of 64 to 95 look like
+                                   RTCP (RFC 5761, section 4). Each payload type of a session has one meaning */
+    uint8_t red_payload_type; /**< with has_red: payload type of RED */
+    uint8_t rtx_payload_type; /**< with has_rtx: payload type of retransmissions */
+    uint8_t red_rtx_payload_type; /**< with has_red_rtx: payload type of retransmitted RED packets: the one whose `apt` (RFC 4588,
+                                       section 8.1) is `red_payload_type` */
     bool has_red;             /**< packets of the format may arrive in RED (RFC 2198) */
     bool has_rtx;             /**< packets of the format may be retransmitted under another SSRC (RFC 4588); see cpay_ssrc_pair */
-    bool has_red_rtx;         /**< with has_red and has_rtx: RED packets may be retransmitted too; otherwise it is ignored */
+    bool has_red_rtx;         /**< with has_red and has_rtx: RED packets may be retransmitted too; otherwise it is ignored, and
+                                   `red_rtx_payload_type` is not checked */
     bool nack;                /**< its sender answers requests for missing packets: a=rtcp-fb with nack (RFC 4585, section 4.2) */
     bool pli;                 /**< its sender answers requests for keyframes: a=rtcp-fb with nack pli */
 } cpay_session_format;
@@ -914,13 +931,16 @@ typedef struct {
     size_t capacity;            /**< how many missing numbers of a stream are followed at most: the lowest */
     uint32_t tries;             /**< how often a number is requested at most; 0 requests nothing */
     uint32_t ssrc;              /**< SSRC of the session as a sender of RTCP */
-    bool has_report;            /**< each packet begins with an empty receiver report (RFC 3550, section 6.1); else it has reduced
-                                     size (RFC 5506) */
+    uint8_t cname[255];         /**< canonical name of the session (RFC 3550, section 6.5.1). Each compound packet has it: reports,
+                                     and with has_report requests */
+    uint8_t cname_len;          /**< bytes of the name, 1 to 255 */
+    bool has_report;            /**< each packet of requests begins with an empty receiver report and the name (RFC 3550, section
+                                     6.1); else it has reduced size (RFC 5506), which the other side has to accept */
     bool has_longest_wait;      /**< waiting follows the measured round trip */
     bool has_report_interval;   /**< the session sends receiver reports */
 } cpay_session_feedback;
 
-/** Begin with CPAY_LIVE_SESSION. */
+/** Begin with cpay_session_settings_init. */
 typedef struct {
     cpay_wait_limits audio;   /**< how long frames of audio wait for missing packets */
     cpay_wait_limits video;   /**< how long frames of VP8, VP9 and AV1 wait for missing packets */
@@ -935,32 +955,36 @@ typedef struct {
     uint8_t from_keyframe;    /**< what happens to video units that a decoder cannot show: CPAY_KEYFRAME_OFF, CPAY_KEYFRAME_MARK
                                    or CPAY_KEYFRAME_DROP */
     bool has_feedback;        /**< the session requests what its streams miss: see CPAY_EVENT_FEEDBACK */
-    cpay_session_feedback feedback;   /**< with has_feedback: set at least `ssrc` */
+    cpay_session_feedback feedback;   /**< with has_feedback: see cpay_session_settings_feedback */
     cpay_extension_ids extension_ids; /**< for cpay_session_values; two equal ids read the same element */
 } cpay_session_settings;
 
-/** Settings for live streams, with a clock of milliseconds. Audio waits for at most 100 ms and video for at most 200 ms. A session
- * has at most 64 streams of 4096 packets. A stream is announced with its second datagram, ends 30 s after its last one, and takes
- * packets for 200 ms after its BYE. Units that a decoder cannot show are marked. Nothing is requested; with has_feedback a missing
- * number is requested after 10 ms and at most 6 times, and a keyframe at most once in 500 ms, for 2 s after the latest datagram of
- * the stream; waiting follows the round trip, up to 500 ms; and a receiver report is sent each second. */
-#define CPAY_LIVE_SESSION \
-    { { 100, CPAY_NO_HOLD_BACK, 1, true }, { 200, CPAY_NO_HOLD_BACK, 2, true }, 30000, 200, 2, 4096, 64, 1000, \
-      CPAY_KEYFRAME_MARK, false, { 500, 2000, 10, 100, 20, 400, 500, 1000, 1024, 6, 0, false, true, true }, { 0, 0, 0, 0, 0, 0 } }
+/** Sets how a session begins, for a purpose (CPAY_FOR_LIVE and so on) and a clock of milliseconds. Audio waits as the purpose says,
+ * and live video for at most 200 ms. A session has at most 64 streams of 4096 packets. A stream is announced with its second datagram,
+ * ends 30 s after its last one, and takes packets for 200 ms after its BYE. Units that a decoder cannot show are marked. Nothing is
+ * requested, and no report is sent: see cpay_session_settings_feedback. Does not allocate. */
+void cpay_session_settings_init(cpay_session_settings *settings, cpay_purpose purpose);
+
+/** Sets that the session sends feedback, as a sender of RTCP with this SSRC and this canonical name (RFC 3550, section 6.5.1). As
+ * cpay_session_settings_init sets it, a missing number is requested after 10 ms and at most 6 times, and a keyframe at most once in
+ * 500 ms, for 2 s after the latest datagram of the stream, if the format has `nack` and `pli`; waiting follows the round trip, up to
+ * 500 ms; and a receiver report is sent each second. CPAY_INVALID: the name does not have 1 to 255 bytes. Does not allocate. */
+CPAY_CHECKED cpay_status cpay_session_settings_feedback(cpay_session_settings *settings, uint32_t ssrc, const uint8_t *cname,
+                                                        size_t cname_len);
 
 /** In `no_media` of cpay_session_new: added to the payload type of telephone events (RFC 4733), see CPAY_EVENT_TELEPHONE. */
 #define CPAY_TELEPHONE 128
 
 /** Creates a session in an empty handle, for these payload formats. `no_media` lists payload types that share the SSRC and the
  * numbers of a stream and carry none of its media: comfort noise, error correction. A payload type plus CPAY_TELEPHONE is one of
- * telephone events beside audio: polls report its packets. `pairs` names the SSRCs of retransmissions. The lists are copied. CPAY_INVALID: unsupported codec, or a rate, payload type, step, `limit`, `max_streams` or
- * `from_keyframe` out of range. [m] */
+ * telephone events beside audio: polls report its packets. `pairs` names the SSRCs of retransmissions. The lists are copied. CPAY_INVALID: unsupported codec, a rate, payload type, step,
+ * `limit`, `max_streams` or `from_keyframe` out of range, a payload type with two meanings, or with has_feedback no name. [m] */
 CPAY_CHECKED cpay_status cpay_session_new(cpay_session *session, const cpay_session_settings *settings,
                                           const cpay_session_format *formats, size_t formats_len, const uint8_t *no_media,
                                           size_t no_media_len, const cpay_ssrc_pair *pairs, size_t pairs_len);
 
 /** What a session did with a datagram. */
-enum {
+typedef enum {
     CPAY_ARRIVAL_STREAM = 0,      /**< a stream received it: see `status` and `outcome` */
     CPAY_ARRIVAL_RTCP = 1,        /**< a valid compound packet of RTCP; streams that its BYE names end after `bye_wait`, and its
                                        sender reports state the clocks of streams: see cpay_session_sender_clock */
@@ -971,14 +995,14 @@ enum {
                                        streams fit. A stream fits if it plays, has no pair and has requested the packet, and the RTP
                                        time is within 10 s of its sender's clock (RFC 4588, section 5.3). If one fits, the pair is
                                        added, and the stream receives the datagram */
-};
+} cpay_arrival_kind;
 
 typedef struct {
-    uint32_t kind;        /**< CPAY_ARRIVAL_STREAM and so on; without a stream all other fields are 0 */
+    cpay_arrival_kind kind; /**< CPAY_ARRIVAL_STREAM and so on; without a stream all other fields are 0 */
     uint32_t ssrc;        /**< SSRC of the stream */
-    uint32_t status;      /**< CPAY_OK, or why the payload was not accepted: CPAY_RED_CORRUPTED or CPAY_RTX_TOO_SHORT; or
+    cpay_status status;   /**< CPAY_OK, or why the payload was not accepted: CPAY_RED_CORRUPTED or CPAY_RTX_TOO_SHORT; or
                                CPAY_OUT_OF_MEMORY: a RED packet was stored, but not all of its redundant blocks */
-    uint32_t outcome;     /**< with `status` CPAY_OK: CPAY_HELD and so on, as cpay_receiver_receive reports it */
+    cpay_outcome outcome; /**< with `status` CPAY_OK: CPAY_HELD and so on, as cpay_receiver_receive reports it */
     uint8_t payload_type; /**< payload type of the stream */
 } cpay_arrival;
 
@@ -990,10 +1014,11 @@ CPAY_CHECKED cpay_status cpay_session_receive(cpay_session *session, uint64_t no
                                               cpay_arrival *arrival);
 
 /** The kinds of events. New ones may be added: ignore those that you do not know. */
-enum {
+typedef enum {
     CPAY_EVENT_BEGUN = 0, /**< a stream is announced: the first event of the stream */
     CPAY_EVENT_UNIT = 1,  /**< a unit: see `unit`; its bytes are in the output buffer */
-    CPAY_EVENT_FAULT = 2, /**< the depacketizer refused a frame, which is discarded: see `status` */
+    CPAY_EVENT_FAULT = 2, /**< the depacketizer refused a frame, which is discarded: see `status`. Any peer can send such a frame:
+                               count it, and go on polling */
     CPAY_EVENT_ENDED = 3, /**< a stream was removed: the last event of the stream; see `why` */
     CPAY_EVENT_FEEDBACK = 4, /**< a compound packet of RTCP for the sender of the stream is in the output buffer: send it. It has a
                                  NACK of missing packets, and a PLI if a keyframe is needed (RFC 4585, sections 6.2.1, 6.3.1) */
@@ -1004,21 +1029,21 @@ enum {
                                  bytes for each event (cpay_tele_read). All packets of an event have the same `unit.rtp_time`,
                                  its last one comes three times, and a network can repeat any of them, so go by that time. It is
                                  also reported for a stream that is not announced yet */
-};
+} cpay_event_kind;
 
 /** Why a stream ended. */
-enum {
+typedef enum {
     CPAY_ENDED_BY_BYE = 0,     /**< its sender left (RFC 3550, section 6.6) */
     CPAY_ENDED_BY_TIMEOUT = 1, /**< no datagram arrived for `idle_timeout` */
     CPAY_ENDED_BY_CALL = 2,    /**< you called cpay_session_end or cpay_session_finish */
     CPAY_ENDED_BY_CHANGE = 3   /**< its sender continues in another format under the same SSRC */
-};
+} cpay_ending;
 
 typedef struct {
-    uint32_t kind;        /**< CPAY_EVENT_BEGUN and so on */
+    cpay_event_kind kind; /**< CPAY_EVENT_BEGUN and so on */
     uint32_t ssrc;        /**< SSRC of the stream */
-    uint32_t status;      /**< of CPAY_EVENT_FAULT: the error, 1 to 16; of other events CPAY_OK */
-    uint32_t why;         /**< of CPAY_EVENT_ENDED: CPAY_ENDED_BY_BYE and so on; of other events 0 */
+    cpay_status status;   /**< of CPAY_EVENT_FAULT: the error, 1 to 16; of other events CPAY_OK */
+    cpay_ending why;      /**< of CPAY_EVENT_ENDED: CPAY_ENDED_BY_BYE and so on; of other events 0 */
     size_t bytes;         /**< bytes in the output buffer: of the unit, the RTCP packet, or the payload of telephone events */
     uint8_t payload_type; /**< payload type of the stream's format, also if the unit came in RED or was retransmitted; of
                                CPAY_EVENT_TELEPHONE the payload type of the packet */
@@ -1033,12 +1058,12 @@ typedef struct {
 CPAY_CHECKED cpay_status cpay_session_poll(cpay_session *session, uint64_t now, cpay_event *event, uint8_t *bytes,
                                            size_t bytes_len);
 
-/** Reports the header extension values of the unit that cpay_session_poll returned last with CPAY_OK: see cpay_receiver_values.
+/** Reports the header extension values of the unit that cpay_session_poll returned last: see cpay_receiver_values.
  * CPAY_NONE: no unit was returned yet. Does not allocate. */
 CPAY_CHECKED cpay_status cpay_session_values(cpay_session *session, cpay_extension_values *values);
 
-/** Reports the time at which a poll may have an event although no datagram arrives: 0 while telephone events wait. CPAY_NONE: only a
- * datagram can help. If a poll had no event and no packet left a stream in it, no earlier poll has one: docs/SESSION.md. */
+/** Reports the time at which a poll may have an event although no datagram arrives: 0 while telephone events wait, or an event that
+ * did not fit (CPAY_TOO_SMALL). CPAY_NONE: only a datagram can help. If a poll had no event and no packet left a stream in it, no earlier poll has one: docs/SESSION.md. */
 CPAY_CHECKED cpay_status cpay_session_next_deadline(cpay_session *session, uint64_t *at);
 
 /** Ends the streams of this SSRC at time `now`: polls report their complete units, and then CPAY_EVENT_ENDED. Without such a stream
@@ -1068,21 +1093,23 @@ typedef struct {
 CPAY_CHECKED cpay_status cpay_session_counts(cpay_session *session, cpay_session_counts_info *counts);
 
 /** The stage of a stream. */
-enum {
+typedef enum {
     CPAY_STREAM_PROBATION = 0, /**< too few datagrams were accepted, and the stream is not announced */
     CPAY_STREAM_PLAYING = 1,
     CPAY_STREAM_LEAVING = 2, /**< it takes datagrams until `ends_at`, and then ends */
     CPAY_STREAM_DRAINING = 3 /**< polls return the complete units that it holds, and then it is removed */
-};
+} cpay_stage;
 
 /** A stream of a session. */
 typedef struct {
     uint64_t taken;       /**< datagrams that the stream received, modulo 2^64 */
     uint64_t ends_at;     /**< of CPAY_STREAM_LEAVING: the time, in ticks of your clock; in other stages 0 */
+    uint64_t round_trip;  /**< with has_round_trip: measured round-trip time, in ticks of your clock; else 0 */
     uint32_t ssrc;
-    uint32_t stage;       /**< CPAY_STREAM_PROBATION and so on */
-    uint32_t why;         /**< of CPAY_STREAM_LEAVING and CPAY_STREAM_DRAINING: CPAY_ENDED_BY_BYE and so on; in other stages 0 */
+    cpay_stage stage;     /**< CPAY_STREAM_PROBATION and so on */
+    cpay_ending why;      /**< of CPAY_STREAM_LEAVING and CPAY_STREAM_DRAINING: CPAY_ENDED_BY_BYE and so on; in other stages 0 */
     uint8_t payload_type; /**< payload type of the stream's format */
+    bool has_round_trip;  /**< a request of the session was answered */
     cpay_receiver_counts_info counts; /**< `waiting` is false: see cpay_session_counts_info */
 } cpay_session_stream;
 
@@ -1281,6 +1308,17 @@ static inline const char *cpay_status_text(cpay_status status) {
     case CPAY_RTCP_PLI_LENGTH: return "the RTCP PLI has a wrong length";
     case CPAY_RTCP_FIR_LENGTH: return "the RTCP FIR has a wrong length";
     default: return "unknown status";
+    }
+}
+
+/** Returns an English text for each reason why a stream ended: `why` of an event or of a stream. */
+static inline const char *cpay_ending_text(cpay_ending why) {
+    switch (why) {
+    case CPAY_ENDED_BY_BYE: return "a BYE";
+    case CPAY_ENDED_BY_TIMEOUT: return "the idle timeout";
+    case CPAY_ENDED_BY_CALL: return "a call";
+    case CPAY_ENDED_BY_CHANGE: return "a change of format";
+    default: return "unknown reason";
     }
 }
 

@@ -3,8 +3,8 @@
  *
  * Each class below holds one handle of codec_payload.h in the object itself. Objects can be moved and not copied; the destructor
  * frees the handle. `make` is the call named *_new, and each other method the call with its name there, with the same statuses.
- * Nothing here throws, except a std::vector that grows. Bytes are passed as containers with data() and size(): std::vector,
- * std::array, std::span. For calls without a method, use get(). */
+ * Nothing here throws, except a cpay::storage that grows. Bytes are passed as containers with data() and size(): std::vector,
+ * std::array, std::span, cpay::storage. For calls without a method, use get(). */
 #ifndef CODEC_PAYLOAD_HPP
 #define CODEC_PAYLOAD_HPP
 
@@ -12,9 +12,9 @@
 
 #include <cstddef>
 #include <cstdint>
+#include <memory>
 #include <type_traits>
 #include <utility>
-#include <vector>
 
 namespace cpay {
 
@@ -71,17 +71,33 @@ private:
     Kind kind_ = {};
 };
 
-/** Calls with the present room, and once more if it was too small. */
-template <class Call> [[nodiscard]] cpay_status into(std::vector<std::uint8_t> &bytes, std::size_t &size, Call call) {
-    bytes.resize(bytes.capacity());
-    cpay_status status = call(room(bytes));
-    if (status == CPAY_TOO_SMALL) {
-        bytes.resize(size);
-        status = call(room(bytes));
+/** Memory for the bytes that a call writes. It grows as needed, and is used again by the next call; no call fills it with zeros.
+ * After a call it has exactly the bytes of that call, and is empty on each status except CPAY_OK. */
+class storage {
+public:
+    const std::uint8_t *data() const noexcept { return at_.get(); }
+    std::size_t size() const noexcept { return size_; }
+    bool empty() const noexcept { return size_ == 0; }
+    const std::uint8_t *begin() const noexcept { return data(); }
+    const std::uint8_t *end() const noexcept { return data() + size_; }
+    std::uint8_t operator[](std::size_t place) const noexcept { return at_[place]; }
+
+    /** Calls with the present memory, and once more if it was too small: `call` takes a room, and writes the size to `size`. */
+    template <class Call> [[nodiscard]] cpay_status fill(std::size_t &size, Call call) {
+        cpay_status status = call(room(at_.get(), room_));
+        if (status == CPAY_TOO_SMALL) {
+            at_.reset(new std::uint8_t[size]);
+            room_ = size;
+            status = call(room(at_.get(), room_));
+        }
+        size_ = status == CPAY_OK ? size : 0;
+        return status;
     }
-    bytes.resize(status == CPAY_OK ? size : 0);
-    return status;
-}
+
+private:
+    std::unique_ptr<std::uint8_t[]> at_;
+    std::size_t room_ = 0, size_ = 0;
+};
 
 /** Frames in, the datagrams of one stream out. */
 class sender : public handle<cpay_sender, cpay_sender_free> {
@@ -96,10 +112,10 @@ public:
     [[nodiscard]] cpay_status datagram(std::size_t place, room datagram, std::size_t &size) noexcept {
         return cpay_sender_datagram(get(), place, datagram.data(), datagram.size(), &size);
     }
-    /** The same into a vector, which grows as needed, and is empty on each status except CPAY_OK. */
-    [[nodiscard]] cpay_status datagram(std::size_t place, std::vector<std::uint8_t> &to) {
+    /** The same into memory that grows as needed. */
+    [[nodiscard]] cpay_status datagram(std::size_t place, storage &to) {
         std::size_t size = 0;
-        return into(to, size, [&](room it) { return datagram(place, it, size); });
+        return to.fill(size, [&](room it) { return datagram(place, it, size); });
     }
     /** A datagram and room for `tail` bytes after it, as a tag of SRTP needs. */
     [[nodiscard]] cpay_status datagram_with_tail(std::size_t place, std::size_t tail, room datagram, std::size_t &size) noexcept {
@@ -114,20 +130,26 @@ public:
     }
 };
 
-/** The last sent datagrams, which are resent when a receiver requests them. */
+/** The last datagrams of a stream, which are resent when a receiver requests them. */
 class history : public handle<cpay_history, cpay_history_free> {
 public:
     [[nodiscard]] cpay_status make(const cpay_history_settings &settings) noexcept { return cpay_history_new(get(), &settings); }
-    [[nodiscard]] cpay_status keep(bytes datagram) noexcept { return cpay_history_keep(get(), datagram.data(), datagram.size()); }
+    [[nodiscard]] cpay_status keep(bytes datagram) noexcept {
+        return cpay_history_keep(get(), datagram.data(), datagram.size(), nullptr);
+    }
+    /** The same, and what the history did with the datagram: CPAY_KEPT_STORED or CPAY_KEPT_TOO_OLD. */
+    [[nodiscard]] cpay_status keep(bytes datagram, cpay_kept &kept) noexcept {
+        return cpay_history_keep(get(), datagram.data(), datagram.size(), &kept);
+    }
     [[nodiscard]] cpay_status resend(std::uint64_t now, std::uint16_t number, room to, std::size_t &size,
-                                     std::uint32_t &resent) noexcept {
+                                     cpay_resent &resent) noexcept {
         return cpay_history_resend(get(), now, number, to.data(), to.size(), &size, &resent);
     }
-    /** The same into a vector, which grows as needed. It has the datagram with CPAY_RESENT_WRITTEN, and is empty otherwise. */
-    [[nodiscard]] cpay_status resend(std::uint64_t now, std::uint16_t number, std::vector<std::uint8_t> &to,
-                                     std::uint32_t &resent) {
+    /** The same into memory that grows as needed. It has the datagram with CPAY_RESENT_WRITTEN, and is empty otherwise. */
+    [[nodiscard]] cpay_status resend(std::uint64_t now, std::uint16_t number, storage &to,
+                                     cpay_resent &resent) {
         std::size_t size = 0;
-        return into(to, size, [&](room it) { return resend(now, number, it, size, resent); });
+        return to.fill(size, [&](room it) { return resend(now, number, it, size, resent); });
     }
 };
 
@@ -143,15 +165,15 @@ public:
     [[nodiscard]] cpay_status make(const cpay_receiver_settings &settings, bytes no_media = {}) noexcept {
         return cpay_receiver_new(get(), &settings, no_media.data(), no_media.size());
     }
-    [[nodiscard]] cpay_status receive(std::uint64_t now, bytes datagram, std::uint32_t &outcome) noexcept {
+    [[nodiscard]] cpay_status receive(std::uint64_t now, bytes datagram, cpay_outcome &outcome) noexcept {
         return cpay_receiver_receive(get(), now, datagram.data(), datagram.size(), &outcome);
     }
     [[nodiscard]] cpay_status pop(std::uint64_t now, cpay_unit &unit, room to) noexcept {
         return cpay_receiver_pop(get(), now, &unit, to.data(), to.size());
     }
-    /** The same into a vector, which grows as needed, and is empty on each status except CPAY_OK. */
-    [[nodiscard]] cpay_status pop(std::uint64_t now, cpay_unit &unit, std::vector<std::uint8_t> &to) {
-        return into(to, unit.bytes, [&](room it) { return pop(now, unit, it); });
+    /** The same into memory that grows as needed. */
+    [[nodiscard]] cpay_status pop(std::uint64_t now, cpay_unit &unit, storage &to) {
+        return to.fill(unit.bytes, [&](room it) { return pop(now, unit, it); });
     }
     [[nodiscard]] cpay_status values(cpay_extension_values &values) noexcept { return cpay_receiver_values(get(), &values); }
     [[nodiscard]] cpay_status wants_keyframe(bool &wants) noexcept { return cpay_receiver_wants_keyframe(get(), &wants); }
@@ -200,9 +222,9 @@ public:
     [[nodiscard]] cpay_status poll(std::uint64_t now, cpay_event &event, room to) noexcept {
         return cpay_session_poll(get(), now, &event, to.data(), to.size());
     }
-    /** The same into a vector, which grows as needed. It has the bytes of the unit or RTCP packet, and is empty otherwise. */
-    [[nodiscard]] cpay_status poll(std::uint64_t now, cpay_event &event, std::vector<std::uint8_t> &to) {
-        return into(to, event.bytes, [&](room it) { return poll(now, event, it); });
+    /** The same into memory that grows as needed. It has the bytes of the unit or RTCP packet, and is empty otherwise. */
+    [[nodiscard]] cpay_status poll(std::uint64_t now, cpay_event &event, storage &to) {
+        return to.fill(event.bytes, [&](room it) { return poll(now, event, it); });
     }
     [[nodiscard]] cpay_status values(cpay_extension_values &values) noexcept { return cpay_session_values(get(), &values); }
     [[nodiscard]] cpay_status next_deadline(std::uint64_t &at) noexcept { return cpay_session_next_deadline(get(), &at); }
@@ -247,9 +269,9 @@ public:
     [[nodiscard]] cpay_status packet(cpay_packet_info &info, room payload) noexcept {
         return cpay_packet(get(), &info, payload.data(), payload.size());
     }
-    /** The same into a vector, which grows as needed, and is empty on each status except CPAY_OK. */
-    [[nodiscard]] cpay_status packet(cpay_packet_info &info, std::vector<std::uint8_t> &to) {
-        return into(to, info.bytes, [&](room it) { return packet(info, it); });
+    /** The same into memory that grows as needed. */
+    [[nodiscard]] cpay_status packet(cpay_packet_info &info, storage &to) {
+        return to.fill(info.bytes, [&](room it) { return packet(info, it); });
     }
     [[nodiscard]] cpay_status packetize_into(const cpay_frame_cut &cut, bytes frame, room to, view<cpay_placed_packet> packets,
                                              cpay_frame_room &needed) noexcept {
@@ -270,9 +292,9 @@ public:
     [[nodiscard]] cpay_status pop(cpay_unit &unit, room to) noexcept {
         return cpay_buffer_pop(get(), &unit, to.data(), to.size());
     }
-    /** The same into a vector, which grows as needed, and is empty on each status except CPAY_OK. */
-    [[nodiscard]] cpay_status pop(cpay_unit &unit, std::vector<std::uint8_t> &to) {
-        return into(to, unit.bytes, [&](room it) { return pop(unit, it); });
+    /** The same into memory that grows as needed. */
+    [[nodiscard]] cpay_status pop(cpay_unit &unit, storage &to) {
+        return to.fill(unit.bytes, [&](room it) { return pop(unit, it); });
     }
     [[nodiscard]] cpay_status counts(cpay_buffer_counts_info &counts) noexcept { return cpay_buffer_counts(get(), &counts); }
     [[nodiscard]] cpay_status set_hold_back(std::size_t hold_back) noexcept { return cpay_buffer_set_hold_back(get(), hold_back); }
@@ -289,10 +311,10 @@ public:
     [[nodiscard]] cpay_status depacketized(std::size_t &size, cpay_extra &extra, room to) noexcept {
         return cpay_depacketized(get(), &size, &extra, to.data(), to.size());
     }
-    /** The same into a vector, which grows as needed, and is empty on each status except CPAY_OK. */
-    [[nodiscard]] cpay_status depacketized(cpay_extra &extra, std::vector<std::uint8_t> &to) {
+    /** The same into memory that grows as needed. */
+    [[nodiscard]] cpay_status depacketized(cpay_extra &extra, storage &to) {
         std::size_t size = 0;
-        return into(to, size, [&](room it) { return depacketized(size, extra, it); });
+        return to.fill(size, [&](room it) { return depacketized(size, extra, it); });
     }
 };
 

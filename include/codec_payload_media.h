@@ -53,8 +53,8 @@ bool cpay_av1_is_keyframe(const uint8_t *payload, size_t payload_len);   /**< wh
                                                                               payload */
 
 /** Reports whether a payload begins a unit, or ends one if its RTP header has this marker. CPAY_INVALID: unsupported codec. */
-CPAY_CHECKED cpay_status cpay_is_head(uint32_t codec, const uint8_t *payload, size_t payload_len, bool *is_head);
-CPAY_CHECKED cpay_status cpay_is_tail(uint32_t codec, bool marker, const uint8_t *payload, size_t payload_len, bool *is_tail);
+CPAY_CHECKED cpay_status cpay_is_head(cpay_codec codec, const uint8_t *payload, size_t payload_len, bool *is_head);
+CPAY_CHECKED cpay_status cpay_is_tail(cpay_codec codec, bool marker, const uint8_t *payload, size_t payload_len, bool *is_tail);
 
 /** Returns the extended sequence number of a packet: the number nearest to `previous`, the highest so far, whose low 16 bits
  * equal `number`; half the range counts as ahead. The first packet gets its 16 bits unchanged. If packets from before the first
@@ -77,7 +77,7 @@ typedef struct {
 /** Reads facts from the bytes of a frame of VP8, VP9, AV1, Opus, AMR-WB (in storage form), G.711 or G.722. Other and unsupported
  * codecs give no facts. CPAY_FRAME_TOO_SHORT to CPAY_FRAME_SIZES: the frame is malformed; the status is the first fault from
  * left to right. Reads only as many bytes as it needs. */
-CPAY_CHECKED cpay_status cpay_frame_info(uint32_t codec, const uint8_t *frame, size_t frame_len, cpay_frame_facts *facts);
+CPAY_CHECKED cpay_status cpay_frame_info(cpay_codec codec, const uint8_t *frame, size_t frame_len, cpay_frame_facts *facts);
 
 /** An OBU of a temporal unit. */
 typedef struct {

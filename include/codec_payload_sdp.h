@@ -37,7 +37,7 @@ enum {
 
 /** A payload type of an `m=` line, with its `a=rtpmap`, `a=fmtp` and `a=rtcp-fb` lines. */
 typedef struct {
-    uint32_t codec;           /**< of media: CPAY_OPUS and so on; of events CPAY_TELE, of comfort noise CPAY_CN, else CPAY_NULL */
+    cpay_codec codec;         /**< of media: CPAY_OPUS and so on; of events CPAY_TELE, of comfort noise CPAY_CN, else CPAY_NULL */
     uint32_t clock_rate;      /**< of the RTP clock, in hertz; 0 if neither `a=rtpmap` nor RFC 3551 gives it */
     uint32_t channels;        /**< of audio; 1 if the description gives none */
     uint32_t profile;         /**< VP9: `profile-id` (RFC 9628, section 6); AV1: `profile`; 0 by default */
@@ -148,7 +148,8 @@ typedef struct {
 typedef enum {
     CPAY_SDP_NO_CLASH = 0,
     CPAY_SDP_NO_MEDIA = 1,              /**< no section has media of a codec of the library */
-    CPAY_SDP_PAYLOAD_TYPE_CLASHES = 2,  /**< a payload type is above 127, or two sections use it differently */
+    CPAY_SDP_PAYLOAD_TYPE_CLASHES = 2,  /**< a payload type is 64 to 95 (RFC 5761, section 4) or above 127, or two
+                                             sections use it differently */
     CPAY_SDP_EXTENSION_ID_CLASHES = 3,  /**< two sections use an id for different header extensions, or another id for the same */
     CPAY_SDP_TOO_MANY_PAIRS = 4         /**< more than CPAY_SDP_MAX_PAIRS pairs of SSRCs */
 } cpay_sdp_session_error;
@@ -164,16 +165,17 @@ typedef struct {
  * - Formats: all media, in the order of the sections. RED is over the payload type that it names first; RED that names none is over
  *   the first format of media of its section. Retransmissions have the first format of RTX whose `apt` is the payload type, and
  *   those of RED the first one whose `apt` is RED's. `nack` and `pli` are as in `a=rtcp-fb`. If two sections have a payload type,
- *   packets or keyframes of it are requested only if both agree on that.
+ *   packets or keyframes of it are requested only if both agree on that. If RED that names no payload type would be over two
+ *   formats, it is over the first.
  * - `no_media`: comfort noise, error correction, and telephone events, whose packets polls report.
  * - Pairs of SSRCs (`a=ssrc-group:FID`), and ids of header extensions, of all sections.
  * - Wait limits: for live audio and video, with retransmission if a format of the kind has `nack`.
- * - All else is as in CPAY_LIVE_SESSION. Nothing is requested until you set `has_feedback` and `feedback.ssrc`.
+ * - All else is as cpay_session_settings_init sets it. Nothing is requested until you call cpay_session_settings_feedback.
  *
  * A later description may have further pairs: pass each source with `has_rtx` to cpay_session_add_pair. The cost is a step for each
  * format and each SSRC.
  *
- * CPAY_INVALID: *fault has the reason. If the call fails, all else is unchanged. */
+ * cpay_session_new accepts the settings. CPAY_INVALID: *fault has the reason. If the call fails, all else is unchanged. */
 CPAY_CHECKED cpay_status cpay_sdp_session(const cpay_sdp_media *media, size_t media_len, cpay_sdp_session_settings *session,
                                           cpay_sdp_session_fault *fault);
 
@@ -182,7 +184,7 @@ static inline const char *cpay_sdp_session_error_text(cpay_sdp_session_error err
     switch (error) {
     case CPAY_SDP_NO_CLASH: return "no error";
     case CPAY_SDP_NO_MEDIA: return "no media of a supported codec";
-    case CPAY_SDP_PAYLOAD_TYPE_CLASHES: return "payload type exceeds 127 or has two uses";
+    case CPAY_SDP_PAYLOAD_TYPE_CLASHES: return "payload type is 64 to 95, exceeds 127 or has two uses";
     case CPAY_SDP_EXTENSION_ID_CLASHES: return "header extension id differs between sections";
     case CPAY_SDP_TOO_MANY_PAIRS: return "more than 1024 pairs of SSRCs";
     default: return "unknown error";

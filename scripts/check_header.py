@@ -27,6 +27,10 @@ KINDS = [
     "cpay_packetizer", "cpay_buffer", "cpay_depacketizer", "cpay_red_sender", "cpay_sender", "cpay_history", "cpay_receiver",
     "cpay_adaptive_wait", "cpay_session",
 ]
+# The enums of the header.
+ENUMS = set()
+# Outputs that may be NULL: the call, and the parameter.
+OPTIONAL = {("cpay_history_keep", "kept")}
 HANDLE = [("cpay_handle", "handle")]
 VERSION = "cpay_version"
 EXPORT = re.compile(
@@ -133,6 +137,7 @@ def header():
     text = read("include/codec_payload.h") + read("include/codec_payload_media.h")
     text = re.sub(r"#if 0\n.*?#endif\n", "", re.sub(r"/\*.*?\*/", "", text, flags=re.S), flags=re.S)
     structs, functions = {}, {}
+    ENUMS.update(re.findall(r"typedef enum \{[^}]*\} (\w+);", text))
     for found in re.finditer(r"typedef struct \{(.*?)\} (\w+);", text, re.S):
         structs[found[2]] = [c_declared(it) for it in found[1].split(";") if it.strip()]
     rest = re.sub(r"typedef struct \{.*?\} \w+;", "", text, flags=re.S)
@@ -142,16 +147,21 @@ def header():
     return functions, structs, numbers
 
 
+def number(kind):
+    """A type of the header with numbers instead of its enums, which have the values of the library's numbers of 32 bits."""
+    return re.sub(r"\w+", lambda word: "uint32_t" if word[0] in ENUMS else word[0], kind)
+
+
 def plain(functions, structs):
-    """The header's functions and structs with handles and numbers instead of its types and statuses."""
+    """The header's functions and structs with handles and numbers instead of its types and enums."""
     frees = {f"{kind}_free" for kind in KINDS}
     plain_functions = {"cpay_free": ("void", [("cpay_handle *", "handle")])} if frees <= functions.keys() else {}
     for name, (answer, params) in functions.items():
         if name not in {*frees, VERSION}:
-            answer = {"cpay_status": "uint32_t"}.get(answer, answer)
-            params = [("cpay_handle *", "handle") if kind.removesuffix(" *") in KINDS else (kind, one) for kind, one in params]
-            plain_functions[name] = (answer, params)
-    return plain_functions, {name: fields for name, fields in structs.items() if name not in KINDS}
+            params = [("cpay_handle *", "handle") if kind.removesuffix(" *") in KINDS else (number(kind), one) for kind, one in params]
+            plain_functions[name] = (number(answer), params)
+    plain_structs = {name: [(number(kind), one) for kind, one in fields] for name, fields in structs.items() if name not in KINDS}
+    return plain_functions, plain_structs
 
 
 def differences(what, wanted, found):
@@ -182,7 +192,7 @@ def calls(functions):
         if name.endswith("_free") or name == VERSION:
             continue
         lengths = {one for _, one in params}
-        given, refused, declared = [], [], []
+        given, refused, declared, unused = [], [], [], []
         for kind, one in params:
             declared.append((("cpay_handle *" if kind.removesuffix(" *") in KINDS else kind) + " " + one).replace("* ", "*"))
             if kind.removesuffix(" *") in KINDS:
@@ -190,16 +200,20 @@ def calls(functions):
             elif f"{one}_len" in lengths:
                 refused.append(f"(!{one} && {one}_len)")
                 given.append(f"{one} ? {one} : ({kind})nothing")
+            elif (name, one) in OPTIONAL:
+                unused.append(f"    {kind.removesuffix(' *')} no_{one} = ({kind.removesuffix(' *')})0;")
+                given.append(f"{one} ? {one} : &no_{one}")
             else:
                 given.append(one)
         proved = f"{answer} proved_{name}("
         text.append(wrapped(proved, declared, ");", len(proved)))
         signature = f"{answer} {name}("
         text.append(wrapped(signature, [f"{kind} {one}".replace("* ", "*") for kind, one in params], ") {", len(signature)))
+        text += unused
         if refused:
             text.append(f"    if ({' || '.join(refused) if len(refused) > 1 else refused[0][1:-1]}) "
                         f"return {'CPAY_INVALID' if answer == 'cpay_status' else 'false'};")
-        call = f"    return proved_{name}("
+        call = f"    proved_{name}(" if answer == "void" else f"    return proved_{name}("
         text.append(wrapped(call, given, ");", len(call)) + "\n}\n")
     return "\n".join(text)
 

@@ -51,6 +51,7 @@ RUN_ELSEWHERE = {
     "scripts/test.sh": ("scripts/test.sh", "scripts/test.sh --no-proofs"),
     "rt ci": ("scripts/test.sh", "rt ci"),
     "rt try": ("scripts/documents.py", "begun_crate"),
+    "rt run": ("scripts/process.py", '["rt", "run"]'),
     "rt check": ("scripts/mutants.py", '"rt", "check"'),
     "rt new": ("scripts/documents.py", "begun_crate"),
     "rm -rf crates/mine/": ("scripts/documents.py", "begun_crate"),
@@ -61,6 +62,8 @@ RUN_ELSEWHERE = {
     "rt version": ("scripts/documents.py", "rt version"),
     "scripts/bindings.sh": ("scripts/test.sh", "runs scripts/bindings.sh"),
     "scripts/process.py": ("scripts/rust.sh", "scripts/process.py"),
+    "scripts/theorem.py": ("scripts/test.sh", "runs scripts/theorem.py"),
+    "scripts/statements.py": ("scripts/test.sh", "runs scripts/statements.py"),
     "scripts/refuse.sh": ("scripts/test.sh", "runs scripts/refuse.sh"),
     "scripts/allocations.sh": ("scripts/test.sh", "runs scripts/allocations.sh"),
     "scripts/instructions.sh": ("scripts/test.sh", "runs scripts/instructions.sh"),
@@ -100,9 +103,9 @@ RUN_ELSEWHERE = {
     "./install.sh": ("scripts/test.sh", "tools/rtp_record/install.sh"),
     "./rtp_record": ("scripts/test.sh", "runs tools/rtp_record/test.sh"),
     "make -C ../..": ("scripts/install_test.sh", "make"),
-    "cd crates/": ("scripts/documents.py", "begun_crate"),
+    "cd crates/": ("scripts/process.py", '["rt", "run"]'),
     "cd tools/lines": ("scripts/process.py", "cwd=LINES"),
-    "cargo run --quiet --bin payload_": ("scripts/process.py", "stored(name)"),
+    "cargo run --quiet --bin payload_": ("scripts/process.py", "stored(program, name)"),
 }
 
 
@@ -323,6 +326,11 @@ def compiled_c(block, work):
     whole = block.text if "#include" in block.text else f'#include "codec_payload.h"\n{block.text}'
     with open(source, "w", encoding="utf-8") as it:
         it.write(whole)
+    # As C++ too: the header's enums stand as such in structs and calls.
+    plus = [os.environ.get("CXX", "c++"), "-std=c++20", "-x", "c++", "-Wall", "-Werror", f"-I{ROOT}/include", "-fsyntax-only", source]
+    said = ran(plus)
+    if said:
+        return f"as C++: {said}"
     words = [os.environ.get("CC", "cc"), "-std=c99", "-Wall", "-Wextra", "-Werror", f"-I{ROOT}/include", source]
     archive = f"{LIBRARY}/libcodec_payload.a"
     if "int main(" not in whole or not os.path.exists(archive):
@@ -330,7 +338,7 @@ def compiled_c(block, work):
     return ran([*words, archive, "-o", f"{work}/block"]) or ran([f"{work}/block"])
 
 
-def checked_rust(block, work):
+def checked_rust(block, work, crate=f"{ROOT}/rust", environment=os.environ):
     lines_of_it = [re.sub(r"^# ?(?!\[)", "", it) for it in block.text.split("\n")]
     whole = "\n".join(lines_of_it)
     if "fn main()" not in whole:
@@ -340,10 +348,10 @@ def checked_rust(block, work):
         it.write(whole)
     with open(f"{work}/page/Cargo.toml", "w", encoding="utf-8") as it:
         it.write('[package]\nname = "page"\nversion = "0.0.0"\nedition = "2024"\n')
-    said = ran(["cargo", "add", "--offline", "--quiet", "--path", f"{ROOT}/rust"], cwd=f"{work}/page")
+    said = ran(["cargo", "add", "--offline", "--quiet", "--path", crate], cwd=f"{work}/page")
     if said:
         return said
-    named = {**os.environ, "CARGO_TARGET_DIR": f"{work}/target"}
+    named = {**environment, "CARGO_TARGET_DIR": f"{work}/target"}
     return ran(["cargo", "run", "--offline", "--quiet"], cwd=f"{work}/page", env=named)
 
 
@@ -380,7 +388,7 @@ def whole_bytes(block):
 def tested_text(block):
     rows = [*program_vectors.ROWS, *datagram_vectors.ROWS]
     known = [it for row in rows for it in (row.given, row.output)]
-    known += [read(it) for it in glob.glob(f"{ROOT}/tools/lines/*/std*")]
+    known += [read(it) for it in [*glob.glob(f"{ROOT}/crates/*/std*"), *glob.glob(f"{ROOT}/tools/lines/*/std*")]]
     if block.text in known:
         return ""
     if block.page == "docs/RECIPES.md":

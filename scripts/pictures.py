@@ -11,7 +11,7 @@
   beside             time over that of str0m, by a table of docs/PERFORMANCE.md, and the recorder beside GStreamer, by its README
   receiver_life      a receiver from its first packet to its end: what arrives, what it reports, what the caller does
   session_life       a session with two senders: what arrives, the stages of its streams, what polls return, what the caller does
-  buffer_layout      what a buffer holds: entries, blocks of packets, the ends of rows, the lowest complete frames
+  buffer_layout      what a buffer holds: entries, blocks of packets, the ends of rows, the complete frames
   queue_tiers        an insertion into the queue of packets: which entries move, tier by tier
   copies             where the bytes of a frame are copied
   descriptors        the bytes in front of a frame's: VP8, VP9, AV1 and RED, by their RFCs

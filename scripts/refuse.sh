@@ -1,13 +1,14 @@
 #!/bin/sh
-# Refuses each allocation of the library's calls in turn, and checks what then comes. Two programs over the proved library for C
-# are run:
+# Refuses each allocation of the library's calls in turn, and checks what then comes. Three programs are run:
 #
-# - `c/vectors.c`, on the stored input of payload_vectors, on one input of each other codec, and on one with RED: it prints the
-#   whole output with status 0, or only the line `out of memory` on standard error, with status 1.
-# - `tools/refused`, once for each call that allocates: it prints the full right answer, or fault 17, and how things are after it;
+# - `c/vectors.c` over the proved library for C, and the proved `payload_vectors` if there is rt, on the stored input of
+#   payload_vectors, on one input of each other codec, and on one with RED: each prints the whole output with status 0, or only the
+#   line `out of memory` on standard error, with status 1.
+# - `tools/refused` over the library for C, once for each call that allocates: it prints the full right answer, or fault 17, and how things are after it;
 #   the table below has both. If memory is refused to it before or after the call, it prints nothing, with status 3.
 #
-# C does not have sinks, payloaders and runs: rust/tests/refused/runs.rs has their tables.
+# C does not have sinks, payloaders and runs. If there is rt, the proved tests `refused` of payload_run_tests are run: each allows
+# one refusal, in the call or beside it, and ends well. rust/tests/refused/runs.rs has their tables in plain Rust.
 #
 # The allocations of each call are also counted: they may be no more than the table says, so a body that allocates without
 # need is found. The full answer also comes if std asks for more room than it needs and, refused, asks again when it stores.
@@ -16,7 +17,7 @@
 set -eu
 
 root=$(cd "$(dirname "$0")/.." && pwd)
-stored=$root/tools/lines/payload_vectors
+stored=$root/crates/payload_vectors
 work=$(mktemp -d)
 trap 'rm -rf "$work"' EXIT
 
@@ -24,6 +25,15 @@ make -s -C "$root" >/dev/null
 library=$root/c/out/libcodec_payload.a
 "${CC:-cc}" -std=c99 -O1 -I"$root/include" "$root/tools/refused/refused.c" "$library" -o "$work/calls"
 "${CC:-cc}" -std=c99 -O1 -I"$root/include" "$root/c/vectors.c" "$library" -o "$work/vectors"
+programs=$work/vectors
+if command -v rt >/dev/null; then
+    "$root/scripts/rt_free.py" || exit 1
+    (cd "$stored" && rt run <stdin) >"$work/run" 2>&1 || {
+        cat "$work/run"
+        exit 1
+    }
+    programs="$programs $stored/out/payload_vectors"
+fi
 tried=0
 promised=0
 words=
@@ -113,9 +123,15 @@ none_told() {
     }
 }
 
-# Refuses each allocation of a run of c/vectors.c on the input $1, whose whole output is $2. $3 is what the run is called.
+# Refuses each allocation of a run of each program on the input $1, whose whole output is $2. $3 is what the run is called.
 refuse_each() {
-    program=$work/vectors
+    for program in $programs; do
+        refuse_program "$@"
+    done
+}
+
+# The same for one program.
+refuse_program() {
     input=$1
     number=1
     told=0
@@ -136,7 +152,7 @@ refuse_each() {
         exit 1
     fi
     none_told "$3"
-    echo "$3: $((number - 1)) allocations refused"
+    echo "$3: $((number - 1)) allocations of $(basename "$program") refused"
 }
 
 # Refuses each allocation of the call $1, which prints $2 with all memory. After fault 17 it prints one of the lines of $3,
@@ -287,6 +303,39 @@ recover|2|recover 11 1920 0909|recover fault 17
 wrap|15|wrap ef2d0001ef0f00016f01032a, then ef2d0001ef0f00016f022a2b|wrap fault 17, then ef3c0001ef1e00016f01032b
 wrap-again|47|wrap ef2d0001ef0f00016f11132a, then ef2d0001ef0f00016f122a2b|wrap fault 17, then ef3c0001ef1e00016f11132b
 END
+
+# Refuses each allocation of the test $1 of payload_run_tests, which still ends well.
+refuse_test() {
+    words=refused::$1
+    number=1
+    while run_refusing "$number" && [ -s "$work/refused" ]; do
+        tried=$((tried + 1))
+        if [ "$status" -eq 0 ]; then
+            promised=$((promised + 1))
+        else
+            other_than_promised "$1" "$number"
+        fi
+        number=$((number + 1))
+    done
+    [ "$number" -gt 4 ] && [ "$status" -eq 0 ] || {
+        echo "$1: $((number - 1)) allocations, and status $status without a refusal"
+        exit 1
+    }
+    echo "$1: $((number - 1)) allocations refused"
+}
+
+if command -v rt >/dev/null; then
+    tests=$root/crates/payload_run_tests
+    (cd "$tests" && rt test) >"$work/run" 2>&1 || {
+        cat "$work/run"
+        exit 1
+    }
+    program=$tests/out/payload_run_tests_tests
+    input=$work/nothing
+    for test in memory_sink_refused red_sink_refused push_sample_refused run_schedule_refused; do
+        refuse_test "$test"
+    done
+fi
 
 echo "$tried refusals tried, $promised as promised"
 [ "$tried" -eq "$promised" ]

@@ -9,6 +9,7 @@
 #   without `std`.
 # - The eraser refuses each plant of tools/eraser/plants.py.
 # - The package builds by itself, and each example ends well; docs/LIMITS.md and docs/SESSION.md have the tables that examples print.
+# - No pop of a buffer takes more than 2 microseconds if packets that are no frame lie before the next frame (tools/speed).
 # - The programs over lines, tools/lines: rustfmt and clippy have nothing to say, and each test vector gets its answer
 #   (scripts/process.py).
 # - With clang's libFuzzer: two seconds of each fuzz target (scripts/fuzz.sh). With Debian's packages of crates: rust-extras/test.sh.
@@ -60,6 +61,8 @@ for table in $tables; do
         }
     done <"$work/log"
 done
+step cargo run --quiet --release --manifest-path "$root/tools/speed/Cargo.toml" --bin orders -- spike
+longest=$(cat "$work/log")
 step cargo fmt --check --manifest-path "$root/tools/lines/Cargo.toml"
 step cargo clippy --quiet --all-targets --manifest-path "$root/tools/lines/Cargo.toml" -- -D warnings
 step "$root/scripts/process.py"
@@ -73,4 +76,4 @@ if [ "${1:-}" != quick ]; then
         programs="$programs; $(tail -n 1 "$work/log")"
     fi
 fi
-echo "rust: $passed tests, $fallible with \`fallible\`, $(ls examples/*.rs | wc -l) examples; $programs"
+echo "rust: $passed tests, $fallible with \`fallible\`, $(ls examples/*.rs | wc -l) examples; $longest; $programs"

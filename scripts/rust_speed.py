@@ -104,6 +104,8 @@ def print_orders():
         subprocess.run([f"{SPEED}/target/release/orders", str(held), str(rounds)], check=True)
     print(flush=True)
     subprocess.run([f"{SPEED}/target/release/orders", "memory"], check=True)
+    print(flush=True)
+    subprocess.run([f"{SPEED}/target/release/orders", "spike"], check=True)
 
 
 def time_of(program, codec, size, call):

@@ -90,6 +90,8 @@ runs() {
 runs scripts/format.sh
 runs scripts/mutants.py --stale
 runs scripts/documents.py --quick
+runs scripts/statements.py --check
+runs scripts/theorem.py --check
 runs scripts/check_header.py
 runs scripts/rust.sh
 runs scripts/toy_codec.sh
@@ -105,11 +107,13 @@ if [ "${1:-}" != --no-proofs ]; then
     passed=$((early_passed + $1))
     failed=$((early_failed + $2))
 fi
+runs scripts/process.py --proved
 runs scripts/refuse.sh
 runs scripts/allocations.sh
 runs scripts/bindings.sh
 runs scripts/documents.py
 runs scripts/examples.py
+runs scripts/hostile.py
 runs scripts/instructions.sh
 runs scripts/receiving.py
 if command -v ffmpeg >/dev/null; then

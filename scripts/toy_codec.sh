@@ -3,7 +3,7 @@
 #
 #   scripts/toy_codec.sh          as plain Rust and C: the copy is erased, frames of the codec come back (rust/tests/toy.rs of the
 #                                 patch), and the header has what C programs name
-#   scripts/toy_codec.sh prove    also with rt: the proofs of the crates that the patch touches, below the library for C
+#   scripts/toy_codec.sh prove    also with rt: the proofs of the crates that the patch touches, except the library for C
 #
 # The patch touches at most 20 files outside of the crate of the codec, not counting its test and the output of the eraser. The last
 # line says how many; the status is 0 if all passed. If the patch does not apply, mend it: it is the example of
@@ -36,8 +36,9 @@ step cargo test --quiet --lib
 cd ..
 step "${CC:-cc}" -std=c11 -Wall -Werror -fsyntax-only -Iinclude c/vectors.c
 if [ "${1:-}" = prove ]; then
-    for crate in base audio codec buffer send runs handle; do
-        cd "$copy/crates/codec_payload_$crate"
+    for crate in codec_payload_base codec_payload_audio codec_payload_codec codec_payload_buffer codec_payload_send \
+        codec_payload_runs codec_payload_handle payload_vectors; do
+        cd "$copy/crates/$crate"
         step rt check
     done
 fi

@@ -97,7 +97,7 @@ type Arriving = BTreeMap<u64, Vec<Vec<u8>>>;
 /// The datagrams of a stream, and the number of its frames.
 fn sent_by(case: Case) -> Result<(Arriving, u64), Box<dyn Error>> {
     let clock_rate = Frequency::make(case.clock_rate).ok_or("the rate is 0")?;
-    let packetizer = CodecPacketizer::from_codec(case.codec).ok_or("no packetizer")?;
+    let packetizer = CodecPacketizer::try_from(case.codec)?;
     let mut settings = SenderSettings::for_stream(96, 7, clock_rate);
     settings.mtu = 200;
     let mut sender = Sender::new(packetizer, settings)?;
@@ -128,8 +128,8 @@ fn sent_by(case: Case) -> Result<(Arriving, u64), Box<dyn Error>> {
 fn run(case: Case, limit: Limit) -> Result<Outcome, Box<dyn Error>> {
     let (mut arriving, sent) = sent_by(case)?;
     let clock_rate = Frequency::make(case.clock_rate).ok_or("the rate is 0")?;
-    let depacketizer = CodecDepacketizer::from_codec(case.codec).ok_or("no depacketizer")?;
-    let mut settings = ReceiverSettings::for_stream(96, clock_rate);
+    let depacketizer = CodecDepacketizer::try_from(case.codec)?;
+    let mut settings = ReceiverSettings::for_stream(96, case.codec, clock_rate);
     settings.ssrc = Some(7);
     if let Limit::Fixed(ticks) = limit {
         settings.wait_limits.max_wait = Some(ticks);
@@ -142,8 +142,10 @@ fn run(case: Case, limit: Limit) -> Result<Outcome, Box<dyn Error>> {
     };
     for now in 0..LENGTH + 2_000 {
         for datagram in arriving.remove(&now).unwrap_or_default() {
-            wait.arrived(Ticks(now), u16::from_be_bytes([datagram[2], datagram[3]]));
-            receiver.receive(Ticks(now), &datagram)?;
+            if let [_, _, high, low, ..] = datagram[..] {
+                wait.arrived(Ticks(now), u16::from_be_bytes([high, low]));
+            }
+            receiver.receive_any(Ticks(now), &datagram)?;
             for number in receiver.missing(MOST_MISSING) {
                 wait.missing(Ticks(now), number);
             }
@@ -153,7 +155,7 @@ fn run(case: Case, limit: Limit) -> Result<Outcome, Box<dyn Error>> {
             limits.max_wait = Some(wait.limit());
             receiver.set_wait_limits(limits);
         }
-        while let Some(unit) = receiver.pop(Ticks(now)) {
+        for unit in receiver.units(Ticks(now)) {
             let sent = unit?.time.numer() * 1_000 / u64::from(case.clock_rate);
             outcome.released += 1;
             outcome.delay += now.saturating_sub(sent + NETWORK);

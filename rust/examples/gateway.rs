@@ -68,7 +68,8 @@ fn play(receiver: &mut Receiver, now: Ticks, came: &mut [bool]) -> Result<(), Bo
 }
 
 fn main() -> Result<(), Box<dyn Error>> {
-    let mut settings = ReceiverSettings::for_stream(OPUS_TYPE, Frequency::FORTY_EIGHT_KHZ);
+    let mut settings =
+        ReceiverSettings::for_stream(OPUS_TYPE, Codec::Opus, Frequency::FORTY_EIGHT_KHZ);
     settings.ssrc = Some(7);
     settings.red = Some(RedSettings {
         payload_type: RED_TYPE,
@@ -78,7 +79,7 @@ fn main() -> Result<(), Box<dyn Error>> {
     // A missing frame is waited for 100 ms: five packets, more than the largest distance.
     settings.wait_limits = WaitLimits::live();
     let mut sender = RedSender::new(Pt::from(RED_TYPE), Pt::from(OPUS_TYPE), &[1, 3]);
-    let depacketizer = CodecDepacketizer::from_codec(Codec::Opus).ok_or("Opus is supported")?;
+    let depacketizer = CodecDepacketizer::try_from(Codec::Opus)?;
     let mut receiver = Receiver::new(depacketizer, settings)?;
     let mut chance = Chance(1);
     let mut came = vec![false; usize::from(FRAMES)];
@@ -89,11 +90,11 @@ fn main() -> Result<(), Box<dyn Error>> {
         let now = Ticks(u64::from(frame) * 20);
         arrived[usize::from(frame)] = !chance.one_in(6);
         if arrived[usize::from(frame)] {
-            receiver.receive(now, &datagram(frame, time, &payload)?)?;
+            receiver.receive_any(now, &datagram(frame, time, &payload)?)?;
         }
         play(&mut receiver, now, &mut came)?;
     }
-    receiver.finish();
+    receiver.finish()?;
     play(&mut receiver, Ticks(u64::from(FRAMES) * 20), &mut came)?;
     let lost = arrived[..usize::from(FRAMES)]
         .iter()

@@ -16,10 +16,10 @@
 use codec_payload::media::frame_info;
 use codec_payload::rtcp::PictureLoss;
 use codec_payload::sender::{Sample, Sender, SenderSettings};
-use codec_payload::stream::{Receiver, ReceiverSettings};
+use codec_payload::stream::{Popped, Receiver, ReceiverSettings};
 use codec_payload::{
     Codec, CodecDepacketizer, CodecPacketizer, Depacketized, ExtensionValues, Frequency, MediaTime,
-    PacketError, Ticks,
+    Ticks,
 };
 use std::error::Error;
 
@@ -77,14 +77,10 @@ struct Decoder {
 
 impl Decoder {
     fn take(&mut self, receiver: &mut Receiver, now: u64) -> Result<(), Box<dyn Error>> {
-        while let Some(unit) = receiver.pop(Ticks(now)) {
-            let unit = match unit {
-                Ok(unit) => unit,
-                Err(PacketError::OutOfMemory) => return Err(PacketError::OutOfMemory.into()),
-                Err(_) => {
-                    self.filter.needs_keyframe = true;
-                    continue;
-                }
+        while let Some(popped) = receiver.pop(Ticks(now)) {
+            let Popped::Unit(unit) = popped? else {
+                self.filter.needs_keyframe = true;
+                continue;
             };
             if !self.filter.is_decodable(&unit) {
                 self.dropped += 1;
@@ -141,7 +137,7 @@ impl Network {
                 .wrapping_mul(1_664_525)
                 .wrapping_add(1_013_904_223);
             if !(self.chance >> 16).is_multiple_of(100) {
-                receiver.receive(Ticks(now), datagram)?;
+                receiver.receive_any(Ticks(now), datagram)?;
             }
         }
         Ok(())
@@ -149,11 +145,11 @@ impl Network {
 }
 
 fn main() -> Result<(), Box<dyn Error>> {
-    let packetizer = CodecPacketizer::from_codec(Codec::Vp8).ok_or("VP8 is supported")?;
-    let depacketizer = CodecDepacketizer::from_codec(Codec::Vp8).ok_or("VP8 is supported")?;
+    let packetizer = CodecPacketizer::try_from(Codec::Vp8)?;
+    let depacketizer = CodecDepacketizer::try_from(Codec::Vp8)?;
     let mut receiver = Receiver::new(
         depacketizer,
-        ReceiverSettings::for_stream(96, Frequency::NINETY_KHZ),
+        ReceiverSettings::for_stream(96, Codec::Vp8, Frequency::NINETY_KHZ),
     )?;
     let mut network = Network {
         sender: Sender::new(

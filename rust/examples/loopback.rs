@@ -61,15 +61,15 @@ fn main() -> Result<(), Box<dyn Error>> {
     let to = UdpSocket::bind((Ipv4Addr::LOCALHOST, 0))?;
     to.set_read_timeout(Some(Duration::from_secs(1)))?;
     from.connect(to.local_addr()?)?;
-    let packetizer = CodecPacketizer::from_codec(Codec::Vp8).ok_or("VP8 is supported")?;
-    let mut sender: Sender = Sender::new(
+    let packetizer = CodecPacketizer::try_from(Codec::Vp8)?;
+    let mut sender = Sender::new(
         packetizer,
         SenderSettings::for_stream(PAYLOAD_TYPE, 0x1234_5678, Frequency::NINETY_KHZ),
     )?;
-    let depacketizer = CodecDepacketizer::from_codec(Codec::Vp8).ok_or("VP8 is supported")?;
+    let depacketizer = CodecDepacketizer::try_from(Codec::Vp8)?;
     let mut receiver = Receiver::new(
         depacketizer,
-        ReceiverSettings::for_stream(PAYLOAD_TYPE, Frequency::NINETY_KHZ),
+        ReceiverSettings::for_stream(PAYLOAD_TYPE, Codec::Vp8, Frequency::NINETY_KHZ),
     )?;
     let (clock, mut chance, mut received) = (Clock::new(), Chance(1), Received::default());
     let mut datagram = [0; 1_500];
@@ -103,7 +103,7 @@ fn main() -> Result<(), Box<dyn Error>> {
         }
         received.take(&mut receiver, &clock)?;
     }
-    receiver.finish();
+    receiver.finish()?;
     received.take(&mut receiver, &clock)?;
     let Received {
         frames,

@@ -97,7 +97,7 @@ impl Network {
             .on_the_way
             .extract_if(.., |(arrives, _)| *arrives <= now)
         {
-            receiver.receive(Ticks(now), &datagram)?;
+            receiver.receive_any(Ticks(now), &datagram)?;
         }
         Ok(())
     }
@@ -152,7 +152,7 @@ impl SendingSide {
 }
 
 fn main() -> Result<(), Box<dyn Error>> {
-    let packetizer = CodecPacketizer::from_codec(Codec::Vp8).ok_or("VP8 is supported")?;
+    let packetizer = CodecPacketizer::try_from(Codec::Vp8)?;
     let mut sending = SendingSide {
         sender: Sender::new(
             packetizer,
@@ -165,8 +165,8 @@ fn main() -> Result<(), Box<dyn Error>> {
         })?,
         again: Vec::new(),
     };
-    let depacketizer = CodecDepacketizer::from_codec(Codec::Vp8).ok_or("VP8 is supported")?;
-    let mut settings = ReceiverSettings::for_stream(96, Frequency::NINETY_KHZ);
+    let depacketizer = CodecDepacketizer::try_from(Codec::Vp8)?;
+    let mut settings = ReceiverSettings::for_stream(96, Codec::Vp8, Frequency::NINETY_KHZ);
     settings.ssrc = Some(SSRC);
     settings.wait_limits = WaitLimits::for_round_trip(2 * ONE_WAY);
     let mut receiver = Receiver::new(depacketizer, settings)?;

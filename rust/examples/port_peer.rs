@@ -35,9 +35,9 @@ struct Peer {
 impl Peer {
     fn new(offer: &str) -> Result<Peer, Failure> {
         let mut settings = sdp::session_settings(&sdp::read(offer)?)?;
-        settings.feedback = Some(FeedbackSettings::live(OWN_SSRC));
+        settings.feedback = Some(FeedbackSettings::live(OWN_SSRC, b"me@host".to_vec()));
         Ok(Peer {
-            session: Session::new(settings),
+            session: Session::new(settings)?,
             feedback: Vec::new(),
         })
     }
@@ -65,7 +65,8 @@ impl Peer {
                     }
                     writeln!(out)?;
                 }
-                Event::Unit { unit: Err(why), .. } => writeln!(out, "fault {why}")?,
+                Event::Unit { unit: Err(e), .. } => return Err(e.into()),
+                Event::Refused { fault, .. } => writeln!(out, "fault {fault}")?,
                 Event::Feedback { packet, .. } | Event::Report { packet } => {
                     self.feedback.push(packet?)
                 }
@@ -73,6 +74,7 @@ impl Peer {
                 Event::Ended {
                     ssrc, payload_type, ..
                 } => writeln!(out, "ended {ssrc} {payload_type}")?,
+                _ => {}
             }
         }
         Ok(())

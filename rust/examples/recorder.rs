@@ -16,7 +16,7 @@
 use codec_payload::jitter::WaitLimits;
 use codec_payload::media::frame_info;
 use codec_payload::sender::{Sample, Sender, SenderSettings};
-use codec_payload::stream::{ReceiveError, Receiver, ReceiverSettings};
+use codec_payload::stream::{Popped, Receiver, ReceiverSettings};
 use codec_payload::{
     Codec, CodecDepacketizer, CodecPacketizer, ExtensionValues, Frequency, MediaTime, Ticks,
 };
@@ -71,8 +71,9 @@ struct Recorder<W> {
 
 impl<W: Write> Recorder<W> {
     fn new(payload_type: u8, file: W) -> Result<Self, Box<dyn Error>> {
-        let depacketizer = CodecDepacketizer::from_codec(Codec::Vp8).ok_or("VP8 is supported")?;
-        let mut settings = ReceiverSettings::for_stream(payload_type, Frequency::NINETY_KHZ);
+        let depacketizer = CodecDepacketizer::try_from(Codec::Vp8)?;
+        let mut settings =
+            ReceiverSettings::for_stream(payload_type, Codec::Vp8, Frequency::NINETY_KHZ);
         settings.wait_limits = WaitLimits::file();
         Ok(Recorder {
             receiver: Receiver::new(depacketizer, settings)?,
@@ -95,15 +96,19 @@ impl<W: Write> Recorder<W> {
 
     /// Receives a datagram, and writes the frames that are due. A datagram that is not a packet of the stream is counted.
     fn receive(&mut self, now: u64, datagram: &[u8]) -> Result<(), Box<dyn Error>> {
-        if self.receiver.receive(Ticks(now), datagram) == Err(ReceiveError::OutOfMemory) {
-            return Err(ReceiveError::OutOfMemory.into());
-        }
+        self.receiver.receive_any(Ticks(now), datagram)?;
         self.write(now)
     }
 
     fn write(&mut self, now: u64) -> Result<(), Box<dyn Error>> {
-        while let Some(unit) = self.receiver.pop(Ticks(now)) {
-            let unit = unit?;
+        while let Some(popped) = self.receiver.pop(Ticks(now)) {
+            let unit = match popped? {
+                Popped::Unit(unit) => unit,
+                Popped::Refused(fault) => {
+                    eprintln!("a frame is lost: {fault}");
+                    continue;
+                }
+            };
             let time = self.receiver.unit_time().ok_or("a unit has a time")?;
             let Ok(facts) = frame_info(Codec::Vp8, &unit.bytes) else {
                 continue;
@@ -125,7 +130,7 @@ impl<W: Write> Recorder<W> {
 
     /// Writes the frames that are left.
     fn end(&mut self, now: u64) -> Result<(), Box<dyn Error>> {
-        self.receiver.finish();
+        self.receiver.finish()?;
         self.write(now)?;
         Ok(self.file.flush()?)
     }
@@ -157,8 +162,8 @@ fn record(words: &[String]) -> Result<(), Box<dyn Error>> {
 
 /// Records 100 frames of three packets, of which every tenth loses a packet.
 fn simulate() -> Result<(), Box<dyn Error>> {
-    let packetizer = CodecPacketizer::from_codec(Codec::Vp8).ok_or("VP8 is supported")?;
-    let mut sender: Sender = Sender::new(
+    let packetizer = CodecPacketizer::try_from(Codec::Vp8)?;
+    let mut sender = Sender::new(
         packetizer,
         SenderSettings::for_stream(96, 7, Frequency::NINETY_KHZ),
     )?;

@@ -112,16 +112,16 @@ impl Stream {
         let mut settings = SenderSettings::for_stream(96, 7, self.rate()?);
         settings.mtu = PAYLOAD;
         settings.first_number = first_number;
-        let packetizer = CodecPacketizer::from_codec(self.codec).ok_or("no packetizer")?;
+        let packetizer = CodecPacketizer::try_from(self.codec)?;
         Ok(Sender::new(packetizer, settings)?)
     }
 
     fn receiver(self) -> Result<Receiver, Fault> {
-        let mut settings = ReceiverSettings::for_stream(96, self.rate()?);
+        let mut settings = ReceiverSettings::for_stream(96, self.codec, self.rate()?);
         settings.ssrc = Some(7);
         settings.forward = self.windows.forward;
         settings.backward = self.windows.backward;
-        let depacketizer = CodecDepacketizer::from_codec(self.codec).ok_or("no depacketizer")?;
+        let depacketizer = CodecDepacketizer::try_from(self.codec)?;
         Ok(Receiver::new(depacketizer, settings)?)
     }
 
@@ -167,9 +167,9 @@ fn receive(stream: Stream, arriving: &BTreeMap<u64, Vec<Vec<u8>>>) -> Result<Out
     let mut last_unit = None;
     for now in 0..end + 1_000 {
         for datagram in arriving.get(&now).into_iter().flatten() {
-            receiver.receive(Ticks(now), datagram)?;
+            receiver.receive_any(Ticks(now), datagram)?;
         }
-        while let Some(unit) = receiver.pop(Ticks(now)) {
+        for unit in receiver.units(Ticks(now)) {
             outcome.times.insert(unit?.time.numer() as u32);
             outcome.longest_pause = outcome.longest_pause.max(now - last_unit.unwrap_or(now));
             last_unit = Some(now);

@@ -66,8 +66,7 @@ fn receive(media: &Media) -> Result<(), Box<dyn Error>> {
         print!(", retransmissions in type {payload_type}, SSRC {ssrc}");
     }
     println!();
-    let mut depacketizer: CodecDepacketizer =
-        CodecDepacketizer::from_codec(spec.codec).ok_or("the codec is supported")?;
+    let mut depacketizer = CodecDepacketizer::try_from(spec.codec)?;
     depacketizer.configure_for(&spec);
     Receiver::new(depacketizer, settings)?;
     Ok(())

@@ -34,7 +34,7 @@ fn source(payload_type: u8, ssrc: u32, until: u64) -> Result<Source, Box<dyn Err
         VP8 => (Codec::Vp8, Frequency::NINETY_KHZ, 33),
         _ => (Codec::Opus, Frequency::FORTY_EIGHT_KHZ, 20),
     };
-    let packetizer = CodecPacketizer::from_codec(codec).ok_or("the codec is supported")?;
+    let packetizer = CodecPacketizer::try_from(codec)?;
     let sender = Sender::new(
         packetizer,
         SenderSettings::for_stream(payload_type, ssrc, rate),
@@ -94,9 +94,12 @@ fn drain(session: &mut Session, now: u64, units: &mut BTreeMap<u32, u64>) {
             Event::Unit { ssrc, unit, .. } => {
                 *units.entry(ssrc).or_default() += u64::from(unit.is_ok());
             }
-            // The settings request nothing: see examples/session_requests.rs.
-            Event::Feedback { .. } | Event::Report { .. } | Event::Telephone { .. } => {}
+            Event::Refused { ssrc, fault, .. } => {
+                println!("{now:5} ms: stream {ssrc} loses a frame: {fault}");
+            }
             Event::Ended { ssrc, why, .. } => println!("{now:5} ms: stream {ssrc} ends: {why:?}"),
+            // The settings request nothing: see examples/session_requests.rs.
+            _ => {}
         }
     }
 }
@@ -109,7 +112,7 @@ fn main() -> Result<(), Box<dyn Error>> {
     settings
         .formats
         .push(format(OPUS, Codec::Opus, Frequency::FORTY_EIGHT_KHZ));
-    let mut session = Session::new(settings);
+    let mut session = Session::new(settings)?;
     let end = FRAMES * 33;
     let mut sources = [
         source(VP8, 1, end)?,
@@ -154,7 +157,10 @@ fn main() -> Result<(), Box<dyn Error>> {
     let counts = session.counts();
     println!("units {units:?}, {counts:?}");
     assert_eq!(session.stream_count(), 0);
-    assert_eq!(counts.received, counts.rtcp + counts.ended);
+    // Datagrams that no stream took are counted apart, whatever a peer sends.
+    let apart =
+        counts.rtcp + counts.malformed + counts.unknown + counts.refused + counts.unassociated;
+    assert_eq!(counts.received, apart + counts.ended);
     assert!(units[&1] > 280 && units[&2] > 140 && units[&3] > 470);
     Ok(())
 }

@@ -89,7 +89,7 @@ struct SendingSide {
 
 impl SendingSide {
     fn new() -> Result<SendingSide, Box<dyn Error>> {
-        let packetizer = CodecPacketizer::from_codec(Codec::Vp8).ok_or("VP8 is supported")?;
+        let packetizer = CodecPacketizer::try_from(Codec::Vp8)?;
         Ok(SendingSide {
             sender: Sender::new(
                 packetizer,
@@ -149,7 +149,7 @@ struct ReceivingSide {
 }
 
 impl ReceivingSide {
-    fn new(requests: Requests) -> ReceivingSide {
+    fn new(requests: Requests) -> Result<ReceivingSide, Box<dyn Error>> {
         let spec = CodecSpec {
             codec: Codec::Vp8,
             clock_rate: Frequency::NINETY_KHZ,
@@ -167,29 +167,30 @@ impl ReceivingSide {
                 longest_wait,
                 // The way back carries requests alone.
                 report_interval: None,
-                ..FeedbackSettings::live(OWN_SSRC)
+                ..FeedbackSettings::live(OWN_SSRC, b"me@host".to_vec())
             });
         }
-        ReceivingSide {
-            session: Session::new(settings),
+        Ok(ReceivingSide {
+            session: Session::new(settings)?,
             released: 0,
             decodable: 0,
-        }
+        })
     }
 
     /// Counts the units, and those that a decoder can show. Sends the requests: reduced-size compound packets (RFC 5506).
     fn poll(&mut self, now: u64, back: &mut Way) -> Result<(), Box<dyn Error>> {
         while let Some(event) = self.session.poll(Ticks(now)) {
             match event {
-                Event::Unit { decodable, .. } => {
+                Event::Unit {
+                    decodable, unit, ..
+                } => {
+                    unit?;
                     self.released += 1;
                     self.decodable += u64::from(decodable);
                 }
                 Event::Feedback { packet, .. } => back.send(now, &packet?),
-                Event::Begun { .. }
-                | Event::Report { .. }
-                | Event::Telephone { .. }
-                | Event::Ended { .. } => {}
+                // A refused frame is a loss like another: the session requests a keyframe.
+                _ => {}
             }
         }
         Ok(())
@@ -201,7 +202,7 @@ fn run(round_trip: u64, lost: u64, requests: Requests) -> Result<[u64; 2], Box<d
     let mut there = Way::new(1, lost, round_trip / 2);
     let mut back = Way::new(2, lost, round_trip / 2);
     let mut sending = SendingSide::new()?;
-    let mut receiving = ReceivingSide::new(requests);
+    let mut receiving = ReceivingSide::new(requests)?;
     for now in 0..LENGTH + 2_000 {
         for feedback in back.arrived(now) {
             sending.answer(&mut there, now, &feedback)?;

@@ -174,10 +174,10 @@ impl Seen {
 
 fn main() -> Result<(), Box<dyn Error>> {
     let mut layers = [layer(0)?, layer(1)?];
-    let depacketizer = CodecDepacketizer::from_codec(Codec::Vp8).ok_or("VP8 is supported")?;
+    let depacketizer = CodecDepacketizer::try_from(Codec::Vp8)?;
     let mut viewer = Receiver::new(
         depacketizer,
-        ReceiverSettings::for_stream(96, Frequency::NINETY_KHZ),
+        ReceiverSettings::for_stream(96, Codec::Vp8, Frequency::NINETY_KHZ),
     )?;
     let last = Fields {
         number: 500,
@@ -204,13 +204,13 @@ fn main() -> Result<(), Box<dyn Error>> {
             })?;
             for datagram in layer.datagrams() {
                 if let Some(forwarded) = forwarder.forward(datagram)? {
-                    viewer.receive(Ticks(u64::from(number * INTERVAL)), &forwarded)?;
+                    viewer.receive_any(Ticks(u64::from(number * INTERVAL)), &forwarded)?;
                 }
             }
         }
         seen.take(&mut viewer, Ticks(u64::from(number * INTERVAL)))?;
     }
-    viewer.finish();
+    viewer.finish()?;
     seen.take(&mut viewer, Ticks(u64::from(FRAMES * INTERVAL)))?;
     println!(
         "{} frames, {} switches, {} gaps",

@@ -130,12 +130,11 @@ struct Simulation {
 impl Simulation {
     fn new(case: Case) -> Result<Self, Box<dyn Error>> {
         let clock_rate = Frequency::make(case.stream.clock_rate).ok_or("the rate is 0")?;
-        let packetizer = CodecPacketizer::from_codec(case.stream.codec).ok_or("no packetizer")?;
-        let depacketizer =
-            CodecDepacketizer::from_codec(case.stream.codec).ok_or("no depacketizer")?;
+        let packetizer = CodecPacketizer::try_from(case.stream.codec)?;
+        let depacketizer = CodecDepacketizer::try_from(case.stream.codec)?;
         let mut sends = SenderSettings::for_stream(96, 7, clock_rate);
         sends.mtu = PAYLOAD;
-        let mut receives = ReceiverSettings::for_stream(96, clock_rate);
+        let mut receives = ReceiverSettings::for_stream(96, case.stream.codec, clock_rate);
         receives.ssrc = Some(sends.ssrc);
         Ok(Simulation {
             case,
@@ -182,9 +181,9 @@ impl Simulation {
     /// Receives what arrives now, and pops.
     fn receive(&mut self, now: u64) -> Result<(), Box<dyn Error>> {
         for datagram in self.arriving.remove(&now).unwrap_or_default() {
-            self.receiver.receive(Ticks(now), &datagram)?;
+            self.receiver.receive_any(Ticks(now), &datagram)?;
         }
-        while let Some(unit) = self.receiver.pop(Ticks(now)) {
+        for unit in self.receiver.units(Ticks(now)) {
             let unit = unit?;
             let outcome = &mut self.outcome;
             outcome.units += 1;

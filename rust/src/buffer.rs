@@ -28,11 +28,8 @@ use crate::error::PacketError;
 use crate::interface::CodecExtra;
 use crate::queue::tiers::TieredQueue;
 use crate::wire::{SeqNo, Ticks};
-use alloc::collections::VecDeque;
-use ends::{evict, is_new_end, place_at, row_with};
-use frames::{
-    CompleteFrame, CompleteFrames, drop_first, frame_of, mend_first, note, reserve_known,
-};
+use ends::{evict, place_at, row_with};
+use frames::{CompleteFrame, drop_first, frame_of, lowest_frame, mend_first, note};
 use held_packet::{HeldPacket, Packet};
 pub use known::PackedMeta;
 use known::are_plain;
@@ -62,7 +59,8 @@ pub struct DepacketizingBuffer<B = NoBox> {
     packets: TieredQueue<HeldPacket>,
     /// Memory blocks of packets that have left, for later packets.
     spare: Vec<One<Packet>>,
-    complete: CompleteFrames,
+    /// The complete frames, in order.
+    complete: TieredQueue<CompleteFrame>,
     /// The cutoff: the highest number whose packets are late.
     cutoff: Option<u64>,
     /// Whether a packet was evicted since the latest released unit.
@@ -85,8 +83,8 @@ impl<B: Depacketizer> DepacketizingBuffer<B> {
     /// Creates an empty buffer with room for `limit` packets, 1 to 65,536. Allocates nothing.
     ///
     /// Memory grows with the held packets, and shrinks again: the queue of packets, if at most 1,024 are held and it is at most a
-    /// quarter full, shrinks to twice its contents, or to 64 entries. The buffer keeps at most 16 memory blocks of 128 bytes for
-    /// later packets, without payloads, and a list of the lowest 64 complete frames at most.
+    /// quarter full, shrinks to twice its contents, or to 64 entries. The list of complete frames, with 16 bytes for each, shrinks to
+    /// 64 entries once it is empty. The buffer keeps at most 16 memory blocks of 128 bytes for later packets, without payloads.
     ///
     /// A sender chooses the numbers of its packets, so it chooses the cost of a push ([`DepacketizingBuffer::push`]) and of a pop
     /// ([`DepacketizingBuffer::pop`]). Choose `limit` no larger than reordering needs.
@@ -99,10 +97,7 @@ impl<B: Depacketizer> DepacketizingBuffer<B> {
         DepacketizingBuffer {
             packets: TieredQueue::new(),
             spare: Vec::new(),
-            complete: CompleteFrames {
-                ready: 0,
-                known: VecDeque::new(),
-            },
+            complete: TieredQueue::new(),
             cutoff: None,
             evicted: false,
             contiguity: Contiguity::of(&depacketizer),
@@ -117,14 +112,14 @@ impl<B: Depacketizer> DepacketizingBuffer<B> {
     ///
     /// It allocates one block of at most 128 bytes for the packet, unless a block of an earlier packet can be reused. It
     /// allocates one more block for rare values (a capture time, a timing, values of a sender report), and one for a layers
-    /// allocation. If the queues are full, it allocates queues of twice the size; above 1,024 held packets, 16 kB for each
-    /// further 1,024.
+    /// allocation. If the queue of packets or the list of complete frames is full, it allocates one of twice the size; above 1,024
+    /// entries, 16 kB for each further 1,024.
     ///
     /// The cost does not grow with the number of held packets if packets arrive in order, in reverse order, or near either end
     /// of the held numbers. Far from both ends at most 512 entries of 16 bytes move, and one entry for each 1,024 held packets
-    /// above. The place is found by a binary search. Payloads and frames never move, and no list of packets is walked. An
-    /// eviction may search for the next packet that begins a unit; this inspects each packet at most twice over its lifetime. An
-    /// eviction may read frames, as a pop does.
+    /// above; if the packet completes a frame, as many entries of the list of complete frames. The places are found by binary
+    /// searches. Payloads never move, and no list of packets is walked. An eviction may search for the next packet that begins a
+    /// unit; this inspects each packet at most twice over its lifetime.
     ///
     /// # Errors
     ///
@@ -163,15 +158,14 @@ impl<B: Depacketizer> DepacketizingBuffer<B> {
         let head = self.depacketizer.is_partition_head(&data);
         let tail = self.depacketizer.is_partition_tail(meta.marker(), &data);
         self.packets.reserve(1)?;
-        reserve_known(&mut self.complete.known, 1)?;
+        self.complete.reserve(1)?;
         let entry = hold(&mut self.spare, Packet::of(meta, data, head, tail))?;
-        let row = row_with(&self.packets, place, row_of_packet(&entry));
-        let is_new = is_new_end(&self.packets, place, &entry, &row);
+        let row = row_with(&self.packets, &self.complete, place, row_of_packet(&entry));
         place_at(&mut self.packets, place, entry, row);
-        note(&mut self.complete, frame_of(&row), is_new);
+        note(&mut self.complete, place, frame_of(&row));
         if self.packets.len() > self.limit as usize {
             let (number, before, after) = evict(&mut self.packets, &mut self.spare);
-            mend_first(&mut self.complete, before, after, &self.packets);
+            mend_first(&mut self.complete, before, after);
             self.cutoff = Some(number);
             self.evicted = true;
         }
@@ -185,9 +179,8 @@ impl<B: Depacketizer> DepacketizingBuffer<B> {
     /// frame. A unit of layered VP9 that lost the packets of its base layer is released as complete, without its front. It
     /// counts as contiguous if it is the first unit of the stream.
     ///
-    /// The cost depends on the packets that leave. If packets below a frame leave with it, the frame is found by a binary search.
-    /// Once the listed frames have left, the next ones, at most 64, are read from the packets, up to the last packet of the last
-    /// of them. So a packet that stays is read at most once in 64 frames.
+    /// The cost depends on the packets that leave, and no packet that stays is read. The first complete frame is the first of a
+    /// list. If packets below it leave with it, its packets are found by a binary search.
     ///
     /// # Errors
     ///
@@ -232,7 +225,7 @@ impl<B: Depacketizer> DepacketizingBuffer<B> {
 
     /// Returns the number of complete frames, due or not. Allocates nothing; the cost does not grow with the number of packets.
     pub fn ready(&self) -> usize {
-        self.complete.ready
+        self.complete.len()
     }
 
     /// Returns how many complete frames a frame behind a gap waits for.
@@ -243,7 +236,7 @@ impl<B: Depacketizer> DepacketizingBuffer<B> {
     /// Returns the time at which the last packet of the first complete frame arrived, or `None` if no frame is complete.
     #[inline(always)]
     pub fn ready_since(&self) -> Option<Ticks> {
-        let frame = self.complete.first()?;
+        let frame = lowest_frame(&self.complete)?;
         received_at(&self.packets, frame.last)
     }
 
@@ -275,8 +268,8 @@ impl<B: Depacketizer> DepacketizingBuffer<B> {
     /// Returns the frame that is due, if there is one.
     #[inline(always)]
     fn due(&self) -> Option<CompleteFrame> {
-        let frame = self.complete.first()?;
-        if starts_next(self.cutoff, frame.first) || self.complete.ready > self.hold_back {
+        let frame = lowest_frame(&self.complete)?;
+        if starts_next(self.cutoff, frame.first) || self.complete.len() > self.hold_back {
             Some(frame)
         } else {
             None
@@ -328,7 +321,7 @@ impl<B: Depacketizer> DepacketizingBuffer<B> {
     fn leave(&mut self, frame: CompleteFrame, count: usize) {
         drop_front(&mut self.packets, &mut self.spare, count);
         self.packets.give_back();
-        drop_first(&mut self.complete, &self.packets);
+        drop_first(&mut self.complete);
         self.cutoff = Some(frame.last);
     }
 }

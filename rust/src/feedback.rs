@@ -4,6 +4,11 @@
 
 #[doc(hidden)]
 pub mod requests;
+#[doc(hidden)]
+pub mod transport;
 
 #[doc(inline)]
 pub use requests::{FeedbackSource, StreamRequests};
+
+#[doc(inline)]
+pub use transport::{TransportReporter, TransportSettings};

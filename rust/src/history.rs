@@ -13,5 +13,6 @@ pub use feedback::{Request, Requests, read_requests};
 
 #[doc(inline)]
 pub use retransmission::{
-    History, HistoryError, HistorySettings, KeepError, MAX_HISTORY, Resent, RetransmissionStream,
+    History, HistoryError, HistorySettings, KeepError, Kept, MAX_HISTORY, Resent,
+    RetransmissionStream,
 };

@@ -13,6 +13,7 @@ pub use report::{REPORT_SIZE, TelephoneEvents, duration_from_units};
 
 /// Codec-specific data of a frame, from its payloads.
 #[derive(Clone, Copy, Debug, PartialEq, Eq)]
+#[non_exhaustive]
 pub enum CodecExtra {
     /// No codec-specific data.
     None,
@@ -121,10 +122,18 @@ pub trait Packetizer: Debug {
     fn is_marker(&mut self, data: &[u8], previous: Option<&[u8]>, last: bool) -> bool;
 
     /// Whether the marker announces the start of a talk spurt (RFC 3551, section 4.1).
-    fn marks_talkspurt(&self) -> bool;
+    ///
+    /// The default body returns `false`.
+    fn marks_talkspurt(&self) -> bool {
+        false
+    }
 
     /// Whether a receiver may ask for a lost packet again (RFC 4585, section 6.2.1).
-    fn nackable(&self) -> bool;
+    ///
+    /// The default body returns `true`.
+    fn nackable(&self) -> bool {
+        true
+    }
 }
 
 /// Puts media frames together from RTP payloads.

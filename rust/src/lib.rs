@@ -10,10 +10,10 @@
 //! use codec_payload::{Codec, CodecDepacketizer, CodecPacketizer, Frequency, MediaTime, Ticks};
 //!
 //! # fn main() -> Result<(), Box<dyn std::error::Error>> {
-//! let packetizer: CodecPacketizer = CodecPacketizer::from_codec(Codec::Vp8).expect("VP8 is supported");
-//! let depacketizer: CodecDepacketizer = CodecDepacketizer::from_codec(Codec::Vp8).expect("VP8 is supported");
+//! let packetizer = CodecPacketizer::try_from(Codec::Vp8)?;
+//! let depacketizer = CodecDepacketizer::try_from(Codec::Vp8)?;
 //! let mut sender = Sender::new(packetizer, SenderSettings::for_stream(96, 7, Frequency::NINETY_KHZ))?;
-//! let mut receiver = Receiver::new(depacketizer, ReceiverSettings::for_stream(96, Frequency::NINETY_KHZ))?;
+//! let mut receiver = Receiver::new(depacketizer, ReceiverSettings::for_stream(96, Codec::Vp8, Frequency::NINETY_KHZ))?;
 //! for frame in 0..10 {
 //!     let bytes = [frame; 3_000];
 //!     sender.send(&Sample {
@@ -24,10 +24,10 @@
 //!     })?;
 //!     // The datagrams go out over a socket of yours, and come in at the other side, in any order:
 //!     for datagram in sender.datagrams() {
-//!         receiver.receive(Ticks(u64::from(frame) * 33), datagram)?;
+//!         receiver.receive_any(Ticks(u64::from(frame) * 33), datagram)?;
 //!     }
 //! }
-//! let frames: Vec<_> = receiver.drain(Ticks(330)).collect::<Result<_, _>>()?;
+//! let frames: Vec<_> = receiver.drain(Ticks(330))?.collect::<Result<_, _>>()?;
 //! assert_eq!(frames.len(), 10);
 //! assert_eq!(frames[9].bytes, [9; 3_000]);
 //! # Ok(())
@@ -49,11 +49,11 @@
 //! | [`keyframes`] | which units of video a decoder can show, and when to request a keyframe |
 //! | [`requests`] | when to request missing packets by NACK, and keyframes |
 //! | [`feedback`] | the requests of one stream as RTCP packets: NACK and PLI |
+//! | [`congestion`] | when packets arrived, as congestion control needs it: transport-wide feedback, and REMB |
 //! | [`waiting`] | a limit of waiting that follows how late missing packets arrive |
 //! | [`media`] | what frames say: keyframe, size, duration; OBUs, superframes, `av1C`, the Opus header |
 //! | [`red`], [`vp8`], [`vp9`], [`av1`], [`amr_wb`], [`tele`], [`plain`] | one format each |
 //! | [`payload`], [`payloads`] | samples become packets, in fresh memory or in memory that is used again |
-//! | [`schedule`] | whole runs of a sender and a receiver, for tests |
 //!
 //! # Where the code comes from
 //!
@@ -96,6 +96,9 @@
 // An event holds its unit. A box would be one more allocation for each unit.
 #![allow(clippy::large_enum_variant)]
 
+#[cfg(not(target_pointer_width = "64"))]
+compile_error!("codec-payload is proved for a usize of 64 bits: build it for a 64-bit target");
+
 extern crate alloc;
 #[cfg(feature = "std")]
 extern crate std;
@@ -106,9 +109,12 @@ mod ext;
 
 pub mod amr_wb;
 pub mod av1;
+#[doc(hidden)]
 pub mod bits;
 pub mod buffer;
 pub mod codec;
+pub mod congestion;
+#[doc(hidden)]
 pub mod contiguity;
 #[doc(hidden)]
 pub mod described;
@@ -130,6 +136,7 @@ pub mod red_writer;
 pub mod requests;
 pub mod rtcp;
 pub mod rtp;
+#[doc(hidden)]
 pub mod schedule;
 pub mod sdp;
 pub mod sender;
@@ -156,9 +163,10 @@ pub use codec::*;
 pub use error::PacketError;
 #[cfg(feature = "std")]
 pub use ext::clock::Clock;
-pub use ext::conversions::ZeroFrequency;
-pub use ext::iterators::{PayloadsIter, PopUnits, Units};
+pub use ext::conversions::{UnsupportedCodec, ZeroFrequency};
+pub use ext::iterators::{PayloadsIter, PopUnits, StreamUnits, Units};
 pub use ext::names::UnknownCodec;
+pub use ext::values::*;
 #[doc(no_inline)]
 pub use interface::*;
 pub use memory::AllocError;

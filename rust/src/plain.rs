@@ -16,6 +16,7 @@ use crate::error::PacketError;
 use crate::interface::{CodecExtra, Depacketizer};
 pub use crate::whole::WholePacketizer;
 pub use comfort_noise::{ComfortNoiseDepacketizer, ComfortNoisePacketizer};
+use core::fmt;
 pub use g7xx::{G7xxPacketizer, G711Depacketizer, G711Packetizer, G722Packetizer};
 pub use null::{NullDepacketizer, NullPacketizer};
 pub use opus::{OpusDepacketizer, OpusPacketizer};
@@ -27,11 +28,23 @@ fn append_payload(payload: &[u8], out: &mut Vec<u8>) -> Result<(), PacketError> 
     Ok(())
 }
 
-/// Appends each payload as it is; each payload is a unit. The depacketizer of Opus, G.711, G.722 and Null.
-#[derive(Clone, Debug, Default, PartialEq, Eq)]
-pub struct PlainDepacketizer;
+/// Appends each payload as it is; each payload is a unit. The depacketizer of Opus, of G.711 and G.722, and of Null. `FORMAT` makes
+/// them three types, and has no other effect: 0 is Opus, 1 is G.711 and G.722, and any other number is Null.
+#[derive(Clone, Default, PartialEq, Eq)]
+pub struct PlainDepacketizer<const FORMAT: u8> {}
 
-impl Depacketizer for PlainDepacketizer {
+/// Prints the name of the depacketizer.
+impl<const FORMAT: u8> fmt::Debug for PlainDepacketizer<FORMAT> {
+    fn fmt(&self, f: &mut fmt::Formatter<'_>) -> fmt::Result {
+        match FORMAT {
+            0 => f.write_str("OpusDepacketizer"),
+            1 => f.write_str("G711Depacketizer"),
+            _ => f.write_str("NullDepacketizer"),
+        }
+    }
+}
+
+impl<const FORMAT: u8> Depacketizer for PlainDepacketizer<FORMAT> {
     fn out_size_hint(&self, packets_size: usize) -> Option<usize> {
         Some(packets_size)
     }

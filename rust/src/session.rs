@@ -6,8 +6,11 @@
 mod association;
 mod changes;
 #[doc(hidden)]
+pub mod checks;
+#[doc(hidden)]
 pub mod formats;
 mod goodbyes;
+mod named;
 mod pairs;
 mod reporter;
 #[doc(hidden)]
@@ -21,6 +24,9 @@ pub mod stream;
 mod streams;
 mod telephone;
 mod waking;
+
+#[doc(inline)]
+pub use checks::SessionSettingsError;
 
 #[doc(inline)]
 pub use formats::{FeedbackSettings, Format, SessionSettings, SsrcPair};

@@ -11,6 +11,8 @@ mod datagram;
 mod defaults;
 mod gated;
 #[doc(hidden)]
+pub mod pops;
+#[doc(hidden)]
 pub mod receiver;
 #[doc(hidden)]
 pub mod reports;
@@ -19,6 +21,9 @@ mod storing;
 mod unit_times;
 #[doc(hidden)]
 pub mod windows;
+
+#[doc(inline)]
+pub use pops::Popped;
 
 #[doc(inline)]
 pub use receiver::{

@@ -7,11 +7,22 @@ use crate::interface::Packetizer;
 use crate::memory::TryVec;
 use crate::payloads::{PayloadWriter, Payloads};
 use alloc::vec::Vec;
+use core::fmt;
 
-/// Sends each frame in one packet: the packetizer of comfort noise and telephone events. `MARKS_TALKSPURT` says whether the start
-/// of a talk spurt is marked.
-#[derive(Debug)]
+/// Sends each frame in one packet: the packetizer of comfort noise, and that of telephone events. `MARKS_TALKSPURT` says whether the
+/// start of a talk spurt is marked, as that of an event is.
 pub struct WholePacketizer<const MARKS_TALKSPURT: bool> {}
+
+/// Prints the name of the packetizer.
+impl<const MARKS_TALKSPURT: bool> fmt::Debug for WholePacketizer<MARKS_TALKSPURT> {
+    fn fmt(&self, f: &mut fmt::Formatter<'_>) -> fmt::Result {
+        if MARKS_TALKSPURT {
+            f.write_str("TelephoneEventPacketizer")
+        } else {
+            f.write_str("ComfortNoisePacketizer")
+        }
+    }
+}
 
 impl<const MARKS_TALKSPURT: bool> Packetizer for WholePacketizer<MARKS_TALKSPURT> {
     /// The frame in one packet. An empty one gives no packets; one longer than `mtu` bytes is refused with

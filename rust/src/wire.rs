@@ -138,6 +138,7 @@ pub struct SenderInfo {
 
 /// A payload format.
 #[derive(Clone, Copy, Debug, PartialEq, Eq)]
+#[non_exhaustive]
 pub enum Codec {
     Opus,
     PCMU,

@@ -24,7 +24,7 @@ fn receiver(codec: Codec) -> Receiver {
         depacketizer,
         ReceiverSettings {
             ssrc: Some(7),
-            ..ReceiverSettings::for_stream(96, Frequency::NINETY_KHZ)
+            ..ReceiverSettings::for_stream(96, codec, Frequency::NINETY_KHZ)
         },
     )
     .unwrap()
@@ -70,7 +70,7 @@ fn whole_frames_come_in_order() -> Result<(), Box<dyn Error>> {
             units.push(unit?.bytes);
         }
     }
-    for unit in receiver.drain(Ticks(u64::MAX)) {
+    for unit in receiver.drain(Ticks(u64::MAX))? {
         units.push(unit?.bytes);
     }
     assert_eq!(units, wanted);
@@ -365,8 +365,9 @@ fn packets_sent_before_the_first_after_a_restart_are_not_late() {
         datagram
     };
     receiver.receive(Ticks(0), &packet(65_500, 0)).unwrap();
-    receiver.finish();
-    assert_eq!(receiver.pop(Ticks(0)).unwrap().unwrap().bytes, [0xdc]);
+    receiver.finish().unwrap();
+    let first = receiver.pop(Ticks(0)).unwrap().unwrap().unit();
+    assert_eq!(first.unwrap().bytes, [0xdc]);
     receiver.restart();
     assert_eq!(
         receiver.receive(Ticks(1), &packet(5, 9_000)).unwrap(),
@@ -376,9 +377,9 @@ fn packets_sent_before_the_first_after_a_restart_are_not_late() {
         receiver.receive(Ticks(1), &packet(65_490, 5_000)).unwrap(),
         codec_payload::jitter::Outcome::Held
     );
-    receiver.finish();
+    receiver.finish().unwrap();
     let units: Vec<u8> = std::iter::from_fn(|| receiver.pop(Ticks(1)))
-        .map(|unit| unit.unwrap().bytes[0])
+        .map(|it| it.unwrap().unit().unwrap().bytes[0])
         .collect();
     assert_eq!(units, [0xd2, 5]);
 }

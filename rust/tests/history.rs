@@ -92,11 +92,103 @@ fn the_last_packets_are_kept() -> Result<(), Fail> {
     for number in [0, 4, 65_535, 32_770] {
         assert_eq!(kept(&mut history, number)?, (Resent::NotKept, vec![]));
     }
-    // A number that does not follow begins the history again.
+    // A number that is `limit` or more above the highest one begins the history again.
     history.keep(&packet(9))?;
     assert_eq!(history.len(), 1);
     assert_eq!(kept(&mut history, 3)?.0, Resent::NotKept);
     assert_eq!(kept(&mut history, 9)?.0, Resent::Written);
+    Ok(())
+}
+
+/// The bytes that a history resends for a number.
+fn resent(history: &mut History, number: u16) -> Option<Vec<u8>> {
+    let mut out = Vec::new();
+    let answer = history.resend(Ticks(0), number, &mut out).unwrap();
+    (answer == Resent::Written).then_some(out)
+}
+
+#[test]
+fn packets_of_a_forwarder_are_kept_in_any_order() -> Result<(), Fail> {
+    let mut history = history(10, 0, None);
+    for number in [1, 2, 4, 5, 3, 6] {
+        assert_eq!(history.keep(&packet(number))?, Kept::Stored);
+    }
+    for number in 1..=6 {
+        assert_eq!(resent(&mut history, number), Some(packet(number).to_vec()));
+    }
+    // 7 was lost on its way to the forwarder.
+    history.keep(&packet(8))?;
+    assert_eq!(resent(&mut history, 7), None);
+    assert_eq!(history.len(), 8);
+    Ok(())
+}
+
+#[test]
+fn a_later_datagram_replaces_the_one_with_its_number_and_the_interval_goes_on() -> Result<(), Fail>
+{
+    let mut history = history(10, 100, None);
+    let mut out = Vec::new();
+    history.keep(&packet(7))?;
+    assert_eq!(history.resend(Ticks(50), 7, &mut out)?, Resent::Written);
+    let mut other = packet(7).to_vec();
+    other.push(9);
+    history.keep(&other)?;
+    assert_eq!(history.resend(Ticks(149), 7, &mut out)?, Resent::TooSoon);
+    assert_eq!(history.resend(Ticks(150), 7, &mut out)?, Resent::Written);
+    assert_eq!(out, other);
+    Ok(())
+}
+
+#[test]
+fn a_sender_that_restarts_far_behind_is_found_at_its_second_packet() -> Result<(), Fail> {
+    let mut history = history(10, 0, None);
+    history.keep(&packet(40_000))?;
+    assert_eq!(history.keep(&packet(39_990))?, Kept::TooOld);
+    // Another kept packet: the next old one is again the first.
+    assert_eq!(history.keep(&packet(39_991))?, Kept::Stored);
+    assert_eq!(history.keep(&packet(20_000))?, Kept::TooOld);
+    assert_eq!(history.keep(&packet(20_002))?, Kept::TooOld);
+    assert_eq!(resent(&mut history, 40_000), Some(packet(40_000).to_vec()));
+    assert_eq!(history.keep(&packet(20_003))?, Kept::Stored);
+    assert_eq!(resent(&mut history, 40_000), None);
+    assert_eq!(resent(&mut history, 20_003), Some(packet(20_003).to_vec()));
+    assert_eq!(resent(&mut history, 20_002), None);
+    Ok(())
+}
+
+/// Keeps packets of a stream with losses, repetitions and packets that overtake others, and compares each answer with a map from the
+/// numbers without their wrap.
+#[test]
+fn a_history_holds_the_latest_numbers_whatever_their_order() -> Result<(), Fail> {
+    for limit in [1, 2, 7, 64, 1_000, 32_768] {
+        let mut history = history(limit, 0, None);
+        let (mut kept, mut highest) = (std::collections::BTreeMap::new(), 0_u64);
+        let mut seed = 12_345_u64 + limit as u64;
+        let mut next = || {
+            seed = seed.wrapping_mul(6_364_136_223_846_793_005).wrapping_add(1);
+            seed >> 33
+        };
+        for call in 0..20_000_u64 {
+            let number = match next() % 10 {
+                0 => highest + 1 + next() % 5,
+                1 => highest.saturating_sub(next() % (limit as u64).min(50)),
+                2 if call % 97 == 0 => highest + next() % 30_000,
+                _ => highest + 1,
+            };
+            let mut bytes = packet(number as u16).to_vec();
+            bytes.push(call as u8);
+            assert_eq!(history.keep(&bytes)?, Kept::Stored);
+            highest = highest.max(number);
+            kept.insert(number, bytes);
+            kept = kept.split_off(&highest.saturating_sub(limit as u64 - 1));
+            for asked in [number, highest.saturating_sub(next() % 70), highest + 1] {
+                assert_eq!(
+                    resent(&mut history, asked as u16).as_ref(),
+                    kept.get(&asked)
+                );
+            }
+        }
+    }
     Ok(())
 }
 
@@ -128,7 +220,7 @@ fn a_datagram_that_is_too_large_spends_nothing() -> Result<(), Fail> {
         history.resend_within(Ticks(now), 0x1234, most, out)
     };
     for most in [0, 28] {
-        assert_eq!(within(&mut history, 50, most, &mut out)?, Resent::Written);
+        assert_eq!(within(&mut history, 50, most, &mut out)?, Resent::TooLarge);
         assert_eq!(out, AGAIN);
     }
     // The same number, at the same time: neither was used.
@@ -229,7 +321,7 @@ fn all_frames_arrive(stream: Option<RetransmissionStream>) -> Result<(), Fail> {
     settings.first_number = 65_500;
     let mut sender: Sender = Sender::new(packetizer, settings)?;
     let mut history = history(64, 0, stream);
-    let mut settings = ReceiverSettings::for_stream(96, Frequency::NINETY_KHZ);
+    let mut settings = ReceiverSettings::for_stream(96, Codec::Vp8, Frequency::NINETY_KHZ);
     settings.ssrc = Some(7);
     settings.wait_limits = WaitLimits::for_round_trip(40);
     settings.retransmission = stream.map(|it| Retransmission {
@@ -266,13 +358,13 @@ fn all_frames_arrive(stream: Option<RetransmissionStream>) -> Result<(), Fail> {
             }
         }
         while let Some(unit) = receiver.pop(now) {
-            assert_eq!(unit?.bytes, [frames; 3_000]);
+            assert_eq!(unit?.into_result()?.bytes, [frames; 3_000]);
             frames += 1;
         }
     }
-    receiver.finish();
+    receiver.finish()?;
     while let Some(unit) = receiver.pop(Ticks(0)) {
-        assert_eq!(unit?.bytes, [frames; 3_000]);
+        assert_eq!(unit?.into_result()?.bytes, [frames; 3_000]);
         frames += 1;
     }
     assert_eq!(frames, 200);

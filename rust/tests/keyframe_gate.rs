@@ -59,7 +59,7 @@ fn units(receiver: &mut Receiver) -> Result<Vec<Judged>, PacketError> {
     let mut units = Vec::new();
     while let Some(unit) = receiver.pop(Ticks(1_000)) {
         units.push((
-            unit?.bytes.last().copied().unwrap_or(0),
+            unit?.into_result()?.bytes.last().copied().unwrap_or(0),
             receiver.unit_is_keyframe(),
             receiver.unit_is_decodable(),
             receiver.wants_keyframe(),
@@ -144,7 +144,7 @@ fn pops_into_memory_drop_the_same_units() -> Result<(), Box<dyn Error>> {
     with_a_gap(&mut receiver)?;
     let (mut bytes, mut metas, mut marks) = (Vec::new(), Vec::new(), Vec::new());
     while let Some(unit) = receiver.pop_into(Ticks(1_000), &mut bytes, &mut metas) {
-        unit?;
+        unit?.into_result()?;
         assert!(receiver.unit_is_decodable());
         marks.push((bytes.last().copied(), metas.len()));
     }

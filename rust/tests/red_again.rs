@@ -70,7 +70,7 @@ fn red_sender(distances: &[u32]) -> RedSender {
 fn units(receiver: &mut Receiver, now: u64) -> Result<Vec<u8>, PacketError> {
     let mut units = Vec::new();
     while let Some(unit) = receiver.pop(Ticks(now)) {
-        units.push(unit?.bytes[0]);
+        units.push(unit?.into_result()?.bytes[0]);
     }
     Ok(units)
 }
@@ -128,9 +128,10 @@ fn header_of_a_unit() -> Result<(), Fail> {
     let mut datagram = again(11, STEP, &all[1].2);
     datagram[1] |= 0x80;
     assert_eq!(receiver.receive(Ticks(5), &datagram)?, Outcome::Held);
-    assert_eq!(receiver.pop(Ticks(5)).ok_or("no unit")??.bytes, [0; 9]);
-    receiver.finish();
-    let unit = receiver.pop(Ticks(5)).ok_or("no unit")??;
+    let unit = receiver.pop(Ticks(5)).ok_or("no unit")??.into_result()?;
+    assert_eq!(unit.bytes, [0; 9]);
+    receiver.finish()?;
+    let unit = receiver.pop(Ticks(5)).ok_or("no unit")??.into_result()?;
     let meta = unit.meta().first().ok_or("no packet")?;
     let header = &meta.header;
     assert_eq!(
@@ -300,7 +301,9 @@ fn run(distances: &[u32], lost_again: u64, seed: u64) -> Result<Vec<u32>, Fail> 
             receiver.receive(Ticks(now), &datagram)?;
         }
         while let Some(unit) = receiver.pop(Ticks(now)) {
-            released.push(u32::from_be_bytes(unit?.bytes[..].try_into()?));
+            released.push(u32::from_be_bytes(
+                unit?.into_result()?.bytes[..].try_into()?,
+            ));
         }
     }
     Ok(released)

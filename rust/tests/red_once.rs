@@ -51,7 +51,7 @@ fn red_sender(distances: &[u32]) -> RedSender {
 fn units(receiver: &mut Receiver, now: u64) -> Result<Vec<Vec<u8>>, PacketError> {
     let mut units = Vec::new();
     while let Some(unit) = receiver.pop(Ticks(now)) {
-        units.push(unit?.bytes);
+        units.push(unit?.into_result()?.bytes);
     }
     Ok(units)
 }

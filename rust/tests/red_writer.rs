@@ -105,7 +105,7 @@ fn a_receiver_recovers_lost_packets() -> Result<(), Fail> {
             step: 960,
             retransmission: None,
         }),
-        ..ReceiverSettings::for_stream(111, RATE)
+        ..ReceiverSettings::for_stream(111, Codec::Opus, RATE)
     };
     let opus = CodecDepacketizer::from_codec(Codec::Opus).ok_or("no depacketizer")?;
     let mut receiver: Receiver = Receiver::new(opus, settings)?;
@@ -125,7 +125,7 @@ fn a_receiver_recovers_lost_packets() -> Result<(), Fail> {
             }
         }
         while let Some(unit) = receiver.pop(now) {
-            units.push(unit?.bytes);
+            units.push(unit?.into_result()?.bytes);
         }
     }
     let wanted: Vec<Vec<u8>> = (0..60).map(|n| vec![n; 40]).collect();

@@ -312,7 +312,7 @@ fn datagrams() {
         |it| end_of(it.send(&sample(&[0x10; 250]))),
     );
     let receiver = || {
-        let mut settings = ReceiverSettings::for_stream(96, Frequency::NINETY_KHZ);
+        let mut settings = ReceiverSettings::for_stream(96, Codec::Vp8, Frequency::NINETY_KHZ);
         settings.wait_limits = WaitLimits::file();
         settings.ssrc = Some(7);
         settings.red = Some(RedSettings {
@@ -337,9 +337,31 @@ fn datagrams() {
         it
     };
     refused += refuse_each("pop of a receiver", full, |it| match it.pop(Ticks(0)) {
-        Some(answer) => end_of(answer.map(drop)),
+        Some(answer) => end_of(answer.map_err(PacketError::from).map(drop)),
         None => End::OtherFault,
     });
+    let waiting = || {
+        let mut settings = ReceiverSettings::for_stream(96, Codec::Vp8, Frequency::NINETY_KHZ);
+        settings.wait_limits = WaitLimits::file();
+        let mut it: Receiver = Receiver::new(depacketizer(Codec::Vp8), settings).unwrap();
+        assert_eq!(it.receive(Ticks(0), &first), Ok(Outcome::Undecided));
+        it
+    };
+    let ends = refuse_each("the end of a receiver", waiting, |it| {
+        let is_open = it.counters().undecided == 1;
+        match it.finish() {
+            Ok(()) => {
+                assert_eq!((it.counters().undecided, it.held()), (0, 1));
+                End::Done
+            }
+            Err(AllocError) => {
+                assert!(is_open && it.counters().undecided == 1 && it.held() == 0);
+                End::OutOfMemory
+            }
+        }
+    });
+    assert!(ends > 0, "the packet that waits takes memory");
+    refused += ends;
     let packet = RtpPacket::parse(&first).unwrap();
     refused += refuse_each("an RTP packet", Vec::new, |out| {
         out.clear();
@@ -469,9 +491,9 @@ fn requesting() -> Session {
     settings.feedback = Some(FeedbackSettings {
         cname: vec![b'n'; 20],
         has_report: true,
-        ..FeedbackSettings::live(1)
+        ..FeedbackSettings::live(1, b"me@host".to_vec())
     });
-    Session::new(settings)
+    Session::new(settings).expect("settings that can be met")
 }
 
 /// A datagram that begins a stream changes nothing if an allocation is refused.
@@ -605,10 +627,10 @@ impl Life {
         settings.feedback = Some(FeedbackSettings {
             cname: vec![b'n'; 20],
             has_report: true,
-            ..FeedbackSettings::live(1)
+            ..FeedbackSettings::live(1, b"me@host".to_vec())
         });
         Life {
-            session: Session::new(settings),
+            session: Session::new(settings).expect("settings that can be met"),
             left,
             refused: false,
             events: Vec::new(),
@@ -655,10 +677,7 @@ impl Life {
     fn poll(&mut self, now: u64) {
         while let Some(event) = self.call(|session| session.poll(Ticks(now))) {
             match event {
-                Event::Unit {
-                    unit: Err(PacketError::OutOfMemory),
-                    ..
-                }
+                Event::Unit { unit: Err(_), .. }
                 | Event::Feedback { packet: Err(_), .. }
                 | Event::Report { packet: Err(_) } => assert!(self.refused),
                 event => self.events.push(format!("{now}: {event:?}")),
@@ -726,7 +745,7 @@ fn telephone_events_of_a_session() {
         let mut settings = SessionSettings::live();
         settings.formats.push(opus_format());
         settings.telephone_events.push(EVENTS);
-        let mut session = Session::new(settings);
+        let mut session = Session::new(settings).expect("settings that can be met");
         session.receive(Ticks(0), &opus(7, 1)).unwrap();
         session
     };

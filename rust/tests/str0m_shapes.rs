@@ -258,6 +258,71 @@ fn faults() {
     assert!(CodecPacketizer::<codec_payload::NoBox>::from_codec(Codec::H264).is_none());
 }
 
+/// A trait of the user's own, which each packetizer and each depacketizer of audio implements with a name.
+trait Named: std::fmt::Debug {
+    const NAME: &'static str;
+}
+
+macro_rules! named {
+    ($($name:ident)*) => {
+        $(impl Named for codec_payload::$name {
+            const NAME: &'static str = stringify!($name);
+        })*
+    };
+}
+
+named! {
+    OpusPacketizer G7xxPacketizer ComfortNoisePacketizer TelephoneEventPacketizer NullPacketizer
+    OpusDepacketizer G711Depacketizer NullDepacketizer ComfortNoiseDepacketizer
+}
+
+fn shows_its_name<T: Named>(value: T) {
+    assert_eq!(format!("{value:?}"), T::NAME);
+}
+
+/// The types without fields are separate types, their names are values too, and `Debug` prints the names.
+#[test]
+fn types_without_fields() {
+    use codec_payload::{
+        ComfortNoiseDepacketizer, ComfortNoisePacketizer, G7xxPacketizer, G711Depacketizer,
+        G711Packetizer, G722Packetizer, NullDepacketizer, NullPacketizer, OpusDepacketizer,
+        OpusPacketizer, TelephoneEventPacketizer,
+    };
+    shows_its_name(OpusPacketizer);
+    shows_its_name(OpusPacketizer {});
+    shows_its_name(G7xxPacketizer);
+    let also: [G7xxPacketizer; 2] = [G711Packetizer, G722Packetizer];
+    also.into_iter().for_each(shows_its_name);
+    shows_its_name(ComfortNoisePacketizer);
+    shows_its_name(TelephoneEventPacketizer);
+    shows_its_name(NullPacketizer);
+    shows_its_name(OpusDepacketizer);
+    shows_its_name(G711Depacketizer);
+    shows_its_name(NullDepacketizer);
+    shows_its_name(ComfortNoiseDepacketizer);
+}
+
+/// A packetizer of the user's own, with the two methods that have no default body.
+#[derive(Debug)]
+struct Whole;
+
+impl Packetizer for Whole {
+    fn packetize(&mut self, _mtu: usize, b: &[u8]) -> Result<Vec<Vec<u8>>, PacketError> {
+        Ok(vec![b.to_vec()])
+    }
+
+    fn is_marker(&mut self, _data: &[u8], _previous: Option<&[u8]>, last: bool) -> bool {
+        last
+    }
+}
+
+/// As in the trait of `str0m`, packets are nackable and talk spurts are not marked, unless the packetizer says otherwise.
+#[test]
+fn default_bodies_of_a_packetizer() {
+    assert!(Whole.nackable());
+    assert!(!Whole.marks_talkspurt());
+}
+
 /// AMR-WB of frame type 14 (RFC 4867, section 4.4): octet-aligned, a header of a byte and a table of contents of a byte.
 #[test]
 fn settings_of_amr_wb() {

@@ -1,7 +1,7 @@
 //! `pop_unit` of a receiver beside `pop_into`: two receivers get the same datagrams, and must return the same units.
 
 use codec_payload::keyframes::FromKeyframe;
-use codec_payload::stream::{Receiver, ReceiverSettings};
+use codec_payload::stream::{Popped, Receiver, ReceiverSettings};
 use codec_payload::{Codec, CodecDepacketizer, Frequency, PoppedUnit, Ticks};
 
 /// Numbers that seem random, by shifts.
@@ -65,9 +65,13 @@ fn pop_all(pair: &mut [Receiver; 2], unit: &mut PoppedUnit, now: Ticks) -> u64 {
     let (mut bytes, mut metas, mut units) = (Vec::new(), Vec::new(), 0);
     let [one, other] = pair;
     loop {
-        let told = one.pop_unit(now, unit);
-        let wanted = other.pop_into(now, &mut bytes, &mut metas);
-        assert_eq!(told, wanted.map(|answer| answer.map(|_| ())));
+        let told = one
+            .pop_unit(now, unit)
+            .map(|answer| answer.map(Popped::into_result));
+        let wanted = other
+            .pop_into(now, &mut bytes, &mut metas)
+            .map(|answer| answer.map(Popped::into_result));
+        assert_eq!(told, wanted.map(|answer| answer.map(|it| it.map(|_| ()))));
         assert_eq!(one.counters(), other.counters());
         assert_eq!(one.unit_time(), other.unit_time());
         assert_eq!(one.unit_is_decodable(), other.unit_is_decodable());
@@ -76,8 +80,8 @@ fn pop_all(pair: &mut [Receiver; 2], unit: &mut PoppedUnit, now: Ticks) -> u64 {
         assert_eq!(one.next_deadline(), other.next_deadline());
         match wanted {
             None => return units,
-            Some(Err(_)) => {}
-            Some(Ok(info)) => {
+            Some(Err(_) | Ok(Err(_))) => {}
+            Some(Ok(Ok(info))) => {
                 units += 1;
                 assert_eq!(unit.time, info.time);
                 assert_eq!(unit.contiguous, info.contiguous);
@@ -110,7 +114,9 @@ fn compare(random: &mut Random, codec: Codec, from_keyframe: FromKeyframe) -> u6
             units += pop_all(&mut pair, &mut unit, now);
         }
     }
-    pair.iter_mut().for_each(Receiver::finish);
+    for receiver in &mut pair {
+        receiver.finish().unwrap();
+    }
     units + pop_all(&mut pair, &mut unit, Ticks(20_000))
 }
 

@@ -264,7 +264,7 @@ static void copy_datagram(void) {
 }
 
 static void receive(void) {
-    uint32_t outcome;
+    cpay_outcome outcome;
     put_number(number_of(next++));
     check(cpay_receiver_receive(&receiver, next, datagram, sizeof datagram, &outcome));
 }

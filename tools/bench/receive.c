@@ -46,7 +46,7 @@ static void make_packet(uint64_t number) {
 }
 
 static void receive_by(cpay_receiver *one, uint64_t now) {
-    uint32_t outcome;
+    cpay_outcome outcome;
     check(cpay_receiver_receive(one, now, datagram, HEADER + payload_len, &outcome));
 }
 
@@ -135,7 +135,8 @@ static double time_now(void) {
 /* A packet arrives and a unit leaves, in each of many receivers in turn, so that each is cold. */
 static void print_cold(uint32_t codec, uint32_t rate) {
     static cpay_receiver receivers[STREAMS];
-    const cpay_receiver_settings live = CPAY_LIVE_AUDIO;
+    cpay_receiver_settings live;
+    cpay_receiver_settings_init(&live, CPAY_OPUS, 48000, 0, CPAY_FOR_LIVE); /* the windows of audio for each codec */
     for (size_t i = 0; i < STREAMS; i++) new_receiver(&receivers[i], live, codec, rate);
     double least = 0;
     for (uint64_t run = 0; run < RUNS; run++) {
@@ -165,7 +166,8 @@ int main(int count, char **words) {
     void (*once)(uint64_t) = !strcmp(kind, "ring") ? through_ring : bare ? through_buffer : through_receiver;
     const cpay_spec spec = {.codec = codec, .rate = rate};
     check(cpay_buffer_new(&buffer, &spec, CPAY_NO_HOLD_BACK, 65536));
-    const cpay_receiver_settings file = CPAY_FILE; /* a frame waits for missing packets without a limit of time */
+    cpay_receiver_settings file;
+    cpay_receiver_settings_init(&file, codec, rate, 0, CPAY_FOR_FILE); /* a frame waits for missing packets without a limit of time */
     new_receiver(&receiver, file, codec, rate);
     uint64_t place = 0;
     for (; place < held; place++) {

@@ -104,17 +104,15 @@ def drop_from_macros(f):
                     if head.startswith("in ") or t.text in ("println", "eprintln", "print"):
                         if f.ts[end + 1].text != "?":
                             f.refuse(t, f"{t.text}! whose answer is not asked with ?")
-                        if t.text == "vec" and is_of_library(f):
+                        if t.text == "format" and f.is_library:
+                            f.refuse(t, "format! in the library would abort when memory runs out")
+                        if t.text == "vec" and f.is_library:
                             fill(f, i, end)
                         else:
                             del f.ts[end + 1]
                 else:
                     f.refuse(t, f"a macro with {head!r} before ;")
         i += 1
-
-
-def is_of_library(f):
-    return f.path.startswith("crates/codec_payload_")
 
 
 def fill(f, i, end):

@@ -10,7 +10,9 @@ HINTS = {("codec_payload_queue/src/above.rt", "tiers[tier]"): "VecDeque"}
 
 FALLIBLE = {"push": "try_push", "push_front": "try_push_front", "push_back": "try_push_back", "extend_from_slice": "try_extend",
             "resize": "try_resize", "insert": "try_insert", "reserve": "try_room", "reserve_exact": "try_exact",
-            "shrink_to": "shrink_if_possible", "push_reserved": "push", "push_back_reserved": "push_back"}
+            "shrink_to": "shrink_if_possible", "push_reserved": "push", "push_back_reserved": "push_back", "push_front_reserved": "push_front"}
+# Calls that allocate and have no form that can refuse in Rust.
+COPIES = ("clone", "to_vec", "collect", "to_string", "to_owned")
 TRAIT = {"Vec": "TryVec", "VecDeque": "TryQueue"}
 STD = COLLECTIONS
 
@@ -128,7 +130,9 @@ def rename_calls(f):
                 i += rename_fallible(f, i)
             elif t.text == "slice_mut":
                 index_by_range(f, i)
-            elif t.text in ("clone", "to_vec", "collect", "to_string", "to_owned") and plain(f.ts[i + 1:i + 4]) == "( ) ?":
+            elif t.text in COPIES and plain(f.ts[i + 1:i + 4]) == "( ) ?":
+                if f.is_library:
+                    f.refuse(t, f"{t.text}()? would abort when memory runs out: use a call that can refuse, as extend_from_slice")
                 del f.ts[i + 3]
             elif t.text == "allocator":
                 f.refuse(t, "allocator()")

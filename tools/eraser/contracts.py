@@ -1,8 +1,8 @@
 """Removes what only the prover reads: clauses, ghost items, attributes of proofs, models and theorems."""
 import re
 
-from premises import REACHABLE, WITHIN, WITHIN_PREMISES
-from source import drop_item, function_of, has_own_debug, item_start, merged, type_behind, without_doc
+from premises import REACHABLE, WITHIN
+from source import document, drop_item, function_of, has_own_debug, item_start, merged, owner, type_behind, without_doc
 from layout import CONSTANT_FUNCTIONS
 from tokens import Refused, angles, close, elements, plain, tokens
 
@@ -11,6 +11,12 @@ from tokens import Refused, angles, close, elements, plain, tokens
 MORE = {"PacketError": ["Clone", "Copy"], "Depacketized": ["Clone"], "RedundantBlock": ["Clone", "PartialEq", "Eq"], "Vp9Depacketizer": ["Clone"],
         "OutgoingPacket": ["Clone"], "PiecesPacketizer": ["Copy"], "Vp8Packetizer": ["Copy"],
         "Vp8DescriptorError": ["Copy"], "Vp8PatchError": ["Copy"]}
+
+# Enums that later versions may extend: outside of the crate a match needs an arm for the rest.
+GROWING = {"Arrival", "Codec", "CodecExtra", "Ending", "Event", "Outcome", "Request", "Stage"}
+
+# Types that only the crate's own modules pass to one another.
+INNER = {"Incoming", "KeptPacket", "Left", "PackedHeader", "PackedMeta"}
 
 # What Rattle derives as Rust does, and `Drop`, which Rust does by itself.
 DERIVES = {"Clone", "Copy", "Debug", "Default", "PartialEq", "Eq", "PartialOrd", "Ord", "Hash", "Drop", "Error"}
@@ -37,30 +43,31 @@ def drop_clauses(f):
             nxt.pre = comments + nxt.pre
         del f.ts[i]
     for fn, texts in premises.values():
-        k = next(n for n, t in enumerate(f.ts) if t is fn)
-        start = item_start(f, k)
-        if not any(t.text == "pub" for t in f.ts[start:k]) or f.ts[k - 1].text == ")":
-            continue
-        name = f.ts[k + 1].text
-        said = "; ".join(re.sub(r"\s+", " ", re.match(r"requires(?:\s+\w+)?\s*\{(.*)\}$", t, re.S).group(1)).strip() for t in texts)
-        if (name, said) in REACHABLE:
-            rust, asserted = REACHABLE[name, said]
-            f.asks.append((name, rust))
-            document_premise(f.ts[start], rust)
-            body = k
-            while f.ts[body].text != "{":
-                body = close(f.ts, body) + 1 if f.ts[body].text == "(" else body + 1
-            if asserted:
-                f.ts[body + 1:body + 1] = tokens(f"\nassert!({rust});\n")[:-1]
-        elif name not in WITHIN and (name, said) not in WITHIN_PREMISES:
-            f.refuse(fn, f"premises of {name} that premises.py has not: {said}")
+        keep_premises(f, next(n for n, t in enumerate(f.ts) if t is fn), texts)
 
 
-def document_premise(first, rust):
-    """A section of documentation with a premise."""
-    indent = re.search(r"[ \t]*$", first.pre).group(0)
-    lines = (["///"] if "///" in first.pre else []) + ["/// # Panics", "///", f"/// Unless `{rust}`."]
-    first.pre = first.pre[:len(first.pre) - len(indent)] + "".join(indent + l + "\n" for l in lines) + indent
+def keep_premises(f, k, texts):
+    """Asserts and documents the premises of the function at `k`, if users reach it."""
+    start = item_start(f, k)
+    kind, of = owner(f, k)
+    is_public = any(t.text == "pub" for t in f.ts[start:k]) and f.ts[k - 1].text != ")"
+    if not is_public and kind not in ("pub trait", "impl of a trait"):
+        return
+    name = f"{of}::{f.ts[k + 1].text}" if of else f.ts[k + 1].text
+    said = "; ".join(re.sub(r"\s+", " ", re.match(r"requires(?:\s+\w+)?\s*\{(.*)\}$", t, re.S).group(1)).strip() for t in texts)
+    key = (f.path.split("crates/codec_payload_")[-1].split("crates/")[-1].replace("/src/", "/"), name, said)
+    if key in WITHIN:
+        return
+    if key not in REACHABLE:
+        f.refuse(f.ts[k], f"premises of {name} that premises.py has not for this file: {said}")
+    rust, asserted = REACHABLE[key]
+    f.asks.append((name, rust))
+    document(f.ts[start], ["# Panics", "", f"Unless `{rust}`."])
+    if asserted:
+        body = k
+        while f.ts[body].text != "{":
+            body = close(f.ts, body) + 1 if f.ts[body].text == "(" else body + 1
+        f.ts[body + 1:body + 1] = tokens(f"\nassert!({rust});\n")[:-1]
 
 
 def drop_ghosts(f):
@@ -102,6 +109,9 @@ def drop_attributes(f):
             if name == "derive":
                 i = trim_derive(f, i, k)
                 continue
+            if plain(f.ts[k:end + 1]) == "[ doc ( hidden ) ]":
+                i = end + 1
+                continue
             if name not in ("inline", "cold", "must_use", "cfg", "test", "error", "allow", "non_exhaustive", "repr", "default"):
                 f.refuse(t, f"attribute {name}")
             i = end
@@ -119,7 +129,9 @@ def trim_derive(f, i, k):
     names = [n for n in names if n != "Drop"] + ["Debug"] * ("Debug" not in names and not has_own_debug(f, end))
     names += [n for n in MORE.get(type_behind(f, end), []) if n not in names]
     if names:
-        f.ts[k + 2:end + 1] = tokens("(%s)]" % ", ".join(names))[:-1]
+        name = type_behind(f, end)
+        grows = "\n#[non_exhaustive]" if name in GROWING else "\n#[doc(hidden)]" if name in INNER else ""
+        f.ts[k + 2:end + 1] = tokens("(%s)]%s" % (", ".join(names), grows))[:-1]
         return close(f.ts, k)
     pre = t.pre
     del f.ts[i:end + 1]

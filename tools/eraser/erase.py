@@ -1,9 +1,9 @@
 #!/usr/bin/env python3
-"""Writes the plain Rust crate from the proved sources.
+"""Writes the plain Rust crate, and the program payload_vectors over it, from the proved sources.
 
-  tools/eraser/erase.py                     writes the generated files of rust/
+  tools/eraser/erase.py                     writes the generated files of rust/ and tools/lines/
   tools/eraser/erase.py --check             compares them with a fresh run: status 1 and the differences if any
-  option --repository FOLDER                reads crates/ of another clone, and writes rust/ there
+  option --repository FOLDER                reads crates/ of another clone, and writes rust/ and tools/lines/ there
 
 Needs Python 3.11 and rustfmt. docs/PLAIN_RUST.md says what it does. It refuses, with file and line, what it does not know.
 """
@@ -12,10 +12,11 @@ import os
 import sys
 
 import output
+import programs
 from erasing import drop_theorems, erase
 from heads import drop_passed_on, flatten, head_files, passed_on_modules, root_modules
 from known import Known
-from layout import FACADE, FLAT, LIBRARY, NOT_HERE, PLACES, RENAMED_MODULES
+from layout import FACADE, FLAT, LIBRARY, NOT_HERE, PLACES, PROGRAM, PROGRAM_LIBRARY, RENAMED_MODULES
 from source import File
 from tokens import Refused, joined
 
@@ -37,12 +38,14 @@ def read_crate(repository, crate, known):
 
 
 def read_all(repository, known):
-    """The sources of the library, by crate and path."""
+    """The sources of the library, and those of programs, by crate and path."""
     there = {it[len(PREFIX):] for it in os.listdir(os.path.join(repository, "crates")) if it.startswith(PREFIX)}
     wanted = {*LIBRARY, FACADE, *NOT_HERE}
     if there != wanted:
         raise Refused(f"layout.py and crates/ differ: {', '.join(sorted(there ^ wanted))}")
-    return {(crate, rel): f for crate in [*LIBRARY, FACADE] for rel, f in read_crate(repository, PREFIX + crate, known).items()}
+    library = {(crate, rel): f for crate in [*LIBRARY, FACADE] for rel, f in read_crate(repository, PREFIX + crate, known).items()}
+    others = {(crate, rel): f for crate in [PROGRAM_LIBRARY, PROGRAM] for rel, f in read_crate(repository, crate, known).items()}
+    return library, others
 
 
 def library_files(library, passed_on):
@@ -60,31 +63,40 @@ def library_files(library, passed_on):
     yield from head_files(library, passed_on)
 
 
-def run(repository, words):
-    """Does what the command line asks for; returns the status."""
+def generated_files(repository):
+    """The generated files of each folder, and how many public functions have asserted premises."""
     known = Known()
-    library = read_all(repository, known)
+    library, others = read_all(repository, known)
     passed_on = passed_on_modules(library)
     del library[FACADE, "lib.rt"]
     drop_theorems(library)
     for (_, rel), f in library.items():
         if rel == "lib.rt":
             drop_passed_on(f)
-    for f in library.values():
+    for f in [*library.values(), *others.values()]:
         known.read(f)
-    crate = os.path.join(repository, "rust")
-    generated = output.Output(crate)
+    crate, lines = output.Output(repository, "rust"), output.Output(repository, "tools/lines")
     for path, source, text in library_files(library, passed_on):
-        generated.add(f"src/{path}", source, text)
-    output.check_root(os.path.join(crate, "src/lib.rs"), root_modules(library))
-    generated.format()
-    asked = sum(len(f.asks) for f in library.values())
-    summary = f"{len(generated.files)} files, {asked} public functions whose premises are asserted"
+        crate.add(f"src/{path}", source, text)
+    output.check_root(os.path.join(crate.folder, "src/lib.rs"), root_modules(library))
+    programs.check_roots(lines.folder, others)
+    for path, source, text in programs.program_files(others, passed_on):
+        lines.add(path, source, text)
+    return [crate, lines], sum(len(f.asks) for f in library.values())
+
+
+def run(repository, words):
+    """Does what the command line asks for; returns the status."""
+    folders, asked = generated_files(repository)
+    for folder in folders:
+        folder.format()
+    summary = f"{sum(len(it.files) for it in folders)} files, {asked} public functions whose premises are asserted"
     if words.check:
-        differences = generated.differences()
-        print("".join([*differences, f"{summary}: {len(differences)} differ from rust/"]))
+        differences = [line for it in folders for line in it.differences()]
+        print("".join([*differences, f"{summary}: {len(differences)} differ from rust/ and tools/lines/"]))
         return 1 if differences else 0
-    generated.write()
+    for folder in folders:
+        folder.write()
     print(summary)
     return 0
 

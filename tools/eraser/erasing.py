@@ -10,7 +10,8 @@ from tokens import joined, plain, tokens
 
 
 def erase(f, crate, module, passed_on):
-    """Makes a file of the library a file of Rust."""
+    """Makes a file of the library, or of a program if `crate` is None, a file of Rust."""
+    root = "crate" if crate else "codec_payload"
     contracts.drop_clauses(f)
     contracts.drop_ghosts(f)
     contracts.drop_models(f)
@@ -21,13 +22,15 @@ def erase(f, crate, module, passed_on):
     calls.rename_calls(f)
     calls.rename_makers(f)
     forms.put_forms(f)
+    forms.default_bodies(f)
     forms.unit_literals(f)
     forms.mark_unused(f)
     paths.rename_types(f, crate, module)
-    paths.move_paths(f, crate, passed_on)
-    paths.std_paths(f)
-    paths.bare_imports(f)
-    import_needs(f)
+    paths.move_paths(f, crate, root, passed_on)
+    paths.std_paths(f, crate is not None)
+    if crate:
+        paths.bare_imports(f)
+    import_needs(f, root)
     contracts.refuse_leftovers(f)
 
 
@@ -43,12 +46,12 @@ def write_errors(f):
         del f.ts[at:at + 5]
 
 
-def import_needs(f):
+def import_needs(f, root):
     """Imports the traits by which calls may fail to allocate."""
     needs = sorted(f.needs)
     if needs:
         names = "{" + ", ".join(needs) + "}" if len(needs) > 1 else needs[0]
-        paths.import_line(f, f"use crate::memory::{names};\n")
+        paths.import_line(f, f"use {root}::memory::{names};\n")
 
 
 def drop_theorems(sources):

@@ -35,6 +35,9 @@ def write_error(f, i):
     arms, causes, j = [], [], at + 1
     while j < close(f.ts, at):
         message, variant, fields, j = take_variant(f, j)
+        if f.ts[j - 1 - (f.ts[j - 1].text == ",")].text == "}":
+            arms.append(named_arm(f, j, name, variant, message, [field.split(" ")[0] for field in fields]))
+            continue
         arms.append(arm(f, j, name, variant, message, len(fields)))
         if len(fields) == 1 and fields[0].endswith("Error"):
             causes.append(f"{name}::{variant}(cause) => Some(cause),")
@@ -55,11 +58,9 @@ def take_variant(f, j):
     del f.ts[j:stop + 1]
     variant, fields = f.ts[j].text, []
     j += 1
-    if f.ts[j].text == "(":
+    if f.ts[j].text in ("(", "{"):
         fields = [plain(f.ts[a:b]) for a, b in elements(f.ts, j)[0]]
         j = close(f.ts, j) + 1
-    elif f.ts[j].text == "{":
-        f.refuse(f.ts[j], "a variant with named fields")
     return message, variant, fields, j + (f.ts[j].text == ",")
 
 
@@ -72,6 +73,17 @@ def arm(f, j, name, variant, message, count):
     if "{" in message:
         f.refuse(f.ts[j], "a message with a value that the variant lacks")
     return f"{name}::{variant}{'(..)' if count else ''} => f.write_str({message}),"
+
+
+def named_arm(f, j, name, variant, message, fields):
+    """The arm of `Display` for a variant whose fields have these names."""
+    shown = [field for field in fields if f"{{{field}}}" in message]
+    if message.count("{") != len(shown):
+        f.refuse(f.ts[j], "a message with a value that the variant lacks")
+    if not shown:
+        return f"{name}::{variant} {{ .. }} => f.write_str({message}),"
+    rest = ", .." if len(shown) < len(fields) else ""
+    return f"{name}::{variant} {{ {', '.join(shown)}{rest} }} => write!(f, {message}),"
 
 
 def impls(name, arms, causes):

@@ -1,7 +1,8 @@
 """Rewrites forms that Rattle has and Rust lacks."""
 import re
 
-from source import item_end, item_start
+from layout import DEFAULT_BODIES
+from source import document, item_end, item_start
 from tokens import Token, angles, close, elements, plain, tokens
 
 
@@ -40,6 +41,20 @@ def put_forms(f):
                 f.ts[start:start] = more[:-1]
                 i += len(more)
         i += 1
+
+
+def default_bodies(f):
+    """Gives methods of traits the bodies that they have in Rust."""
+    of = f.path.split("crates/")[-1]
+    for name, body in [(name, body) for (path, name), body in DEFAULT_BODIES.items() if path == of]:
+        places = [i for i, t in enumerate(f.ts) if t.text == "fn" and f.ts[i + 1].text == name]
+        if len(places) != 1:
+            f.refuse(f.ts[0], f"{len(places)} methods {name}")
+        end = next(i for i in range(places[0], len(f.ts)) if f.ts[i].text in (";", "{"))
+        if f.ts[end].text != ";":
+            f.refuse(f.ts[end], f"{name} has a body")
+        f.ts[end:end + 1] = tokens(f" {{\n{body}\n}}\n")[:-1]
+        document(f.ts[item_start(f, places[0])], [f"The default body returns `{body}`."])
 
 
 def unit_literals(f):

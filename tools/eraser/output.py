@@ -12,10 +12,10 @@ FOLDER = "src"
 
 
 class Output:
-    """Files on their way below one folder."""
+    """Files on their way below one folder of the repository."""
 
-    def __init__(self, folder):
-        self.folder = folder
+    def __init__(self, repository, name):
+        self.folder, self.name = os.path.join(repository, name), name
         self.files = {}
 
     def add(self, path, source, text):
@@ -48,7 +48,7 @@ class Output:
         for path in sorted({*there, *self.files}):
             old, new = there.get(path, ""), self.files.get(path, "")
             if old != new:
-                lines = difflib.unified_diff(old.splitlines(True), new.splitlines(True), f"rust/{path}", "a fresh run")
+                lines = difflib.unified_diff(old.splitlines(True), new.splitlines(True), f"{self.name}/{path}", "a fresh run")
                 found.append("".join(lines))
         return found
 
@@ -65,7 +65,7 @@ class Output:
                 if old == text:
                     continue
                 if not old.startswith(MARK):
-                    raise Refused(f"rust/{path} is written by hand, and a generated file has its name")
+                    raise Refused(f"{self.name}/{path} is written by hand, and a generated file has its name")
             os.makedirs(os.path.dirname(aim), exist_ok=True)
             with open(aim, "w", encoding="utf-8") as it:
                 it.write(text)
@@ -81,9 +81,9 @@ def formatted(item):
 
 
 def check_root(path, modules):
-    """Refuses a `lib.rs` that does not name exactly these modules, its own aside."""
+    """Refuses a root file that lacks one of these modules."""
     with open(path, encoding="utf-8") as it:
         named = set(re.findall(r"^(?:pub )?mod (\w+);", it.read(), re.M))
     missing = modules - named
     if missing:
-        raise Refused(f"rust/src/lib.rs lacks the modules {', '.join(sorted(missing))}")
+        raise Refused(f"{path} lacks the modules {', '.join(sorted(missing))}")

@@ -17,17 +17,17 @@ def path_tokens(path, line):
             for it in ([Token("", "::", "p", line)] if place else []) + [Token("", part, "word", line)]]
 
 
-def move_paths(f, crate, passed_on):
-    """Makes `codec_payload_X::m` and `crate::m` paths below the one root."""
+def move_paths(f, crate, root, passed_on):
+    """Makes `codec_payload_X::m` and `crate::m` paths below the one root. `crate` is None in programs."""
     i = 0
     while i < len(f.ts):
         t = f.ts[i]
         m = re.fullmatch(r"codec_payload_(\w+)", t.text) if t.kind == "word" else None
-        of = m.group(1) if m else crate if t.kind == "word" and t.text == "crate" else None
+        of = m.group(1) if m else crate if t.kind == "word" and t.text == "crate" and crate else None
         if of and f.ts[i + 1].text == "::":
             if of not in LIBRARY and of != FACADE:
                 f.refuse(t, f"crate {of}")
-            t.text = "crate"
+            t.text = root
             behind = f.ts[i + 2]
             if behind.text == "{":
                 if of != FACADE and PLACES.get(of) or any((of, f.ts[a].text) in RENAMED_MODULES for a, _ in elements(f.ts, i + 2)[0]):
@@ -39,13 +39,14 @@ def move_paths(f, crate, passed_on):
         i += 1
     for t in f.ts:
         if "//" in t.pre:
-            t.pre = moved_links(f, t.pre, crate, passed_on)
+            t.pre = moved_links(f, t.pre, crate, root, passed_on)
 
 
-def moved_links(f, comment, crate, passed_on):
+def moved_links(f, comment, crate, root, passed_on):
     """A comment in which each path names the place below the one root."""
     def moved(m):
-        return f"crate::{place(m.group(1) or crate, m.group(2), passed_on)}"
+        of = m.group(1) or crate
+        return f"{root}::{place(of, m.group(2), passed_on)}" if of else m.group(0)
 
     comment = re.sub(r"(?<![\w:])(?:codec_payload_(\w+)|crate)::(\w+)", moved, comment)
     for (path, old), new in DOC_LINKS.items():
@@ -87,8 +88,8 @@ def use_lines(f):
             yield start, end, plain(f.ts[start:end])
 
 
-def std_paths(f):
-    """Imports of `std` that Rattle has and Rust has not, and, for `no_std`, `core` and `alloc`."""
+def std_paths(f, in_library):
+    """Imports of `std` that Rattle has and Rust has not, and, for the library without `std`, `core` and `alloc`."""
     i = 0
     while i < len(f.ts):
         t = f.ts[i]
@@ -108,10 +109,10 @@ def std_paths(f):
                 f.ts[start].pre = merged(pre, f.ts[start].pre) if "//" not in pre else pre.rstrip() + "\n\n" + f.ts[start].pre.lstrip("\n")
                 i = start
                 continue
-        if plain(f.ts[i:i + 4]) == "use smallvec :: SmallVec":
+        if in_library and plain(f.ts[i:i + 4]) == "use smallvec :: SmallVec":
             f.ts[i + 1:i + 3] = path_tokens("crate::memory", t.line) + [Token("", "::", "p", t.line)]
             f.ts[i + 1].pre = " "
-        if t.kind == "word" and t.text == "std" and f.ts[i + 1].text == "::":
+        if in_library and t.kind == "word" and t.text == "std" and f.ts[i + 1].text == "::":
             n = f.ts[i + 2].text
             if n in CORE:
                 t.text = "core"

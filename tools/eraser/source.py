@@ -13,6 +13,8 @@ class File:
         except Refused as e:
             raise Refused(f"{path}: {e}") from None
         self.path, self.known = path, known
+        # In the library no call may abort with the feature `fallible`; a program may.
+        self.is_library = path.startswith("crates/codec_payload_")
         self.asks = []  # (name of a public function, its premises)
         self.needs = set()  # of crate::memory
 
@@ -32,6 +34,14 @@ def without_doc(pre):
     while len(lines) > 1 and lines[-2].strip().startswith("///"):
         del lines[-2]
     return "\n".join(lines)
+
+
+def document(first, lines):
+    """Adds a paragraph to the documentation of the item with that first token."""
+    indent = re.search(r"[ \t]*$", first.pre).group(0)
+    lines = ([""] if "///" in first.pre else []) + lines
+    text = "".join(f"{indent}/// {line}".rstrip() + "\n" for line in lines)
+    first.pre = first.pre[:len(first.pre) - len(indent)] + text + indent
 
 
 def item_start(f, i):
@@ -149,3 +159,29 @@ def enclosing(f, i):
         j -= 1
     return fn if fn is not None else 0, self_type
 
+
+def owner(f, i):
+    """The block around the token at `i` that is an `impl` or a trait: its kind (`impl`, `impl of a trait`, `trait`, `pub trait` or
+    nothing) and the name of its type or trait."""
+    stack, pending = [], None
+    for j in range(i):
+        t = f.ts[j]
+        if t.kind == "word" and t.text == "impl" and f.ts[j - 1].text in ("}", ";", "]", "{", "unsafe") or t.text == "impl" and j == 0:
+            k = angles(f.ts, j + 1) if f.ts[j + 1].text == "<" else j + 1
+            body = k
+            while f.ts[body].text != "{":
+                body += 1
+            texts = [x.text for x in f.ts[k:body]]
+            of_trait = "for" in texts
+            head = f.ts[k + texts.index("for") + 1:body] if of_trait else f.ts[k:body]
+            pending = ("impl of a trait" if of_trait else "impl", base(plain(head)))
+        elif t.kind == "word" and t.text == "trait":
+            pending = ("pub trait" if f.ts[j - 1].text == "pub" else "trait", f.ts[j + 1].text)
+        elif t.kind == "p" and t.text == "{":
+            stack.append(pending)
+            pending = None
+        elif t.kind == "p" and t.text == "}":
+            stack.pop()
+        elif t.text == ";":
+            pending = None
+    return next((it for it in reversed(stack) if it), ("", ""))

@@ -6,20 +6,19 @@ enum { LEAST = 16, MOST = 16384 /* pixels of a side */ };
 static bool gives_pictures(const stream *it, uint32_t number) {
     static uint8_t frame[1 << 20];
     cpay_receiver receiver = CPAY_INIT;
-    cpay_receiver_settings settings = CPAY_FILE;
+    cpay_receiver_settings settings;
     cpay_unit unit = {0};
-    uint32_t outcome = 0;
+    cpay_outcome outcome = CPAY_HELD;
     cpay_status status;
     bool sized = false, malformed = false;
-    settings.spec = (cpay_spec){.codec = number, .rate = 90000};
-    settings.payload_type = it->kept[0].header.payload_type;
+    cpay_receiver_settings_init(&settings, number, 90000, it->kept[0].header.payload_type, CPAY_FOR_FILE);
     settings.hold_back = 0;
     if (cpay_receiver_new(&receiver, &settings, NULL, 0)) return false;
     for (size_t i = 0; i < it->kept_count; i++)
         if (cpay_receiver_receive(&receiver, i, it->kept[i].bytes, it->kept[i].size, &outcome)) break;
     while ((status = cpay_receiver_pop(&receiver, it->kept_count, &unit, frame, sizeof frame)) == CPAY_OK) {
         cpay_frame_facts facts = {0};
-        malformed |= cpay_frame_info(number, frame, unit.bytes, &facts) != CPAY_OK;
+        malformed |= unit.fault || cpay_frame_info(number, frame, unit.bytes, &facts) != CPAY_OK;
         sized |= facts.has_size && facts.width >= LEAST && facts.width <= MOST && facts.height >= LEAST && facts.height <= MOST;
     }
     cpay_receiver_free(&receiver);

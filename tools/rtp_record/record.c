@@ -52,16 +52,14 @@ static bool fail(record *it, const char *what) {
 }
 
 static bool receives(record *it) {
-    cpay_receiver_settings settings = CPAY_FILE;
     const codec_use *use = &it->stream.use;
-    settings.spec.codec = use->codec->library;
-    settings.spec.rate = use->rate;
+    cpay_receiver_settings settings;
+    cpay_receiver_settings_init(&settings, use->codec->library, use->rate, it->stream.payload_type, CPAY_FOR_FILE);
     settings.spec.octet_align = use->octet_align;
-    settings.payload_type = it->stream.payload_type;
     settings.has_ssrc = true;
     settings.ssrc = it->stream.ssrc;
     settings.start = 1;
-    if (use->codec->kind != CODEC_VIDEO) { /* CPAY_FILE has the windows of video */
+    if (use->codec->kind != CODEC_VIDEO) { /* CPAY_FOR_FILE has the windows of video */
         settings.forward = CPAY_FORWARD_FOR(0);
         settings.backward = CPAY_BACKWARD_FOR(0);
     }
@@ -238,10 +236,12 @@ static bool take_units(record *it, uint64_t now) {
             if (!grown) return fail(it, "out of memory");
             it->bytes = grown;
             it->room = unit.bytes;
-        } else if (status == CPAY_OK) {
-            if (!take_unit(it, &unit)) return false;
-        } else {
+        } else if (status != CPAY_OK) {
+            return fail(it, cpay_status_text(status));
+        } else if (unit.fault) {
             it->totals.refused++;
+        } else if (!take_unit(it, &unit)) {
+            return false;
         }
     }
     return false;

@@ -74,9 +74,9 @@ void twin_depacketizer_free(void *depacketizer) {
  * sets no bound by count, a `max_wait` of UINT64_MAX none by time; 0 means no RED, or no retransmissions. With both, RED is
  * retransmitted with payload type 99. */
 void *twin_receiver(uint32_t codec, uint32_t rate, uint32_t flags, const uint64_t values[9]) {
-    cpay_receiver_settings settings = CPAY_FILE;
+    cpay_receiver_settings settings;
+    cpay_receiver_settings_init(&settings, codec, rate, 96, CPAY_FOR_FILE);
     settings.spec = spec_of(codec, rate, flags, 0);
-    settings.payload_type = 96;
     settings.has_ssrc = true;
     settings.ssrc = 1;
     settings.hold_back = (size_t)values[0];
@@ -106,8 +106,8 @@ uint32_t twin_receive(void *receiver, uint64_t now, const uint8_t *datagram, siz
     return cpay_receiver_receive(receiver, now, datagram, datagram_len, outcome);
 }
 
-/* The next unit: first and last number, RTP time, whether it is contiguous, and its size. */
-uint32_t twin_pop(void *receiver, uint64_t now, uint8_t *bytes, size_t bytes_len, uint64_t unit[5]) {
+/* The next unit: first and last number, RTP time, whether it is contiguous, its size, and the fault of a refused frame. */
+uint32_t twin_pop(void *receiver, uint64_t now, uint8_t *bytes, size_t bytes_len, uint64_t unit[6]) {
     cpay_unit it = { 0 };
     cpay_status status = cpay_receiver_pop(receiver, now, &it, bytes, bytes_len);
     unit[0] = it.first;
@@ -115,6 +115,7 @@ uint32_t twin_pop(void *receiver, uint64_t now, uint8_t *bytes, size_t bytes_len
     unit[2] = it.rtp_time;
     unit[3] = it.contiguous;
     unit[4] = it.bytes;
+    unit[5] = it.fault;
     return status;
 }
 
@@ -143,10 +144,12 @@ void twin_receiver_free(void *receiver) {
 /* A session of two formats: the given one with payload type 96, RED 63, retransmissions 98 and retransmissions of RED 99, and Opus
  * with payload type 100. The values are max_wait, start, limit, max_streams, probation, idle_timeout, bye_wait and from_keyframe. */
 void *twin_session(uint32_t codec, uint32_t rate, uint32_t flags, const uint64_t values[8]) {
-    cpay_session_settings settings = CPAY_LIVE_SESSION;
+    cpay_session_settings settings;
     cpay_session_format formats[2] = { { .red_step = 0 }, { .red_step = 0 } };
     static const uint8_t no_media[] = { 97 + CPAY_TELEPHONE, 13 };
     static const cpay_ssrc_pair pairs[] = { { 1, 2 } };
+    static const uint8_t name[] = { 'm', 'e', '@', 'h', 'o', 's', 't' };
+    cpay_session_settings_init(&settings, CPAY_FOR_LIVE);
     formats[0].spec = spec_of(codec, rate, flags, 0);
     formats[0].payload_type = 96;
     formats[0].has_red = formats[0].has_rtx = formats[0].has_red_rtx = true;
@@ -164,8 +167,7 @@ void *twin_session(uint32_t codec, uint32_t rate, uint32_t flags, const uint64_t
     settings.idle_timeout = values[5];
     settings.bye_wait = values[6];
     settings.from_keyframe = (uint8_t)values[7];
-    settings.has_feedback = true;
-    settings.feedback.ssrc = 77;
+    if (cpay_session_settings_feedback(&settings, 77, name, sizeof name)) return NULL;
     formats[0].nack = formats[0].pli = formats[1].nack = formats[1].pli = true;
     cpay_session *made = calloc(1, sizeof *made);
     if (made && !cpay_session_new(made, &settings, formats, 2, no_media, sizeof no_media, pairs, 1)) return made;
@@ -270,8 +272,8 @@ void *twin_history(const uint64_t values[6]) {
     return NULL;
 }
 
-uint32_t twin_history_keep(void *history, const uint8_t *datagram, size_t datagram_len) {
-    return cpay_history_keep(history, datagram, datagram_len);
+uint32_t twin_history_keep(void *history, const uint8_t *datagram, size_t datagram_len, uint32_t *kept) {
+    return cpay_history_keep(history, datagram, datagram_len, kept);
 }
 
 uint32_t twin_history_resend(void *history, uint64_t now, uint16_t number, uint8_t *bytes, size_t bytes_len, size_t *size,

@@ -19,6 +19,7 @@ pub use g7xx::{G7xxPacketizer, G711Depacketizer, G711Packetizer, G722Packetizer}
 pub use null::{NullDepacketizer, NullPacketizer};
 pub use opus::{OpusDepacketizer, OpusPacketizer};
 pub use pieces::PiecesPacketizer;
+use std::fmt;
 
 /// Appends a payload that carries itself.
 fn append_payload(payload: &[u8], out: &mut Vec<u8>) -> Result<(), PacketError>
@@ -28,11 +29,23 @@ fn append_payload(payload: &[u8], out: &mut Vec<u8>) -> Result<(), PacketError>
     Ok(())
 }
 
-/// Appends each payload as it is; each payload is a unit. The depacketizer of Opus, G.711, G.722 and Null.
-#[derive(Clone, Debug, Default, PartialEq, Eq, Drop)]
-pub struct PlainDepacketizer {}
+/// Appends each payload as it is; each payload is a unit. The depacketizer of Opus, of G.711 and G.722, and of Null. `FORMAT` makes
+/// them three types, and has no other effect: 0 is Opus, 1 is G.711 and G.722, and any other number is Null.
+#[derive(Clone, Default, PartialEq, Eq, Drop)]
+pub struct PlainDepacketizer<const FORMAT: u8> {}
 
-impl Depacketizer for PlainDepacketizer {
+/// Prints the name of the depacketizer.
+impl<const FORMAT: u8> fmt::Debug for PlainDepacketizer<FORMAT> {
+    fn fmt<W: fmt::Write>(&self, f: &mut fmt::Formatter<W>) -> fmt::Result {
+        match FORMAT {
+            0 => f.write_str("OpusDepacketizer"),
+            1 => f.write_str("G711Depacketizer"),
+            _ => f.write_str("NullDepacketizer"),
+        }
+    }
+}
+
+impl<const FORMAT: u8> Depacketizer for PlainDepacketizer<FORMAT> {
     ghost state = { λ _. [] };
 
     ghost depacketize_step = { λ _ payload out extra answer after out' extra'. Appends payload out extra answer out' extra' × (after ≡ []) };

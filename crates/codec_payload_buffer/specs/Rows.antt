@@ -1,6 +1,6 @@
 -- Rows: the longest ranges of held packets in which a frame can be complete; how a push, an eviction and a pop change them; and
 -- their complete frames.
-use Rattle.std.specs.Prelude.{◌≡◌, ◌≢◌, ℕ, ◌+◌, ◌<◌, ◌≤◌, ◌&&◌, not, Bool, true, false, List, [], ◌∷◌, nat_lt, ◌==◌, if◌then◌else◌, Option, Some, None, drop}
+use Rattle.std.specs.Prelude.{◌≡◌, ◌≢◌, ℕ, ◌+◌, ◌<◌, ◌≤◌, ◌&&◌, ◌||◌, not, Bool, true, false, List, [], ◌∷◌, nat_lt, ◌==◌, if◌then◌else◌, Option, Some, None, drop}
 use Rattle.codec_payload_buffer.specs.Held.{Held, number_of}
 use Rattle.codec_payload_buffer.specs.Frames.{is_same_time, start_or_here}
 use Rattle.codec_payload_buffer.specs.declared.buffer.frames.CompleteFrame.{CompleteFrame}
@@ -97,6 +97,11 @@ noted_if (Some f) fs = noted f fs
 abbrev pub frame_place : ℕ → List CompleteFrame → ℕ
 frame_place n [] = 0
 frame_place n (g ∷ gs) = if nat_lt g.last n then frame_place n gs + 1 else 0
+
+-- one of the frames ends at n
+abbrev pub has_end : ℕ → List CompleteFrame → Bool
+has_end n [] = false
+has_end n (f ∷ fs) = (f.last == n) || has_end n fs
 
 -- the lowest head up to a number
 abbrev pub next_head : ℕ → List Held → Option ℕ

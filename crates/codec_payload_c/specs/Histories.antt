@@ -1,14 +1,15 @@
 -- The calls on a history of sent packets, and the requests in RTCP feedback.
-use Rattle.std.specs.Prelude.{◌≡◌, ◌⊎◌, ℕ, ◌-◌, ◌^◌, ◌&&◌, ◌++◌, nat_le, min, if◌then◌else◌, Bool, true, false, List, [], ◌∷◌, length, take, drop, Option, Some, None, Result, Ok, Err}
+use Rattle.std.specs.Prelude.{◌≡◌, ◌⊎◌, ◌≤◌, ℕ, ◌-◌, ◌^◌, ◌&&◌, ◌++◌, nat_le, min, if◌then◌else◌, Bool, true, false, List, [], ◌∷◌, length, take, drop, Option, Some, None, Result, Ok, Err}
 use Rattle.std.specs.declared.alloc.AllocError.{AllocError}
 use Rattle.codec_payload_base.specs.declared.wire.Ticks.{Ticks}
 use Rattle.codec_payload_rtcp.specs.declared.packet.RtcpError.{RtcpError}
 use Rattle.codec_payload_rtcp.specs.declared.packet.RtcpError.TheVariants as rtcp
-use Rattle.codec_payload_history.specs.Histories.{HasNot, IsAt, IsFault, Keeps, Repeats, Resends, history_by, is_too_soon}
-use Rattle.codec_payload_history.specs.Packets.{Past, Sent, stream_fits}
+use Rattle.codec_payload_history.specs.Histories.{HasNot, IsAt, IsFault, Keeps, Resends, ResendsWithin, history_by, is_too_soon}
+use Rattle.codec_payload_history.specs.Packets.{Sent, stream_fits}
 use Rattle.codec_payload_history.specs.declared.feedback.Request.{Request}
 use Rattle.codec_payload_history.specs.declared.feedback.Request.TheVariants as requests
 use Rattle.codec_payload_history.specs.declared.retransmission.HistorySettings.{HistorySettings as Settings}
+use Rattle.codec_payload_history.specs.declared.retransmission.Kept.TheVariants as kept
 use Rattle.codec_payload_history.specs.declared.retransmission.KeepError.{KeepError}
 use Rattle.codec_payload_history.specs.declared.retransmission.KeepError.TheVariants as faults
 use Rattle.codec_payload_history.specs.declared.retransmission.Resent.{Resent}
@@ -47,11 +48,13 @@ abbrev pub keep_status : KeepError → ℕ
 keep_status (faults.Rtp fault) = rtp_status fault
 keep_status faults.OutOfMemory = 17
 
--- Status 0: the datagram is the newest packet. Otherwise the status says why it is not kept, and nothing has changed
-abbrev pub KeepsDatagram : PacketHistory → List ℕ → ℕ → PacketHistory → Type 0
-KeepsDatagram r datagram status s =
-    ((status ≡ 0) × Keeps r.history datagram s.history)
-    ⊎ ((fault : KeepError) × (status ≡ keep_status fault) × IsFault datagram fault × (s.history ≡ r.history))
+-- Status 0, and 0: the datagram is kept at its number. Status 0, and 1: its number is too old. Otherwise the status says why it is
+-- not kept, and nothing has changed
+abbrev pub KeepsDatagram : PacketHistory → List ℕ → (status before answer : ℕ) → PacketHistory → Type 0
+KeepsDatagram r datagram status before answer s =
+    ((status ≡ 0) × (answer ≡ 0) × Keeps r.history datagram kept.Stored s.history)
+    ⊎ ((status ≡ 0) × (answer ≡ 1) × Keeps r.history datagram kept.TooOld s.history)
+    ⊎ ((fault : KeepError) × (status ≡ keep_status fault) × IsFault datagram fault × (answer ≡ before) × (s.history ≡ r.history))
 
 -- ---- resending
 
@@ -64,24 +67,15 @@ pub record Resending : Type 0 where
   pub resent_before : ℕ
   pub resent : ℕ
 
--- the datagram by which the packet with that number is resent now: the packet is kept, and it is not too soon
-abbrev pub IsDue : Ticks → ℕ → Past → List ℕ → Type 0
-IsDue now number h datagram =
-    (place : ℕ) × (p : Sent) × IsAt h number place p × (is_too_soon h.interval now p.resent ≡ false) × Repeats h.stream h.next p.bytes datagram
-
--- Status 0, written: the datagram is at the front of the output buffer, and the packet is resent. Status 33: the output buffer is too
--- small, the size is the one that is needed, and nothing else has changed: not the number of the next retransmission, nor when
--- the packet was resent last
-abbrev pub GivesAgain : (fits : Bool) → Ticks → ℕ → PacketHistory → List ℕ → ℕ → Resending → PacketHistory → Type 0
-GivesAgain true now number r datagram status h s =
-    (status ≡ 0) × (h.resent ≡ 0) × Resends now number r.history [] results.Written datagram s.history × (h.bytes ≡ filled datagram h.before) × (h.size ≡ length datagram)
-GivesAgain false now number r datagram status h s =
-    (status ≡ 33) × IsDue now number r.history datagram × (h.size ≡ length datagram) × (h.bytes ≡ h.before) × (h.resent ≡ h.resent_before) × (s.history ≡ r.history)
-
--- Status 0, not kept or too soon: the size is 0, and all else is unchanged. Status 17: memory ran out, and nothing has changed
+-- Status 0, written: the datagram is at the front of the output buffer, and the packet is resent. Status 0, not kept or too soon: the
+-- size is 0, and all else is unchanged. Status 33: the output buffer is too small for the datagram, the size is the one that is
+-- needed, and nothing else has changed: not the number of the next retransmission, nor when the packet was resent last. Status 17:
+-- memory ran out, and nothing has changed
 abbrev pub GivesResent : Ticks → ℕ → PacketHistory → Result Resent AllocError → ℕ → Resending → PacketHistory → Type 0
 GivesResent now number r (Ok results.Written) status h s =
-    (datagram : List ℕ) × GivesAgain (nat_le (length datagram) (length h.before)) now number r datagram status h s
+    (datagram : List ℕ) × (status ≡ 0) × (h.resent ≡ 0) × Resends now number r.history [] results.Written datagram s.history × (length datagram ≤ length h.before) × (h.bytes ≡ filled datagram h.before) × (h.size ≡ length datagram)
+GivesResent now number r (Ok results.TooLarge) status h s =
+    (datagram : List ℕ) × (status ≡ 33) × ResendsWithin (length h.before) now number r.history [] results.TooLarge datagram s.history × (h.size ≡ length datagram) × (h.bytes ≡ h.before) × (h.resent ≡ h.resent_before)
 GivesResent now number r (Ok results.NotKept) status h s =
     (status ≡ 0) × (h.resent ≡ 1) × HasNot r.history number × (h.size ≡ 0) × (h.bytes ≡ h.before) × (s.history ≡ r.history)
 GivesResent now number r (Ok results.TooSoon) status h s =

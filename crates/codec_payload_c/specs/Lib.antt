@@ -1,5 +1,6 @@
 pub mod AdaptiveWaits
 pub mod Assemblers
+pub mod Beginnings
 pub mod Buffers
 pub mod Extensions
 pub mod Frames

@@ -1,11 +1,13 @@
 -- New sessions: their settings, payload formats and pairs of SSRCs, from C.
-use Rattle.std.specs.Prelude.{◌≡◌, ℕ, ◌-◌, ◌&&◌, ◌||◌, ◌==◌, not, nat_le, nat_lt, if◌then◌else◌, Bool, true, false, Option, Some, None, List, [], is_some, map, filter_map}
+use Rattle.std.specs.Prelude.{◌≡◌, ◌⊎◌, ℕ, ◌-◌, ◌&&◌, not, nat_le, nat_lt, if◌then◌else◌, Bool, true, false, Option, Some, None, List, is_some, map, filter_map, take, length}
 use Rattle.std.specs.List.{list_all}
-use Rattle.codec_payload_handle.specs.Settings.{codec_numbered, depacketizer_set}
+use Rattle.codec_payload_handle.specs.Settings.{codec_numbered}
 use Rattle.codec_payload_handle.specs.declared.object.Object.{Object}
 use Rattle.codec_payload_handle.specs.declared.object.Object.TheVariants as objects
 use Rattle.codec_payload_handle.specs.declared.object.PortSession.{PortSession}
+use Rattle.codec_payload_session.specs.Checks.{fault_in, first_of, name_fault}
 use Rattle.codec_payload_session.specs.Ports.{new_session}
+use Rattle.codec_payload_session.specs.declared.checks.SessionSettingsError.{SessionSettingsError}
 use Rattle.codec_payload_session.specs.declared.formats.FeedbackSettings.{FeedbackSettings}
 use Rattle.codec_payload_session.specs.declared.formats.Format.{Format}
 use Rattle.codec_payload_session.specs.declared.formats.SessionSettings.{SessionSettings as Settings}
@@ -21,28 +23,13 @@ use Rattle.codec_payload_c.specs.declared.session_settings.SsrcPair.{SsrcPair}
 
 -- ---- ranges
 
--- RED, if it is used: its payload type differs from the format's, and the step and the payload type of its retransmissions are in
--- range
-abbrev pub red_fits : SessionFormat → Bool
-red_fits f =
-    not f.has_red || (nat_le f.red_payload_type 127 && not (f.red_payload_type == f.payload_type) && nat_le 1 f.red_step && nat_le f.red_step 16383
-    && (not f.has_red_rtx || nat_le f.red_rtx_payload_type 127))
-
--- the payload types and the step of RED are in range
-abbrev pub types_fit : SessionFormat → Bool
-types_fit f = nat_le f.payload_type 127 && red_fits f && (not f.has_rtx || nat_le f.rtx_payload_type 127)
-
--- there is a depacketizer for the codec, and the payload types and the step of RED are in range
+-- the clock of the format has a rate
 abbrev pub format_in_range : SessionFormat → Bool
-format_in_range f = is_some (depacketizer_set f.spec) && types_fit f
+format_in_range f = nat_lt 0 f.spec.rate
 
--- the clock has a rate, there is room for packets and streams, and `from_keyframe` has a meaning
+-- the clock has a rate, and `from_keyframe` has a meaning
 abbrev pub session_in_range : SessionSettings → Bool
-session_in_range s = nat_lt 0 s.tick_rate && nat_le s.from_keyframe 2 && nat_le 1 s.limit && nat_le s.limit 65536 && nat_lt 0 s.max_streams
-
--- the settings and all formats are in range
-abbrev pub is_in_range : SessionSettings → List SessionFormat → Bool
-is_in_range s formats = session_in_range s && list_all format_in_range formats
+session_in_range s = nat_lt 0 s.tick_rate && nat_le s.from_keyframe 2
 
 -- ---- from C
 
@@ -62,21 +49,25 @@ format_with f = record {
   pli = f.pli;
 }
 
--- a format that is in range
+-- a format whose clock has a rate
 abbrev pub format_given : SessionFormat → Option Format
 format_given f = if format_in_range f then Some (format_with f) else None
 
 abbrev pub pair_given : SsrcPair → Pair
 pair_given p = record { ssrc = p.ssrc; retransmission = p.rtx_ssrc }
 
--- a payload type without media plus 128 is one of telephone events; no packet has a payload type above 127
+-- a payload type without media plus 128 is one of telephone events
 abbrev pub telephone_given : ℕ → Option ℕ
 telephone_given entry = if nat_lt entry 128 then None else Some (entry - 128)
 
--- who requests missing packets and keyframes, from C; without a name
+abbrev pub no_media_given : ℕ → Option ℕ
+no_media_given entry = if nat_lt entry 128 then Some entry else None
+
+-- who requests missing packets and keyframes, from C
 pub record HasFeedback (c : SessionFeedback) (t : FeedbackSettings) : Type 0 where
   pub ssrc_is : t.ssrc ≡ c.ssrc
-  pub cname : t.cname.items ≡ []
+  pub cname : t.cname.items ≡ take c.cname_len c.cname
+  pub cname_len : length t.cname.items ≡ c.cname_len
   pub has_report : t.has_report ≡ c.has_report
   pub keyframe_interval : t.keyframe_interval ≡ c.keyframe_interval
   pub silence : t.silence ≡ c.silence
@@ -93,7 +84,7 @@ MatchFeedbackIf true c (Some t) = HasFeedback c t
 abbrev pub MatchFeedback : SessionSettings → Option FeedbackSettings → Type 0
 MatchFeedback s t = MatchFeedbackIf s.has_feedback s.feedback t
 
--- the settings, from C, without formats and other lists
+-- the settings, from C, without formats, other lists and feedback
 pub record HasPlainSettings (s : SessionSettings) (t : Settings) : Type 0 where
   pub ids : t.extension_ids ≡ ids_given s.extension_ids
   pub audio : t.audio ≡ wait_limits_given s.audio
@@ -105,15 +96,31 @@ pub record HasPlainSettings (s : SessionSettings) (t : Settings) : Type 0 where
   pub idle_timeout : t.idle_timeout ≡ s.idle_timeout
   pub bye_wait : t.bye_wait ≡ s.bye_wait
   pub tick_rate : t.tick_rate ≡ s.tick_rate
-  pub feedback : MatchFeedback s t.feedback
 
 -- the settings of a session, from C
 pub record AreSessionSettings (s : SessionSettings) (formats : List SessionFormat) (no_media : List ℕ) (pairs : List SsrcPair) (t : Settings) : Type 0 where
   pub plain : HasPlainSettings s t
   pub formats_are : t.formats.items ≡ filter_map format_given formats
-  pub no_media_are : t.no_media.items ≡ no_media
+  pub no_media_are : t.no_media.items ≡ filter_map no_media_given no_media
   pub telephone_events_are : t.telephone_events.items ≡ filter_map telephone_given no_media
   pub pairs_are : t.pairs.items ≡ map pair_given pairs
+  pub feedback_is : MatchFeedback s t.feedback
+
+-- ---- settings that a session can meet: the rules are those of the session
+
+-- the fault of the name, if there is feedback
+abbrev pub name_fault_given : SessionSettings → Option SessionSettingsError
+name_fault_given s = if s.has_feedback then name_fault s.feedback.cname_len else None
+
+-- the first setting that no session can meet
+abbrev pub fault_given : SessionSettings → List SessionFormat → List ℕ → Option SessionSettingsError
+fault_given s formats no_media =
+    first_of (fault_in s.limit s.max_streams (filter_map format_given formats) (filter_map no_media_given no_media) (filter_map telephone_given no_media))
+    (name_fault_given s)
+
+-- clocks have rates, `from_keyframe` has a meaning, and a session can meet the settings
+abbrev pub is_in_range : SessionSettings → List SessionFormat → List ℕ → Bool
+is_in_range s formats no_media = session_in_range s && (list_all format_in_range formats && not (is_some (fault_given s formats no_media)))
 
 -- a new session with these settings
 pub record IsNewSession (s : SessionSettings) (formats : List SessionFormat) (no_media : List ℕ) (pairs : List SsrcPair) (r : PortSession) : Type 0 where
@@ -126,3 +133,17 @@ pub record IsNewSession (s : SessionSettings) (formats : List SessionFormat) (no
 abbrev pub IsPortSessionOf : SessionSettings → List SessionFormat → List ℕ → List SsrcPair → Object → Type 0
 IsPortSessionOf s formats no_media pairs (objects.PortSession r) = IsNewSession s formats no_media pairs r.value
 IsPortSessionOf s formats no_media pairs _ = ⊥
+
+-- Status 36: the handle is in use, and is unchanged. Status 0: the empty handle has the new session. Otherwise it stays empty: status
+-- 37 only if the settings are out of range, and 17 if memory ran out
+abbrev pub MakesSessionIn : (Object → Type 0) → Bool → ℕ → Option Object → Type 0
+MakesSessionIn Made can status (Some object) = (status ≡ 0) × (can ≡ true) × Made object
+MakesSessionIn Made can status None = ((status ≡ 37) × (can ≡ false)) ⊎ (status ≡ 17)
+
+abbrev pub MakesSession : (Object → Type 0) → Bool → Option Object → ℕ → Option Object → Type 0
+MakesSession Made can (Some object) status after = (status ≡ 36) × (after ≡ Some object)
+MakesSession Made can None status after = MakesSessionIn Made can status after
+
+-- status 37: the settings are out of range; 17: memory ran out
+abbrev pub RefusesSession : (in_range : Bool) → ℕ → Type 0
+RefusesSession in_range status = ((status ≡ 37) × (in_range ≡ false)) ⊎ (status ≡ 17)

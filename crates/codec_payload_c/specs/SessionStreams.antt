@@ -1,10 +1,12 @@
 -- The streams of a session: counters, what to request, and how long to wait.
 use Rattle.std.specs.Prelude.{◌≡◌, ℕ, ◌+◌, ◌%◌, ◌^◌, ◌++◌, Bool, Option, Some, None, List, is_some, length, drop}
 use Rattle.std.specs.List.{position}
+use Rattle.std.specs.Option.{unwrap_or}
 use Rattle.codec_payload_handle.specs.declared.object.PortSession.{PortSession}
 use Rattle.codec_payload_jitter.specs.Missing.{missing_numbers}
 use Rattle.codec_payload_jitter.specs.declared.waiting.WaitLimits.{WaitLimits}
 use Rattle.codec_payload_session.specs.Ports.{receiver_among, taken_in, waits_of}
+use Rattle.codec_payload_session.specs.Requests.{round_trip_of}
 use Rattle.codec_payload_session.specs.Streams.{is_of}
 use Rattle.codec_payload_session.specs.declared.stream.Stage.{Stage}
 use Rattle.codec_payload_session.specs.declared.stream.Stage.TheVariants as stages
@@ -61,6 +63,8 @@ pub record TellsStream (s : StreamState) (i : SessionStream) : Type 0 where
   pub stage : i.stage ≡ stage_number s.stage
   pub why : i.why ≡ end_reason s.stage
   pub payload_type : i.payload_type ≡ s.format.payload_type
+  pub has_round_trip : i.has_round_trip ≡ is_some (round_trip_of s.feedback)
+  pub round_trip : i.round_trip ≡ unwrap_or (round_trip_of s.feedback) 0
   pub counts : TellsCounts (without_units s.receiver) i.counts
 
 -- a stream, if there is one; otherwise status 32

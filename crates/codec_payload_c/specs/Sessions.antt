@@ -1,11 +1,10 @@
 -- The calls on a session: datagrams in, events out.
-use Rattle.std.specs.Prelude.{◌≡◌, ℕ, ◌==◌, Bool, true, false, List, [], Option, Some, None, Result, Ok, Err, length, nat_le}
+use Rattle.std.specs.Prelude.{◌≡◌, ℕ, Bool, true, false, List, [], Option, Some, None, Result, Ok, Err, length, nat_le}
 use Rattle.std.specs.Global.{Vec}
 use Rattle.std.specs.declared.alloc.AllocError.{AllocError}
 use Rattle.codec_payload_base.specs.declared.wire.Ticks.{Ticks}
 use Rattle.codec_payload_core.specs.Faults.{fault_number}
 use Rattle.codec_payload_core.specs.Release.{Release}
-use Rattle.codec_payload_core.specs.declared.error.PacketError.{PacketError}
 use Rattle.codec_payload_handle.specs.Bytes.{filled}
 use Rattle.codec_payload_handle.specs.Units.{TellsUnit, TellsValues, no_unit}
 use Rattle.codec_payload_handle.specs.declared.extension_values.ExtensionValues.{ExtensionValues as CValues}
@@ -91,7 +90,8 @@ telephone_unit rtp_time marker bytes = record no_unit { rtp_time = rtp_time; byt
 abbrev pub TellsEvent : Event → CEvent → Type 0
 TellsEvent (events.Begun ssrc payload_type) e = e ≡ event_with 0 ssrc payload_type no_unit
 TellsEvent (events.Unit ssrc payload_type time decodable keyframe (Ok u)) e = TellsUnitOf ssrc payload_type (TellsJudgedBy time decodable keyframe u) e
-TellsEvent (events.Unit ssrc payload_type time decodable keyframe (Err fault)) e =
+TellsEvent (events.Unit ssrc payload_type time decodable keyframe (Err fault)) e = e ≡ event_with 1 ssrc payload_type no_unit
+TellsEvent (events.Refused ssrc payload_type fault) e =
     e ≡ record { kind = 2; ssrc = ssrc; status = fault_number fault; why = 0; bytes = 0; payload_type = payload_type; unit = no_unit }
 TellsEvent (events.Feedback ssrc payload_type packet) e =
     e ≡ record { kind = 4; ssrc = ssrc; status = 0; why = 0; bytes = length (bytes_sent packet); payload_type = payload_type; unit = no_unit }
@@ -104,7 +104,8 @@ TellsEvent (events.Ended ssrc payload_type why) e =
 abbrev pub is_no_memory : Event → Bool
 is_no_memory (events.Begun ssrc payload_type) = false
 is_no_memory (events.Unit ssrc payload_type time decodable keyframe (Ok u)) = false
-is_no_memory (events.Unit ssrc payload_type time decodable keyframe (Err fault)) = fault_number fault == 17
+is_no_memory (events.Unit ssrc payload_type time decodable keyframe (Err e)) = true
+is_no_memory (events.Refused ssrc payload_type fault) = false
 is_no_memory (events.Feedback ssrc payload_type (Ok packet)) = false
 is_no_memory (events.Feedback ssrc payload_type (Err e)) = true
 is_no_memory (events.Telephone ssrc payload_type time marker payload) = false
@@ -116,21 +117,23 @@ is_no_memory (events.Ended ssrc payload_type why) = false
 abbrev pub bytes_in : Event → List ℕ
 bytes_in (events.Begun ssrc payload_type) = []
 bytes_in (events.Unit ssrc payload_type time decodable keyframe (Ok u)) = u.bytes
-bytes_in (events.Unit ssrc payload_type time decodable keyframe (Err fault)) = []
+bytes_in (events.Unit ssrc payload_type time decodable keyframe (Err e)) = []
+bytes_in (events.Refused ssrc payload_type fault) = []
 bytes_in (events.Feedback ssrc payload_type packet) = bytes_sent packet
 bytes_in (events.Telephone ssrc payload_type time marker payload) = payload.items
 bytes_in (events.Report packet) = bytes_sent packet
 bytes_in (events.Ended ssrc payload_type why) = []
 
 -- the unit, or without one the unit before it
-abbrev pub popped_or : Result Release PacketError → Option Release → Option Release
+abbrev pub popped_or : Result Release AllocError → Option Release → Option Release
 popped_or (Ok u) taken = Some u
-popped_or (Err fault) taken = taken
+popped_or (Err e) taken = taken
 
 -- the latest unit after the event
 abbrev pub latest_unit : Event → Option Release → Option Release
 latest_unit (events.Begun ssrc payload_type) taken = taken
 latest_unit (events.Unit ssrc payload_type time decodable keyframe unit) taken = popped_or unit taken
+latest_unit (events.Refused ssrc payload_type fault) taken = taken
 latest_unit (events.Feedback ssrc payload_type packet) taken = taken
 latest_unit (events.Telephone ssrc payload_type time marker payload) taken = taken
 latest_unit (events.Report packet) taken = taken

@@ -1,5 +1,6 @@
 -- The calls on a receiver of datagrams.
 use Rattle.std.specs.Prelude.{◌≡◌, ◌≢◌, ◌⊎◌, ◌<◌, ◌≤◌, ℕ, ◌+◌, ◌-◌, ◌%◌, ◌^◌, ◌&&◌, ◌||◌, ◌==◌, not, nat_le, nat_lt, if◌then◌else◌, Bool, true, false, Option, Some, None, Result, Ok, Err, List, is_some, length, drop, ◌++◌}
+use Rattle.std.specs.declared.alloc.AllocError.{AllocError}
 use Rattle.codec_payload_core.specs.Depacketizers.{DepacketizerState}
 use Rattle.codec_payload_jitter.specs.Missing.{missing_numbers}
 use Rattle.codec_payload_jitter.specs.declared.waiting.WaitLimits.{WaitLimits}
@@ -9,7 +10,7 @@ use Rattle.codec_payload_keyframes.specs.declared.unit_gate.FromKeyframe.{FromKe
 use Rattle.codec_payload_keyframes.specs.declared.unit_gate.FromKeyframe.TheVariants as modes
 use Rattle.codec_payload_stream.specs.Kinds.{retransmitted_under}
 use Rattle.codec_payload_stream.specs.Pops.{PopsGated}
-use Rattle.codec_payload_stream.specs.Sessions.{ReceivesBytes, Session, restarted, session_by}
+use Rattle.codec_payload_stream.specs.Sessions.{Finishes, ReceivesBytes, Session, restarted, session_by}
 use Rattle.codec_payload_stream.specs.declared.receiver.ReceiveError.{ReceiveError}
 use Rattle.codec_payload_stream.specs.declared.receiver.ReceiveError.TheVariants as errors
 use Rattle.codec_payload_stream.specs.declared.receiver.RedSettings.{RedSettings}
@@ -20,7 +21,7 @@ use Rattle.codec_payload_base.specs.declared.wire.Ticks.{Ticks}
 use Rattle.codec_payload_core.specs.Release.{Release}
 use Rattle.codec_payload_core.specs.declared.buffer.RtpMeta.{RtpMeta}
 use Rattle.codec_payload_handle.specs.Bytes.{filled}
-use Rattle.codec_payload_handle.specs.Popping.{Answer, AnswersPop}
+use Rattle.codec_payload_handle.specs.Popping.{Answer, AnswersPopOrRefusal}
 use Rattle.codec_payload_handle.specs.Units.{TellsUnit, TellsValues}
 use Rattle.codec_payload_handle.specs.declared.extension_values.ExtensionValues.{ExtensionValues as CValues}
 use Rattle.codec_payload_handle.specs.declared.object.Object.{Object}
@@ -170,22 +171,37 @@ pub record HandsOver (u : Release) (status : ℕ) (unit : CUnit) (before bytes :
 abbrev pub TellsAndTakes : ℕ → StreamReceiver → Release → CUnit → Type 0
 TellsAndTakes status s u unit = TellsJudged s.receiver u unit × (status ≡ 0 → s.taken ≡ Some u.metas)
 
--- the next unit of a receiver; without one, the packets of the latest popped unit stay
+-- the next unit or refused frame of a receiver; without a unit, the packets of the latest popped unit stay
 abbrev pub PopsUnit : StreamReceiver → ℕ → ℕ → (unit_before unit : CUnit) (before bytes : List ℕ) → StreamReceiver → Type 0
 PopsUnit r now status unit_before unit before bytes s =
-    AnswersPop (s.receiver ≡ r.receiver) (λ answer. PopsAt now r.receiver answer s.receiver) (TellsAndTakes status s) status
+    AnswersPopOrRefusal (s.receiver ≡ r.receiver) (λ answer. PopsAt now r.receiver answer s.receiver) (TellsAndTakes status s) status
     (record { waited = r.waiting; waits = s.waiting; unit_before = unit_before; unit = unit; before = before; bytes = bytes })
-    × (status ≢ 0 → s.taken ≡ r.taken)
+    × (status ≢ 0 → s.taken ≡ r.taken) × (status ≡ 0 → unit.fault ≢ 0 → s.taken ≡ r.taken)
 
 -- the values of the latest popped unit, which has these packets
 abbrev pub TellsTaken : Option (List RtpMeta) → ℕ → (before after : CValues) → Type 0
 TellsTaken None status before after = (status ≡ 32) × (after ≡ before)
 TellsTaken (Some metas) status before after = (status ≡ 0) × TellsValues metas after
 
+-- Status 0: the stream has ended. Status 17: memory ran out for a packet that waits for the choice of the stream, and nothing changes
+abbrev pub status_of_end : Result Unit AllocError → ℕ
+status_of_end (Ok done) = 0
+status_of_end (Err e) = 17
+
+pub record EndsWith (status : ℕ) (s t : Session) : Type 0 where
+  pub done : Result Unit AllocError
+  pub finishes : Finishes s done t
+  pub status_is : status ≡ status_of_end done
+
 -- a number, if there is one; otherwise status 32
 abbrev pub TellsNumber : Option ℕ → ℕ → (before after : ℕ) → Type 0
 TellsNumber (Some n) status before after = (status ≡ 0) × (after ≡ n)
 TellsNumber None status before after = (status ≡ 32) × (after ≡ before)
+
+-- at once if something waits for a larger output buffer, else at that moment
+abbrev pub at_once_if : {A : Type 0} → Option A → Option ℕ → Option ℕ
+at_once_if (Some waiting) at = Some 0
+at_once_if None at = at
 
 -- a receiver without a unit that waits or was popped
 abbrev pub without_units : Session → StreamReceiver

@@ -15,7 +15,7 @@ use codec_payload_handle::object::{Object, PacketHistory};
 use codec_payload_handle::status;
 use codec_payload_history::feedback::{Request, Requests, read_requests};
 use codec_payload_history::retransmission::{
-    History, HistorySettings as Settings, KeepError, Resent, RetransmissionStream,
+    History, HistorySettings as Settings, KeepError, Kept, Resent, RetransmissionStream,
 };
 use codec_payload_rtcp::compound::CompoundRule;
 use codec_payload_rtcp::packet::RtcpError;
@@ -67,12 +67,20 @@ fn history_by(alloc: Global, settings: &HistorySettings) -> Option<PacketHistory
     })
 }
 
-/// Keeps a copy of a datagram that was sent.
-fn keep(kept: &mut PacketHistory, datagram: &[u8]) -> u32
-    ensures { KeepsDatagram kept.old datagram.now result kept.new }
+/// Keeps a copy of a datagram, and writes what the history did with it.
+fn keep(history: &mut PacketHistory, datagram: &[u8], kept: &mut u32) -> u32
+    ensures keeps { KeepsDatagram history.old datagram.now result kept.old kept.new history.new }
+    ensures unchanged { result ≢ 0 → kept.new ≡ kept.old }
 {
-    match kept.history.keep(datagram) {
-        Ok(()) => status::OK,
+    match history.history.keep(datagram) {
+        Ok(Kept::Stored) => {
+            *kept = 0;
+            status::OK
+        }
+        Ok(Kept::TooOld) => {
+            *kept = 1;
+            status::OK
+        }
         Err(KeepError::Rtp(fault)) => status_of(fault),
         Err(KeepError::OutOfMemory) => status::OUT_OF_MEMORY,
     }
@@ -100,11 +108,13 @@ fn resend(
         Err(_) => status::OUT_OF_MEMORY,
         Ok(Resent::Written) => {
             *size = kept.datagram.len();
-            if !fill(bytes, &kept.datagram) {
-                return status::TOO_SMALL;
-            }
+            let _ = fill(bytes, &kept.datagram);
             *resent = 0;
             status::OK
+        }
+        Ok(Resent::TooLarge) => {
+            *size = kept.datagram.len();
+            status::TOO_SMALL
         }
         Ok(Resent::NotKept) => {
             *size = 0;
@@ -211,21 +221,27 @@ pub extern "C" fn cpay_history_new(
     }
 }
 
-/// Keeps a copy of a datagram that was sent, as the newest packet.
+/// Keeps a copy of a datagram at its number, and writes what the history did with it.
 #[unsafe(no_mangle)]
-pub extern "C" fn cpay_history_keep(alloc: Global, handle: &mut Handle, datagram: &[u8]) -> u32
-    ensures keeps { OnPacketHistory handle.old.place.value (λ r s. KeepsDatagram r datagram.now result s) handle.new.place.value }
+pub extern "C" fn cpay_history_keep(
+    alloc: Global,
+    handle: &mut Handle,
+    datagram: &[u8],
+    kept: &mut u32,
+) -> u32
+    ensures keeps { OnPacketHistory handle.old.place.value (λ r s. KeepsDatagram r datagram.now result kept.old kept.new s) handle.new.place.value }
     ensures refused { Refuses is_packet_history handle.old.place.value result handle.new.place.value }
+    ensures unchanged { result ≢ 0 → kept.new ≡ kept.old }
 {
     let Some(mut object) = handle.take(alloc) else {
         return status::EMPTY;
     };
-    let answer = match &mut *object {
-        Object::PacketHistory(kept) => keep(kept, datagram),
+    let status = match &mut *object {
+        Object::PacketHistory(history) => keep(history, datagram, kept),
         _ => status::OTHER_KIND,
     };
     handle.put(object);
-    answer
+    status
 }
 
 /// Resends the packet with that number: writes it again to the output buffer. If that is too small, nothing changes.

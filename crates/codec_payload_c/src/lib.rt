@@ -2,6 +2,7 @@
 #![tactic(auto)]
 
 mod adaptive_wait;
+mod beginnings;
 mod buffer;
 mod depacketizer;
 mod extension;
@@ -12,6 +13,7 @@ mod inspect;
 mod media;
 mod packetizer;
 mod receiver;
+mod receiver_units;
 mod red;
 mod red_blocks;
 mod red_places;

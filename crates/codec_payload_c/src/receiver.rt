@@ -1,13 +1,13 @@
 //! Receivers: the datagrams of one stream in, units out.
 
-ghost use Rattle.std.specs.Prelude.{◌≡◌, ◌≢◌, ◌&&◌, ◌++◌, drop, is_some, length, nat_le, nat_lt, if◌then◌else◌, Bool, IfErr, IfOk, IfSome, IsSome, Option};
+ghost use Rattle.std.specs.Prelude.{◌≡◌, ◌≢◌, ◌&&◌, ◌++◌, drop, is_some, length, nat_le, nat_lt, if◌then◌else◌, Bool, IfErr, IfOk, IfSome, Option};
 ghost use Rattle.codec_payload_core.specs.Depacketizers.{depacketizer_state_of};
 ghost use Rattle.codec_payload_jitter.specs.Missing.{missing_numbers};
 ghost use Rattle.codec_payload_jitter.specs.Receiving.{deadline_of};
 ghost use Rattle.codec_payload_stream.specs.Reports.{report_of, reported};
-ghost use Rattle.codec_payload_stream.specs.Sessions.{Finishes, restarted};
+ghost use Rattle.codec_payload_stream.specs.Sessions.{restarted};
 ghost use Rattle.codec_payload_c.specs.Refusals.{RefusesSettings};
-ghost use Rattle.codec_payload_c.specs.StreamReceivers.{AreSettings, HandsOver, IsNewStream, IsStreamReceiverOf, PopsUnit, Takes, Tells, TellsCounts, TellsMissing, TellsNumber, TellsReport, TellsTaken, without_units, bound_given, from_keyframe_numbered, is_in_range, judged_by, outcome_number, red_rtx_in_range, red_set, rtx_set, restarted_as, wait_limits_given, waiting_by};
+ghost use Rattle.codec_payload_c.specs.StreamReceivers.{AreSettings, EndsWith, IsNewStream, IsStreamReceiverOf, Takes, Tells, TellsCounts, TellsMissing, TellsNumber, TellsReport, at_once_if, without_units, bound_given, from_keyframe_numbered, is_in_range, outcome_number, red_rtx_in_range, red_set, rtx_set, restarted_as, wait_limits_given, waiting_by};
 ghost use Rattle.codec_payload_handle.specs.Kinds.{Makes, OnStreamReceiver, Refuses, is_stream_receiver};
 ghost use Rattle.codec_payload_handle.specs.Settings.{depacketizer_set};
 
@@ -15,13 +15,11 @@ use crate::extension::{ExtensionIds, ids_of};
 use crate::rtp::status_of;
 use codec_payload_core::codec::CodecDepacketizer;
 use codec_payload_core::wire::{Frequency, Ticks};
-use codec_payload_handle::extension_values::ExtensionValues;
 use codec_payload_handle::handle::Handle;
 use codec_payload_handle::object::{Object, StreamReceiver};
 use codec_payload_handle::settings::{Spec, depacketizer_of};
 use codec_payload_handle::slot::{TakenPackets, UnitSlot};
 use codec_payload_handle::status;
-use codec_payload_handle::unit::Unit;
 use codec_payload_jitter::jitter::WaitLimits as Waiting;
 use codec_payload_jitter::outcome::Outcome;
 use codec_payload_stream::receiver::{
@@ -307,57 +305,6 @@ pub(crate) fn report_answer(answer: Result<Outcome, ReceiveError>, outcome: &mut
     }
 }
 
-/// Adds what a receiver knows of the unit that it released to the description: its extended RTP time, and whether it is
-/// decodable.
-fn judge(unit: &mut Unit, receiver: &Receiver)
-    ensures { unit.new ≡ judged_by receiver.now unit.old }
-{
-    if let Some(time) = receiver.unit_time() {
-        unit.rtp_time = time;
-    }
-    unit.decodable = receiver.unit_is_decodable();
-    unit.keyframe = receiver.unit_is_keyframe();
-}
-
-/// Describes the unit that waits, and writes it to the output buffer. If that is too small, the unit still waits.
-#[inline(always)]
-fn hand_over(stream: &mut StreamReceiver, alloc: Global, unit: &mut Unit, bytes: &mut [u8]) -> u32
-    requires { IsSome stream.old.waiting }
-    ensures { IfSome stream.old.waiting (λ u. HandsOver u result unit.new bytes.old bytes.new stream.old stream.new) }
-{
-    let has_room = stream.waiting.write(unit, bytes);
-    judge(unit, &stream.receiver);
-    if !has_room {
-        return status::TOO_SMALL;
-    }
-    stream.waiting.move_to(&mut stream.taken, alloc);
-    status::OK
-}
-
-/// Writes the next unit to the output buffer: the unit that waits for a larger output buffer, or the next one from the
-/// receiver.
-fn pop(
-    stream: &mut StreamReceiver,
-    alloc: Global,
-    now: u64,
-    unit: &mut Unit,
-    bytes: &mut [u8],
-) -> u32
-    ensures { PopsUnit stream.old now result unit.old unit.new bytes.old bytes.new stream.new }
-{
-    if stream.waiting.is_some() {
-        return hand_over(stream, alloc, unit, bytes);
-    }
-    match stream
-        .waiting
-        .pop_receiver(&mut stream.receiver, Ticks(now))
-    {
-        None => status::NONE,
-        Some(Err(fault)) => u32::from(fault.number()),
-        Some(Ok(())) => hand_over(stream, alloc, unit, bytes),
-    }
-}
-
 /// Returns the counters of a receiver, and whether a unit waits.
 fn counts_of(stream: &StreamReceiver) -> ReceiverCountsInfo
     ensures { TellsCounts stream.now result }
@@ -518,57 +465,17 @@ pub extern "C" fn cpay_receiver_receive(
     answer
 }
 
-/// Writes the next unit to the output buffer, if one is due at that time.
-#[unsafe(no_mangle)]
-pub extern "C" fn cpay_receiver_pop(
-    alloc: Global,
-    handle: &mut Handle,
-    now: u64,
-    unit: &mut Unit,
-    bytes: &mut [u8],
-) -> u32
-    ensures pops { OnStreamReceiver handle.old.place.value (λ r s. PopsUnit r now result unit.old unit.new bytes.old bytes.new s) handle.new.place.value }
-    ensures refused { Refuses is_stream_receiver handle.old.place.value result handle.new.place.value }
-    ensures untouched { result ≢ 0 → bytes.new ≡ bytes.old }
-    ensures unchanged { result ≢ 0 → result ≢ 33 → unit.new ≡ unit.old }
+/// Returns when a pop may return a unit even if no datagram arrives: at once if one waits for a larger output buffer.
+fn next_pop(stream: &StreamReceiver) -> Option<u64>
+    ensures { result ≡ at_once_if stream.now.waiting (deadline_of stream.now.receiver.packets) }
 {
-    let Some(mut object) = handle.take(alloc) else {
-        return status::EMPTY;
-    };
-    let answer = match &mut *object {
-        Object::StreamReceiver(stream) => pop(stream, alloc, now, unit, bytes),
-        _ => status::OTHER_KIND,
-    };
-    handle.put(object);
-    answer
-}
-
-/// Reads the values of header extensions of the latest popped unit.
-#[unsafe(no_mangle)]
-pub extern "C" fn cpay_receiver_values(
-    alloc: Global,
-    handle: &mut Handle,
-    values: &mut ExtensionValues,
-) -> u32
-    ensures tells { OnStreamReceiver handle.old.place.value (λ r s. (s ≡ r) × TellsTaken r.taken result values.old values.new) handle.new.place.value }
-    ensures refused { Refuses is_stream_receiver handle.old.place.value result handle.new.place.value }
-    ensures unchanged { result ≢ 0 → values.new ≡ values.old }
-{
-    let Some(mut object) = handle.take(alloc) else {
-        return status::EMPTY;
-    };
-    let answer = match &mut *object {
-        Object::StreamReceiver(stream) => match stream.taken.values() {
-            Some(told) => {
-                *values = told;
-                status::OK
-            }
-            None => status::NONE,
-        },
-        _ => status::OTHER_KIND,
-    };
-    handle.put(object);
-    answer
+    if stream.waiting.is_some() {
+        return Some(0);
+    }
+    match stream.receiver.next_deadline() {
+        Some(at) => Some(at.0),
+        None => None,
+    }
 }
 
 /// Reports when a pop may return a unit even if no datagram arrives.
@@ -578,7 +485,7 @@ pub extern "C" fn cpay_receiver_next_deadline(
     handle: &mut Handle,
     at: &mut u64,
 ) -> u32
-    ensures tells { OnStreamReceiver handle.old.place.value (λ r s. (s ≡ r) × TellsNumber (deadline_of r.receiver.packets) result at.old at.new) handle.new.place.value }
+    ensures tells { OnStreamReceiver handle.old.place.value (λ r s. (s ≡ r) × TellsNumber (at_once_if r.waiting (deadline_of r.receiver.packets)) result at.old at.new) handle.new.place.value }
     ensures refused { Refuses is_stream_receiver handle.old.place.value result handle.new.place.value }
     ensures unchanged { result ≢ 0 → at.new ≡ at.old }
 {
@@ -586,9 +493,9 @@ pub extern "C" fn cpay_receiver_next_deadline(
         return status::EMPTY;
     };
     let answer = match &mut *object {
-        Object::StreamReceiver(stream) => match stream.receiver.next_deadline() {
+        Object::StreamReceiver(stream) => match next_pop(stream) {
             Some(deadline) => {
-                *at = deadline.0;
+                *at = deadline;
                 status::OK
             }
             None => status::NONE,
@@ -648,20 +555,28 @@ pub extern "C" fn cpay_receiver_set_wait_limits(
     answer
 }
 
-/// Ends the stream: from now on pops wait for nothing.
+/// Ends the stream. If memory runs out for a packet that waits, nothing changes.
+fn finish(stream: &mut StreamReceiver) -> u32
+    ensures ends { EndsWith result stream.old.receiver stream.new.receiver }
+    ensures rest { stream.new ≡ record stream.old { receiver = stream.new.receiver } }
+{
+    match stream.receiver.finish() {
+        Ok(()) => status::OK,
+        Err(_) => status::OUT_OF_MEMORY,
+    }
+}
+
+/// Ends the stream: from now on pops wait for nothing. If memory runs out for a packet that waits, nothing changes.
 #[unsafe(no_mangle)]
 pub extern "C" fn cpay_receiver_finish(alloc: Global, handle: &mut Handle) -> u32
-    ensures ends { OnStreamReceiver handle.old.place.value (λ r s. (result ≡ 0) × Finishes r.receiver s.receiver × (s ≡ record r { receiver = s.receiver })) handle.new.place.value }
+    ensures ends { OnStreamReceiver handle.old.place.value (λ r s. EndsWith result r.receiver s.receiver × (s ≡ record r { receiver = s.receiver })) handle.new.place.value }
     ensures refused { Refuses is_stream_receiver handle.old.place.value result handle.new.place.value }
 {
     let Some(mut object) = handle.take(alloc) else {
         return status::EMPTY;
     };
     let answer = match &mut *object {
-        Object::StreamReceiver(stream) => {
-            stream.receiver.finish();
-            status::OK
-        }
+        Object::StreamReceiver(stream) => finish(stream),
         _ => status::OTHER_KIND,
     };
     handle.put(object);

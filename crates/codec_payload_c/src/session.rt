@@ -2,14 +2,12 @@
 
 ghost use Rattle.std.specs.Prelude.{◌≡◌, ◌≢◌, length, nat_le, Option};
 ghost use Rattle.codec_payload_core.specs.Faults.{fault_number};
+ghost use Rattle.codec_payload_session.specs.Idle.{next_of};
 ghost use Rattle.codec_payload_session.specs.Ports.{ends_all, ends_of};
-ghost use Rattle.codec_payload_session.specs.Reporting.{report_deadline};
-ghost use Rattle.codec_payload_session.specs.Streams.{due_in, earlier};
-ghost use Rattle.codec_payload_session.specs.Telephone.{due_before};
-ghost use Rattle.codec_payload_c.specs.SessionFormats.{IsPortSessionOf, is_in_range};
+ghost use Rattle.codec_payload_c.specs.SessionFormats.{IsPortSessionOf, MakesSession, is_in_range};
 ghost use Rattle.codec_payload_c.specs.Sessions.{Comes, Hands, PollsEvent, ReceivesDatagram, TellsArrival, TellsEvent, TellsJudgedBy, TellsTaken, arrived_as, bytes_in, ending_number, event_with, is_no_memory, latest_unit, popped_or, telephone_unit};
-ghost use Rattle.codec_payload_c.specs.StreamReceivers.{TellsNumber};
-ghost use Rattle.codec_payload_handle.specs.Kinds.{Makes, OnPortSession, Refuses, is_port_session};
+ghost use Rattle.codec_payload_c.specs.StreamReceivers.{TellsNumber, at_once_if};
+ghost use Rattle.codec_payload_handle.specs.Kinds.{OnPortSession, Refuses, is_port_session};
 ghost use Rattle.codec_payload_handle.specs.Units.{no_unit};
 
 use crate::receiver::report_answer;
@@ -25,7 +23,7 @@ use codec_payload_handle::status;
 use codec_payload_handle::unit::{Unit, no_unit, unit_of, values_in};
 use codec_payload_session::session::{Arrival as Arrived, Event as SessionEvent};
 use codec_payload_session::stream::Ending;
-use std::alloc::Global;
+use std::alloc::{AllocError, Global};
 
 /// What a session did with a datagram.
 #[repr(C)]
@@ -53,7 +51,7 @@ pub struct Event {
     pub ssrc: u32,
     /// For a refused frame: the number of its error, 1 to 16.
     pub status: u32,
-    /// For the end of a stream. 0: a BYE; 1: the idle timeout; 2: a call.
+    /// For the end of a stream. 0: a BYE; 1: the idle timeout; 2: a call; 3: a change of format.
     pub why: u32,
     /// The number of bytes in the output buffer: of the unit, the RTCP packet, or the payload of telephone events.
     pub bytes: usize,
@@ -217,8 +215,13 @@ fn event_of(event: &SessionEvent) -> Event
                 let unit = judged_unit(unit, *rtp_time, *decodable, *keyframe);
                 event_with(1, *ssrc, *payload_type, unit)
             }
-            Err(fault) => refused_event(*ssrc, *payload_type, fault),
+            Err(_) => event_without_unit(1, *ssrc, *payload_type),
         },
+        SessionEvent::Refused {
+            ssrc,
+            payload_type,
+            fault,
+        } => refused_event(*ssrc, *payload_type, fault),
         SessionEvent::Feedback {
             ssrc,
             payload_type,
@@ -251,10 +254,7 @@ fn is_no_memory(event: &SessionEvent) -> bool
     ensures { result ≡ is_no_memory event.now }
 {
     match event {
-        SessionEvent::Unit {
-            unit: Err(fault),
-            ..
-        } => u32::from(fault.number()) == status::OUT_OF_MEMORY,
+        SessionEvent::Unit { unit: Err(_), .. } => true,
         SessionEvent::Feedback { packet: Err(_), .. } => true,
         SessionEvent::Report { packet: Err(_) } => true,
         _ => false,
@@ -287,7 +287,7 @@ fn keep_unit(port: &mut PortSession, event: SessionEvent)
 }
 
 /// Keeps a unit that was popped.
-fn keep_popped(port: &mut PortSession, unit: Result<Depacketized, PacketError>)
+fn keep_popped(port: &mut PortSession, unit: Result<Depacketized, AllocError>)
     ensures { port.new ≡ record port.old { taken = popped_or unit port.old.taken } }
 {
     if let Ok(unit) = unit {
@@ -346,7 +346,7 @@ pub extern "C" fn cpay_session_new(
     no_media: &[u8],
     pairs: &[SsrcPair],
 ) -> u32
-    ensures { Makes (IsPortSessionOf settings.now formats.now no_media.now pairs.now) (is_in_range settings.now formats.now) handle.old.place.value result handle.new.place.value }
+    ensures { MakesSession (IsPortSessionOf settings.now formats.now no_media.now pairs.now) (is_in_range settings.now formats.now no_media.now) handle.old.place.value result handle.new.place.value }
 {
     if let Some(object) = handle.take(alloc) {
         handle.put(object);
@@ -445,6 +445,19 @@ pub extern "C" fn cpay_session_values(
     answer
 }
 
+/// Returns when a poll may have an event even if no datagram arrives: at once if one waits for a larger output buffer.
+fn next_poll(port: &PortSession) -> Option<u64>
+    ensures { result ≡ at_once_if port.now.waiting (next_of port.now.session) }
+{
+    if port.waiting.is_some() {
+        return Some(0);
+    }
+    match port.session.next_deadline() {
+        Some(at) => Some(at.0),
+        None => None,
+    }
+}
+
 /// Reports when a poll may have an event even if no datagram arrives.
 #[unsafe(no_mangle)]
 pub extern "C" fn cpay_session_next_deadline(
@@ -452,7 +465,7 @@ pub extern "C" fn cpay_session_next_deadline(
     handle: &mut Handle,
     at: &mut u64,
 ) -> u32
-    ensures tells { OnPortSession handle.old.place.value (λ r s. (s ≡ r) × TellsNumber (due_before r.session.telephone (earlier (due_in r.session.settings.idle_timeout r.session.port.streams) (report_deadline r.session.report_due r.session.port.streams))) result at.old at.new) handle.new.place.value }
+    ensures tells { OnPortSession handle.old.place.value (λ r s. (s ≡ r) × TellsNumber (at_once_if r.waiting (next_of r.session)) result at.old at.new) handle.new.place.value }
     ensures refused { Refuses is_port_session handle.old.place.value result handle.new.place.value }
     ensures unchanged { result ≢ 0 → at.new ≡ at.old }
 {
@@ -460,9 +473,9 @@ pub extern "C" fn cpay_session_next_deadline(
         return status::EMPTY;
     };
     let answer = match &mut *object {
-        Object::PortSession(port) => match port.session.next_deadline() {
+        Object::PortSession(port) => match next_poll(port) {
             Some(deadline) => {
-                *at = deadline.0;
+                *at = deadline;
                 status::OK
             }
             None => status::NONE,

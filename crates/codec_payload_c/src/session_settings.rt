@@ -2,14 +2,13 @@
 
 ghost use Rattle.std.specs.Prelude.{◌≡◌, ◌&&◌, is_some, map, filter_map, IfErr, IfOk, IfSome, Option, Bool};
 ghost use Rattle.std.specs.List.{list_all};
-ghost use Rattle.codec_payload_c.specs.Refusals.{RefusesSettings};
-ghost use Rattle.codec_payload_c.specs.SessionFormats.{HasPlainSettings, IsNewSession, MatchFeedback, format_given, format_in_range, is_in_range, pair_given, red_fits, red_given, session_in_range, telephone_given, types_fit};
+ghost use Rattle.codec_payload_c.specs.SessionFormats.{HasPlainSettings, IsNewSession, MatchFeedback, RefusesSession, format_given, format_in_range, is_in_range, no_media_given, pair_given, red_given, session_in_range, telephone_given};
 
 use crate::extension::{ExtensionIds, ids_of};
 use crate::receiver::{WaitLimits, from_keyframe_of, waiting_for};
 use codec_payload_core::wire::{CodecSpec, Frequency};
 use codec_payload_handle::object::PortSession;
-use codec_payload_handle::settings::{Spec, codec_of, depacketizer_of};
+use codec_payload_handle::settings::{Spec, codec_of};
 use codec_payload_handle::status;
 use codec_payload_requests::nack::NackSettings;
 use codec_payload_session::formats::{
@@ -82,6 +81,10 @@ pub struct SessionFeedback {
     pub tries: u32,
     /// The SSRC of the session as a sender of RTCP.
     pub ssrc: u32,
+    /// The canonical name of the session.
+    pub cname: [u8; 255],
+    /// How many bytes the name has, 1 to 255.
+    pub cname_len: u8,
     /// Whether each packet begins with an empty receiver report.
     pub has_report: bool,
     /// Whether `longest_wait` is set. If not, the wait limits stay.
@@ -120,27 +123,6 @@ pub struct SessionSettings {
     pub extension_ids: ExtensionIds,
 }
 
-/// Returns whether RED of the format, if it is used, is in range.
-fn red_fits(format: &SessionFormat) -> bool
-    ensures { result ≡ red_fits format.now }
-{
-    !format.has_red
-        || (format.red_payload_type <= 127
-            && format.red_payload_type != format.payload_type
-            && format.red_step >= 1
-            && format.red_step <= 16_383
-            && (!format.has_red_rtx || format.red_rtx_payload_type <= 127))
-}
-
-/// Returns whether the payload types and the step of RED are in range.
-fn types_fit(format: &SessionFormat) -> bool
-    ensures { result ≡ types_fit format.now }
-{
-    format.payload_type <= 127
-        && red_fits(format)
-        && (!format.has_rtx || format.rtx_payload_type <= 127)
-}
-
 /// Returns how the format uses RED.
 fn red_of(format: &SessionFormat) -> Option<RedSettings>
     ensures { result ≡ red_given format.now }
@@ -159,19 +141,11 @@ fn red_of(format: &SessionFormat) -> Option<RedSettings>
     })
 }
 
-/// Converts a format of C. `None`: the codec is unsupported, or a number is out of range.
-fn format_of(alloc: Global, format: &SessionFormat) -> Option<Format>
+/// Converts a format of C. `None`: its clock has no rate.
+fn format_of(format: &SessionFormat) -> Option<Format>
     ensures { result ≡ format_given format.now }
 {
-    let (Some(_), Some(clock_rate)) = (
-        depacketizer_of(alloc, &format.spec),
-        Frequency::make(format.spec.rate),
-    ) else {
-        return None;
-    };
-    if !types_fit(format) {
-        return None;
-    }
+    let clock_rate = Frequency::make(format.spec.rate)?;
     Some(Format {
         payload_type: format.payload_type,
         spec: CodecSpec {
@@ -190,29 +164,27 @@ fn format_of(alloc: Global, format: &SessionFormat) -> Option<Format>
     })
 }
 
-/// Returns whether the format is in range.
-fn is_format_in_range(alloc: Global, format: &SessionFormat) -> bool
+/// Returns whether the clock of the format has a rate.
+fn is_format_in_range(format: &SessionFormat) -> bool
     ensures { result ≡ format_in_range format.now }
 {
-    format_of(alloc, format).is_some()
+    format.spec.rate > 0
 }
 
-/// Returns whether all formats are in range.
-fn are_in_range(alloc: Global, formats: &[SessionFormat]) -> bool
+/// Returns whether the clocks of all formats have rates.
+fn are_in_range(formats: &[SessionFormat]) -> bool
     ensures { result ≡ list_all format_in_range formats.now }
 {
-    formats
-        .iter()
-        .all(|format| is_format_in_range(alloc, format))
+    formats.iter().all(|format| is_format_in_range(format))
 }
 
-/// Converts the formats of C that are in range.
+/// Converts the formats of C whose clocks have rates.
 fn formats_of(alloc: Global, formats: &[SessionFormat]) -> Result<Vec<Format>, AllocError>
     ensures { IfOk result (λ list. list.items ≡ filter_map format_given formats.now) }
 {
     formats
         .iter()
-        .filter_map(|format| format_of(alloc, format))
+        .filter_map(|format| format_of(format))
         .collect(alloc)
 }
 
@@ -243,6 +215,26 @@ fn telephone_of(entry: u8) -> Option<u8>
     Some(entry - 128)
 }
 
+/// Returns the payload type without media that this entry is, if it is not one of telephone events.
+fn no_media_of(entry: u8) -> Option<u8>
+    ensures { result ≡ no_media_given entry }
+{
+    if entry < 128 {
+        return Some(entry);
+    }
+    None
+}
+
+/// Returns the payload types without media, except those of telephone events.
+fn dropped_of(alloc: Global, no_media: &[u8]) -> Result<Vec<u8>, AllocError>
+    ensures { IfOk result (λ list. list.items ≡ filter_map no_media_given no_media.now) }
+{
+    no_media
+        .iter()
+        .filter_map(|entry| no_media_of(*entry))
+        .collect(alloc)
+}
+
 /// Returns the payload types of telephone events among the types without media.
 fn telephones_of(alloc: Global, no_media: &[u8]) -> Result<Vec<u8>, AllocError>
     ensures { IfOk result (λ list. list.items ≡ filter_map telephone_given no_media.now) }
@@ -253,17 +245,22 @@ fn telephones_of(alloc: Global, no_media: &[u8]) -> Result<Vec<u8>, AllocError>
         .collect(alloc)
 }
 
-/// Converts the settings of requests; without a name no source description is sent.
-fn feedback_of(alloc: Global, settings: &SessionSettings) -> Option<FeedbackSettings>
-    ensures { MatchFeedback settings.now result }
+/// Converts the settings of requests, if they are set.
+fn feedback_of(
+    alloc: Global,
+    settings: &SessionSettings,
+) -> Result<Option<FeedbackSettings>, AllocError>
+    ensures { IfOk result (MatchFeedback settings.now) }
 {
     if !settings.has_feedback {
-        return None;
+        return Ok(None);
     }
+    let len = usize::from(settings.feedback.cname_len);
+    let cname = Vec::from_slice(alloc, &settings.feedback.cname[..len])?;
     let feedback = settings.feedback;
-    Some(FeedbackSettings {
+    Ok(Some(FeedbackSettings {
         ssrc: feedback.ssrc,
-        cname: Vec::new(alloc),
+        cname,
         has_report: feedback.has_report,
         nack: NackSettings {
             first_wait: feedback.first_wait,
@@ -285,21 +282,17 @@ fn feedback_of(alloc: Global, settings: &SessionSettings) -> Option<FeedbackSett
         } else {
             None
         },
-    })
+    }))
 }
 
-/// Returns whether the numbers of the settings are in range.
+/// Returns whether the clock has a rate, and `from_keyframe` a meaning.
 fn is_session_in_range(settings: &SessionSettings) -> bool
     ensures { result ≡ session_in_range settings.now }
 {
-    settings.tick_rate > 0
-        && settings.from_keyframe <= 2
-        && settings.limit >= 1
-        && settings.limit <= 65_536
-        && settings.max_streams > 0
+    settings.tick_rate > 0 && settings.from_keyframe <= 2
 }
 
-/// Converts the settings of C, without any lists. `None`: a number is out of range.
+/// Converts the settings of C, without any lists and feedback. `None`: the clock has no rate, or `from_keyframe` no meaning.
 fn settings_of(alloc: Global, settings: &SessionSettings) -> Option<Settings>
     ensures made { is_some result ≡ session_in_range settings.now }
     ensures settings { IfSome result (HasPlainSettings settings.now) }
@@ -324,32 +317,33 @@ fn settings_of(alloc: Global, settings: &SessionSettings) -> Option<Settings>
         idle_timeout: settings.idle_timeout,
         bye_wait: settings.bye_wait,
         tick_rate,
-        feedback: feedback_of(alloc, settings),
+        feedback: None,
     })
 }
 
-/// Creates a session. Settings out of range are refused before memory that has run out.
+/// Creates a session. Which settings it can meet, it says itself.
 pub(crate) fn session_by(
     alloc: Global,
-    settings: &SessionSettings,
+    given: &SessionSettings,
     formats: &[SessionFormat],
     no_media: &[u8],
     pairs: &[SsrcPair],
 ) -> Result<PortSession, u32>
-    ensures ok { IfOk result (λ s. IsNewSession settings.now formats.now no_media.now pairs.now s × (is_in_range settings.now formats.now ≡ Bool.true)) }
-    ensures err { IfErr result (λ status. RefusesSettings (is_in_range settings.now formats.now) status) }
+    ensures ok { IfOk result (λ s. IsNewSession given.now formats.now no_media.now pairs.now s × (is_in_range given.now formats.now no_media.now ≡ Bool.true)) }
+    ensures err { IfErr result (λ status. RefusesSession (is_in_range given.now formats.now no_media.now) status) }
 {
-    let Some(mut settings) = settings_of(alloc, settings) else {
+    let Some(mut settings) = settings_of(alloc, given) else {
         return Err(status::INVALID);
     };
-    if !are_in_range(alloc, formats) {
+    if !are_in_range(formats) {
         return Err(status::INVALID);
     }
-    let (Ok(formats), Ok(telephone_events), Ok(no_media), Ok(pairs)) = (
+    let (Ok(formats), Ok(telephone_events), Ok(no_media), Ok(pairs), Ok(feedback)) = (
         formats_of(alloc, formats),
         telephones_of(alloc, no_media),
-        Vec::from_slice(alloc, no_media),
+        dropped_of(alloc, no_media),
         pairs_of(alloc, pairs),
+        feedback_of(alloc, given),
     ) else {
         return Err(status::OUT_OF_MEMORY);
     };
@@ -357,9 +351,13 @@ pub(crate) fn session_by(
     settings.no_media = no_media;
     settings.telephone_events = telephone_events;
     settings.pairs = pairs;
-    Ok(PortSession {
-        session: Session::new(alloc, settings),
-        waiting: None,
-        taken: None,
-    })
+    settings.feedback = feedback;
+    match Session::new(alloc, settings) {
+        Ok(session) => Ok(PortSession {
+            session,
+            waiting: None,
+            taken: None,
+        }),
+        Err(_) => Err(status::INVALID),
+    }
 }

@@ -41,12 +41,16 @@ pub struct SessionStream {
     pub taken: u64,
     /// When it ends, if it is leaving; 0 in other stages.
     pub ends_at: u64,
+    /// The measured round-trip time in ticks, once a request of the session was answered; else 0.
+    pub round_trip: u64,
     pub ssrc: u32,
     /// 0: in probation; 1: playing; 2: leaving; 3: draining.
     pub stage: u32,
     /// Why it ends, if it is leaving or draining. 0: a BYE; 1: the idle timeout; 2: a call; 3: a change of format.
     pub why: u32,
     pub payload_type: u8,
+    /// Whether `round_trip` is set.
+    pub has_round_trip: bool,
     /// The counters of its receiver.
     pub counts: ReceiverCountsInfo,
 }
@@ -116,10 +120,12 @@ fn stream_at(port: &PortSession, place: usize, stream: &mut SessionStream) -> u3
     *stream = SessionStream {
         taken: info.taken,
         ends_at: end_of(info.stage),
+        round_trip: info.round_trip.unwrap_or(0),
         ssrc: info.ssrc,
         stage: number_of_stage(info.stage),
         why: reason_of(info.stage),
         payload_type: info.payload_type,
+        has_round_trip: info.round_trip.is_some(),
         counts: counts_by(receiver),
     };
     status::OK

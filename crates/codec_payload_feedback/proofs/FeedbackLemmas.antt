@@ -3,11 +3,11 @@ use Rattle.std.proofs.Common.{◌≡◌, ◌≤◌, ◌∙◌, ℕ, suc, ◌+◌
 use Rattle.std.proofs.lemmas.Bool.Decides.{nat_tests}
 use Rattle.std.proofs.lemmas.List.{append-nil}
 use Rattle.codec_payload_rtcp.specs.RtcpPackets.{Packet}
-use Rattle.codec_payload_rtcp.specs.RtcpWriting.{AreUnpadded}
+use Rattle.codec_payload_rtcp.specs.RtcpWriting.{Appends, AreUnpadded}
 use Rattle.codec_payload_rtcp.specs.NackNumbers.{Packs, numbers_in}
 use Rattle.codec_payload_requests.specs.NackSchedule.{Schedule, due_numbers, followed, is_due, low_bits}
 use Rattle.codec_payload_requests.specs.declared.nack.PendingRequest.{PendingRequest}
-use Rattle.codec_payload_feedback.specs.Feedback.{AppendsAll, AppendsNack, Bounded, IsFeedback, Source, cname_part, has_any, keyframe_part, nack_by, report_part}
+use Rattle.codec_payload_feedback.specs.Feedback.{AppendsAll, AppendsNack, Bounded, IsFeedback, Source, description_part, has_any, keyframe_part, nack_by, report_part}
 
 -- ---- packets
 
@@ -45,13 +45,13 @@ pairs_some numbers old pairs lent none same is packs =
     subst (λ (l : List ℕ). 1 ≤ length l) (sym same) (some_pairs numbers pairs is (subst (λ (l : List ℕ). Packs l pairs numbers) none packs))
 
 pub all_four : (s : Source) (media : ℕ) (numbers : List ℕ) (keyframe : Bool) (a b c d e : List ℕ) → a ≡ [] → has_any numbers keyframe ≡ true → AppendsAll (report_part s) a b
-    → AppendsAll (cname_part s) b c → AppendsNack s.ssrc media numbers c d → AppendsAll (keyframe_part s.ssrc media keyframe) d e → IsFeedback s media numbers keyframe (Some e)
+    → AppendsAll (description_part s) b c → AppendsNack s.ssrc media numbers c d → AppendsAll (keyframe_part s.ssrc media keyframe) d e → IsFeedback s media numbers keyframe (Some e)
 all_four s media numbers keyframe a b c d e none any report cname asks picture =
-    let four : AppendsAll (report_part s ++ (cname_part s ++ (nack_by s.ssrc media numbers asks.0 ++ keyframe_part s.ssrc media keyframe))) [] e =
-    both (report_part s) (cname_part s ++ (nack_by s.ssrc media numbers asks.0 ++ keyframe_part s.ssrc media keyframe)) [] b e (subst (λ (l : List ℕ). AppendsAll (report_part s) l b) none report)
-    (both (cname_part s) (nack_by s.ssrc media numbers asks.0 ++ keyframe_part s.ssrc media keyframe) b c e cname
+    let four : AppendsAll (report_part s ++ (description_part s ++ (nack_by s.ssrc media numbers asks.0 ++ keyframe_part s.ssrc media keyframe))) [] e =
+    both (report_part s) (description_part s ++ (nack_by s.ssrc media numbers asks.0 ++ keyframe_part s.ssrc media keyframe)) [] b e (subst (λ (l : List ℕ). AppendsAll (report_part s) l b) none report)
+    (both (description_part s) (nack_by s.ssrc media numbers asks.0 ++ keyframe_part s.ssrc media keyframe) b c e cname
     (both (nack_by s.ssrc media numbers asks.0) (keyframe_part s.ssrc media keyframe) c d e asks.2 picture)) in
-    (any, asks.0, asks.1, subst (λ (l : List ℕ). AreUnpadded (report_part s ++ (cname_part s ++ (nack_by s.ssrc media numbers asks.0 ++ keyframe_part s.ssrc media keyframe))) l) (sym four.2) four.1)
+    (any, asks.0, asks.1, subst (λ (l : List ℕ). AreUnpadded (report_part s ++ (description_part s ++ (nack_by s.ssrc media numbers asks.0 ++ keyframe_part s.ssrc media keyframe))) l) (sym four.2) four.1)
 
 -- ---- numbers
 
@@ -70,3 +70,14 @@ length_filter now (r ∷ rs) = by_test (is_due now r) (length_filter now rs)
 pub few_due : (now : ℕ) (s : Schedule) (old numbers : List ℕ) → Bounded s → old ≡ [] → numbers ≡ old ++ map low_bits (due_numbers now s) → length numbers ≤ 65533
 few_due now s old numbers kept none is =
     omega (arith, ap (λ (l : List ℕ). length l) (is ∙ ap (λ (l : List ℕ). l ++ map low_bits (due_numbers now s)) none), length_map low_bits (due_numbers now s), length_map (λ (r : PendingRequest). r.number) (filter (is_due now) s.pending), length_filter now s.pending, kept.pending)
+
+-- ---- transport-wide feedback
+
+one : (p : Packet) (a b : List ℕ) → Appends a b p → AppendsAll (p ∷ []) a b
+one p a b h = (h.0, (h.0, [], h.1, refl, sym (append-nil h.0)), h.2)
+
+pub all_three : (s : Source) (p : Packet) (a b c d : List ℕ) → a ≡ [] → AppendsAll (report_part s) a b → AppendsAll (description_part s) b c → Appends c d p → AreUnpadded (report_part s ++ (description_part s ++ p ∷ [])) d
+all_three s p a b c d none report cname feedback =
+    let three : AppendsAll (report_part s ++ (description_part s ++ p ∷ [])) [] d =
+    both (report_part s) (description_part s ++ p ∷ []) [] b d (subst (λ (l : List ℕ). AppendsAll (report_part s) l b) none report) (both (description_part s) (p ∷ []) b c d cname (one p c d feedback)) in
+    subst (λ (l : List ℕ). AreUnpadded (report_part s ++ (description_part s ++ p ∷ [])) l) (sym three.2) three.1

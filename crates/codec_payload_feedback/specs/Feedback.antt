@@ -51,6 +51,14 @@ cname_by ssrc (c ∷ cs) = source_description (cname_chunk ssrc (c ∷ cs) ∷ [
 abbrev pub cname_part : Source → List Packet
 cname_part s = cname_by s.ssrc s.cname
 
+abbrev pub cname_if : Bool → Source → List Packet
+cname_if true s = cname_part s
+cname_if false s = []
+
+-- a compound packet has the name (RFC 3550, section 6.1); one of reduced size has feedback alone (RFC 5506)
+abbrev pub description_part : Source → List Packet
+description_part s = cname_if s.has_report s
+
 abbrev pub nack_by : ℕ → ℕ → List ℕ → List ℕ → List Packet
 nack_by sender media [] pairs = []
 nack_by sender media (n ∷ ns) pairs = nack (record { sender = sender; media = media; fci = pairs }) ∷ []
@@ -67,7 +75,7 @@ AppendsNack sender media numbers old new =
 -- the packets of a source with these requests
 abbrev pub packets_of : Source → ℕ → List ℕ → List ℕ → Bool → List Packet
 packets_of s media numbers pairs keyframe =
-    report_part s ++ (cname_part s ++ (nack_by s.ssrc media numbers pairs ++ keyframe_part s.ssrc media keyframe))
+    report_part s ++ (description_part s ++ (nack_by s.ssrc media numbers pairs ++ keyframe_part s.ssrc media keyframe))
 
 -- something is requested
 abbrev pub has_any : List ℕ → Bool → Bool

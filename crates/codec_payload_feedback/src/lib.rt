@@ -2,3 +2,4 @@
 #![tactic(auto)]
 
 pub mod requests;
+pub mod transport;

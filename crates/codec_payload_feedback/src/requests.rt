@@ -1,12 +1,15 @@
 //! The requests of one stream, and the compound packets that carry them.
 
-ghost use Rattle.std.specs.Prelude.{◌≡◌, ◌≤◌, ◌/◌, IfErr, IfOk, OnErr, OnOk, length};
+ghost use Rattle.std.specs.Prelude.{◌≡◌, ◌≤◌, ◌/◌, ◌%◌, ◌∷◌, [], ◌++◌, IfErr, IfOk, OnErr, OnOk, length};
+ghost use Rattle.codec_payload_rtcp.specs.RtcpWriting.{AreUnpadded};
+ghost use Rattle.codec_payload_congestion.specs.Packet.{transport_feedback};
 ghost use Rattle.std.specs.Option.{option_map};
 ghost use Rattle.codec_payload_requests.specs.NackSchedule.{requested_by};
 ghost use Rattle.codec_payload_requests.specs.Requests.{earlier};
-ghost use Rattle.codec_payload_feedback.specs.Feedback.{AppendsAll, AppendsNack, IsFeedback, after_answered, after_feedback, cname_part, deadline_of, has_any, keyframe_is_due, keyframe_part, new_requests, numbers_due, report_part, source_by, updated};
+ghost use Rattle.codec_payload_feedback.specs.Feedback.{AppendsAll, AppendsNack, IsFeedback, after_answered, after_feedback, deadline_of, description_part, has_any, keyframe_is_due, keyframe_part, new_requests, numbers_due, report_part, source_by, updated};
 
 use codec_payload_base::wire::Ticks;
+use codec_payload_congestion::packet::write_transport_packet;
 use codec_payload_requests::keyframe::KeyframeRequests;
 use codec_payload_requests::nack::{NackSchedule, NackSettings};
 use codec_payload_rtcp::nack::pack_numbers;
@@ -61,9 +64,10 @@ impl Model for StreamRequests {
 }
 
 impl FeedbackSource {
-    /// Returns a source of feedback with its own SSRC. `cname` is its canonical name (RFC 3550, section 6.5.1); without bytes no
-    /// source description is sent. With `has_report` each packet begins with an empty receiver report, as RFC 3550, section 6.1,
-    /// asks; else it has reduced size (RFC 5506). `None`: the name has more than 255 bytes. Does not allocate.
+    /// Returns a source of feedback with its own SSRC. `cname` is its canonical name (RFC 3550, section 6.5.1). With `has_report`
+    /// each packet is a compound packet: it begins with an empty receiver report and the name, as RFC 3550, section 6.1, asks;
+    /// without bytes in `cname` the name is left out. Else a packet has the requests alone: reduced size (RFC 5506). `None`: the
+    /// name has more than 255 bytes. Does not allocate.
     pub fn new(alloc: Global, ssrc: u32, cname: Vec<u8>, has_report: bool) -> Option<FeedbackSource>
         ensures { result ≡ source_by ssrc cname.items has_report }
     {
@@ -93,14 +97,32 @@ impl FeedbackSource {
         report.write(out)
     }
 
-    /// Appends the description of the source.
+    /// Appends the description of the source, if the packet is a compound packet.
     fn write_description(&self, out: &mut Vec<u8>) -> Result<(), AllocError>
-        ensures { OnOk result (AppendsAll (cname_part self.now) out.old.items out.new.items) }
+        ensures { OnOk result (AppendsAll (description_part self.now) out.old.items out.new.items) }
     {
-        if self.cname.is_empty() {
+        if !self.has_report || self.cname.is_empty() {
             return Ok(());
         }
         write_cname(self.ssrc, &self.cname, out)
+    }
+
+    /// Returns a packet of transport-wide feedback with this control information, which is whole words and at most 262,132 bytes. In a
+    /// compound packet the report and the name come before it.
+    pub(crate) fn transport_packet(
+        &self,
+        media_ssrc: u32,
+        fci: &[u8],
+    ) -> Result<Vec<u8>, AllocError>
+        requires whole { length fci.now % 4 ≡ 0 }
+        requires short { length fci.now ≤ 262132 }
+        ensures { IfOk result (λ packet. AreUnpadded (report_part self.now ++ (description_part self.now ++ transport_feedback self.now.ssrc media_ssrc fci.now ∷ [])) packet.items) }
+    {
+        let mut out = Vec::new(self.alloc);
+        self.write_report(&mut out)?;
+        self.write_description(&mut out)?;
+        write_transport_packet(self.ssrc, media_ssrc, fci, &mut out)?;
+        Ok(out)
     }
 
     /// Appends a NACK of the numbers, if there are any.
@@ -209,9 +231,9 @@ impl StreamRequests {
         Ok(())
     }
 
-    /// Returns a compound packet with the requests that are due, and counts them as sent: a NACK of the numbers (RFC 4585, section
-    /// 6.2.1), lowest first, and a PLI if a keyframe is due (section 6.3.1), behind the report and the name of `source`.
-    /// `None`: nothing is due.
+    /// Returns a packet with the requests that are due, and counts them as sent: a NACK of the numbers (RFC 4585, section 6.2.1),
+    /// lowest first, and a PLI if a keyframe is due (section 6.3.1). If `source` sends compound packets, its report and its name come
+    /// before them. `None`: nothing is due.
     ///
     /// # Errors
     ///

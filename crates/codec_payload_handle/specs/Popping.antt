@@ -3,7 +3,9 @@ use Rattle.std.specs.Prelude.{◌≡◌, ◌≢◌, ◌⊎◌, ℕ, ◌<◌, ◌
 use Rattle.codec_payload_core.specs.Faults.{fault_number}
 use Rattle.codec_payload_core.specs.Release.{Release}
 use Rattle.codec_payload_core.specs.declared.error.PacketError.{PacketError}
+use Rattle.codec_payload_core.specs.declared.error.PacketError.TheVariants as faults
 use Rattle.codec_payload_handle.specs.Bytes.{filled}
+use Rattle.codec_payload_handle.specs.Units.{refused_unit}
 use Rattle.codec_payload_handle.specs.declared.unit.Unit.{Unit as CUnit}
 
 -- the answer of a pop
@@ -62,4 +64,30 @@ pub record AnswersPop (Stays : Type 0) (Popped : Answer → Type 0) (Told : Rele
   pub too_small : status ≡ 33 → Keeps Stays Popped Told h
   pub none : status ≡ 32 → GivesNone Popped h
   pub fault : status ≢ 0 → status ≢ 32 → status ≢ 33 → GivesFault Popped status h
+  pub unchanged : status ≢ 0 → status ≢ 33 → (h.unit ≡ h.unit_before) × (h.bytes ≡ h.before)
+
+-- the pop of a receiver refused a frame: its fault, which is not out of memory, is the description, and there are no bytes
+pub record GivesRefusal (Popped : Answer → Type 0) (h : Handing) : Type 0 where
+  pub none_waited : h.waited ≡ None
+  pub fault : PacketError
+  pub not_memory : fault_number fault ≢ 17
+  pub tells : h.unit ≡ refused_unit fault
+  pub pops : Popped (Some (Err fault))
+  pub none_waits : h.waits ≡ None
+  pub untouched : h.bytes ≡ h.before
+
+-- memory ran out for a pop of a receiver
+pub record GivesNoMemory (Popped : Answer → Type 0) (status : ℕ) (h : Handing) : Type 0 where
+  pub none_waited : h.waited ≡ None
+  pub number : status ≡ 17
+  pub pops : Popped (Some (Err faults.OutOfMemory))
+  pub none_waits : h.waits ≡ None
+
+-- the next unit or refused frame of a receiver, by the status and the fault of the description
+pub record AnswersPopOrRefusal (Stays : Type 0) (Popped : Answer → Type 0) (Told : Release → CUnit → Type 0) (status : ℕ) (h : Handing) : Type 0 where
+  pub ok : status ≡ 0 → h.unit.fault ≡ 0 → Gives Stays Popped Told h
+  pub refused : status ≡ 0 → h.unit.fault ≢ 0 → GivesRefusal Popped h
+  pub too_small : status ≡ 33 → Keeps Stays Popped Told h
+  pub none : status ≡ 32 → GivesNone Popped h
+  pub no_memory : status ≢ 0 → status ≢ 32 → status ≢ 33 → GivesNoMemory Popped status h
   pub unchanged : status ≢ 0 → status ≢ 33 → (h.unit ≡ h.unit_before) × (h.bytes ≡ h.before)

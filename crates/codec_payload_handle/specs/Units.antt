@@ -1,8 +1,10 @@
 -- The description of a unit, for C.
 use Rattle.std.specs.Prelude.{◌≡◌, true, false, List, length}
 use Rattle.codec_payload_base.specs.declared.wire.extension.ExtensionValues.{ExtensionValues}
+use Rattle.codec_payload_core.specs.Faults.{fault_number}
 use Rattle.codec_payload_core.specs.Release.{Release, AreValues, IsFirst, IsLast, IsReceivedFirst}
 use Rattle.codec_payload_core.specs.declared.buffer.RtpMeta.{RtpMeta}
+use Rattle.codec_payload_core.specs.declared.error.PacketError.{PacketError}
 use Rattle.codec_payload_handle.specs.Extras.{extra_told, nothing_told}
 use Rattle.codec_payload_handle.specs.HeaderValues.{values_told}
 use Rattle.codec_payload_handle.specs.declared.extension_values.ExtensionValues.{ExtensionValues as CValues}
@@ -25,7 +27,12 @@ no_unit = record {
   decodable = false;
   keyframe = false;
   extra = nothing_told;
+  fault = 0;
 }
+
+-- a refused frame: its fault, and nothing else
+abbrev pub refused_unit : PacketError → CUnit
+refused_unit fault = record no_unit { fault = fault_number fault }
 
 -- the description of a unit without a receiver
 pub record TellsUnit (u : Release) (unit : CUnit) : Type 0 where
@@ -39,3 +46,4 @@ pub record TellsUnit (u : Release) (unit : CUnit) : Type 0 where
   pub decodable : unit.decodable ≡ true
   pub keyframe : unit.keyframe ≡ false
   pub extra : unit.extra ≡ extra_told u.codec_extra
+  pub no_fault : unit.fault ≡ 0

@@ -2,7 +2,7 @@
 
 ghost use Rattle.std.specs.Prelude.{◌≡◌, IsSome, None, is_some, option_map};
 ghost use Rattle.codec_payload_core.specs.Steps.{Pops};
-ghost use Rattle.codec_payload_stream.specs.Pops.{PopsGated};
+ghost use Rattle.codec_payload_stream.specs.Pops.{NamesFault, PopsGated, answer_of};
 ghost use Rattle.codec_payload_handle.specs.Slots.{IsWritten, PopsTo, TellsValuesOf};
 
 use crate::bytes::fill;
@@ -11,8 +11,9 @@ use crate::unit::{Unit, describe_popped};
 use codec_payload_core::buffer::{DepacketizingBuffer, PoppedPackets, PoppedUnit};
 use codec_payload_core::error::PacketError;
 use codec_payload_core::wire::Ticks;
+use codec_payload_stream::pops::Popped;
 use codec_payload_stream::receiver::Receiver;
-use std::alloc::Global;
+use std::alloc::{AllocError, Global};
 use std::marker::Model;
 
 /// The largest number of bytes that an empty slot keeps for the next unit.
@@ -83,23 +84,28 @@ impl UnitSlot {
         }
     }
 
-    /// Pops the next unit of a receiver of datagrams into the slot, which had none.
+    /// Pops the next unit of a receiver of datagrams into the slot, which had none. A refused frame leaves it without one.
     #[inline(always)]
     pub fn pop_receiver(
         &mut self,
         receiver: &mut Receiver,
         now: Ticks,
-    ) -> Option<Result<(), PacketError>>
-        ensures { PopsTo (λ answer. PopsGated now.0 receiver.old answer receiver.new) result self.new }
+    ) -> Option<Result<Popped<()>, AllocError>>
+        ensures pops { PopsTo (λ answer. PopsGated now.0 receiver.old answer receiver.new) (answer_of result) self.new }
+        ensures refused { NamesFault result }
     {
         match receiver.pop_unit(now, &mut self.unit) {
-            Some(Ok(())) => {
+            Some(Ok(Popped::Unit(()))) => {
                 self.is_some = true;
-                Some(Ok(()))
+                Some(Ok(Popped::Unit(())))
             }
-            Some(Err(fault)) => {
+            Some(Ok(Popped::Refused(fault))) => {
                 self.is_some = false;
-                Some(Err(fault))
+                Some(Ok(Popped::Refused(fault)))
+            }
+            Some(Err(e)) => {
+                self.is_some = false;
+                Some(Err(e))
             }
             None => {
                 self.is_some = false;

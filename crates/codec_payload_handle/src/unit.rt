@@ -3,11 +3,12 @@
 ghost use Rattle.std.specs.Prelude.{◌≡◌, ◌<◌, length};
 ghost use Rattle.codec_payload_core.specs.Release.{IsFirst, IsLast, IsReceivedFirst};
 ghost use Rattle.codec_payload_core.specs.Steps.{released_into};
-ghost use Rattle.codec_payload_handle.specs.Units.{TellsUnit, TellsValues, no_unit};
+ghost use Rattle.codec_payload_handle.specs.Units.{TellsUnit, TellsValues, no_unit, refused_unit};
 
 use crate::extension_values::{ExtensionValues, values_between};
 use crate::extra::{Extra, nothing, tell_extra};
 use codec_payload_core::buffer::{Depacketized, PoppedUnit, RtpMeta, UnitInfo};
+use codec_payload_core::error::PacketError;
 
 /// A unit, without its bytes.
 #[repr(C)]
@@ -33,6 +34,8 @@ pub struct Unit {
     pub keyframe: bool,
     /// The codec-specific data of its payloads.
     pub extra: Extra,
+    /// 0 for a unit. Of a receiver: the number of the fault of a refused frame; then all other fields are 0 or false.
+    pub fault: u32,
 }
 
 /// Returns the first of the packets.
@@ -98,6 +101,17 @@ pub fn no_unit() -> Unit
         decodable: false,
         keyframe: false,
         extra: nothing(),
+        fault: 0,
+    }
+}
+
+/// Returns the description of a frame that was refused with this fault.
+pub fn refused_unit(fault: &PacketError) -> Unit
+    ensures { result ≡ refused_unit fault.now }
+{
+    Unit {
+        fault: u32::from(fault.number()),
+        ..no_unit()
     }
 }
 
@@ -117,6 +131,7 @@ pub fn describe(unit: &mut Unit, info: &UnitInfo, bytes: &[u8], metas: &[RtpMeta
     unit.decodable = true;
     unit.keyframe = false;
     tell_extra(&mut unit.extra, &info.codec_extra);
+    unit.fault = 0;
 }
 
 /// Describes a unit in memory that is used again for C, in place of what `unit` has.
@@ -136,6 +151,7 @@ pub fn describe_popped(unit: &mut Unit, popped: &PoppedUnit)
     unit.decodable = true;
     unit.keyframe = false;
     tell_extra(&mut unit.extra, &popped.codec_extra);
+    unit.fault = 0;
 }
 
 /// Describes a unit for C.

@@ -1,3 +1,4 @@
+pub mod HeldNumbers
 pub mod Histories
 pub mod Packets
 pub mod Requests

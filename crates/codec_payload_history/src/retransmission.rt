@@ -1,9 +1,11 @@
 //! The last packets of a stream, kept for retransmission.
 
-ghost use Rattle.std.specs.Prelude.{◌≡◌, ◌+◌, ◌<◌, ◌≤◌, ◌∷◌, [], ℕ, length, take, slice_get, slice_set, IfOk, IfErr, IfSome, IfNone, OnOk, OnErr, IsTrue, Some, None};
+ghost use Rattle.std.specs.Prelude.{◌≡◌, ◌+◌, ◌-◌, ◌%◌, ◌<◌, ◌≤◌, ◌∷◌, ◌++◌, [], ℕ, suc, length, max, min, take, slice_get, slice_set, IfOk, IfErr, IfSome, IfNone, OnOk, OnErr, IsTrue, Some, None};
+ghost use Rattle.std.specs.VecDeque.{deque_len, deque_capacity};
 ghost use Rattle.codec_payload_rtp.specs.RtpValues.{header_of};
-ghost use Rattle.codec_payload_history.specs.Histories.{HasNot, IsAt, IsFault, IsRetransmission, Keeps, Repeats, Resends, ResendsWithin, count_with, history_by, is_too_soon, next_after, resent_at};
-ghost use Rattle.codec_payload_history.specs.Packets.{Sent, number_in, packets_of, sent_of, stream_fits};
+ghost use Rattle.codec_payload_history.specs.Histories.{HasNot, IsAt, IsFault, IsRetransmission, Keeps, Repeats, Resends, ResendsWithin, follows, history_by, is_too_soon, kept_at, kept_by, lowered, next_after, place_for, raised, resent_at, with_bytes};
+ghost use Rattle.codec_payload_history.specs.declared.retransmission.Place.TheVariants as places;
+ghost use Rattle.codec_payload_history.specs.Packets.{Sent, no_packet, number_in, packets_of, sent_of, stream_fits};
 
 use codec_payload_base::wire::Ticks;
 use codec_payload_rtp::rtp::{PacketHeader, RtpError, RtpPacket};
@@ -13,7 +15,7 @@ use std::marker::Model;
 use std::mem;
 use thiserror::Error;
 
-/// The most packets that a history keeps: half of the sequence numbers.
+/// The largest number of packets that a history keeps: half of the sequence numbers.
 pub const MAX_HISTORY: usize = 32_768;
 
 /// The stream of retransmissions (RFC 4588): packets are resent under its SSRC, its payload type and its own sequence numbers.
@@ -30,7 +32,7 @@ pub struct RetransmissionStream {
 /// What a history keeps, and how it resends.
 #[derive(Clone, Copy, Debug, PartialEq, Eq)]
 pub struct HistorySettings {
-    /// How many packets are kept, 1 to [`MAX_HISTORY`]: the last ones.
+    /// How many numbers the history covers, 1 to [`MAX_HISTORY`]: the highest number that was kept, and those below it.
     pub limit: usize,
     /// How many ticks have to pass before the same packet is resent again; 0: none. About a round-trip time is useful: a
     /// receiver that requests the packet again before that has not yet seen the answer.
@@ -56,20 +58,31 @@ pub enum KeepError {
     /// It is not an RTP packet.
     #[error("not an RTP packet")]
     Rtp(RtpError),
-    /// There was not enough memory.
+    /// Out of memory.
     #[error("out of memory")]
     OutOfMemory,
+}
+
+/// What a history did with a datagram.
+#[derive(Clone, Copy, Debug, PartialEq, Eq)]
+pub enum Kept {
+    /// The history keeps it at its number.
+    Stored,
+    /// Its number is `limit` or more below the highest one. The history does not keep it, and keeps all that it had.
+    TooOld,
 }
 
 /// The result of a request for a packet.
 #[derive(Clone, Copy, Debug, PartialEq, Eq)]
 pub enum Resent {
-    /// The packet was written.
+    /// The packet was written, and counts as resent.
     Written,
-    /// It is not in the history: it was never sent, or too long ago.
+    /// It is not in the history: it was never kept, or its number is too old.
     NotKept,
     /// It was resent less than the interval ago.
     TooSoon,
+    /// The datagram has more bytes than [`History::resend_within`] was given. It was written, and nothing is spent.
+    TooLarge,
 }
 
 /// A packet that was sent.
@@ -80,11 +93,24 @@ struct SentPacket {
     resent: Option<Ticks>,
 }
 
+/// Where a history keeps a packet.
+#[derive(Clone, Copy, Debug, PartialEq, Eq)]
+pub(crate) enum Place {
+    /// All others leave.
+    Anew,
+    /// So many numbers above the highest one, at least 1.
+    Above(usize),
+    /// So many numbers below the highest one.
+    Below(usize),
+    /// Nowhere.
+    TooOld,
+}
+
 /// The last packets of one stream, which [`History::resend`] writes again.
 ///
-/// Pass each datagram to [`History::keep`] when you send it, before SRTP encrypts it. The numbers of the packets are consecutive:
-/// where a number does not follow the one before, the history begins again with that packet. Once the history is full and its
-/// memory has grown to the largest packets, no call allocates.
+/// Pass each datagram to [`History::keep`] when you send it or, in a forwarder, when you receive it, before SRTP encrypts it. The
+/// history has a place for each of the last `limit` numbers, so packets may come in any order, and numbers may be missing. Once it
+/// has all places and their memory has grown to the largest packets, no call allocates.
 #[derive(Debug, Drop)]
 pub struct History {
     limit: usize,
@@ -92,11 +118,13 @@ pub struct History {
     stream: Option<RetransmissionStream>,
     /// The number of the next retransmission.
     next: u16,
-    /// The number of the newest packet.
+    /// The highest number.
     newest: u16,
-    /// Newest first.
+    /// The number that was refused last, if no packet was kept since.
+    refused: Option<u16>,
+    /// A place for each number, from the highest down. A place without a packet has no bytes.
     packets: VecDeque<SentPacket>,
-    /// Memory of a packet that left the history.
+    /// Memory for the next packet.
     spare: Vec<u8>,
 }
 
@@ -112,13 +140,14 @@ impl Model for History {
       stream = h.stream;
       next = h.next;
       newest = h.newest;
+      refused = h.refused;
       packets = packets_of h.packets.items;
     } };
 
     ghost invariant = { λ h. (1 ≤ h.limit) × (h.limit ≤ 32768) × IsTrue (stream_fits h.stream) × (length h.packets.items ≤ h.limit) × AreNumbered h.newest (packets_of h.packets.items) };
 }
 
-/// Whether the payload type of retransmissions is in range.
+/// Returns whether the payload type of retransmissions is in range.
 fn stream_fits(stream: Option<RetransmissionStream>) -> bool
     ensures { result ≡ stream_fits stream }
 {
@@ -129,7 +158,7 @@ fn stream_fits(stream: Option<RetransmissionStream>) -> bool
 }
 
 impl RetransmissionStream {
-    /// The header of a retransmission of a packet with that header, under that number.
+    /// Returns the header of a retransmission of a packet with that header, under that number.
     fn header<'a>(&self, header: PacketHeader<'a>, number: u16) -> PacketHeader<'a>
         ensures { header_of result ≡ record (header_of header.entry) { payload_type = self.now.payload_type; sequence_number = number; ssrc = self.now.ssrc } }
     {
@@ -159,7 +188,7 @@ impl RetransmissionStream {
 }
 
 impl SentPacket {
-    /// Whether it was resent less than `interval` ticks before `now`.
+    /// Returns whether it was resent less than `interval` ticks before `now`.
     fn is_too_soon(&self, now: Ticks, interval: u64) -> bool
         ensures { result ≡ is_too_soon interval now self.now.resent }
     {
@@ -170,23 +199,9 @@ impl SentPacket {
     }
 }
 
-/// Cuts the packets to so many, and returns the memory of the oldest, if it left.
-fn cut(packets: &mut VecDeque<SentPacket>, count: usize) -> Vec<u8>
-    ensures { packets.new.items ≡ take count packets.old.items }
-{
-    let alloc = *packets.allocator();
-    if packets.len() > count
-        && let Some(oldest) = packets.pop_back()
-    {
-        packets.truncate(count);
-        return oldest.bytes;
-    }
-    Vec::new(alloc)
-}
-
 impl History {
-    /// An empty history. It does not allocate. If several settings are out of range, the first in the order of [`HistoryError`] is
-    /// the error.
+    /// Returns an empty history. It does not allocate. If several settings are out of range, the error is the first in the order of
+    /// [`HistoryError`].
     pub fn new(alloc: Global, settings: HistorySettings) -> Result<History, HistoryError>
         ensures { result ≡ history_by settings }
     {
@@ -206,12 +221,14 @@ impl History {
             stream: settings.stream,
             next,
             newest: 0,
+            refused: None,
             packets: VecDeque::new(alloc),
             spare: Vec::new(alloc),
         })
     }
 
-    /// How many packets are kept.
+    /// Returns how many numbers the history has places for: from the highest number that was kept down to the lowest, each with a
+    /// packet or without one. So 0 means that it is empty.
     pub fn len(&self) -> usize
         ensures count { result ≡ length self.now.packets }
         ensures few { result ≤ self.now.limit }
@@ -219,66 +236,140 @@ impl History {
         self.packets.len()
     }
 
-    /// Keeps a copy of a datagram that was sent, as the newest packet; the oldest one leaves a full history. If its number does not
-    /// follow the number of the newest packet, all packets before it leave.
+    /// Keeps a copy of a datagram, at the place of its number. Numbers may come in any order, and may be missing.
+    ///
+    /// - Above the highest number: it becomes the highest one, and packets `limit` or more numbers below it leave.
+    /// - Less than `limit` below the highest number: it takes its place. It replaces a packet with the same number; the time at
+    ///   which that packet was resent last stays.
+    /// - Further below: it is not kept ([`Kept::TooOld`]). If the next call has the packet with the number after it, the sender
+    ///   has restarted: all others leave, and the history begins with that packet.
+    ///
+    /// It copies the datagram once. A number ahead of the highest one costs a step for each number in between, at most `limit`.
+    /// Once the history is full and its memory has grown to the largest packets, it does not allocate.
     ///
     /// # Errors
     ///
-    /// The history is then unchanged: the datagram is not an RTP packet, or there was not enough memory.
-    pub fn keep(&mut self, datagram: &[u8]) -> Result<(), KeepError>
-        ensures ok { OnOk result (Keeps self.old datagram.now self.new) }
+    /// The history is unchanged: the datagram is not an RTP packet, or memory ran out.
+    pub fn keep(&mut self, datagram: &[u8]) -> Result<Kept, KeepError>
+        ensures ok { IfOk result (λ kept. Keeps self.old datagram.now kept self.new) }
         ensures err { OnErr result (self.new ≡ self.old) }
         ensures fault { IfErr result (λ fault. IsFault datagram.now fault) }
     {
         match RtpPacket::parse(datagram) {
             Err(fault) => Err(KeepError::Rtp(fault)),
-            Ok(packet) => match self.store(packet.header.sequence_number, datagram) {
-                Ok(()) => Ok(()),
-                Err(_) => Err(KeepError::OutOfMemory),
-            },
+            Ok(packet) => {
+                let number = packet.header.sequence_number;
+                match self.store(self.place_for(number), number, datagram) {
+                    Ok(kept) => Ok(kept),
+                    Err(_) => Err(KeepError::OutOfMemory),
+                }
+            }
         }
     }
 
-    /// How many packets are kept once that number is the newest.
-    fn count_with(&self, number: u16) -> usize
-        ensures count { result ≡ count_with self.now number }
-        ensures some { 1 ≤ result }
-        ensures few { result ≤ self.now.limit }
+    /// Returns where a packet with that number is kept.
+    fn place_for(&self, number: u16) -> Place
+        ensures value { result ≡ place_for self.now number }
+        ensures above { (count : ℕ) → result ≡ places.Above count → ((self.now.newest + count) % 65536 ≡ number) × (1 ≤ count) }
     {
-        if number == self.newest.wrapping_add(1) {
-            self.limit
+        let above = usize::from(number.wrapping_sub(self.newest));
+        let below = usize::from(self.newest.wrapping_sub(number));
+        if self.packets.is_empty() {
+            Place::Anew
+        } else if below < self.limit {
+            Place::Below(below)
+        } else if above < MAX_HISTORY {
+            if above < self.limit {
+                Place::Above(above)
+            } else {
+                Place::Anew
+            }
+        } else if follows(self.refused, number) {
+            Place::Anew
         } else {
-            1
+            Place::TooOld
         }
     }
 
-    /// Stores a packet with that number as the newest.
-    fn store(&mut self, number: u16, bytes: &[u8]) -> Result<(), AllocError>
-        requires { number_in bytes.now ≡ Some number }
-        ensures ok { OnOk result (self.new ≡ record self.old { newest = number; packets = take (count_with self.old number) (record { bytes = bytes.now; resent = None } ∷ self.old.packets) }) }
+    /// Keeps a packet with that number at that place.
+    fn store(&mut self, place: Place, number: u16, bytes: &[u8]) -> Result<Kept, AllocError>
+        requires place { place ≡ place_for self.old number }
+        requires above { (count : ℕ) → place ≡ places.Above count → ((self.old.newest + count) % 65536 ≡ number) × (1 ≤ count) }
+        requires number { number_in bytes.now ≡ Some number }
+        ensures ok { OnOk result (self.new ≡ kept_at place number bytes.now self.old) }
+        ensures answer { IfOk result (λ kept. kept ≡ kept_by place) }
         ensures err { OnErr result (self.new ≡ self.old) }
     {
-        let count = self.count_with(number);
-        put_newest(&mut self.packets, &mut self.spare, bytes, count)?;
+        match place {
+            Place::Anew => self.store_anew(number, bytes)?,
+            Place::Above(count) => self.store_above(count, number, bytes)?,
+            Place::Below(below) => self.store_below(below, number, bytes)?,
+            Place::TooOld => {
+                self.refused = Some(number);
+                return Ok(Kept::TooOld);
+            }
+        }
+        Ok(Kept::Stored)
+    }
+
+    /// Keeps this packet alone.
+    fn store_anew(&mut self, number: u16, bytes: &[u8]) -> Result<(), AllocError>
+        requires number { number_in bytes.now ≡ Some number }
+        ensures ok { OnOk result (self.new ≡ kept_at places.Anew number bytes.now self.old) }
+        ensures err { OnErr result (self.new ≡ self.old) }
+    {
+        copy_in_place(&mut self.spare, bytes)?;
+        put_anew(&mut self.packets, &mut self.spare, self.limit)?;
         self.newest = number;
+        self.refused = None;
         Ok(())
     }
 
-    /// The packet with that number, and its place: its distance from the newest one.
+    /// Keeps a packet so many numbers above the highest one.
+    fn store_above(&mut self, count: usize, number: u16, bytes: &[u8]) -> Result<(), AllocError>
+        requires number { number_in bytes.now ≡ Some number }
+        requires above { (self.old.newest + count) % 65536 ≡ number }
+        requires some { 1 ≤ count }
+        ensures ok { OnOk result (self.new ≡ kept_at (places.Above count) number bytes.now self.old) }
+        ensures err { OnErr result (self.new ≡ self.old) }
+    {
+        copy_in_place(&mut self.spare, bytes)?;
+        put_above(&mut self.packets, &mut self.spare, count, self.limit)?;
+        self.newest = number;
+        self.refused = None;
+        Ok(())
+    }
+
+    /// Keeps a packet so many numbers below the highest one.
+    fn store_below(&mut self, below: usize, number: u16, bytes: &[u8]) -> Result<(), AllocError>
+        requires number { number_in bytes.now ≡ Some number }
+        requires below { (self.old.newest + 65536 - number) % 65536 ≡ below }
+        requires few { below < self.old.limit }
+        ensures ok { OnOk result (self.new ≡ kept_at (places.Below below) number bytes.now self.old) }
+        ensures err { OnErr result (self.new ≡ self.old) }
+    {
+        copy_in_place(&mut self.spare, bytes)?;
+        put_below(&mut self.packets, &mut self.spare, below)?;
+        self.refused = None;
+        Ok(())
+    }
+
+    /// Returns the packet with that number, and its place: its distance from the highest number.
     fn find(&self, number: u16) -> Option<(usize, &SentPacket)>
         ensures found { IfSome result (λ x. IsAt self.now number x.0 (sent_of x.1.now)) }
         ensures none { IfNone result (HasNot self.now number) }
     {
         let place = usize::from(self.newest.wrapping_sub(number));
-        match self.packets.get(place) {
-            None => None,
-            Some(packet) => Some((place, packet)),
+        let packet = self.packets.get(place)?;
+        if packet.bytes.is_empty() {
+            return None;
         }
+        Some((place, packet))
     }
 
     /// Records that the packet at a place was resent.
     fn record(&mut self, now: Ticks, place: usize)
-        requires { place < length self.old.packets }
+        requires { (p : Sent) × (number : ℕ) × (slice_get self.old.packets place ≡ Some p) × (number_in p.bytes ≡ Some number) }
         ensures { (p : Sent) × (slice_get self.old.packets place ≡ Some p) × (self.new ≡ resent_at now place p self.old) }
     {
         mark_resent(&mut self.packets, place, now);
@@ -286,8 +377,8 @@ impl History {
     }
 
     /// Writes the packet with that number again and replaces what `out` has. Without a stream of retransmissions the packet is as it
-    /// was. Else it has the next number of the stream, and the original number in front of its payload (RFC 4588, section 4).
-    /// Unless [`Resent::Written`] is returned, `out` is unchanged.
+    /// was. Otherwise it has the next number of the stream, and the original number in front of its payload (RFC 4588, section 4).
+    /// Unless the answer is [`Resent::Written`], `out` is unchanged. It is never [`Resent::TooLarge`].
     ///
     /// If an allocation fails, `out` is empty and the history is unchanged.
     pub fn resend(
@@ -311,7 +402,7 @@ impl History {
     }
 
     /// Writes the packet as [`History::resend`] does, and resends it if the datagram has at most `most` bytes. If it has more, `out`
-    /// has the datagram, [`Resent::Written`] is returned, and the history is unchanged: the number of the retransmission is not
+    /// has the datagram, the answer is [`Resent::TooLarge`], and the history is unchanged: the number of the retransmission is not
     /// used, and the packet does not count as resent. So a caller whose memory is limited may try again.
     ///
     /// If an allocation fails, `out` is empty and the history is unchanged.
@@ -333,14 +424,14 @@ impl History {
         }
         write_again(self.stream, self.next, &packet.bytes, out)?;
         if out.len() > most {
-            return Ok(Resent::Written);
+            return Ok(Resent::TooLarge);
         }
         self.record(now, place);
         Ok(Resent::Written)
     }
 }
 
-/// The number of the retransmission after that one.
+/// Returns the number of the retransmission after that one.
 fn next_after(stream: Option<RetransmissionStream>, next: u16) -> u16
     ensures { result ≡ next_after stream next }
 {
@@ -360,30 +451,163 @@ fn mark_resent(packets: &mut VecDeque<SentPacket>, place: usize, now: Ticks)
     packets[place].resent = Some(now);
 }
 
-/// Puts a packet in front of the others, and cuts them to so many.
-fn put_newest(
+/// Returns whether a number comes right after the one that was refused last.
+fn follows(refused: Option<u16>, number: u16) -> bool
+    ensures { result ≡ follows refused number }
+{
+    match refused {
+        None => false,
+        Some(refused) => number == refused.wrapping_add(1),
+    }
+}
+
+/// Replaces what `out` has by these bytes.
+fn copy_in_place(out: &mut Vec<u8>, bytes: &[u8]) -> Result<(), AllocError>
+    ensures { OnOk result (out.new.items ≡ bytes.now) }
+{
+    out.clear();
+    out.extend_from_slice(bytes)
+}
+
+/// Keeps the packet whose bytes `spare` has, alone.
+fn put_anew(
     packets: &mut VecDeque<SentPacket>,
     spare: &mut Vec<u8>,
-    bytes: &[u8],
-    count: usize,
+    limit: usize,
 ) -> Result<(), AllocError>
-    ensures ok { OnOk result (packets_of packets.new.items ≡ take count (record { bytes = bytes.now; resent = None } ∷ packets_of packets.old.items)) }
-    ensures few { OnOk result (length packets.new.items ≤ count) }
+    requires some { 1 ≤ limit }
+    ensures ok { OnOk result (packets_of packets.new.items ≡ with_bytes 0 spare.old.items (raised limit 1 [])) }
+    ensures few { OnOk result (length packets.new.items ≤ limit) }
     ensures err { OnErr result (packets.new.items ≡ packets.old.items) }
 {
-    spare.clear();
-    spare.extend_from_slice(bytes)?;
-    let unused = Vec::new(*packets.allocator());
-    let bytes = mem::replace(spare, unused);
-    packets.push_front(SentPacket {
-        bytes,
-        resent: None,
-    })?;
-    *spare = cut(packets, count);
+    packets.reserve(1_usize.saturating_sub(packets.len()))?;
+    packets.clear();
+    raise(packets, 1, limit);
+    put(packets, spare, 0);
     Ok(())
 }
 
-/// Writes a packet again, in the place of what `out` has.
+/// Puts the packet whose bytes `spare` has so many numbers above the highest one.
+fn put_above(
+    packets: &mut VecDeque<SentPacket>,
+    spare: &mut Vec<u8>,
+    count: usize,
+    limit: usize,
+) -> Result<(), AllocError>
+    requires some { 1 ≤ count }
+    requires few { length packets.old.items ≤ limit }
+    requires limit { 1 ≤ limit }
+    ensures ok { OnOk result (packets_of packets.new.items ≡ with_bytes 0 spare.old.items (raised limit count (packets_of packets.old.items))) }
+    ensures few { OnOk result (length packets.new.items ≤ limit) }
+    ensures err { OnErr result (packets.new.items ≡ packets.old.items) }
+{
+    packets.reserve(count.min(limit - packets.len()))?;
+    raise(packets, count, limit);
+    put(packets, spare, 0);
+    Ok(())
+}
+
+/// Puts the packet whose bytes `spare` has so many numbers below the highest one.
+fn put_below(
+    packets: &mut VecDeque<SentPacket>,
+    spare: &mut Vec<u8>,
+    place: usize,
+) -> Result<(), AllocError>
+    requires few { place < 32768 }
+    ensures ok { OnOk result (packets_of packets.new.items ≡ with_bytes place spare.old.items (lowered (suc place - length packets.old.items) (packets_of packets.old.items))) }
+    ensures len { OnOk result (length packets.new.items ≡ max (length packets.old.items) (suc place)) }
+    ensures err { OnErr result (packets.new.items ≡ packets.old.items) }
+{
+    let missing = (place + 1).saturating_sub(packets.len());
+    packets.reserve(missing)?;
+    lower(packets, missing);
+    put(packets, spare, place);
+    Ok(())
+}
+
+/// Puts the bytes of a packet at a place, and takes the memory that was there.
+fn put(packets: &mut VecDeque<SentPacket>, spare: &mut Vec<u8>, place: usize)
+    requires { place < length packets.old.items }
+    ensures items { packets_of packets.new.items ≡ with_bytes place spare.old.items (packets_of packets.old.items) }
+    ensures len { length packets.new.items ≡ length packets.old.items }
+{
+    mem::swap(&mut packets[place].bytes, spare);
+}
+
+/// Puts so many places in front of the others.
+fn raise(packets: &mut VecDeque<SentPacket>, count: usize, limit: usize)
+    requires some { 1 ≤ limit }
+    requires few { length packets.old.items ≤ limit }
+    requires room { min (length packets.old.items + count) limit ≤ deque_capacity packets.old }
+    ensures items { packets_of packets.new.items ≡ raised limit count (packets_of packets.old.items) }
+    ensures few { length packets.new.items ≤ limit }
+    ensures some { 1 ≤ count → 1 ≤ length packets.new.items }
+{
+    for _ in 0..count {
+        raise_once(packets, limit);
+    }
+}
+
+/// Puts one place in front of the others. If there are `limit` places, the last one leaves, and its memory is used.
+fn raise_once(packets: &mut VecDeque<SentPacket>, limit: usize)
+    requires some { 1 ≤ limit }
+    requires few { length packets.old.items ≤ limit }
+    requires room { min (length packets.old.items + 1) limit ≤ deque_capacity packets.old }
+    ensures items { packets_of packets.new.items ≡ take limit (no_packet ∷ packets_of packets.old.items) }
+    ensures len { length packets.new.items ≡ min (length packets.old.items + 1) limit }
+    ensures capacity { deque_capacity packets.new ≡ deque_capacity packets.old }
+{
+    let bytes = last_memory(packets, limit);
+    packets.push_front_reserved(SentPacket {
+        bytes,
+        resent: None,
+    });
+}
+
+/// Takes the last of `limit` places away, and returns its memory.
+fn last_memory(packets: &mut VecDeque<SentPacket>, limit: usize) -> Vec<u8>
+    requires some { 1 ≤ limit }
+    ensures items { packets.new.items ≡ take (limit - 1) packets.old.items }
+    ensures capacity { deque_capacity packets.new ≡ deque_capacity packets.old }
+    ensures empty { result.items ≡ [] }
+{
+    let alloc = *packets.allocator();
+    if packets.len() >= limit
+        && let Some(mut last) = packets.pop_back()
+    {
+        packets.truncate(limit - 1);
+        last.bytes.clear();
+        return last.bytes;
+    }
+    Vec::new(alloc)
+}
+
+/// Appends so many places.
+fn lower(packets: &mut VecDeque<SentPacket>, count: usize)
+    requires room { length packets.old.items + count ≤ deque_capacity packets.old }
+    ensures items { packets_of packets.new.items ≡ lowered count (packets_of packets.old.items) }
+    ensures len { length packets.new.items ≡ length packets.old.items + count }
+{
+    for _ in 0..count {
+        lower_once(packets);
+    }
+}
+
+/// Appends one place.
+fn lower_once(packets: &mut VecDeque<SentPacket>)
+    requires room { length packets.old.items < deque_capacity packets.old }
+    ensures items { packets_of packets.new.items ≡ packets_of packets.old.items ++ no_packet ∷ [] }
+    ensures len { length packets.new.items ≡ length packets.old.items + 1 }
+    ensures capacity { deque_capacity packets.new ≡ deque_capacity packets.old }
+{
+    let alloc = *packets.allocator();
+    packets.push_back_reserved(SentPacket {
+        bytes: Vec::new(alloc),
+        resent: None,
+    });
+}
+
+/// Writes a packet again, and replaces what `out` has.
 fn write_again(
     stream: Option<RetransmissionStream>,
     next: u16,

@@ -1,5 +1,5 @@
 -- Items in tiers.
-use Rattle.std.proofs.Common.{◌≡◌, ℕ, zero, suc, ◌<◌, ◌≤◌, ◌+◌, ◌-◌, ◌*◌, ◌++◌, [], ◌∷◌, List, length, get_or, drop, refl, ap, sym, ◌∙◌, arith, slice_set, append_assoc, subst, length-append, inl, inr, Option, Some, None}
+use Rattle.std.proofs.Common.{◌≡◌, ℕ, zero, suc, ◌<◌, ◌≤◌, ◌+◌, ◌-◌, ◌*◌, ◌++◌, [], ◌∷◌, List, length, get_or, refl, ap, sym, ◌∙◌, arith, slice_set, append_assoc, subst, length-append, inl, inr, Option, Some, None}
 use Rattle.std.proofs.lemmas.Bool.{cases_lt}
 use Rattle.std.specs.List.{AllWithin, insert}
 use Rattle.std.specs.List.Sorted.{IsNonDecreasingBy, IsPartitionPoint}
@@ -7,9 +7,8 @@ use Rattle.std.specs.VecDeque.{deque_len, deque_capacity}
 use Rattle.std.specs.Global.{Vec, Global}
 use Rattle.std.specs.Vec.{vec_len, vec_capacity}
 use Rattle.std.specs.declared.collections.VecDeque.{VecDeque}
-use Rattle.std.proofs.lemmas.List.{drop-append-le, get_or_append_left, get_or-append_right, set-append_left, set-append_right, nil_from_length}
+use Rattle.std.proofs.lemmas.List.{get_or_append_left, get_or-append_right, set-append_left, set-append_right, nil_from_length}
 use Rattle.std.proofs.lemmas.List.Edits.{insert-append_left, insert-append_right, length-insert}
-use Rattle.std.proofs.Math.Seq.{drop-append_seam, drop-append-add}
 use Rattle.codec_payload_queue.specs.Tiers.{in_tiers, with_carried, AreTiers, IsSpare, room_above, room_at_end}
 
 -- a tier is as long as the list of its items
@@ -87,39 +86,6 @@ item_in_tier least (suc k) i t (h ∷ ts) d are l is w =
     get_or-append_right h.items (in_tiers ts) 1024 (1024 * suc k + i) d long (omega arith)
     ∙ ap (λ j. get_or (in_tiers ts) j d) (let e : 1024 * suc k + i - 1024 ≡ 1024 * k + i = omega arith in e)
     ∙ item_in_tier least k i t ts d are.1 (omega (arith, l)) is w
-
--- the items from a place on, as those of one list and those behind it
-pub drop_through : {X : Type 0} (i : ℕ) (xs ys : List X) → i ≤ length xs → drop i (xs ++ ys) ≡ drop i xs ++ drop (i + (length xs - i)) (xs ++ ys)
-drop_through i xs ys le =
-    drop-append-le i xs ys le
-    ∙ ap (λ (zs : List _). drop i xs ++ zs) (sym (drop-append_seam xs ys))
-    ∙ ap (λ n. drop i xs ++ drop n (xs ++ ys)) (let e : length xs ≡ i + (length xs - i) = omega (arith, le) in e)
-
--- the same for a part of the second list
-pub part_behind : {X : Type 0} (xs ys part : List X) (n place more : ℕ) → length xs ≡ n → n ≤ place → drop (place - n) ys ≡ part ++ drop (place - n + more) ys → drop place (xs ++ ys) ≡ part ++ drop (place + more) (xs ++ ys)
-part_behind xs ys part n place more long le is =
-    let at : (j : ℕ) → drop (n + j) (xs ++ ys) ≡ drop j ys = λ j. ap (λ m. drop (m + j) (xs ++ ys)) (sym long) ∙ drop-append-add xs ys j in
-    ap (λ j. drop j (xs ++ ys)) (let e : place ≡ n + (place - n) = omega (arith, le) in e)
-    ∙ at (place - n)
-    ∙ is
-    ∙ ap (λ (zs : List _). part ++ zs) (sym (at (place - n + more)))
-    ∙ ap (λ j. part ++ drop j (xs ++ ys)) (let e : n + (place - n + more) ≡ place + more = omega (arith, le) in e)
-
--- the items from a place of a tier on, as those of the tier and those behind it
-pub drop_in_tier : {X : Type 0} (least k i : ℕ) (t : VecDeque X Global) (ts : List (VecDeque X Global)) → AreTiers least ts → k < length ts → t ≡ get_or ts k t → i < deque_len t
-    → drop (1024 * k + i) (in_tiers ts) ≡ drop i t.items ++ drop (1024 * k + i + (deque_len t - i)) (in_tiers ts)
-drop_in_tier least k i t [] are l is w = absurd (omega arith)
-drop_in_tier least zero i t (h ∷ ts) are l is w =
-    let whole = in_tiers (h ∷ ts) in
-    let same : h ≡ t = sym is in
-    ap (λ j. drop j whole) (let e : 1024 * zero + i ≡ i = omega arith in e)
-    ∙ drop_through i h.items (in_tiers ts) (omega (arith, w, ap deque_len same, tier_length h))
-    ∙ ap (λ (v : VecDeque _ Global). drop i v.items ++ drop (i + (length h.items - i)) whole) same
-    ∙ ap (λ n. drop i t.items ++ drop n whole) (let e : i + (length h.items - i) ≡ 1024 * zero + i + (deque_len t - i) = omega (arith, ap deque_len same, tier_length h) in e)
-drop_in_tier least (suc k) i t (h ∷ ts) are l is w =
-    let long : length h.items ≡ 1024 = omega (arith, are.0.full (omega (arith, l)), tier_length h) in
-    let e : 1024 * k + i ≡ 1024 * suc k + i - 1024 = omega arith in
-    part_behind h.items (in_tiers ts) (drop i t.items) 1024 (1024 * suc k + i) (deque_len t - i) long (omega arith) (rw e at (drop_in_tier least k i t ts are.1 (omega (arith, l)) is w))
 
 -- another item at a place of a tier
 pub set_in_tier : {X : Type 0} (least k i : ℕ) (t u : VecDeque X Global) (ts : List (VecDeque X Global)) (x : X) → AreTiers least ts → k < length ts → t ≡ get_or ts k t → i < deque_len t

@@ -1,6 +1,6 @@
 //! The tiers above the first one.
 
-ghost use Rattle.std.specs.Prelude.{◌≡◌, ◌<◌, ◌≤◌, ◌+◌, ◌-◌, ◌*◌, ◌++◌, ◌∷◌, ◌↔◌, [], length, IfSome, IsSome, OnErr, OnOk, Option, drop, option_map, slice_index_or};
+ghost use Rattle.std.specs.Prelude.{◌≡◌, ◌<◌, ◌≤◌, ◌+◌, ◌-◌, ◌*◌, ◌++◌, ◌∷◌, ◌↔◌, [], length, IfSome, IsSome, OnErr, OnOk, Option, option_map, slice_index_or};
 ghost use Rattle.std.specs.List.{insert};
 ghost use Rattle.std.specs.List.Sorted.{IsNonDecreasingBy, IsPartitionPoint};
 ghost use Rattle.std.specs.Vec.{vec_len, vec_capacity};
@@ -47,16 +47,6 @@ pub(super) fn item_of<T>(tiers: &Vec<VecDeque<T>>, place: usize) -> &T
     ensures { result.now ≡ slice_index_or (in_tiers tiers.now.items) place result.now }
 {
     &tiers[place / TIER][place % TIER]
-}
-
-/// Returns the tier that holds the item at a place in these tiers, and the place in that tier.
-fn tier_holding<T>(tiers: &Vec<VecDeque<T>>, place: usize) -> (&VecDeque<T>, usize)
-    requires tiers { AreTiers 1 tiers.now.items }
-    requires place { place < length (in_tiers tiers.now.items) }
-    ensures within { result.1 < deque_len result.0.now }
-    ensures part { drop place (in_tiers tiers.now.items) ≡ drop result.1 result.0.now.items ++ drop (place + (deque_len result.0.now - result.1)) (in_tiers tiers.now.items) }
-{
-    (&tiers[place / TIER], place % TIER)
 }
 
 /// Writes a note into the item at a place in these tiers.
@@ -271,21 +261,6 @@ pub(super) fn item_above<T>(above: &Option<Box<Above<T>>>, place: usize) -> &T
 {
     match above {
         Some(above) => item_of(&above.tiers, place),
-        None => unreachable!(),
-    }
-}
-
-/// Returns the tier above the first one that holds the item at a place, and the place in that tier.
-#[cold]
-#[inline(never)]
-pub(super) fn tier_above<T>(above: &Option<Box<Above<T>>>, place: usize) -> (&VecDeque<T>, usize)
-    requires tiers { AreTiers 1 (tiers_of (option_map (λ b. b.value) above.now)) }
-    requires place { place < length (in_tiers (tiers_of (option_map (λ b. b.value) above.now))) }
-    ensures within { result.1 < deque_len result.0.now }
-    ensures part { drop place (in_tiers (tiers_of (option_map (λ b. b.value) above.now))) ≡ drop result.1 result.0.now.items ++ drop (place + (deque_len result.0.now - result.1)) (in_tiers (tiers_of (option_map (λ b. b.value) above.now))) }
-{
-    match above {
-        Some(above) => tier_holding(&above.tiers, place),
         None => unreachable!(),
     }
 }

@@ -15,24 +15,7 @@ pub trait Numbered {
         ensures { result ≡ number_of self.now };
 }
 
-/// Returns how many items have a lower number. It inspects the last item and the first one, and then searches.
-#[inline(always)]
-pub fn place_of_number<T: Numbered>(items: &VecDeque<T>, number: u64) -> usize
-    requires { IsNonDecreasingBy T.number_of items.now.items }
-    ensures bound { result ≤ deque_len items.now }
-    ensures point { IsPartitionPoint (λ x. T.number_of x < number) (λ x. number ≤ T.number_of x) items.now.items result }
-{
-    let len = items.len();
-    if len == 0 || number <= items[0].number() {
-        return 0;
-    }
-    if items[len - 1].number() < number {
-        return len;
-    }
-    search_in(items, number)
-}
-
-/// Returns the same by a search. Each step inspects three items and leaves a quarter of the items, without a branch that the
+/// Returns how many items have a lower number, by a search. Each step inspects three items and leaves a quarter of the items, without a branch that the
 /// processor could mispredict.
 #[inline(never)]
 pub(crate) fn search_in<T: Numbered>(items: &VecDeque<T>, number: u64) -> usize

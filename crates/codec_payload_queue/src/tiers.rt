@@ -1,6 +1,6 @@
 //! A queue in tiers of at most 1,024 items.
 
-ghost use Rattle.std.specs.Prelude.{◌≡◌, ◌<◌, ◌≤◌, ◌+◌, ◌-◌, ◌++◌, [], drop, length, OnOk, IfSome, IsSome, ◌↔◌, slice_index_or};
+ghost use Rattle.std.specs.Prelude.{◌≡◌, ◌<◌, ◌≤◌, ◌+◌, ◌-◌, ◌++◌, [], drop, length, OnOk, IfSome, IsSome, IsTrue, ◌↔◌, ◌∷◌, slice_index_or};
 ghost use Rattle.std.specs.Option.{option_to_list};
 ghost use Rattle.std.specs.List.{insert};
 ghost use Rattle.std.specs.List.Sorted.{IsNonDecreasingBy, IsPartitionPoint};
@@ -9,7 +9,7 @@ ghost use Rattle.codec_payload_queue.specs.Tiers.{IsNotedAt};
 
 use crate::above::{
     Above, TIER, find_spare, insert_above, item_above, last_above, note_above, refill_above,
-    search_above, tier_above,
+    search_above,
 };
 use crate::search::{Numbered, put_at, search_in};
 use std::alloc::{AllocError, Global};
@@ -114,20 +114,6 @@ impl<T: Numbered + Drop> TieredQueue<T> {
         }
     }
 
-    /// Returns the tier that holds the item at a place, and the place in that tier. It is for loops over many items.
-    #[inline(always)]
-    pub fn tier_of(&self, place: usize) -> (&VecDeque<T>, usize)
-        requires { place < length self.now.items }
-        ensures within { result.1 < deque_len result.0.now }
-        ensures part { drop place self.now.items ≡ drop result.1 result.0.now.items ++ drop (place + (deque_len result.0.now - result.1)) self.now.items }
-    {
-        if place < self.first.len() {
-            (&self.first, place)
-        } else {
-            tier_above(&self.above, place - self.first.len())
-        }
-    }
-
     /// Writes a note into the item at a place.
     #[inline(always)]
     pub fn note<N: Drop>(&mut self, place: usize, note: N)
@@ -181,6 +167,23 @@ impl<T: Numbered + Drop> TieredQueue<T> {
         }
     }
 
+    /// Appends an item. Memory was found by [`TieredQueue::reserve`]. Nothing moves.
+    #[inline(always)]
+    pub fn push_back(&mut self, item: T)
+        requires room { 0 < self.old.room }
+        requires few { length self.old.items < usize.MAX }
+        ensures items { self.new.items ≡ self.old.items ++ item ∷ [] }
+        ensures room { self.old.room ≤ self.new.room + 1 }
+    {
+        let len = self.count;
+        self.count += 1;
+        if len < TIER && self.first.len() == len {
+            self.first.push_back(item).unwrap();
+        } else {
+            insert_above(&mut self.first, &mut self.above, len, item);
+        }
+    }
+
     /// Removes the first item. No other item moves. If the first tier has no items left, the places of the other tiers move.
     #[inline(always)]
     pub fn pop_front(&mut self) -> Option<T>
@@ -218,6 +221,36 @@ impl<T: Numbered + Drop> TieredQueue<T> {
             Some(last) if number <= last.number() => self.place_inside(number),
             _ => self.len(),
         }
+    }
+
+    /// Returns the same as [`TieredQueue::place_of`]. This place is inspected first.
+    #[inline(always)]
+    pub fn place_near(&self, place: usize, number: u64) -> usize
+        requires { IsNonDecreasingBy T.number_of self.now.items }
+        ensures bound { result ≤ length self.now.items }
+        ensures point { IsPartitionPoint (λ x. T.number_of x < number) (λ x. number ≤ T.number_of x) self.now.items result }
+    {
+        if self.is_place(place, number) {
+            place
+        } else {
+            self.place_inside(number)
+        }
+    }
+
+    /// Returns whether the items on both sides of this place show that it is the place of the number.
+    #[inline(always)]
+    fn is_place(&self, place: usize, number: u64) -> bool
+        requires { IsNonDecreasingBy T.number_of self.now.items }
+        ensures bound { IsTrue result → place ≤ length self.now.items }
+        ensures point { IsTrue result → IsPartitionPoint (λ x. T.number_of x < number) (λ x. number ≤ T.number_of x) self.now.items place }
+    {
+        if place == 0 || self.len() <= place {
+            return false;
+        }
+        if number <= self.at(place - 1).number() {
+            return false;
+        }
+        number <= self.at(place).number()
     }
 
     /// Gives memory back, if one tier is left.
@@ -268,7 +301,7 @@ impl<T: Numbered + Drop> TieredQueue<T> {
             return None;
         }
         let place = len - (last - number) as usize;
-        if self.at(place - 1).number() < number && number <= self.at(place).number() {
+        if self.is_place(place, number) {
             Some(place)
         } else {
             None

@@ -6,11 +6,11 @@ use Rattle.std.specs.declared.alloc.AllocError.{AllocError}
 use Rattle.std.proofs.lemmas.Bool.Decides.{nat_tests}
 use Rattle.std.proofs.lemmas.List.Quantifiers.{position-Some}
 use Rattle.codec_payload_base.specs.declared.wire.Ticks.{Ticks}
-use Rattle.codec_payload_base.specs.declared.error.PacketError.{PacketError}
 use Rattle.codec_payload_buffer.specs.Release.{Release}
 use Rattle.codec_payload_jitter.specs.Receiving.{next}
 use Rattle.codec_payload_jitter.specs.declared.outcome.Outcome.{Outcome}
 use Rattle.codec_payload_jitter.specs.declared.waiting.WaitLimits.{WaitLimits}
+use Rattle.codec_payload_stream.specs.declared.pops.Popped.{Popped}
 use Rattle.codec_payload_stream.specs.declared.receiver.ReceiveError.{ReceiveError}
 use Rattle.codec_payload_rtcp.specs.RtcpPackets.{Packet}
 use Rattle.codec_payload_rtcp.specs.RtcpReading.{compound_at}
@@ -206,8 +206,8 @@ begins_keep settings c ssrc f now bytes p answer q place got kept =
     (record { accounted = omega (arith, kept.accounted, one, it.0); bounded = it.1 })
 
 stays_keep : (settings : SessionSettings) (c : ArrivalCounts) (p : Port) (answer : Result Arrival AllocError) (q : Port) → StaysEmpty p answer q → IsPort settings p c → Keeps settings c q answer
-stays_keep settings c p (Ok arrival) q got kept = keeps_by settings c p q (Ok arrival) (Ok arrivals.Unknown) (ap (λ (a : Arrival). Ok a) got.0) got.1 (unknown_keeps settings c p kept)
-stays_keep settings c p (Err e) q got kept = keeps_by settings c p q (Err e) (Err e) refl got kept
+stays_keep settings c p (Ok arrival) q got kept = absurd (cc)
+stays_keep settings c p (Err e) q got kept = keeps_by settings c p q (Err e) (Err e) refl got.1 kept
 
 begins_if_keeps : (b : Bool) (settings : SessionSettings) (c : ArrivalCounts) (ssrc : ℕ) (f : Format) (now : Ticks) (bytes : List ℕ) (p : Port) (answer : Result Arrival AllocError) (q : Port)
     → has_place settings.max_streams p ≡ b → BeginsIf b settings ssrc f now bytes p answer q → IsPort settings p c → Keeps settings c q answer
@@ -316,12 +316,12 @@ rests_taken stages.Playing now s step t got = requests_taken s.feedback now s st
 rests_taken (stages.Leaving why at) now s step t got = ap (λ (x : StreamState). x.taken) got.1
 rests_taken (stages.Draining why) now s step t got = ap (λ (x : StreamState). x.taken) got.1
 
-follows_taken : (o : Option (Result Release PacketError)) (now : ℕ) (s : StreamState) (step : Step) (t : StreamState) → Follows o now s step t → t.taken ≡ s.taken
+follows_taken : (o : Option (Result (Popped Release) AllocError)) (now : ℕ) (s : StreamState) (step : Step) (t : StreamState) → Follows o now s step t → t.taken ≡ s.taken
 follows_taken None now s step t got = rests_taken s.stage now s step t got
-follows_taken (Some unit) now s step t got = ap (λ (x : StreamState). x.taken) got.1
+follows_taken (Some told) now s step t got = ap (λ (x : StreamState). x.taken) got.1
 
 plays_taken : (now : Ticks) (idle : ℕ) (s : StreamState) (step : Step) (t : StreamState) → Plays now idle s step t → t.taken ≡ s.taken
-plays_taken now idle s step t got = follows_taken got.2.popped now.0 (record got.0 { receiver = got.2.receiver }) step t got.2.follows ∙ drains_taken (end_of now.0 idle s) s got.0 got.1
+plays_taken now idle s step t got = follows_taken got.2.told now.0 (record got.0 { receiver = got.2.receiver }) step t got.2.follows ∙ drains_taken (end_of now.0 idle s) s got.0 got.1
 
 steps_by_taken : (b told : Bool) (now : Ticks) (idle : ℕ) (s : StreamState) (step : Step) (t : StreamState) → StepsBy b told now idle s step t → t.taken ≡ s.taken
 steps_by_taken true told now idle s step t got = ap (λ (x : StreamState). x.taken) got.1
@@ -342,6 +342,7 @@ kept_taken : (step : Step) (t : StreamState) (rest : List StreamState) (ended : 
     → ((ended_after step t ended + taken_in (kept_after step t rest)) % 2 ^ 64 ≡ (ended + t.taken + taken_in rest) % 2 ^ 64) × (length (kept_after step t rest) ≤ 1 + length rest)
 kept_taken steps.Begun t rest ended = (omega arith, omega arith)
 kept_taken (steps.Unit unit) t rest ended = (omega arith, omega arith)
+kept_taken (steps.Refused fault) t rest ended = (omega arith, omega arith)
 kept_taken (steps.Feedback packet) t rest ended = (omega arith, omega arith)
 kept_taken (steps.Ended why) t rest ended = (omega arith, omega arith)
 kept_taken steps.Nothing t rest ended = (omega arith, omega arith)

@@ -9,8 +9,10 @@ use Rattle.codec_payload_base.specs.declared.wire.Ticks.{Ticks}
 use Rattle.codec_payload_buffer.specs.Release.{Release}
 use Rattle.codec_payload_feedback.specs.Feedback.{Requests, deadline_of as deadline_of_requests, has_any, keyframe_is_due, numbers_due}
 use Rattle.codec_payload_jitter.specs.Receiving.{Receiving, deadline_of}
-use Rattle.codec_payload_stream.specs.Pops.{DropsUnits, PopsGated, PopsOnce, gates_after, has_left, none_dropped, one_more, without_unit}
+use Rattle.codec_payload_stream.specs.Pops.{DropsUnits, PopsGated, PopsOnce, answer_of, gates_after, has_left, none_dropped, one_more, without_unit}
 use Rattle.codec_payload_stream.specs.Sessions.{Session as Receiver, time_with}
+use Rattle.codec_payload_stream.specs.declared.pops.Popped.{Popped}
+use Rattle.codec_payload_stream.specs.declared.pops.Popped.TheVariants as popped
 use Rattle.codec_payload_session.specs.Arrivals.{Port}
 use Rattle.codec_payload_session.specs.Idle.{IsIdle, IsNoEvent, held_in, next_of}
 use Rattle.codec_payload_session.specs.Polls.{GoesOn, Polls, PollsAfter, SendsReport, TurnsOrReports, report_event}
@@ -18,7 +20,7 @@ use Rattle.codec_payload_session.specs.Ports.{Session}
 use Rattle.codec_payload_session.specs.Quiet.{IsBefore, PopsNothing}
 use Rattle.codec_payload_session.specs.Reporting.{ReportsBy, ReportsEach, ReportsIf, any_announced, deadline_if, is_report_due, is_time, report_deadline}
 use Rattle.codec_payload_session.specs.Requests.{Asking, Asks, is_heard, refreshed, requests_due}
-use Rattle.codec_payload_session.specs.Streams.{Drains, Follows, Plays, Pops, RequestsBy, RestsBy, Steps, StepsBy, StreamState, due_by, due_in, due_of, earlier, end_by, end_of, is_probation, later as time_after, request_deadline, step_of, work_deadline}
+use Rattle.codec_payload_session.specs.Streams.{Drains, Follows, Plays, Pops, RequestsBy, RestsBy, Steps, StepsBy, StreamState, due_by, due_in, due_of, earlier, end_by, end_of, is_probation, later as time_after, request_deadline, step_of, step_with, work_deadline}
 use Rattle.codec_payload_session.specs.Telephone.{Queue, due_before}
 use Rattle.codec_payload_session.specs.Turns.{AreQuiet, TakesTurn, event_of}
 use Rattle.codec_payload_session.specs.declared.formats.FeedbackSettings.{FeedbackSettings}
@@ -102,6 +104,7 @@ no_request now later last r a b asks after before = λ packet c again. by_heard 
 abbrev IsQuietStep : Step → Type 0
 IsQuietStep steps.Begun = ⊥
 IsQuietStep (steps.Unit unit) = ⊥
+IsQuietStep (steps.Refused fault) = ⊥
 IsQuietStep (steps.Feedback (Ok packet)) = ⊥
 IsQuietStep (steps.Feedback (Err e)) = Unit {0}
 IsQuietStep (steps.Ended why) = ⊥
@@ -190,15 +193,20 @@ record Asked (now : ℕ) (idle : ℕ) (s t : StreamState) : Type 0 where
   goes_on : end_of now idle s ≡ None
   asks : (later : ℕ) → now ≤ later → t.stage ≡ stages.Playing → IsBefore (requests_due t.feedback) later → AsksNone t.feedback later t.last t.receiver
 
-followed : (popped : Option (Result Release PacketError)) (now : ℕ) (s t : StreamState) (r : Receiver) → PopsGated now s.receiver popped r → Follows popped now (record s { receiver = r }) steps.Nothing t
+some_step : (told : Result (Popped Release) AllocError) → steps.Nothing ≡ step_with told → ⊥
+some_step (Ok (popped.Unit unit)) is = absurd (cc)
+some_step (Ok (popped.Refused fault)) is = absurd (cc)
+some_step (Err e) is = absurd (cc)
+
+followed : (told : Option (Result (Popped Release) AllocError)) (now : ℕ) (s t : StreamState) (r : Receiver) → PopsGated now s.receiver (answer_of told) r → Follows told now (record s { receiver = r }) steps.Nothing t
     → PopsGated now s.receiver None r × Rested now (record s { receiver = r }) t
 followed None now s t r pops got = (pops, rested s.stage now (record s { receiver = r }) t refl got)
-followed (Some unit) now s t r pops got = let other : steps.Nothing ≡ steps.Unit unit = got.0 in absurd (cc)
+followed (Some told) now s t r pops got = absurd (some_step told got.0)
 
 drained : (o : Option Ending) (now : Ticks) (idle : ℕ) (s m t : StreamState) → end_of now.0 idle s ≡ o → Drains o s m → Pops now m steps.Nothing t → Asked now.0 idle s t
 drained None now idle s m t is drains pops =
     let first : Pops now s steps.Nothing t = subst (λ (x : StreamState). Pops now x steps.Nothing t) drains pops in
-    let it = followed first.popped now.0 s t first.receiver first.pops first.follows in
+    let it = followed first.told now.0 s t first.receiver first.pops first.follows in
     record {
       gated = subst (λ (x : Receiver). PopsGated now.0 s.receiver None x) (sym it.1.receiver) it.0;
       told_is = it.1.told_is;
@@ -209,7 +217,7 @@ drained None now idle s m t is drains pops =
       asks = it.1.asks;
     }
 drained (Some why) now idle s m t is drains pops =
-    let it = followed pops.popped now.0 m t pops.receiver pops.pops pops.follows in
+    let it = followed pops.told now.0 m t pops.receiver pops.pops pops.follows in
     let stage_is : t.stage ≡ stages.Draining why = it.1.stage_is ∙ ap (λ (x : StreamState). x.stage) drains.2 in
     let no : true ≡ false = sym (ap is_draining stage_is) ∙ it.1.drains in
     absurd (cc)
@@ -283,17 +291,22 @@ asked_again now later idle s t it told known same after few before =
       asks = λ plays. it.asks later after plays (subst (λ (g : Stage). IsBefore (request_deadline g t.feedback) later) plays both.1);
     }
 
-followed_quiet : (popped : Option (Result Release PacketError)) (now : ℕ) (t u : StreamState) (r : Receiver) (step : Step) → popped ≡ None → r ≡ t.receiver → is_draining t.stage ≡ false
-    → (t.stage ≡ stages.Playing → AsksNone t.feedback now t.last t.receiver) → Follows popped now (record t { receiver = r }) step u → IsQuietStep step
+some_answer : (told : Result (Popped Release) AllocError) → answer_of (Some told) ≡ None → ⊥
+some_answer (Ok (popped.Unit unit)) is = absurd (cc)
+some_answer (Ok (popped.Refused fault)) is = absurd (cc)
+some_answer (Err e) is = absurd (cc)
+
+followed_quiet : (told : Option (Result (Popped Release) AllocError)) (now : ℕ) (t u : StreamState) (r : Receiver) (step : Step) → answer_of told ≡ None → r ≡ t.receiver → is_draining t.stage ≡ false
+    → (t.stage ≡ stages.Playing → AsksNone t.feedback now t.last t.receiver) → Follows told now (record t { receiver = r }) step u → IsQuietStep step
 followed_quiet None now t u r step none same drains asks got =
     rests_quiet t.stage now (record t { receiver = r }) u step drains
     (λ plays. subst (λ (x : Receiver). AsksNone t.feedback now t.last x) (sym same) (asks plays)) got
-followed_quiet (Some unit) now t u r step none same drains asks got = absurd (some_none unit none)
+followed_quiet (Some told) now t u r step none same drains asks got = absurd (some_answer told none)
 
 popped_quiet : (later : Ticks) (idle : ℕ) (t u : StreamState) (step : Step) → AskedAgain later.0 idle t → Pops later t step u → IsQuietStep step
 popped_quiet later idle t u step it pops =
-    let same = gated_same later.0 t.receiver pops.receiver pops.popped it.pops pops.pops in
-    followed_quiet pops.popped later.0 t u pops.receiver step same.0 same.1 it.drains it.asks pops.follows
+    let same = gated_same later.0 t.receiver pops.receiver (answer_of pops.told) it.pops pops.pops in
+    followed_quiet pops.told later.0 t u pops.receiver step same.0 same.1 it.drains it.asks pops.follows
 
 asked_quiet : (later : Ticks) (idle : ℕ) (t u : StreamState) (step : Step) → AskedAgain later.0 idle t → Steps later idle t step u → IsQuietStep step
 asked_quiet later idle t u step it got =
@@ -350,6 +363,7 @@ one_quiet now later idle (s ∷ ss) (f ∷ fs) rest t u step are same after few 
 no_event : (s : StreamState) (step : Step) → IsQuietStep step → IsNoEvent (event_of s step)
 no_event s steps.Begun quiet = absurd quiet
 no_event s (steps.Unit unit) quiet = absurd quiet
+no_event s (steps.Refused fault) quiet = absurd quiet
 no_event s (steps.Feedback (Ok packet)) quiet = absurd quiet
 no_event s (steps.Feedback (Err e)) quiet = tt
 no_event s (steps.Ended why) quiet = absurd quiet

@@ -3,9 +3,11 @@ mod AnswerLemmas
 mod AssociationLemmas
 mod CalmLemmas
 mod ChangeLemmas
+mod CheckLemmas
 mod DueLemmas
 mod GoodbyeLemmas
 mod IdleLemmas
+mod NamedLemmas
 mod PacketLemmas
 mod PairLemmas
 mod PopAgainLemmas

@@ -146,10 +146,9 @@ pub record BeginsWith (settings : SessionSettings) (ssrc : ℕ) (f : Format) (no
   pub answers : answer ≡ Ok (arrivals.Stream ssrc f.payload_type told)
   pub left : q ≡ added settings.max_streams after p
 
--- nothing has changed: memory ran out, or no receiver can be made by these settings
+-- memory ran out, and nothing has changed
 abbrev pub StaysEmpty : Port → Result Arrival AllocError → Port → Type 0
-StaysEmpty p (Ok arrival) q = (arrival ≡ arrivals.Unknown) × (q ≡ p)
-StaysEmpty p (Err e) q = q ≡ p
+StaysEmpty p answer q = IsErr answer × (q ≡ p)
 
 abbrev pub BeginsIf : Bool → SessionSettings → ℕ → Format → Ticks → List ℕ → Port → Result Arrival AllocError → Port → Type 0
 BeginsIf false settings ssrc f now bytes p answer q = (answer ≡ Ok arrivals.Refused) × (q ≡ p)

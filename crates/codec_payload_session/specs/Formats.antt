@@ -5,6 +5,7 @@ use Rattle.codec_payload_base.specs.declared.wire.Codec.TheVariants as codecs
 use Rattle.codec_payload_jitter.specs.declared.waiting.WaitLimits.{WaitLimits}
 use Rattle.codec_payload_jitter.specs.Waiting.{waits_for}
 use Rattle.codec_payload_keyframes.specs.declared.unit_gate.FromKeyframe.TheVariants as gates
+use Rattle.codec_payload_stream.specs.Defaults.{no_ids}
 use Rattle.codec_payload_stream.specs.Kinds.{is_among}
 use Rattle.codec_payload_stream.specs.declared.receiver.RedSettings.{RedSettings}
 use Rattle.codec_payload_stream.specs.declared.receiver.Retransmission.{Retransmission}
@@ -146,6 +147,7 @@ pub record IsLive (s : SessionSettings) : Type 0 where
   pub no_media : s.no_media.items ≡ []
   pub telephone_events : s.telephone_events.items ≡ []
   pub pairs : s.pairs.items ≡ []
+  pub extension_ids : s.extension_ids ≡ no_ids
   pub audio : s.audio ≡ waits_for 1 100
   pub video : s.video ≡ waits_for 2 200
   pub from_keyframe : s.from_keyframe ≡ gates.Mark
@@ -157,10 +159,10 @@ pub record IsLive (s : SessionSettings) : Type 0 where
   pub tick_rate : s.tick_rate ≡ 1000
   pub feedback : s.feedback ≡ None
 
--- the settings of feedback for live streams: the stated number of milliseconds, and no name and no report in packets of requests
-pub record IsLiveFeedback (ssrc : ℕ) (f : FeedbackSettings) : Type 0 where
+-- the settings of feedback for live streams: the stated number of milliseconds, the given name, and no report in packets of requests
+pub record IsLiveFeedback (ssrc : ℕ) (name : List ℕ) (f : FeedbackSettings) : Type 0 where
   pub ssrc_is : f.ssrc ≡ ssrc
-  pub cname : f.cname.items ≡ []
+  pub cname : f.cname.items ≡ name
   pub has_report : f.has_report ≡ false
   pub nack : f.nack ≡ live_nack
   pub keyframe_interval : f.keyframe_interval ≡ 500

@@ -1,8 +1,10 @@
 pub mod Arrivals
 pub mod Associations
 pub mod Changes
+pub mod Checks
 pub mod Formats
 pub mod Idle
+pub mod Named
 pub mod Pairs
 pub mod Polls
 pub mod Ports

@@ -5,12 +5,14 @@ use Rattle.std.specs.declared.alloc.AllocError.{AllocError}
 use Rattle.codec_payload_base.specs.declared.wire.Ticks.{Ticks}
 use Rattle.codec_payload_jitter.specs.Receiving.{next}
 use Rattle.codec_payload_session.specs.Arrivals.{Port, TakesIn, left_where}
+use Rattle.codec_payload_session.specs.Checks.{fault_of}
 use Rattle.codec_payload_session.specs.Reports.{block_of, reported_by}
 use Rattle.codec_payload_session.specs.Streams.{IsInfo, waiting_where}
 use Rattle.codec_payload_session.specs.Telephone.{MayLackMemory, Queue, QueuesIf, empty_queue, is_without_media, telephone_at}
 use Rattle.codec_payload_jitter.specs.declared.waiting.WaitLimits.{WaitLimits}
 use Rattle.codec_payload_rtcp.specs.declared.items.ReportBlock.{ReportBlock}
 use Rattle.codec_payload_stream.specs.Sessions.{Session as Receiver}
+use Rattle.codec_payload_session.specs.declared.checks.SessionSettingsError.{SessionSettingsError}
 use Rattle.codec_payload_session.specs.declared.formats.SessionSettings.{SessionSettings}
 use Rattle.codec_payload_session.specs.declared.session.Arrival.{Arrival}
 use Rattle.codec_payload_session.specs.declared.session.Arrival.TheVariants as arrivals
@@ -36,6 +38,11 @@ no_counts = record { received = 0; rtcp = 0; malformed = 0; unknown = 0; refused
 
 abbrev pub new_session : SessionSettings → Session
 new_session settings = record { settings = settings; port = no_port; counts = no_counts; telephone = empty_queue; report_due = None }
+
+-- a new session, or the fault of its settings
+abbrev pub made_of : Option SessionSettingsError → SessionSettings → Result Session SessionSettingsError
+made_of None settings = Ok (new_session settings)
+made_of (Some fault) settings = Err fault
 
 -- one more datagram with this result
 abbrev pub counted : Arrival → ArrivalCounts → ArrivalCounts
@@ -66,8 +73,9 @@ pub record IsPort (settings : SessionSettings) (p : Port) (c : ArrivalCounts) : 
   pub accounted : IsAccountedFor c p
   pub bounded : length p.streams ≤ settings.max_streams
 
--- and at most 32 packets of telephone events wait
+-- and at most 32 packets of telephone events wait; the settings can be met, so each of their formats can begin a stream
 pub record IsSession (s : Session) : Type 0 where
+  pub usable : fault_of s.settings ≡ None
   pub port : IsPort s.settings s.port s.counts
   pub few : length s.telephone.waiting ≤ 32
 

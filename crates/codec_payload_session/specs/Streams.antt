@@ -1,8 +1,7 @@
 -- One stream of a session: the datagrams and calls that its receiver gets, and when the stream begins and ends.
-use Rattle.std.specs.Prelude.{◌≡◌, ℕ, min, ◌+◌, ◌-◌, ◌^◌, ◌==◌, ◌&&◌, nat_lt, nat_le, if◌then◌else◌, Bool, true, false, List, [], ◌∷◌, Option, Some, None, Result, Ok, Err, length, map}
+use Rattle.std.specs.Prelude.{◌≡◌, ℕ, min, ◌+◌, ◌-◌, ◌%◌, ◌^◌, ◌==◌, ◌&&◌, nat_lt, nat_le, if◌then◌else◌, Bool, true, false, List, [], ◌∷◌, Option, Some, None, Result, Ok, Err, length, map}
 use Rattle.std.specs.Global.{Vec}
 use Rattle.std.specs.declared.alloc.AllocError.{AllocError}
-use Rattle.codec_payload_base.specs.declared.error.PacketError.{PacketError}
 use Rattle.codec_payload_base.specs.declared.wire.Ticks.{Ticks}
 use Rattle.codec_payload_codec.specs.Depacketizers.{DepacketizerState, configured_depacketizer, depacketizer_state_for}
 use Rattle.codec_payload_buffer.specs.Release.{Release}
@@ -10,8 +9,11 @@ use Rattle.codec_payload_jitter.specs.Receiving.{deadline_of, next}
 use Rattle.codec_payload_jitter.specs.declared.outcome.Outcome.{Outcome}
 use Rattle.codec_payload_jitter.specs.declared.waiting.WaitLimits.{WaitLimits}
 use Rattle.codec_payload_jitter.specs.declared.outcome.Outcome.TheVariants as outcomes
-use Rattle.codec_payload_stream.specs.Pops.{PopsGated}
-use Rattle.codec_payload_stream.specs.Sessions.{Finishes, ReceivesBytes, Session as Receiver, session_by}
+use Rattle.codec_payload_stream.specs.Pops.{NamesFault, PopsGated, answer_of}
+use Rattle.codec_payload_stream.specs.Sessions.{Ends, ReceivesBytes, Session as Receiver, session_by}
+use Rattle.codec_payload_stream.specs.declared.pops.Popped.{Popped}
+use Rattle.codec_payload_stream.specs.declared.pops.Popped.TheVariants as popped
+use Rattle.codec_payload_stream.specs.declared.receiver.Counters.{Counters}
 use Rattle.codec_payload_stream.specs.declared.receiver.ReceiveError.{ReceiveError}
 use Rattle.codec_payload_stream.specs.declared.receiver.ReceiveError.TheVariants as errors
 use Rattle.codec_payload_stream.specs.declared.receiver.Settings.{Settings}
@@ -177,7 +179,7 @@ end_of now idle s = end_by now idle s.last s.stage
 -- the receiver is finished, so that pops wait for nothing
 abbrev pub Drains : Option Ending → StreamState → StreamState → Type 0
 Drains None s t = t ≡ s
-Drains (Some why) s t = (r : Receiver) × Finishes s.receiver r × (t ≡ record s { receiver = r; stage = stages.Draining why })
+Drains (Some why) s t = (r : Receiver) × Ends s.receiver r × (t ≡ record s { receiver = r; stage = stages.Draining why })
 
 -- ---- events
 
@@ -206,16 +208,23 @@ RestsBy stages.Playing now s answer t = RequestsBy s.feedback now s answer t
 RestsBy (stages.Leaving why at) now s answer t = (answer ≡ steps.Nothing) × (t ≡ s)
 RestsBy (stages.Draining why) now s answer t = (answer ≡ steps.Ended why) × (t ≡ s)
 
-abbrev pub Follows : Option (Result Release PacketError) → ℕ → StreamState → Step → StreamState → Type 0
+-- a unit, or memory ran out for it, or a refused frame
+abbrev pub step_with : Result (Popped Release) AllocError → Step
+step_with (Ok (popped.Unit unit)) = steps.Unit (Ok unit)
+step_with (Ok (popped.Refused fault)) = steps.Refused fault
+step_with (Err e) = steps.Unit (Err e)
+
+abbrev pub Follows : Option (Result (Popped Release) AllocError) → ℕ → StreamState → Step → StreamState → Type 0
 Follows None now s answer t = RestsBy s.stage now s answer t
-Follows (Some unit) now s answer t = (answer ≡ steps.Unit unit) × (t ≡ s)
+Follows (Some told) now s answer t = (answer ≡ step_with told) × (t ≡ s)
 
 -- the answer of a pop of the stream's receiver; without a unit, what follows from the receiver after that pop
 pub record Pops (now : Ticks) (s : StreamState) (answer : Step) (t : StreamState) : Type 0 where
-  pub popped : Option (Result Release PacketError)
+  pub told : Option (Result (Popped Release) AllocError)
   pub receiver : Receiver
-  pub pops : PopsGated now.0 s.receiver popped receiver
-  pub follows : Follows popped now.0 (record s { receiver = receiver }) answer t
+  pub pops : PopsGated now.0 s.receiver (answer_of told) receiver
+  pub refused : NamesFault told
+  pub follows : Follows told now.0 (record s { receiver = receiver }) answer t
 
 -- an announced stream ends first, if its time has come
 abbrev pub Plays : Ticks → ℕ → StreamState → Step → StreamState → Type 0
@@ -271,6 +280,16 @@ abbrev pub due_in : ℕ → List StreamState → Option ℕ
 due_in idle [] = None
 due_in idle (s ∷ ss) = earlier (due_of idle s) (due_in idle ss)
 
+-- the counters of a receiver
+pub record HasCounters (r : Receiver) (c : Counters) : Type 0 where
+  pub received : c.received ≡ (r.arrived.received + length r.choice.candidates) % 2 ^ 64
+  pub rtcp : c.rtcp ≡ r.arrived.rtcp
+  pub malformed : c.malformed ≡ r.arrived.malformed
+  pub other_streams : c.other_streams ≡ r.arrived.other_streams
+  pub undecided : c.undecided ≡ length r.choice.candidates
+  pub packets : c.packets ≡ r.packets.counters
+  pub undecodable : c.undecodable ≡ r.gates.undecodable
+
 -- the stream, as a caller sees it
 pub record IsInfo (s : StreamState) (i : StreamInfo) : Type 0 where
   pub ssrc_is : i.ssrc ≡ s.ssrc
@@ -278,6 +297,6 @@ pub record IsInfo (s : StreamState) (i : StreamInfo) : Type 0 where
   pub stage : i.stage ≡ s.stage
   pub taken : i.taken ≡ s.taken
   pub held : i.held ≡ length s.receiver.packets.buffer.held
-  pub packets : i.counters.packets ≡ s.receiver.packets.counters
+  pub counters : HasCounters s.receiver i.counters
   pub round_trip : i.round_trip ≡ round_trip_of s.feedback
   pub sender_clock : i.sender_clock ≡ s.sender_clock

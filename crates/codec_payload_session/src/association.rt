@@ -1,8 +1,9 @@
 //! Retransmissions whose SSRC is in no pair (RFC 4588, section 5.3): the session has requested the packet, so it finds the stream.
 
-ghost use Rattle.std.specs.Prelude.{◌≡◌, filter, OnErr, OnOk};
+ghost use Rattle.std.specs.Prelude.{◌≡◌, filter, Option, OnErr, OnOk};
 ghost use Rattle.codec_payload_rtp.specs.RtpValues.{packet_of};
 ghost use Rattle.codec_payload_session.specs.Associations.{AddsPair, TakesInBy, has_pair, is_on_time, is_unassociated, may_be_of, owner_of, pair_at, unpaired_at, unpaired_of};
+ghost use Rattle.codec_payload_session.specs.Checks.{fault_of};
 
 use crate::formats::{Role, SessionSettings, SsrcPair};
 use crate::requests::{has_requested, original_number};
@@ -34,6 +35,7 @@ pub(crate) fn take_in(
     now: Ticks,
     datagram: &[u8],
 ) -> Result<Arrival, AllocError>
+    requires { fault_of settings.old ≡ Option.None }
     ensures { TakesInBy (pair_at settings.old now.0 datagram.now streams.old.streams) now datagram.now settings.old streams.old result settings.new streams.new }
 {
     let answer = streams.take_in(settings, now, datagram);
@@ -152,7 +154,7 @@ fn may_be_of(stream: &StreamState, pairs: &[SsrcPair], now: Ticks, packet: Unpai
 fn is_on_time(stream: &StreamState, now: Ticks, rtp_time: u32) -> bool
     ensures { result ≡ is_on_time now.0 rtp_time stream.now }
 {
-    match stream.receiver.transit_change(now, rtp_time) {
+    match stream.receiver.inner().transit_change(now, rtp_time) {
         Some(distance) => {
             u64::from(distance) <= LARGEST_DISTANCE * u64::from(stream.format.spec.clock_rate.get())
         }

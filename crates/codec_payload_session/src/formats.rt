@@ -48,15 +48,15 @@ pub struct SsrcPair {
 }
 
 /// Who requests missing packets and keyframes and sends receiver reports, and when.
-#[derive(Debug, Drop)]
+#[derive(Clone, Debug, Drop)]
 pub struct FeedbackSettings {
     /// The SSRC of the session as a sender of RTCP.
     pub ssrc: u32,
-    /// The canonical name of the session (RFC 3550, section 6.5.1), of which at most the first 255 bytes are sent. Without bytes
-    /// no source description is sent.
+    /// The canonical name of the session (RFC 3550, section 6.5.1), 1 to 255 bytes. Each compound packet has it: reports, and
+    /// with `has_report` requests.
     pub cname: Vec<u8>,
-    /// Whether each packet of requests begins with an empty receiver report, as RFC 3550, section 6.1, asks. Else it has reduced
-    /// size (RFC 5506).
+    /// Whether each packet of requests is a compound packet, which begins with an empty receiver report and the name, as RFC
+    /// 3550, section 6.1, asks. Else it has reduced size (RFC 5506): the other side has to accept that (`a=rtcp-rsize`).
     pub has_report: bool,
     /// When missing packets are requested. Two requests of a number are at least one tick apart, whatever it says.
     pub nack: NackSettings,
@@ -79,7 +79,7 @@ pub struct FeedbackSettings {
 }
 
 /// The settings of a session.
-#[derive(Debug, Drop)]
+#[derive(Clone, Debug, Drop)]
 pub struct SessionSettings {
     /// The payload formats. If two of them have the same payload type, the first counts.
     pub formats: Vec<Format>,
@@ -140,15 +140,16 @@ pub(crate) enum Role {
 }
 
 impl FeedbackSettings {
-    /// Returns settings for live streams and a clock in milliseconds: packets of reduced size without a name, the defaults of
-    /// [`NackSettings`], and at most one request for a keyframe in 500 ms. Waiting follows the round trip, up to 500 ms. Nothing
-    /// is requested 2 s after the latest datagram. A receiver report is sent each second. Does not allocate.
-    pub fn live(alloc: Global, ssrc: u32) -> FeedbackSettings
-        ensures { IsLiveFeedback ssrc result }
+    /// Returns settings for live streams and a clock in milliseconds, with this SSRC and this canonical name of 1 to 255 bytes:
+    /// requests in packets of reduced size, the defaults of [`NackSettings`], and at most one request for a keyframe in 500 ms.
+    /// Waiting follows the round trip, up to 500 ms. Nothing is requested 2 s after the latest datagram. A receiver report is
+    /// sent each second. Does not allocate.
+    pub fn live(ssrc: u32, cname: Vec<u8>) -> FeedbackSettings
+        ensures { IsLiveFeedback ssrc cname.items result }
     {
         FeedbackSettings {
             ssrc,
-            cname: Vec::new(alloc),
+            cname,
             has_report: false,
             nack: NackSettings::live(),
             keyframe_interval: 500,
@@ -269,7 +270,7 @@ impl Format {
     }
 
     /// Returns whether packets of this payload type carry media of this format.
-    fn has_type(&self, payload_type: u8) -> bool
+    pub(crate) fn has_type(&self, payload_type: u8) -> bool
         ensures { result ≡ has_type self.now payload_type }
     {
         if self.payload_type == payload_type {

@@ -4,8 +4,10 @@
 
 mod association;
 mod changes;
+pub mod checks;
 pub mod formats;
 mod goodbyes;
+mod named;
 mod pairs;
 mod reporter;
 pub mod reports;

@@ -88,7 +88,7 @@ impl StreamState {
         ensures value { result ≡ block_of tick_rate now.0 self.now }
         ensures fits { IfSome result (λ block. block.cumulative_lost < 16777216) }
     {
-        match self.receiver.peek_report() {
+        match self.receiver.inner().peek_report() {
             Some(report) => Some(block_about(self.ssrc, self.sender_clock, report, now, tick_rate)),
             None => None,
         }

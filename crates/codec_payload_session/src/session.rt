@@ -5,14 +5,16 @@ ghost use Rattle.std.specs.List.{position};
 ghost use Rattle.std.specs.Option.{option_map};
 ghost use Rattle.codec_payload_session.specs.Arrivals.{Port};
 ghost use Rattle.codec_payload_session.specs.Associations.{Associates};
+ghost use Rattle.codec_payload_session.specs.Checks.{fault_of};
 ghost use Rattle.codec_payload_session.specs.Idle.{IsIdle, held_in, next_of};
-ghost use Rattle.codec_payload_session.specs.Ports.{IsSum, MatchInfo, ReportsIf, counted, counted_if, ends_all, ends_of, new_session, no_counts, receiver_among, taken_in, told_counts, waits_of};
+ghost use Rattle.codec_payload_session.specs.Ports.{IsSum, MatchInfo, ReportsIf, counted, counted_if, ends_all, ends_of, made_of, no_counts, receiver_among, taken_in, told_counts, waits_of};
 ghost use Rattle.codec_payload_session.specs.Reports.{clock_among};
 ghost use Rattle.codec_payload_session.specs.Polls.{Polls, SendsReport, TurnsOrReports, report_event};
 ghost use Rattle.codec_payload_session.specs.Streams.{is_of};
 ghost use Rattle.codec_payload_session.specs.Pairs.{Pairs, with_pair, without_pair};
 
 use crate::association::{add_pair, take_in};
+use crate::checks::SessionSettingsError;
 use crate::formats::{SessionSettings, SsrcPair};
 use crate::pairs::remove_pair;
 use crate::reporter::report_deadline;
@@ -65,9 +67,9 @@ pub enum Event {
         ssrc: u32,
         payload_type: u8,
     },
-    /// A unit of a stream, or the error of a pop. After `OutOfMemory` the frame is kept, and the next poll tries again. After
-    /// any other error the frame was dropped. `rtp_time` is in ticks of the RTP clock, without wrapping. A decoder can show the
-    /// unit if it is `decodable`: see [`Receiver::unit_is_decodable`], and [`Receiver::unit_is_keyframe`] for `keyframe`.
+    /// A unit of a stream. If memory ran out for it, the frame is kept, and the next poll tries again. `rtp_time` is in ticks of
+    /// the RTP clock, without wrapping. A decoder can show the unit if it is `decodable`: see [`Receiver::unit_is_decodable`],
+    /// and [`Receiver::unit_is_keyframe`] for `keyframe`.
     ///
     /// [`Receiver::unit_is_decodable`]: codec_payload_stream::receiver::Receiver::unit_is_decodable
     /// [`Receiver::unit_is_keyframe`]: codec_payload_stream::receiver::Receiver::unit_is_keyframe
@@ -77,7 +79,15 @@ pub enum Event {
         rtp_time: Option<u64>,
         decodable: bool,
         keyframe: bool,
-        unit: Result<Depacketized, PacketError>,
+        unit: Result<Depacketized, AllocError>,
+    },
+    /// A frame of a stream that the depacketizer refused, since its payloads are malformed. The frame was dropped, its packets
+    /// count as `left`, and the stream continues. Any peer can send such a frame, so do not end a program for it. `fault` is
+    /// never [`PacketError::OutOfMemory`].
+    Refused {
+        ssrc: u32,
+        payload_type: u8,
+        fault: PacketError,
     },
     /// A compound packet of RTCP for the sender of a stream, which `packet` returns: a NACK of the packets that are to be
     /// requested now (RFC 4585, section 6.2.1), and a PLI if a keyframe is (section 6.3.1). Send it: its requests count as
@@ -177,16 +187,24 @@ impl Model for Session {
 }
 
 impl Session {
-    /// Returns a session without streams. Does not allocate.
-    pub fn new(alloc: Global, settings: SessionSettings) -> Session
-        ensures { result ≡ new_session settings }
+    /// Returns a session without streams. Does not allocate. Each payload type of the settings has one meaning, and each of their
+    /// formats can begin streams.
+    ///
+    /// # Errors
+    ///
+    /// The first setting that no session can meet ([`SessionSettings::check`]).
+    pub fn new(alloc: Global, settings: SessionSettings) -> Result<Session, SessionSettingsError>
+        ensures { result ≡ made_of (fault_of settings) settings }
     {
-        Session {
-            settings,
-            streams: Streams::none(alloc),
-            counts: ArrivalCounts::none(),
-            telephone: TelephoneQueue::none(alloc),
-            report_due: None,
+        match settings.fault() {
+            Some(fault) => Err(fault),
+            None => Ok(Session {
+                settings,
+                streams: Streams::none(alloc),
+                counts: ArrivalCounts::none(),
+                telephone: TelephoneQueue::none(alloc),
+                report_due: None,
+            }),
         }
     }
 
@@ -413,7 +431,7 @@ impl Session {
         ensures { option_map (λ receiver. receiver.now) result ≡ option_map (λ stream. stream.receiver) (slice_get self.now.port.streams place) }
     {
         match self.streams.list.get(place) {
-            Some(stream) => Some(&stream.receiver),
+            Some(stream) => Some(stream.receiver.inner()),
             None => None,
         }
     }

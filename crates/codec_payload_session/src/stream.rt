@@ -3,16 +3,18 @@
 ghost use Rattle.std.specs.Prelude.{◌≡◌, IfOk, IfSome, true};
 ghost use Rattle.std.specs.Option.{option_map};
 ghost use Rattle.codec_payload_session.specs.Changes.{is_left_behind, is_playing, left_behind, plays};
+ghost use Rattle.codec_payload_session.specs.Checks.{can_begin};
 ghost use Rattle.codec_payload_session.specs.Pairs.{paired_if};
 ghost use Rattle.codec_payload_session.specs.Quiet.{RestsUntil, or_none, time_of};
 ghost use Rattle.codec_payload_session.specs.Requests.{wait_by};
-ghost use Rattle.codec_payload_session.specs.Streams.{Begins, Drains, IsInfo, Pops, RequestsBy, RestsBy, Steps, Takes, due_of, earlier, end_of, heard, heard_unless, is_accepted, is_no_memory, is_of, is_probation, left, left_when, received, step_of, waiting_for, waiting_if, work_deadline};
+ghost use Rattle.codec_payload_session.specs.Streams.{Begins, Drains, IsInfo, Pops, RequestsBy, RestsBy, Steps, Takes, due_of, earlier, end_of, heard, heard_unless, is_accepted, is_no_memory, is_of, is_probation, left, left_when, received, step_of, step_with, waiting_for, waiting_if, work_deadline};
 ghost use Rattle.codec_payload_session.specs.Turns.{is_nothing};
 ghost use Rattle.codec_payload_session.specs.Waking.{Sleeps, or_max};
 ghost use Rattle.codec_payload_session.specs.declared.stream.Step.TheVariants as steps;
 
 use crate::changes::{are_alike, takes_turns};
 use crate::formats::{Format, SessionSettings, SsrcPair, retransmission_for};
+use crate::named::NamedReceiver;
 use crate::reports::SenderClock;
 use crate::requests::{Feedback, hear, requests_due, rest_time, round_trip, wait_by};
 use codec_payload_base::error::PacketError;
@@ -21,7 +23,8 @@ use codec_payload_buffer::buffer::Depacketized;
 use codec_payload_codec::codec::CodecDepacketizer;
 use codec_payload_jitter::jitter::WaitLimits;
 use codec_payload_jitter::outcome::Outcome;
-use codec_payload_stream::receiver::{Counters, ReceiveError, Receiver};
+use codec_payload_stream::pops::Popped;
+use codec_payload_stream::receiver::{Counters, ReceiveError};
 use std::alloc::{AllocError, Global};
 use std::marker::Model;
 
@@ -76,7 +79,7 @@ pub struct StreamInfo {
 pub(crate) struct StreamState {
     pub(crate) ssrc: u32,
     pub(crate) format: Format,
-    pub(crate) receiver: Receiver,
+    pub(crate) receiver: NamedReceiver,
     pub(crate) stage: Stage,
     /// Whether the stream was announced.
     pub(crate) told: bool,
@@ -122,7 +125,10 @@ impl Model for StreamState {
 #[derive(Debug, Drop)]
 pub(crate) enum Step {
     Begun,
-    Unit(Result<Depacketized, PacketError>),
+    /// A unit. If memory ran out for it, the frame is kept.
+    Unit(Result<Depacketized, AllocError>),
+    /// A frame that the depacketizer refused.
+    Refused(PacketError),
     /// A packet of RTCP to send. If memory ran out, its requests stay due.
     Feedback(Result<Vec<u8>, AllocError>),
     Ended(Ending),
@@ -130,26 +136,23 @@ pub(crate) enum Step {
 }
 
 impl StreamState {
-    /// Creates a stream without datagrams. `None`: no receiver can be made by these settings.
+    /// Creates a stream without datagrams.
     pub(crate) fn begin(
         alloc: Global,
         settings: &SessionSettings,
         ssrc: u32,
         format: &Format,
-    ) -> Result<Option<StreamState>, AllocError>
-        ensures { IfOk result (λ stream. IfSome stream (Begins settings.now ssrc format.now)) }
+    ) -> Result<StreamState, AllocError>
+        requires { can_begin settings.now format.now ≡ true }
+        ensures { IfOk result (Begins settings.now ssrc format.now) }
     {
-        let Some(mut depacketizer) = CodecDepacketizer::from_codec(alloc, format.spec.codec) else {
-            return Ok(None);
-        };
+        let mut depacketizer = CodecDepacketizer::from_codec(alloc, format.spec.codec).unwrap();
         depacketizer.configure_for(&format.spec);
         let max_wait = settings.limits(format).max_wait;
         let feedback = Feedback::begin(alloc, &settings.feedback, ssrc, format, max_wait)?;
         let settings = settings.receiver(alloc, ssrc, format)?;
-        let Ok(receiver) = Receiver::new(alloc, depacketizer, settings) else {
-            return Ok(None);
-        };
-        Ok(Some(StreamState {
+        let receiver = NamedReceiver::begin(alloc, depacketizer, settings).unwrap();
+        Ok(StreamState {
             ssrc,
             format: *format,
             receiver,
@@ -162,7 +165,7 @@ impl StreamState {
             sender_clock: None,
             quiet_until: 0,
             work: 0,
-        }))
+        })
     }
 
     /// Returns whether the stream has this SSRC and payload type.
@@ -223,7 +226,7 @@ impl StreamState {
     {
         if let Some(wait) = wait_by(&self.feedback) {
             self.quiet_until = 0;
-            let mut limits = self.receiver.wait_limits();
+            let mut limits = self.receiver.inner().wait_limits();
             limits.max_wait = Some(wait);
             self.receiver.set_wait_limits(limits);
         }
@@ -371,17 +374,17 @@ impl StreamState {
         self.pop(now)
     }
 
-    /// Returns the next unit of the stream, or what follows without one.
+    /// Returns the next unit or refused frame of the stream, or what follows without one.
     fn pop(&mut self, now: Ticks) -> Step
         ensures { Pops now self.old result self.new }
     {
         self.quiet_until = 0;
-        let held = self.receiver.held();
+        let held = self.receiver.inner().held();
         match self.receiver.pop(now) {
-            Some(unit) => Step::Unit(unit),
+            Some(popped) => step_with(popped),
             None => {
                 let step = self.rest(now);
-                if is_nothing(&step) && self.receiver.held() == held {
+                if is_nothing(&step) && self.receiver.inner().held() == held {
                     let work = self.find_work();
                     let until = self.quiet_time(now, work);
                     let kept = or_none(work);
@@ -402,7 +405,7 @@ impl StreamState {
         if !self.told || !is_playing(self.stage) {
             return 0;
         }
-        let rest = rest_time(&self.feedback, now, self.last, &self.receiver);
+        let rest = rest_time(&self.feedback, now, self.last, self.receiver.inner());
         match work {
             Some(at) => rest.min(at),
             None => rest,
@@ -426,7 +429,7 @@ impl StreamState {
     {
         self.quiet_until = 0;
         if let Some(feedback) = &mut self.feedback {
-            return step_of(feedback.take_due(now, self.last, &self.receiver));
+            return step_of(feedback.take_due(now, self.last, self.receiver.inner()));
         }
         Step::Nothing
     }
@@ -445,7 +448,7 @@ impl StreamState {
     fn find_work(&self) -> Option<u64>
         ensures { result ≡ work_deadline self.now }
     {
-        let unit = match self.receiver.next_deadline() {
+        let unit = match self.receiver.inner().next_deadline() {
             Some(at) => Some(at.0),
             None => None,
         };
@@ -507,8 +510,8 @@ impl StreamState {
             payload_type: self.format.payload_type,
             stage: self.stage,
             taken: self.taken,
-            held: self.receiver.held(),
-            counters: self.receiver.counters(),
+            held: self.receiver.inner().held(),
+            counters: self.receiver.inner().counters(),
             round_trip: round_trip(&self.feedback),
             sender_clock: self.sender_clock,
         }
@@ -555,6 +558,17 @@ pub(crate) fn is_nothing(step: &Step) -> bool
     ensures { result ≡ is_nothing step.now }
 {
     matches!(step, Step::Nothing)
+}
+
+/// Returns the step of a stream with this answer of a pop.
+fn step_with(popped: Result<Popped, AllocError>) -> Step
+    ensures { result ≡ step_with popped }
+{
+    match popped {
+        Ok(Popped::Unit(unit)) => Step::Unit(Ok(unit)),
+        Ok(Popped::Refused(fault)) => Step::Refused(fault),
+        Err(e) => Step::Unit(Err(e)),
+    }
 }
 
 /// Returns the step of a stream with these requests.

@@ -1,6 +1,6 @@
 //! The streams of a session, in the order in which they began.
 
-ghost use Rattle.std.specs.Prelude.{◌≡◌, ◌<◌, IfOk, IfSome, OnErr, OnOk, length, slice_get, true, false};
+ghost use Rattle.std.specs.Prelude.{◌≡◌, ◌<◌, IfOk, IfSome, OnErr, OnOk, Option, length, slice_get, true, false};
 ghost use Rattle.std.specs.List.{position};
 ghost use Rattle.std.specs.Option.{is_some};
 ghost use Rattle.codec_payload_base.specs.Answers.{Finds};
@@ -13,6 +13,7 @@ ghost use Rattle.codec_payload_session.specs.Arrivals.{BeginsIf, BeginsOrFeeds, 
 ghost use Rattle.codec_payload_session.specs.Ports.{ReportsIf, ReportsOn, everyone, no_port};
 ghost use Rattle.codec_payload_session.specs.declared.stream.Ending.TheVariants as endings;
 ghost use Rattle.codec_payload_session.specs.Pairs.{paired_where, with_pair};
+ghost use Rattle.codec_payload_session.specs.Checks.{can_begin, fault_of};
 ghost use Rattle.codec_payload_session.specs.Changes.{any_left_behind, continued, continues};
 ghost use Rattle.codec_payload_session.specs.Waking.{FeedsOne, StepsPort};
 
@@ -92,6 +93,7 @@ impl Streams {
         now: Ticks,
         datagram: &[u8],
     ) -> Result<Arrival, AllocError>
+        requires { fault_of settings.now ≡ Option.None }
         ensures { TakesIn settings.now now datagram.now self.old result self.new }
     {
         match sort(settings, datagram) {
@@ -129,6 +131,7 @@ impl Streams {
         now: Ticks,
         datagram: &[u8],
     ) -> Result<Arrival, AllocError>
+        requires { can_begin settings.now of.1 ≡ true }
         ensures { TakesMedia settings.now of.0 of.1 now datagram.now self.old result self.new }
     {
         let answer = self.feed_or_begin(settings, of, now, datagram);
@@ -166,6 +169,7 @@ impl Streams {
         now: Ticks,
         datagram: &[u8],
     ) -> Result<Arrival, AllocError>
+        requires { can_begin settings.now of.1 ≡ true }
         ensures { BeginsOrFeeds (position (is_of of.0 of.1.payload_type) self.old.streams) settings.now of.0 of.1 now datagram.now self.old result self.new }
     {
         match place_of(&self.list, of.0, of.1.payload_type) {
@@ -198,15 +202,14 @@ impl Streams {
         now: Ticks,
         datagram: &[u8],
     ) -> Result<Arrival, AllocError>
+        requires { can_begin settings.now of.1 ≡ true }
         ensures { BeginsIf (has_place settings.now.max_streams self.old) settings.now of.0 of.1 now datagram.now self.old result self.new }
     {
         if !self.has_place(settings.max_streams) {
             return Ok(Arrival::Refused);
         }
         let (ssrc, format) = of;
-        let Some(mut stream) = StreamState::begin(self.alloc, settings, ssrc, &format)? else {
-            return Ok(Arrival::Unknown);
-        };
+        let mut stream = StreamState::begin(self.alloc, settings, ssrc, &format)?;
         let answer = stream.take(now, settings.probation, datagram);
         if is_no_memory(&answer) {
             return Err(AllocError);
@@ -294,7 +297,7 @@ impl Streams {
         match turn.step {
             Step::Begun => Some(Event::Begun { ssrc, payload_type }),
             Step::Unit(unit) => {
-                let receiver = &stream.receiver;
+                let receiver = stream.receiver.inner();
                 Some(Event::Unit {
                     ssrc,
                     payload_type,
@@ -304,6 +307,11 @@ impl Streams {
                     unit,
                 })
             }
+            Step::Refused(fault) => Some(Event::Refused {
+                ssrc,
+                payload_type,
+                fault,
+            }),
             Step::Feedback(packet) => Some(Event::Feedback {
                 ssrc,
                 payload_type,

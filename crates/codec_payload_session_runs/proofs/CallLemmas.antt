@@ -167,8 +167,8 @@ begins_if_evolve : (b : Bool) (settings : SessionSettings) (ssrc : ℕ) (f : For
 begins_if_evolve false settings ssrc f now datagram p answer q none known got = stays_evolve settings now datagram p answer (Ok arrivals.Refused) q (λ now bytes s t. refl) got.0 got.1
 begins_if_evolve true settings ssrc f now datagram p answer q none known (inl got) = begins_evolve settings ssrc f now datagram p answer q none known got
 begins_if_evolve true settings ssrc f now datagram p (Ok arrival) q none known (inr got) =
-    stays_evolve settings now datagram p (Ok arrival) (Ok arrivals.Unknown) q (λ now bytes s t. refl) (ap (λ (a : Arrival). Ok a) got.0) got.1
-begins_if_evolve true settings ssrc f now datagram p (Err e) q none known (inr got) = stays_evolve settings now datagram p (Err e) (Err e) q (λ now bytes s t. refl) refl got
+    absurd (cc)
+begins_if_evolve true settings ssrc f now datagram p (Err e) q none known (inr got) = stays_evolve settings now datagram p (Err e) (Err e) q (λ now bytes s t. refl) refl got.1
 
 begins_or_feeds_evolve : (o : Option ℕ) (settings : SessionSettings) (ssrc : ℕ) (f : Format) (now : Ticks) (datagram : Vec ℕ) (p : Port) (answer : Result Arrival AllocError) (q : Port)
     → position (is_of ssrc f.payload_type) p.streams ≡ o → AreApart p.streams → AreKnown p.streams → BeginsOrFeeds o settings ssrc f now datagram.items p answer q

@@ -1,7 +1,10 @@
 -- Runs of a session, call by call.
-use Rattle.std.proofs.Common.{◌≡◌, refl, ap, subst, List, [], ◌∷◌, ◌++◌, length, arith}
-use Rattle.codec_payload_session.specs.Ports.{Session}
-use Rattle.codec_payload_session_runs.specs.SessionRuns.{Call, Does, Runs, calls_of}
+use Rattle.std.proofs.Common.{◌≡◌, refl, ap, subst, List, [], ◌∷◌, ◌++◌, Option, Some, None, Result, Ok, Err, length, arith}
+use Rattle.codec_payload_session.specs.Ports.{Session, made_of, new_session}
+use Rattle.codec_payload_session.specs.declared.checks.SessionSettingsError.{SessionSettingsError}
+use Rattle.codec_payload_session.specs.declared.formats.SessionSettings.{SessionSettings as Settings}
+use Rattle.codec_payload_session_runs.specs.SessionRuns.{Call, Does, Runs, calls_of, refusal_of}
+use Rattle.codec_payload_session_runs.specs.declared.run.NewRunError.TheVariants as refusals
 use Rattle.codec_payload_session_runs.specs.declared.run.SessionStep.{SessionStep}
 use Rattle.codec_payload_session_runs.specs.declared.run.StepAnswer.{StepAnswer}
 
@@ -17,3 +20,17 @@ calls_more [] [] step answer same = refl
 calls_more [] (r ∷ rs) step answer same = absurd (omega arith)
 calls_more (s ∷ ss) [] step answer same = absurd (omega arith)
 calls_more (s ∷ ss) (r ∷ rs) step answer same = ap (λ (cs : List Call). record { step = s; answer = r } ∷ cs) (calls_more ss rs step answer (omega arith))
+
+-- ---- a new session
+
+pub made_new : (o : Option SessionSettingsError) (settings : Settings) (s : Session) → Ok s ≡ made_of o settings → s ≡ new_session settings
+made_new None settings s is = cc
+made_new (Some fault) settings s is = absurd (cc)
+
+pub made_none : (o : Option SessionSettingsError) (settings : Settings) (s : Session) → Ok s ≡ made_of o settings → o ≡ None
+made_none None settings s is = refl
+made_none (Some fault) settings s is = absurd (cc)
+
+pub refused_by : (o : Option SessionSettingsError) (settings : Settings) (fault : SessionSettingsError) → Err fault ≡ made_of o settings → refusal_of o ≡ refusals.Settings fault
+refused_by None settings fault is = absurd (cc)
+refused_by (Some other) settings fault is = cc

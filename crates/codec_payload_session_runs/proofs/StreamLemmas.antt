@@ -3,17 +3,18 @@ use Rattle.std.proofs.Common.{◌≡◌, ◌≤◌, ◌∙◌, ◌⊎◌, inl, i
 use Rattle.std.specs.Global.{Vec}
 use Rattle.std.specs.declared.alloc.AllocError.{AllocError}
 use Rattle.std.proofs.lemmas.Bool.Decides.{nat_tests}
-use Rattle.codec_payload_base.specs.declared.error.PacketError.{PacketError}
 use Rattle.codec_payload_base.specs.declared.wire.Ticks.{Ticks}
 use Rattle.codec_payload_buffer.specs.Release.{Release}
 use Rattle.codec_payload_jitter.specs.declared.outcome.Outcome.{Outcome}
 use Rattle.codec_payload_stream.specs.Sessions.{Session as Receiver}
+use Rattle.codec_payload_stream.specs.declared.pops.Popped.{Popped}
+use Rattle.codec_payload_stream.specs.declared.pops.Popped.TheVariants as popped
 use Rattle.codec_payload_stream.specs.declared.receiver.ReceiveError.{ReceiveError}
 use Rattle.codec_payload_session.specs.Arrivals.{Arrives}
 use Rattle.codec_payload_session.specs.Formats.{retransmission_for}
 use Rattle.codec_payload_session.specs.Pairs.{paired, paired_when}
 use Rattle.codec_payload_session.specs.Requests.{Asking, heard_by, number_at, wait_by}
-use Rattle.codec_payload_session.specs.Streams.{Drains, Follows, Plays, RequestsBy, RestsBy, Steps, StepsBy, Takes, accepted_after, end_of, heard_unless, is_accepted, is_no_memory, is_probation, left_when, received, stage_after, stage_left, step_of, waiting_for}
+use Rattle.codec_payload_session.specs.Streams.{Drains, Follows, Plays, RequestsBy, RestsBy, Steps, StepsBy, Takes, accepted_after, end_of, heard_unless, is_accepted, is_no_memory, is_probation, left_when, received, stage_after, stage_left, step_of, step_with, waiting_for}
 use Rattle.codec_payload_session.specs.Turns.{event_of, kept_after}
 use Rattle.codec_payload_session.specs.declared.formats.Format.{Format}
 use Rattle.codec_payload_session.specs.declared.formats.SsrcPair.{SsrcPair}
@@ -264,18 +265,18 @@ drained now (Some why) x y got = subst (λ (z : StreamState). Drained now x z) (
     (record { ssrc_is = refl; format = refl; told_is = refl; stage_is = λ is. refl; part = finishes ∷ []; alone = (got.0, got.1, refl); made = (tt, tt); no_pop = refl; hidden = refl })
 
 -- what follows a pop of an announced stream
-record Told (now : Ticks) (ssrc payload_type : ℕ) (popped : Option (Result Release PacketError)) (event : Option Event) (kept : List StreamState → List StreamState) (y : StreamState) : Type 0 where
-  shows : shown (pops now popped ∷ []) ≡ released_by ssrc payload_type now event
+record Told (now : Ticks) (ssrc payload_type : ℕ) (popping : Option (Result (Popped Release) AllocError)) (event : Option Event) (kept : List StreamState → List StreamState) (y : StreamState) : Type 0 where
+  shows : shown (pops now popping ∷ []) ≡ released_by ssrc payload_type now event
   own : IsOwn now ssrc payload_type event
   kind : Kind true true ssrc payload_type event kept y
 
-record Followed (now : Ticks) (popped : Option (Result Release PacketError)) (m : StreamState) (event : Option Event) (kept : List StreamState → List StreamState) (y : StreamState) : Type 0 where
+record Followed (now : Ticks) (popping : Option (Result (Popped Release) AllocError)) (m : StreamState) (event : Option Event) (kept : List StreamState → List StreamState) (y : StreamState) : Type 0 where
   ssrc_is : y.ssrc ≡ m.ssrc
   format : y.format ≡ m.format
   told_is : y.told ≡ m.told
   stage_is : y.stage ≡ m.stage
   receiver : y.receiver ≡ m.receiver
-  tells : Told now y.ssrc y.format.payload_type popped event kept y
+  tells : Told now y.ssrc y.format.payload_type popping event kept y
 
 abbrev stays_with : StreamState → List StreamState → List StreamState
 stays_with y rest = y ∷ rest
@@ -307,20 +308,36 @@ ended_told now why y =
       kind = inr (why, refl, ap (λ (b : Bool). one_event b event) same, λ rest. refl);
     }
 
-unit_told : (now : Ticks) (unit : Result Release PacketError) (y : StreamState)
-    → Told now y.ssrc y.format.payload_type (Some unit) (Some (events.Unit y.ssrc y.format.payload_type y.receiver.time y.receiver.gates.gate.shows y.receiver.gates.is_keyframe unit)) (stays_with y) y
-unit_told now unit y =
+answer_told : (now : Ticks) (told : Result (Popped Release) AllocError) (y : StreamState)
+    → Told now y.ssrc y.format.payload_type (Some told) (event_of y (step_with told)) (λ (rest : List StreamState). kept_after (step_with told) y rest) y
+answer_told now (Ok (popped.Unit unit)) y =
     let same : is_same y.ssrc y.format.payload_type y.ssrc y.format.payload_type ≡ true = same_is y.ssrc y.format.payload_type in
-    let event : Event = events.Unit y.ssrc y.format.payload_type y.receiver.time y.receiver.gates.gate.shows y.receiver.gates.is_keyframe unit in
+    let event : Event = events.Unit y.ssrc y.format.payload_type y.receiver.time y.receiver.gates.gate.shows y.receiver.gates.is_keyframe (Ok unit) in
     record {
-      shows = ap (λ (b : Bool). one_call b (pops now (Some unit))) (sym same);
-      own = λ s p other. (ap (λ (b : Bool). one_event b event) other, ap (λ (b : Bool). one_call b (pops now (Some unit))) other);
+      shows = ap (λ (b : Bool). one_call b (pops now (Some (Ok (popped.Unit unit))))) (sym same);
+      own = λ s p other. (ap (λ (b : Bool). one_event b event) other, ap (λ (b : Bool). one_call b (pops now (Some (Ok (popped.Unit unit))))) other);
+      kind = inl (subst (λ (b : Bool). AreOfOne true (one_event b event) true) (sym same) (refl, refl), λ rest. refl);
+    }
+answer_told now (Ok (popped.Refused fault)) y =
+    let same : is_same y.ssrc y.format.payload_type y.ssrc y.format.payload_type ≡ true = same_is y.ssrc y.format.payload_type in
+    let event : Event = events.Refused y.ssrc y.format.payload_type fault in
+    record {
+      shows = ap (λ (b : Bool). one_call b (pops now (Some (Ok (popped.Refused fault))))) (sym same);
+      own = λ s p other. (ap (λ (b : Bool). one_event b event) other, ap (λ (b : Bool). one_call b (pops now (Some (Ok (popped.Refused fault))))) other);
+      kind = inl (subst (λ (b : Bool). AreOfOne true (one_event b event) true) (sym same) (refl, refl), λ rest. refl);
+    }
+answer_told now (Err e) y =
+    let same : is_same y.ssrc y.format.payload_type y.ssrc y.format.payload_type ≡ true = same_is y.ssrc y.format.payload_type in
+    let event : Event = events.Unit y.ssrc y.format.payload_type y.receiver.time y.receiver.gates.gate.shows y.receiver.gates.is_keyframe (Err e) in
+    record {
+      shows = ap (λ (b : Bool). one_call b (pops now (Some (Err e)))) (sym same);
+      own = λ s p other. (ap (λ (b : Bool). one_event b event) other, ap (λ (b : Bool). one_call b (pops now (Some (Err e)))) other);
       kind = inl (subst (λ (b : Bool). AreOfOne true (one_event b event) true) (sym same) (refl, refl), λ rest. refl);
     }
 
-same_followed : (now : Ticks) (popped : Option (Result Release PacketError)) (m : StreamState) (event : Option Event) (kept : List StreamState → List StreamState)
-    → Told now m.ssrc m.format.payload_type popped event kept m → Followed now popped m event kept m
-same_followed now popped m event kept tells = record { ssrc_is = refl; format = refl; told_is = refl; stage_is = refl; receiver = refl; tells = tells }
+same_followed : (now : Ticks) (popping : Option (Result (Popped Release) AllocError)) (m : StreamState) (event : Option Event) (kept : List StreamState → List StreamState)
+    → Told now m.ssrc m.format.payload_type popping event kept m → Followed now popping m event kept m
+same_followed now popping m event kept tells = record { ssrc_is = refl; format = refl; told_is = refl; stage_is = refl; receiver = refl; tells = tells }
 
 -- by the packet of the requests, if there is one
 asked_told : (told : Result (Option (Vec ℕ)) AllocError) (now : Ticks) (y : StreamState) → Told now y.ssrc y.format.payload_type None (event_of y (step_of told)) (λ (rest : List StreamState). kept_after (step_of told) y rest) y
@@ -355,31 +372,31 @@ rests_followed (stages.Draining why) now m step y got =
     subst₂ (λ (st : _) (z : StreamState). Followed now None m (event_of z st) (λ (rest : List StreamState). kept_after st z rest) z) (sym got.0) (sym got.1)
     (same_followed now None m (Some (events.Ended m.ssrc m.format.payload_type why)) is_removed (ended_told now why m))
 
-followed : (popped : Option (Result Release PacketError)) (now : Ticks) (m : StreamState) (step : _) (y : StreamState) → Follows popped now.0 m step y
-    → Followed now popped m (event_of y step) (λ (rest : List StreamState). kept_after step y rest) y
+followed : (popping : Option (Result (Popped Release) AllocError)) (now : Ticks) (m : StreamState) (step : _) (y : StreamState) → Follows popping now.0 m step y
+    → Followed now popping m (event_of y step) (λ (rest : List StreamState). kept_after step y rest) y
 followed None now m step y got = rests_followed m.stage now m step y got
-followed (Some unit) now m step y got =
-    subst₂ (λ (st : _) (z : StreamState). Followed now (Some unit) m (event_of z st) (λ (rest : List StreamState). kept_after st z rest) z) (sym got.0) (sym got.1)
-    (same_followed now (Some unit) m _ (stays_with m) (unit_told now unit m))
+followed (Some told) now m step y got =
+    subst₂ (λ (st : _) (z : StreamState). Followed now (Some told) m (event_of z st) (λ (rest : List StreamState). kept_after st z rest) z) (sym got.0) (sym got.1)
+    (same_followed now (Some told) m (event_of m (step_with told)) (λ (rest : List StreamState). kept_after (step_with told) m rest) (answer_told now told m))
 
 plays_stepped : (now : Ticks) (idle : ℕ) (x : StreamState) (step : _) (y : StreamState) → is_probation x.stage ≡ false → x.told ≡ true → Plays now idle x step y
     → Stepped now x (event_of y step) (λ (rest : List StreamState). kept_after step y rest) y
 plays_stepped now idle x step y plays told got =
     let d : Drained now x got.0 = drained now (end_of now.0 idle x) x got.0 got.1 in
-    let f : Followed now got.2.popped (record got.0 { receiver = got.2.receiver }) (event_of y step) (λ (rest : List StreamState). kept_after step y rest) y =
-    followed got.2.popped now (record got.0 { receiver = got.2.receiver }) step y got.2.follows in
-    let own : List ReceiverCall = pops now got.2.popped ∷ [] in
+    let f : Followed now got.2.told (record got.0 { receiver = got.2.receiver }) (event_of y step) (λ (rest : List StreamState). kept_after step y rest) y =
+    followed got.2.told now (record got.0 { receiver = got.2.receiver }) step y got.2.follows in
+    let own : List ReceiverCall = pops now got.2.told ∷ [] in
     let told_after : y.told ≡ true = f.told_is ∙ (d.told_is ∙ told) in
     let stage_after : is_probation y.stage ≡ false = ap (λ (s : Stage). is_probation s) f.stage_is ∙ d.stage_is plays in
     let ssrc_is : y.ssrc ≡ x.ssrc = f.ssrc_is ∙ d.ssrc_is in
     let format : y.format ≡ x.format = f.format ∙ d.format in
-    let tells : Told now x.ssrc x.format.payload_type got.2.popped (event_of y step) (λ (rest : List StreamState). kept_after step y rest) y =
-    subst₂ (λ (s : ℕ) (g : Format). Told now s g.payload_type got.2.popped (event_of y step) (λ (rest : List StreamState). kept_after step y rest) y) ssrc_is format f.tells in
+    let tells : Told now x.ssrc x.format.payload_type got.2.told (event_of y step) (λ (rest : List StreamState). kept_after step y rest) y =
+    subst₂ (λ (s : ℕ) (g : Format). Told now s g.payload_type got.2.told (event_of y step) (λ (rest : List StreamState). kept_after step y rest) y) ssrc_is format f.tells in
     record {
       ssrc_is = ssrc_is;
       format = format;
       part = d.part ++ own;
-      alone = runs_append d.part own x.receiver got.0.receiver y.receiver d.alone (got.2.receiver, got.2.pops, f.receiver);
+      alone = runs_append d.part own x.receiver got.0.receiver y.receiver d.alone (got.2.receiver, (got.2.pops, got.2.refused), f.receiver);
       made = made_append (calls.Poll now) d.part own d.made (refl, tt);
       one_pop = omega (arith, pops_append d.part own, d.no_pop);
       shows = shown_append d.part own ∙ (ap (λ (cs : List ReceiverCall). cs ++ shown own) d.hidden ∙ tells.shows);

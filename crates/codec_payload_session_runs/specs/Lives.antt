@@ -1,16 +1,17 @@
 -- Each stream of a session is a separate receiver.
 use Rattle.std.specs.Prelude.{◌≡◌, ◌≤◌, ℕ, suc, ◌==◌, ◌&&◌, not, if◌then◌else◌, Bool, true, false, List, [], ◌∷◌, ◌++◌, Option, Some, None, Result, Ok, Err}
 use Rattle.std.specs.declared.alloc.AllocError.{AllocError}
-use Rattle.codec_payload_base.specs.declared.error.PacketError.{PacketError}
 use Rattle.codec_payload_base.specs.declared.wire.Ticks.{Ticks}
 use Rattle.codec_payload_buffer.specs.Release.{Release}
 use Rattle.codec_payload_jitter.specs.declared.outcome.Outcome.{Outcome}
 use Rattle.codec_payload_jitter.specs.declared.waiting.WaitLimits.{WaitLimits}
 use Rattle.codec_payload_rtp.specs.RtpPackets.{Packet}
 use Rattle.codec_payload_rtp.specs.RtpReading.{rtp_at}
-use Rattle.codec_payload_stream.specs.Pops.{PopsGated}
+use Rattle.codec_payload_stream.specs.Pops.{NamesFault, PopsGated, answer_of}
 use Rattle.codec_payload_stream.specs.Reports.{reported}
-use Rattle.codec_payload_stream.specs.Sessions.{Finishes, ReceivesBytes, Session as Receiver}
+use Rattle.codec_payload_stream.specs.Sessions.{Ends, ReceivesBytes, Session as Receiver}
+use Rattle.codec_payload_stream.specs.declared.pops.Popped.{Popped}
+use Rattle.codec_payload_stream.specs.declared.pops.Popped.TheVariants as popped
 use Rattle.codec_payload_stream.specs.declared.receiver.ReceiveError.{ReceiveError}
 use Rattle.codec_payload_stream.specs.declared.receiver.Retransmission.{Retransmission}
 use Rattle.codec_payload_session.specs.Ports.{Session, new_session}
@@ -35,7 +36,7 @@ use Rattle.codec_payload_session_runs.specs.declared.run.StepAnswer.TheVariants 
 -- retransmissions, a report
 pub data ReceiverCall : Type 0 where
   receives : Ticks → List ℕ → Result Outcome ReceiveError → ReceiverCall
-  pops : Ticks → Option (Result Release PacketError) → ReceiverCall
+  pops : Ticks → Option (Result (Popped Release) AllocError) → ReceiverCall
   finishes : ReceiverCall
   waits : WaitLimits → ReceiverCall
   pairs : Option Retransmission → ReceiverCall
@@ -43,8 +44,8 @@ pub data ReceiverCall : Type 0 where
 
 abbrev pub DoesAlone : ReceiverCall → Receiver → Receiver → Type 0
 DoesAlone (receives now bytes answer) r q = ReceivesBytes now bytes r answer q
-DoesAlone (pops now answer) r q = PopsGated now.0 r answer q
-DoesAlone finishes r q = Finishes r q
+DoesAlone (pops now answer) r q = PopsGated now.0 r (answer_of answer) q × NamesFault answer
+DoesAlone finishes r q = Ends r q
 DoesAlone (waits limits) r q = q ≡ record r { packets = record r.packets { wait_limits = limits } }
 DoesAlone (pairs retransmission) r q = q ≡ record r { stream = record r.stream { retransmission = retransmission } }
 DoesAlone reports r q = q ≡ record r { reception = reported r.reception }
@@ -79,10 +80,16 @@ given_as ssrc payload_type now bytes (answers.Reported block) = []
 given_as ssrc payload_type now bytes (answers.PairAdded added) = []
 given_as ssrc payload_type now bytes answers.Done = []
 
+-- the answer of a pop with a unit, or without memory for one
+abbrev pub unit_or_memory : Result Release AllocError → Result (Popped Release) AllocError
+unit_or_memory (Ok unit) = Ok (popped.Unit unit)
+unit_or_memory (Err e) = Err e
+
 abbrev pub released_by : (ssrc payload_type : ℕ) → Ticks → Option Event → List ReceiverCall
 released_by ssrc payload_type now None = []
 released_by ssrc payload_type now (Some (events.Begun s p)) = []
-released_by ssrc payload_type now (Some (events.Unit s p time decodable keyframe unit)) = one_call (is_same ssrc payload_type s p) (pops now (Some unit))
+released_by ssrc payload_type now (Some (events.Unit s p time decodable keyframe unit)) = one_call (is_same ssrc payload_type s p) (pops now (Some (unit_or_memory unit)))
+released_by ssrc payload_type now (Some (events.Refused s p fault)) = one_call (is_same ssrc payload_type s p) (pops now (Some (Ok (popped.Refused fault))))
 released_by ssrc payload_type now (Some (events.Feedback s p packet)) = []
 released_by ssrc payload_type now (Some (events.Telephone s p time marker payload)) = []
 released_by ssrc payload_type now (Some (events.Report packet)) = []
@@ -105,11 +112,11 @@ shown_by ssrc payload_type (steps.Report now s p) answer = []
 shown_by ssrc payload_type (steps.AddPair s retransmission) answer = []
 shown_by ssrc payload_type (steps.RemovePair s) answer = []
 
--- what the answer of a call shows of the stream: the datagram that it took, or the unit that it released
+-- what the answer of a call shows of the stream: the datagram that it took, or the unit or refused frame that left it
 abbrev pub shown_in : ℕ → ℕ → Call → List ReceiverCall
 shown_in ssrc payload_type c = shown_by ssrc payload_type c.step c.answer
 
--- the datagrams that a run gave to the stream and the units of its events, in order
+-- the datagrams that a run gave to the stream, and the units and refused frames of its events, in order
 abbrev pub shown_of : ℕ → ℕ → List Call → List ReceiverCall
 shown_of ssrc payload_type [] = []
 shown_of ssrc payload_type (c ∷ cs) = shown_in ssrc payload_type c ++ shown_of ssrc payload_type cs
@@ -120,15 +127,15 @@ StartsWithDatagram ssrc payload_type [] = ⊥
 StartsWithDatagram ssrc payload_type (c ∷ cs) =
     (now : Ticks) × (bytes : List ℕ) × (answer : Result Outcome ReceiveError) × (shown_in ssrc payload_type c ≡ receives now bytes answer ∷ [])
 
--- ---- the calls of the receiver that answers show: datagrams for which memory did not run out, and pops with a unit
+-- ---- the calls of the receiver that answers show: datagrams for which memory did not run out, and pops with a unit or a refused frame, or without memory
 
-abbrev pub is_some_unit : Option (Result Release PacketError) → Bool
-is_some_unit None = false
-is_some_unit (Some unit) = true
+abbrev pub is_answer : Option (Result (Popped Release) AllocError) → Bool
+is_answer None = false
+is_answer (Some told) = true
 
 abbrev pub is_shown : ReceiverCall → Bool
 is_shown (receives now bytes answer) = not (is_no_memory answer)
-is_shown (pops now answer) = is_some_unit answer
+is_shown (pops now answer) = is_answer answer
 is_shown finishes = false
 is_shown (waits limits) = false
 is_shown (pairs retransmission) = false
@@ -226,6 +233,7 @@ abbrev pub events_by : (ssrc payload_type : ℕ) → Option Event → List Event
 events_by ssrc payload_type None = []
 events_by ssrc payload_type (Some (events.Begun s p)) = one_event (is_same ssrc payload_type s p) (events.Begun s p)
 events_by ssrc payload_type (Some (events.Unit s p time decodable keyframe unit)) = one_event (is_same ssrc payload_type s p) (events.Unit s p time decodable keyframe unit)
+events_by ssrc payload_type (Some (events.Refused s p fault)) = one_event (is_same ssrc payload_type s p) (events.Refused s p fault)
 events_by ssrc payload_type (Some (events.Feedback s p packet)) = one_event (is_same ssrc payload_type s p) (events.Feedback s p packet)
 events_by ssrc payload_type (Some (events.Telephone s p time marker payload)) = []
 events_by ssrc payload_type (Some (events.Report packet)) = []
@@ -249,6 +257,7 @@ abbrev pub AreInOrder : Bool → List Event → Bool → Type 0
 AreInOrder told [] after = after ≡ told
 AreInOrder told (events.Begun s p ∷ es) after = (told ≡ false) × AreInOrder true es after
 AreInOrder told (events.Unit s p time decodable keyframe unit ∷ es) after = (told ≡ true) × AreInOrder true es after
+AreInOrder told (events.Refused s p fault ∷ es) after = (told ≡ true) × AreInOrder true es after
 AreInOrder told (events.Feedback s p packet ∷ es) after = (told ≡ true) × AreInOrder true es after
 AreInOrder told (events.Ended s p why ∷ es) after = (told ≡ true) × AreInOrder false es after
 AreInOrder told (events.Telephone s p time marker payload ∷ es) after = ⊥
@@ -259,6 +268,7 @@ abbrev pub AreOfOne : Bool → List Event → Bool → Type 0
 AreOfOne told [] after = after ≡ told
 AreOfOne told (events.Begun s p ∷ es) after = (told ≡ false) × AreOfOne true es after
 AreOfOne told (events.Unit s p time decodable keyframe unit ∷ es) after = (told ≡ true) × AreOfOne true es after
+AreOfOne told (events.Refused s p fault ∷ es) after = (told ≡ true) × AreOfOne true es after
 AreOfOne told (events.Feedback s p packet ∷ es) after = (told ≡ true) × AreOfOne true es after
 AreOfOne told (events.Ended s p why ∷ es) after = ⊥
 AreOfOne told (events.Telephone s p time marker payload ∷ es) after = ⊥
@@ -274,7 +284,7 @@ IsAbsent ssrc payload_type (s ∷ ss) = (is_of ssrc payload_type s ≡ false) ×
 -- a stream of a session is a receiver alone. The run is cut in front of the datagram with which the stream began. The session had no
 -- such stream there, and the settings of the run, except for pairs of SSRCs. The receiver was then a new one, with the settings of
 -- its format and its SSRC. From there on it made exactly the calls of the projection. They show the datagrams that answers give to
--- its SSRC and payload type, and the units of its events, in order. Its announcement is the first of its events, and none of them is
+-- its SSRC and payload type, and the units and refused frames of its events, in order. Its announcement is the first of its events, and none of them is
 -- an end
 pub record IsAlone (settings : SessionSettings) (calls : List Call) (ssrc : ℕ) (f : Format) (told : Bool) (r : Receiver) : Type 0 where
   pub before : List Call

@@ -1,5 +1,5 @@
 -- The calls of a session, one after another.
-use Rattle.std.specs.Prelude.{◌≡◌, ℕ, List, [], ◌∷◌, Option, Result, OnOk, OnErr}
+use Rattle.std.specs.Prelude.{◌≡◌, ℕ, List, [], ◌∷◌, Option, Some, None, Result, OnOk, OnErr}
 use Rattle.std.specs.List.{position}
 use Rattle.std.specs.declared.alloc.AllocError.{AllocError}
 use Rattle.codec_payload_rtcp.specs.declared.items.ReportBlock.{ReportBlock}
@@ -9,8 +9,11 @@ use Rattle.codec_payload_session.specs.Pairs.{Pairs, with_pair, without_pair}
 use Rattle.codec_payload_session.specs.Polls.{Polls}
 use Rattle.codec_payload_session.specs.Ports.{ReportsIf, Session, ends_all, ends_of, waits_of}
 use Rattle.codec_payload_session.specs.Streams.{is_of}
+use Rattle.codec_payload_session.specs.declared.checks.SessionSettingsError.{SessionSettingsError}
 use Rattle.codec_payload_session.specs.declared.session.Arrival.{Arrival}
 use Rattle.codec_payload_session.specs.declared.session.Event.{Event}
+use Rattle.codec_payload_session_runs.specs.declared.run.NewRunError.{NewRunError}
+use Rattle.codec_payload_session_runs.specs.declared.run.NewRunError.TheVariants as refusals
 use Rattle.codec_payload_session_runs.specs.declared.run.SessionStep.{SessionStep}
 use Rattle.codec_payload_session_runs.specs.declared.run.SessionStep.TheVariants as steps
 use Rattle.codec_payload_session_runs.specs.declared.run.StepAnswer.{StepAnswer}
@@ -54,3 +57,8 @@ Does (steps.RemovePair ssrc) s answer t = (answer ≡ answers.Done) × Pairs ssr
 abbrev pub Runs : List Call → Session → Session → Type 0
 Runs [] s t = t ≡ s
 Runs (c ∷ cs) s t = (mid : Session) × Does c.step s c.answer mid × Runs cs mid t
+
+-- why a run of a new session fails: by its settings, or else since memory ran out
+abbrev pub refusal_of : Option SessionSettingsError → NewRunError
+refusal_of None = refusals.OutOfMemory
+refusal_of (Some fault) = refusals.Settings fault

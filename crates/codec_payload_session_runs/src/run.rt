@@ -1,18 +1,21 @@
 //! Runs of a session: calls in order, with the answer of each.
 
-ghost use Rattle.std.specs.Prelude.{◌≡◌, length, IfOk, OnErr};
+ghost use Rattle.std.specs.Prelude.{◌≡◌, length, IfErr, IfOk, OnErr, Option};
+ghost use Rattle.codec_payload_session.specs.Checks.{fault_of};
 ghost use Rattle.codec_payload_session.specs.Ports.{new_session, taken_in, told_counts};
 ghost use Rattle.codec_payload_session.specs.declared.formats.SessionSettings.{SessionSettings as Settings};
 ghost use Rattle.codec_payload_session_runs.specs.Counting.{Counts};
 ghost use Rattle.codec_payload_session_runs.specs.Lives.{EachEndedAlone, EachIsAlone, TellsInOrder};
-ghost use Rattle.codec_payload_session_runs.specs.SessionRuns.{Does, Runs, calls_of};
+ghost use Rattle.codec_payload_session_runs.specs.SessionRuns.{Does, Runs, calls_of, refusal_of};
 
 use codec_payload_base::wire::Ticks;
 use codec_payload_jitter::waiting::WaitLimits;
 use codec_payload_rtcp::items::ReportBlock;
+use codec_payload_session::checks::SessionSettingsError;
 use codec_payload_session::formats::SessionSettings;
 use codec_payload_session::session::{Arrival, Event, Session, SessionCounts};
 use std::alloc::{AllocError, Global};
+use thiserror::Error;
 
 /// A call of a session that can change it.
 #[derive(Debug, Drop)]
@@ -124,26 +127,45 @@ pub struct RecordedSession {
     pub run: SessionRun,
 }
 
+/// Why no run was made.
+#[derive(Clone, Copy, Debug, PartialEq, Eq, Error)]
+pub enum NewRunError {
+    /// No session can meet the settings.
+    #[error("no session can meet the settings")]
+    Settings(SessionSettingsError),
+    /// Out of memory for the list of answers.
+    #[error("out of memory")]
+    OutOfMemory,
+}
+
 /// Makes a new session, and makes the calls in order with it. See [`run_session`].
 ///
 /// # Errors
 ///
-/// Out of memory for the list of answers.
+/// - `Settings`: the first setting that no session can meet ([`SessionSettings::check`]).
+/// - `OutOfMemory`: for the list of answers.
 pub fn run_new_session(
     alloc: Global,
     settings: SessionSettings,
     steps: &[SessionStep],
-) -> Result<RecordedSession, AllocError>
+) -> Result<RecordedSession, NewRunError>
     ensures each { IfOk result (λ made. length made.run.answers.items ≡ length steps.now) }
     ensures runs { IfOk result (λ made. Runs (calls_of steps.now made.run.answers.items) (new_session settings) made.session) }
     ensures counted { IfOk result (λ made. Counts (calls_of steps.now made.run.answers.items) made.run.counts (taken_in made.session.port.streams)) }
     ensures alone { IfOk result (λ made. EachIsAlone settings (calls_of steps.now made.run.answers.items) made.session.port.streams) }
     ensures ended { IfOk result (λ made. EachEndedAlone settings (calls_of steps.now made.run.answers.items)) }
     ensures order { IfOk result (λ made. TellsInOrder (calls_of steps.now made.run.answers.items) made.session.port.streams) }
+    // The settings are refused exactly if they have a fault.
+    ensures usable { IfOk result (λ made. fault_of settings ≡ Option.None) }
+    ensures refused { IfErr result (λ e. refusal_of (fault_of settings) ≡ e) }
 {
-    let mut session = Session::new(alloc, settings);
-    let run = run_session(alloc, &mut session, steps)?;
-    Ok(RecordedSession { session, run })
+    match Session::new(alloc, settings) {
+        Ok(mut session) => match run_session(alloc, &mut session, steps) {
+            Ok(run) => Ok(RecordedSession { session, run }),
+            Err(_) => Err(NewRunError::OutOfMemory),
+        },
+        Err(fault) => Err(NewRunError::Settings(fault)),
+    }
 }
 
 /// Makes one call, and returns its answer.

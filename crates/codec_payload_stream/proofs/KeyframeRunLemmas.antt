@@ -1,5 +1,6 @@
 -- The keyframe gate of a receiver follows the events of a run.
 use Rattle.std.proofs.Common.{◌≡◌, ◌∙◌, ◌↔◌, ◌&&◌, ◌||◌, not, Bool, true, false, List, [], ◌∷◌, Option, Some, None, Result, Ok, Err, ℕ, refl, sym, ap, subst, inl, inr}
+use Rattle.std.specs.declared.alloc.AllocError.{AllocError}
 use Rattle.codec_payload_base.specs.declared.wire.Codec.{Codec}
 use Rattle.codec_payload_base.specs.declared.wire.Ticks.{Ticks}
 use Rattle.codec_payload_jitter.specs.declared.outcome.Outcome.{Outcome}
@@ -8,7 +9,7 @@ use Rattle.codec_payload_keyframes.specs.UnitGates.{Gating, is_passed, is_shown}
 use Rattle.codec_payload_keyframes.proofs.GateLemmas.{gates_agree, units_follow_keyframes}
 use Rattle.codec_payload_stream.specs.KeyframeRuns.{DatagramsLeaveTheGate, DropsFollowKeyframes, GateRun, PopsFollowKeyframes, begins, fault_events, others, pop_events, pops, restarts}
 use Rattle.codec_payload_stream.specs.Kinds.{Datagram}
-use Rattle.codec_payload_stream.specs.Pops.{Popped, after_fault, gates_after, has_left, is_memory}
+use Rattle.codec_payload_stream.specs.Pops.{Answer, after_fault, gates_after, has_left, is_memory}
 use Rattle.codec_payload_stream.specs.Sessions.{Finishes, HearsIf, Heard, Keeps, ReceivesBy, ReceivesBytes, Session, SettlesOn, first_waiting, opened_if}
 use Rattle.codec_payload_stream.specs.declared.choice.Candidate.{Candidate}
 use Rattle.codec_payload_stream.specs.declared.choice.Verdict.{Verdict}
@@ -24,7 +25,7 @@ after_fault_is codec g true false before is = is
 after_fault_is codec g false left before is = ap after_loss is
 
 -- the gate after a pop
-after_pop : (codec : Codec) (g : Gating) (left : Bool) (answer : Popped) (before : List Event) → g.gate ≡ gate_after codec before
+after_pop : (codec : Codec) (g : Gating) (left : Bool) (answer : Answer) (before : List Event) → g.gate ≡ gate_after codec before
     → (gates_after g left answer).gate ≡ gate_after codec (pop_events g left answer before)
 after_pop codec g true None before is = ap after_skip is
 after_pop codec g false None before is = is
@@ -95,8 +96,9 @@ receives_leaves : (now : Ticks) (bytes : List ℕ) (s : Session) (answer : Resul
 receives_leaves now bytes s answer t (inl got) = receives_by_leaves _ now bytes s answer t got
 receives_leaves now bytes s answer t (inr got) = ap (λ (x : Session). x.gates) got.1
 
-finishes_leaves : (s t : Session) → Finishes s t → t.gates ≡ s.gates
-finishes_leaves s t got = ap (λ (x : Session). x.gates) got.3 ∙ settles_leaves (first_waiting s) got.0 s got.1 got.2
+finishes_leaves : (s t : Session) (done : Result Unit AllocError) → Finishes s done t → t.gates ≡ s.gates
+finishes_leaves s t (Ok done) got = ap (λ (x : Session). x.gates) got.2 ∙ settles_leaves (first_waiting s) true s got.0 got.1
+finishes_leaves s t (Err e) got = ap (λ (x : Session). x.gates) got.1
 
 pub datagrams_leave : DatagramsLeaveTheGate
 datagrams_leave = (receives_leaves, finishes_leaves)

@@ -4,7 +4,7 @@ use Rattle.codec_payload_codec.specs.Depacketizers.{is_built_in_depacketizer}
 use Rattle.codec_payload_base.specs.declared.wire.Ticks.{Ticks}
 use Rattle.codec_payload_jitter.proofs.OwnLemmas.{pops_with_stays, settled_stays}
 use Rattle.codec_payload_jitter.specs.Receiving.{Receiving, settled, waiting_at}
-use Rattle.codec_payload_stream.specs.Pops.{DropsUnits, Popped, PopsOnce, none_dropped, one_more}
+use Rattle.codec_payload_stream.specs.Pops.{DropsUnits, Answer, PopsOnce, none_dropped, one_more}
 use Rattle.codec_payload_stream.specs.Sessions.{Keeps, Session}
 use Rattle.codec_payload_stream.specs.declared.choice.Origin.{Origin}
 use Rattle.codec_payload_stream.specs.declared.receiver.ReceiveError.{ReceiveError}
@@ -13,7 +13,7 @@ use Rattle.codec_payload_jitter.specs.declared.outcome.Outcome.{Outcome}
 abbrev pub is_built_in_session : Session → Bool
 is_built_in_session s = is_built_in_depacketizer s.packets.buffer.depacketizer
 
-pub pops_once_stays : (now : ℕ) (s t : Session) (answer : Popped) → PopsOnce now s answer t → is_built_in_session t ≡ is_built_in_session s
+pub pops_once_stays : (now : ℕ) (s t : Session) (answer : Answer) → PopsOnce now s answer t → is_built_in_session t ≡ is_built_in_session s
 pops_once_stays now s t answer pops =
     ap is_built_in_session pops.2 ∙ pops_with_stays (waiting_at (settled s.packets) now) (settled s.packets) pops.0 answer pops.1 ∙ ap is_built_in_depacketizer (settled_stays s.packets)
 

@@ -1,6 +1,8 @@
 -- Settings by purpose: the fields that they set, and the defaults.
-use Rattle.std.specs.Prelude.{◌≡◌, ℕ, [], None}
+use Rattle.std.specs.Prelude.{◌≡◌, ℕ, Bool, true, false, [], None}
+use Rattle.codec_payload_base.specs.declared.wire.Codec.{Codec}
 use Rattle.codec_payload_jitter.specs.declared.waiting.WaitLimits.{WaitLimits}
+use Rattle.codec_payload_keyframes.specs.Keyframes.{is_video}
 use Rattle.codec_payload_keyframes.specs.declared.unit_gate.FromKeyframe.TheVariants as modes
 use Rattle.codec_payload_rtp.specs.declared.values.ExtensionIds.{ExtensionIds}
 use Rattle.codec_payload_stream.specs.declared.windows.Windows.{Windows}
@@ -16,6 +18,14 @@ audio_windows = record { forward = 3000; backward = 1000 }
 
 abbrev pub video_windows : Windows
 video_windows = record { forward = 12000; backward = 5000 }
+
+abbrev pub windows_for : Bool → Windows
+windows_for true = video_windows
+windows_for false = audio_windows
+
+-- the windows of video for VP8, VP9 and AV1
+abbrev pub windows_of : Codec → Windows
+windows_of codec = windows_for (is_video codec)
 
 -- the stream has this payload type, clock rate, wait limits and windows. There is no SSRC, no payload type without media, no
 -- RED and no retransmission. The caller's clock has ticks of milliseconds. Units of video are marked

@@ -1,12 +1,13 @@
 -- The answers of the keyframe gate, over every run of a receiver.
 use Rattle.std.specs.Prelude.{◌≡◌, ◌⊎◌, ◌↔◌, ℕ, Bool, true, false, List, [], ◌∷◌, Option, Some, None, Result, Ok, Err}
+use Rattle.std.specs.declared.alloc.AllocError.{AllocError}
 use Rattle.codec_payload_base.specs.declared.wire.Codec.{Codec}
 use Rattle.codec_payload_base.specs.declared.wire.Ticks.{Ticks}
 use Rattle.codec_payload_buffer.specs.Release.{Release}
 use Rattle.codec_payload_jitter.specs.declared.outcome.Outcome.{Outcome}
 use Rattle.codec_payload_keyframes.specs.Keyframes.{Event, ShowsLast, WantsKeyframe, is_key_unit, is_video, lost, new_gate, released, skipped}
 use Rattle.codec_payload_keyframes.specs.UnitGates.{Gating, is_passed}
-use Rattle.codec_payload_stream.specs.Pops.{Popped, PopsOnce, has_left, is_memory}
+use Rattle.codec_payload_stream.specs.Pops.{Answer, PopsOnce, has_left, is_memory}
 use Rattle.codec_payload_stream.specs.Sessions.{Finishes, ReceivesBytes, Session, restarted}
 use Rattle.codec_payload_stream.specs.declared.receiver.ReceiveError.{ReceiveError}
 
@@ -20,7 +21,7 @@ fault_events true has_left before = events_with has_left before
 fault_events false has_left before = lost ∷ before
 
 -- the event of a pop of the jitter buffer, and the events before it
-abbrev pub pop_events : Gating → Bool → Popped → List Event → List Event
+abbrev pub pop_events : Gating → Bool → Answer → List Event → List Event
 pop_events g has_left None before = events_with has_left before
 pop_events g has_left (Some (Err fault)) before = fault_events (is_memory fault) has_left before
 pop_events g has_left (Some (Ok unit)) before = released (is_key_unit g.gate unit.bytes) unit.contiguous ∷ before
@@ -28,7 +29,7 @@ pop_events g has_left (Some (Ok unit)) before = released (is_key_unit g.gate uni
 -- a run of a receiver, and its events, the latest first: pops, announced restarts, and calls that leave the gate unchanged
 pub data GateRun (s : Session) : List Event → Session → Type 0 where
   begins : GateRun s [] s
-  pops : {mid t : Session} {before events : List Event} (now : ℕ) (answer : Popped) → GateRun s before mid → (once : PopsOnce now mid answer t)
+  pops : {mid t : Session} {before events : List Event} (now : ℕ) (answer : Answer) → GateRun s before mid → (once : PopsOnce now mid answer t)
       → events ≡ pop_events mid.gates (has_left mid.packets once.0) answer before → GateRun s events t
   restarts : {mid t : Session} {before : List Event} (ssrc : Option ℕ) (named : Session) → GateRun s before mid → named.gates ≡ mid.gates → t ≡ restarted ssrc named
       → GateRun s (skipped ∷ before) t
@@ -52,4 +53,4 @@ DropsFollowKeyframes =
 abbrev pub DatagramsLeaveTheGate : Type 0
 DatagramsLeaveTheGate =
     ((now : Ticks) (bytes : List ℕ) (s : Session) (answer : Result Outcome ReceiveError) (t : Session) → ReceivesBytes now bytes s answer t → t.gates ≡ s.gates)
-    × ((s t : Session) → Finishes s t → t.gates ≡ s.gates)
+    × ((s t : Session) (done : Result Unit AllocError) → Finishes s done t → t.gates ≡ s.gates)

@@ -2,6 +2,7 @@
 use Rattle.std.specs.Prelude.{◌≡◌, ◌≢◌, ◌⊎◌, ℕ, max, ◌+◌, ◌-◌, ◌*◌, ◌%◌, ◌^◌, ◌==◌, ◌&&◌, ◌||◌, not, length, slice_get, nat_le, nat_lt, if◌then◌else◌, Bool, true, false, List, [], ◌∷◌, Option, Some, None, Result, Ok, Err}
 use Rattle.std.specs.List.{filter_map}
 use Rattle.std.specs.Option.{is_some, option_map}
+use Rattle.std.specs.declared.alloc.AllocError.{AllocError}
 use Rattle.codec_payload_base.specs.declared.error.PacketError.{PacketError}
 use Rattle.codec_payload_base.specs.declared.wire.Ticks.{Ticks}
 use Rattle.codec_payload_red.specs.RedBlocks.{Block}
@@ -388,15 +389,21 @@ ReceivesBy (verdicts.Choose place) now bytes s answer t = Chooses place now byte
 abbrev pub ReceivesBytes : Ticks → List ℕ → Session → Result Outcome ReceiveError → Session → Type 0
 ReceivesBytes now bytes s answer t = ReceivesBy (verdict_in s now.0 bytes) now bytes s answer t ⊎ ((answer ≡ Err errors.OutOfMemory) × (t ≡ s))
 
--- the end of the stream: the first waiting packet is received, unless memory runs out for it
+-- the stream has ended
 abbrev pub ended : Session → Session
 ended s = record s { packets = record s.packets { ended = true; is_restarting = false } }
 
 abbrev pub first_waiting : Session → Option Candidate
 first_waiting s = if is_none_of s.ssrc then slice_get s.choice.candidates 0 else None
 
-abbrev pub Finishes : Session → Session → Type 0
-Finishes s t = (whole : Bool) × (mid : Session) × SettlesOn (first_waiting s) whole s mid × (t ≡ ended mid)
+-- the end of the stream: the first waiting packet is received
+abbrev pub Ends : Session → Session → Type 0
+Ends s t = (mid : Session) × SettlesOn (first_waiting s) true s mid × (t ≡ ended mid)
+
+-- if memory runs out for that packet, nothing has changed
+abbrev pub Finishes : Session → Result Unit AllocError → Session → Type 0
+Finishes s (Ok done) t = Ends s t
+Finishes s (Err e) t = (is_some (first_waiting s) ≡ true) × (t ≡ s)
 
 -- the sender has restarted: waiting packets are of other streams, and a keyframe is needed
 abbrev pub restarted : Option ℕ → Session → Session

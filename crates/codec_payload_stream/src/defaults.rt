@@ -2,12 +2,13 @@
 
 ghost use Rattle.std.specs.Prelude.{◌≡◌};
 ghost use Rattle.codec_payload_jitter.specs.Waiting.{waits_by_number, waits_for};
-ghost use Rattle.codec_payload_stream.specs.Defaults.{HasDefaults, audio_windows, video_windows};
+ghost use Rattle.codec_payload_stream.specs.Defaults.{HasDefaults, audio_windows, video_windows, windows_of};
 
 use crate::receiver::Settings;
 use crate::windows::Windows;
-use codec_payload_base::wire::Frequency;
+use codec_payload_base::wire::{Codec, Frequency};
 use codec_payload_jitter::jitter::WaitLimits;
+use codec_payload_keyframes::gate::is_video;
 use codec_payload_keyframes::unit_gate::FromKeyframe;
 use codec_payload_rtp::values::ExtensionIds;
 use std::alloc::Global;
@@ -29,6 +30,24 @@ const VIDEO: Windows = Windows {
 };
 
 impl Settings {
+    /// Returns settings for a live stream of this codec without retransmission: for VP8, VP9 and AV1 those of
+    /// [`Settings::live_video`], and else those of [`Settings::live_audio`]. `payload_type` is 0 to 127, and `clock_rate` is the
+    /// rate of the RTP clock. Allocates nothing.
+    pub fn for_stream(
+        alloc: Global,
+        payload_type: u8,
+        codec: Codec,
+        clock_rate: Frequency,
+    ) -> Settings
+        ensures { HasDefaults payload_type clock_rate (waits_for 1 100) (windows_of codec) result }
+    {
+        if is_video(codec) {
+            Settings::live_video(alloc, payload_type, clock_rate)
+        } else {
+            Settings::live_audio(alloc, payload_type, clock_rate)
+        }
+    }
+
     /// Returns settings for live audio without retransmission. `payload_type` is 0 to 127, and `clock_rate` is the rate of the
     /// RTP clock.
     ///

@@ -30,7 +30,7 @@ use Rattle.codec_payload_jitter.specs.declared.outcome.PacketCounters.{PacketCou
 use Rattle.codec_payload_sender.specs.declared.sender.Outgoing.{Outgoing}
 use Rattle.codec_payload_stream.specs.Kinds.{Again, Datagram, Kinds, WithMedia, datagram_at, header_for, is_other}
 use Rattle.codec_payload_stream.specs.Choice.{is_silent, origin_of, verdict_of}
-use Rattle.codec_payload_stream.specs.Sessions.{Finishes, Heard, Hears, ReceivesBy, ReceivesBytes, Session, SettlesOn, TakesAgain, TakesMedia, ended, first_waiting, is_none_of, is_open, is_repeat, packet_seen}
+use Rattle.codec_payload_stream.specs.Sessions.{Ends, Heard, Hears, ReceivesBy, ReceivesBytes, Session, SettlesOn, TakesAgain, TakesMedia, ended, first_waiting, is_none_of, is_open, is_repeat, packet_seen}
 use Rattle.codec_payload_stream.specs.declared.choice.Candidate.{Candidate}
 use Rattle.codec_payload_stream.specs.Pops.{PopsOnce}
 use Rattle.codec_payload_stream.specs.declared.receiver.ReceiveError.TheVariants as refusals
@@ -100,13 +100,13 @@ pub same_ssrc : (stream : Outgoing) (s : Session) → s.ssrc ≡ Some stream.ssr
 same_ssrc stream s is = ap (λ (o : Option ℕ). is_other o stream.ssrc) is ∙ ap not (eq-eqb stream.ssrc stream.ssrc refl)
 
 -- at the end of the stream no packet waits for the choice
-pub finishes_at : (ssrc : ℕ) (s t : Session) → s.ssrc ≡ Some ssrc → Finishes s t → t ≡ ended s
+pub finishes_at : (ssrc : ℕ) (s t : Session) → s.ssrc ≡ Some ssrc → Ends s t → t ≡ ended s
 finishes_at ssrc s t is finishes =
     let none : first_waiting s ≡ None = ap (λ (o : Option ℕ). cond (is_none_of o) (slice_get s.choice.candidates 0) None) is in
-    let stays : SettlesOn None finishes.0 s finishes.1 = subst (λ (o : Option Candidate). SettlesOn o finishes.0 s finishes.1) none finishes.2 in
-    finishes.3 ∙ ap ended stays.1
+    let stays : SettlesOn None true s finishes.0 = subst (λ (o : Option Candidate). SettlesOn o true s finishes.0) none finishes.1 in
+    finishes.2 ∙ ap ended stays.1
 
-pub finishes_as : (again : Option RetransmissionStream) (stream : Outgoing) (s t : Session) → IsListening again stream s → Finishes s t → t ≡ ended s
+pub finishes_as : (again : Option RetransmissionStream) (stream : Outgoing) (s t : Session) → IsListening again stream s → Ends s t → t ≡ ended s
 finishes_as again stream s t listening finishes = finishes_at stream.ssrc s t listening.ssrc finishes
 
 -- the limits of the receiver stay

@@ -40,7 +40,7 @@ use Rattle.codec_payload_stream.specs.Choice.{is_silent, origin_of, verdict_of}
 use Rattle.codec_payload_stream.specs.Kinds.{Carrier, Datagram, InRed, Kinds, datagram_at, header_for, is_other}
 use Rattle.codec_payload_stream.specs.Pops.{PopsOnce}
 use Rattle.codec_payload_stream.specs.SeenTimes.{is_seen}
-use Rattle.codec_payload_stream.specs.Sessions.{Finishes, Heard, Hears, Holding, ReceivesBy, ReceivesBytes, RecoversAll, RecoversUnless, RecoversUnseen, Session, SettlesOn, TakesPrimary, TakesPrimaryIf}
+use Rattle.codec_payload_stream.specs.Sessions.{Ends, Heard, Hears, Holding, ReceivesBy, ReceivesBytes, RecoversAll, RecoversUnless, RecoversUnseen, Session, SettlesOn, TakesPrimary, TakesPrimaryIf}
 use Rattle.codec_payload_stream.specs.Sessions.{all_carried, ended, first_waiting, is_none_of, is_open, is_own_media, is_repeat, is_suspect, packet_seen}
 use Rattle.codec_payload_stream.specs.declared.choice.Candidate.{Candidate}
 use Rattle.codec_payload_stream.specs.declared.datagram.RedStream.{RedStream}
@@ -609,11 +609,11 @@ module _ (l : RedSide) where
       }
 
   -- at the end of the stream no packet waits for the choice
-  pub finish_is : (s t : Session) → Tuned s → Finishes s t → t ≡ ended s
+  pub finish_is : (s t : Session) → Tuned s → Ends s t → t ≡ ended s
   finish_is s t tuned finishes =
       let none : first_waiting s ≡ None = ap (λ (o : Option ℕ). cond (is_none_of o) (slice_get s.choice.candidates 0) None) tuned.ssrc in
-      let stays : SettlesOn None finishes.0 s finishes.1 = subst (λ (o : Option Candidate). SettlesOn o finishes.0 s finishes.1) none finishes.2 in
-      finishes.3 ∙ ap ended stays.1
+      let stays : SettlesOn None true s finishes.0 = subst (λ (o : Option Candidate). SettlesOn o true s finishes.0) none finishes.1 in
+      finishes.2 ∙ ap ended stays.1
 
   pub tuned_ended : (s : Session) → Tuned s → Tuned (ended s)
   tuned_ended s tuned = record {

@@ -13,7 +13,7 @@ use Rattle.codec_payload_runs.specs.Schedule.{Answer}
 use Rattle.codec_payload_runs.specs.declared.run.Step.{Step}
 use Rattle.codec_payload_runs.specs.declared.run.Step.TheVariants as run_steps
 use Rattle.codec_payload_send.specs.Sending.{Sample}
-use Rattle.codec_payload_stream.specs.Sessions.{Finishes, Session}
+use Rattle.codec_payload_stream.specs.Sessions.{Ends, Session}
 use Rattle.codec_payload_wire.proofs.StepLemmas.{get_append, past_end}
 use Rattle.codec_payload_wire.specs.HistoryRuns.{sent_since}
 use Rattle.codec_payload_wire.specs.RedRuns.{DeliversWhole, RedRuns, RedWire, WritesAll, WritesWhatIsSent}
@@ -199,7 +199,7 @@ RedTakes (steps.Deliver k now ∷ later) written s answers t =
     (bytes : List ℕ) × (slice_get written k ≡ Some bytes) × (receipt : Receipt) × (mid : Session) × DeliversWhole now bytes s receipt mid × RedTakes later written mid answers t
 RedTakes (steps.Pop now ∷ later) written s answers t =
     (answer : Answer) × (more : List Answer) × (mid : Session) × (answers ≡ answer ∷ more) × (answer ≢ Some (Err faults.OutOfMemory)) × PopsUnit now s answer mid × RedTakes later written mid more t
-RedTakes (steps.Finish ∷ later) written s answers t = (mid : Session) × Finishes s mid × RedTakes later written mid answers t
+RedTakes (steps.Finish ∷ later) written s answers t = (mid : Session) × Ends s mid × RedTakes later written mid answers t
 
 -- the effect of the steps of a run
 pub record RedComes (samples : List Sample) (all_steps : List DatagramStep) (s t : RedWire) : Type 0 where

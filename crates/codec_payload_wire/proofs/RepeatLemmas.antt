@@ -1,14 +1,15 @@
 -- A run with a history is a run without one in which copies of datagrams are delivered.
 use Rattle.std.proofs.Common.{◌≡◌, ◌∙◌, refl, sym, ap, subst, ℕ, zero, suc, ◌+◌, ◌-◌, ◌%◌, ◌^◌, ◌<◌, ◌≤◌, ◌||◌, List, [], ◌∷◌, ◌++◌}
-use Rattle.std.proofs.Common.{Bool, true, false, not, cond, eqb, ltb, Option, Some, None, Result, Ok, Err, MatchOption, inr, get_or, length, take, drop, set, arith, append_assoc, append-nil}
+use Rattle.std.proofs.Common.{Bool, true, false, not, cond, eqb, ltb, Option, Some, None, Result, Ok, Err, MatchOption, ◌⊎◌, inl, inr, get_or, length, take, drop, set, arith, append_assoc, append-nil}
 use Rattle.std.specs.Prelude.{All, slice_get, slice_index_or}
 use Rattle.std.proofs.Math.Seq.{drop-append_seam}
-use Rattle.std.proofs.lemmas.Bool.{ltb-false, or_parts}
+use Rattle.std.proofs.lemmas.Bool.{eqb-false, ltb-false, or_parts}
 use Rattle.std.proofs.lemmas.List.{length-append, length-set, length-take}
 use Rattle.std.proofs.lemmas.Option.{same_Some, slice_get-get_or, slice_get_within}
 use Rattle.codec_payload_base.specs.declared.error.PacketError.{PacketError}
 use Rattle.codec_payload_base.specs.declared.wire.Ticks.{Ticks}
-use Rattle.codec_payload_history.specs.Histories.{Keeps, Repeats, Resends, count_with, first_of, history_by, next_after}
+use Rattle.codec_payload_history.proofs.HeldLemmas.{keeps_next}
+use Rattle.codec_payload_history.specs.Histories.{Repeats, Resends, first_of, history_by, next_after}
 use Rattle.codec_payload_history.specs.Packets.{Past, Sent, number_in, number_of, stream_fits}
 use Rattle.codec_payload_history.specs.declared.retransmission.HistoryError.TheVariants as errors
 use Rattle.codec_payload_history.specs.declared.retransmission.HistorySettings.{HistorySettings}
@@ -24,7 +25,7 @@ use Rattle.codec_payload_wire.proofs.ReleaseLemmas.{keeps_promises, releases_all
 use Rattle.codec_payload_wire.proofs.StepLemmas.{get_append}
 use Rattle.codec_payload_wire.specs.HistoryReleases.{AreRepeats, PromisesWithHistory, ReleaseWithHistory, RepeatsWithHistory}
 use Rattle.codec_payload_wire.specs.HistoryReleases.{latest_with, plain_steps, plain_steps_of, repeated_by, repeated_in, repeated_of, sends_by, sent_by}
-use Rattle.codec_payload_wire.specs.HistoryRuns.{HistoryRuns, IsPacket, KeepsAll, Resending, begins_with, sent_since, written}
+use Rattle.codec_payload_wire.specs.HistoryRuns.{HistoryRuns, IsPacket, KeepsAll, KeepsOne, Resending, begins_with, sent_since, written}
 use Rattle.codec_payload_wire.specs.WireRuns.{Delivers, DoesStep, Receipt, SendsIt, SendsOrRefuses, Wire, begins, sent_sample}
 use Rattle.codec_payload_wire.specs.declared.history_run.HistoryStep.{HistoryStep}
 use Rattle.codec_payload_wire.specs.declared.history_run.HistoryStep.TheVariants as history_steps
@@ -203,32 +204,76 @@ record IsOf (again : Option RetransmissionStream) (number : ℕ) (datagrams : Li
   stream : h.stream ≡ again
   next : h.next ≡ number
 
-count_few : (h : Past) (number : ℕ) → h.limit ≤ 32768 → count_with h number ≤ 32768
-count_few h number limit = by_test (eqb number ((h.newest + 1) % 65536))
-  where
-    by_test : (b : Bool) → cond b h.limit 1 ≤ 32768
-    by_test true = limit
-    by_test false = omega arith
+-- its highest number is that of the last datagram
+record IsNewest (first : ℕ) (datagrams : List (List ℕ)) (h : Past) : Type 0 where
+  none : datagrams ≡ [] → h.packets ≡ []
+  newest : (n : ℕ) → length datagrams ≡ suc n → h.newest ≡ (first + n) % 65536
+  small : h.newest < 65536
+  some : 1 ≤ h.limit
 
-keeps_one : (again : Option RetransmissionStream) (next : ℕ) (datagrams : List (List ℕ)) (d : List ℕ) (h t : Past) → IsOf again next datagrams h → Keeps h d t → IsOf again next (datagrams ++ d ∷ []) t
-keeps_one again next datagrams d h t of keeps =
-    let number : ℕ = keeps.packet.header.sequence_number in
+-- so the next datagram follows it
+comes_next : (first : ℕ) (datagrams : List (List ℕ)) (h : Past) → IsNewest first datagrams h
+    → ((first + length datagrams) % 65536 ≡ (h.newest + 1) % 65536) ⊎ (h.packets ≡ [])
+comes_next first [] h is = inr (is.none refl)
+comes_next first (d ∷ datagrams) h is = inl (omega (arith, is.newest (length datagrams) refl))
+
+keeps_one : (again : Option RetransmissionStream) (first next : ℕ) (datagrams : List (List ℕ)) (d : List ℕ) (h t : Past) → IsOf again next datagrams h → IsNewest first datagrams h
+    → number_in d ≡ Some ((first + length datagrams) % 65536) → KeepsOne h d t → IsOf again next (datagrams ++ d ∷ []) t × IsNewest first (datagrams ++ d ∷ []) t
+keeps_one again first next datagrams d h t of newest is keeps =
+    let number : ℕ = (first + length datagrams) % 65536 in
     let all : List Sent = record { bytes = d; resent = None } ∷ h.packets in
-    let packets : t.packets ≡ take (count_with h number) all = ap (λ (x : Past). x.packets) keeps.left in
-    let limit : t.limit ≡ h.limit = ap (λ (x : Past). x.limit) keeps.left in
-    record {
-      latest = subst (AreLatest (datagrams ++ d ∷ [])) (sym packets) (latest_first (datagrams ++ d ∷ []) (count_with h number) all (latest_new datagrams d h.packets None of.latest));
-      few = omega (arith, ap length packets, length-take (count_with h number) all, count_few h number of.limit);
-      limit = omega (arith, limit, of.limit);
-      stream = ap (λ (x : Past). x.stream) keeps.left ∙ of.stream;
-      next = ap (λ (x : Past). x.next) keeps.left ∙ of.next;
-    }
+    let left = (keeps_next h t d keeps.0 number newest.some of.limit newest.small is (comes_next first datagrams h newest) keeps.1).1 in
+    let packets : t.packets ≡ take h.limit all = ap (λ (x : Past). x.packets) left in
+    let limit : t.limit ≡ h.limit = ap (λ (x : Past). x.limit) left in
+    let last : t.newest ≡ number = ap (λ (x : Past). x.newest) left in (
+      record {
+        latest = subst (AreLatest (datagrams ++ d ∷ [])) (sym packets) (latest_first (datagrams ++ d ∷ []) h.limit all (latest_new datagrams d h.packets None of.latest));
+        few = omega (arith, ap length packets, length-take h.limit all, of.limit);
+        limit = omega (arith, limit, of.limit);
+        stream = ap (λ (x : Past). x.stream) left ∙ of.stream;
+        next = ap (λ (x : Past). x.next) left ∙ of.next;
+      },
+      record {
+        none = λ e. absurd (omega (arith, ap length e, one_more datagrams d));
+        newest = λ n e. omega (arith, last, e, one_more datagrams d);
+        small = omega (arith, last);
+        some = omega (arith, limit, newest.some);
+      },
+    )
 
-keeps_all : (again : Option RetransmissionStream) (next : ℕ) (datagrams new : List (List ℕ)) (h t : Past) → IsOf again next datagrams h → KeepsAll h new t → IsOf again next (datagrams ++ new) t
-keeps_all again next datagrams [] h t of keeps = subst (λ (x : Past). IsOf again next (datagrams ++ []) x) (sym keeps) (subst (λ (ds : List (List ℕ)). IsOf again next ds h) (sym (append-nil datagrams)) of)
-keeps_all again next datagrams (d ∷ new) h t of keeps =
-    subst (λ (ds : List (List ℕ)). IsOf again next ds t) (append_assoc datagrams (d ∷ []) new)
-    (keeps_all again next (datagrams ++ d ∷ []) new keeps.0 t (keeps_one again next datagrams d h keeps.0 of keeps.1) keeps.2)
+keeps_all : (again : Option RetransmissionStream) (first next : ℕ) (datagrams new : List (List ℕ)) (h t : Past) → IsOf again next datagrams h → IsNewest first datagrams h
+    → From (first + length datagrams) new → KeepsAll h new t → IsOf again next (datagrams ++ new) t × IsNewest first (datagrams ++ new) t
+keeps_all again first next datagrams [] h t of newest from keeps = (
+  subst (λ (x : Past). IsOf again next (datagrams ++ []) x) (sym keeps) (subst (λ (ds : List (List ℕ)). IsOf again next ds h) (sym (append-nil datagrams)) of),
+  subst (λ (x : Past). IsNewest first (datagrams ++ []) x) (sym keeps) (subst (λ (ds : List (List ℕ)). IsNewest first ds h) (sym (append-nil datagrams)) newest),
+)
+keeps_all again first next datagrams (d ∷ new) h t of newest from keeps =
+    let one = keeps_one again first next datagrams d h keeps.0 of newest from.0 keeps.1 in
+    let count : first + length datagrams + 1 ≡ first + length (datagrams ++ d ∷ []) = omega (arith, one_more datagrams d) in
+    let rest = keeps_all again first next (datagrams ++ d ∷ []) new keeps.0 t one.0 one.1 (subst (λ (n : ℕ). From n new) count from.1) keeps.2 in (
+      subst (λ (ds : List (List ℕ)). IsOf again next ds t) (append_assoc datagrams (d ∷ []) new) rest.0,
+      subst (λ (ds : List (List ℕ)). IsNewest first ds t) (append_assoc datagrams (d ∷ []) new) rest.1,
+    )
+
+-- a request leaves the highest number
+none_there : (place : ℕ) (p : Sent) → slice_get [] place ≡ Some p → ⊥
+none_there place p there = absurd (cc)
+
+newest_stays : (first : ℕ) (datagrams : List (List ℕ)) (now : Ticks) (number : ℕ) (h t : Past) (answer : Resent) (bytes : List ℕ) → IsNewest first datagrams h
+    → Resends now number h [] answer bytes t → IsNewest first datagrams t
+newest_stays first datagrams now number h t results.Written bytes is resends =
+    let left = resends.5 in
+    let newest : t.newest ≡ h.newest = ap (λ (x : Past). x.newest) left in
+    let limit : t.limit ≡ h.limit = ap (λ (x : Past). x.limit) left in
+    record {
+      none = λ e. absurd (none_there resends.0 resends.1 (subst (λ (ps : List Sent). slice_get ps resends.0 ≡ Some resends.1) (is.none e) resends.2.found));
+      newest = λ n e. newest ∙ is.newest n e;
+      small = omega (arith, newest, is.small);
+      some = omega (arith, limit, is.some);
+    }
+newest_stays first datagrams now number h t results.NotKept bytes is resends = subst (IsNewest first datagrams) (sym resends.2) is
+newest_stays first datagrams now number h t results.TooSoon bytes is resends = subst (IsNewest first datagrams) (sym resends.5) is
+newest_stays first datagrams now number h t results.TooLarge bytes is resends = absurd resends
 
 -- Retransmissions
 
@@ -302,6 +347,7 @@ resends_copy again first next datagrams now number h t results.Written bytes fro
     )
 resends_copy again first next datagrams now number h t results.NotKept bytes from of resends = (subst (IsOf again next datagrams) (sym resends.2) of, tt)
 resends_copy again first next datagrams now number h t results.TooSoon bytes from of resends = (subst (IsOf again next datagrams) (sym resends.5) of, tt)
+resends_copy again first next datagrams now number h t results.TooLarge bytes from of resends = absurd resends
 
 -- Whole runs
 
@@ -311,6 +357,7 @@ record IsAt (again : Option RetransmissionStream) (first begin : ℕ) (s : Resen
   numbers : From first s.wire.datagrams
   next : s.wire.sending.stream.number % 65536 ≡ (first + length s.wire.datagrams) % 65536
   kept : IsOf again (advanced again begin (length s.retransmissions)) s.wire.datagrams s.history
+  newest : IsNewest first s.wire.datagrams s.history
   repeats : AreRepeats again begin s.wire.datagrams s.retransmissions repeated
 
 -- the run without a history
@@ -375,14 +422,15 @@ module _ (again : Option RetransmissionStream) (first begin : ℕ) (samples : Li
   plain_at step s mid repeated at does keeps same =
       let g = grows samples step s.wire mid.wire does in
       let count : length mid.wire.datagrams ≡ length s.wire.datagrams + length g.new = ap length g.whole ∙ length-append s.wire.datagrams g.new in
+      let from = from_same s.wire.sending.stream.number (first + length s.wire.datagrams) g.new at.next g.numbers in
+      let all = keeps_all again first (advanced again begin (length s.retransmissions)) s.wire.datagrams g.new s.history mid.history at.kept at.newest from
+      (subst (λ (ds : List (List ℕ)). KeepsAll s.history ds mid.history) (new_is s.wire mid.wire g) keeps) in
       record {
-        numbers = subst (From first) (sym g.whole) (from_append first s.wire.datagrams g.new at.numbers
-            (from_same s.wire.sending.stream.number (first + length s.wire.datagrams) g.new at.next g.numbers));
+        numbers = subst (From first) (sym g.whole) (from_append first s.wire.datagrams g.new at.numbers from);
         next = omega (arith, g.next, at.next, count);
         kept = subst (λ (ds : List (List ℕ)). IsOf again (advanced again begin (length mid.retransmissions)) ds mid.history) (sym g.whole)
-            (subst (λ (bs : List (List ℕ)). IsOf again (advanced again begin (length bs)) (s.wire.datagrams ++ g.new) mid.history) (sym same)
-            (keeps_all again (advanced again begin (length s.retransmissions)) s.wire.datagrams g.new s.history mid.history at.kept
-            (subst (λ (ds : List (List ℕ)). KeepsAll s.history ds mid.history) (new_is s.wire mid.wire g) keeps)));
+            (subst (λ (bs : List (List ℕ)). IsOf again (advanced again begin (length bs)) (s.wire.datagrams ++ g.new) mid.history) (sym same) all.0);
+        newest = subst (λ (ds : List (List ℕ)). IsNewest first ds mid.history) (sym g.whole) all.1;
         repeats = subst (λ (ds : List (List ℕ)). AreRepeats again begin ds mid.retransmissions repeated) (sym g.whole)
             (subst (λ (bs : List (List ℕ)). AreRepeats again begin (s.wire.datagrams ++ g.new) bs repeated) (sym same)
             (repeats_more again begin s.wire.datagrams g.new s.retransmissions repeated at.repeats));
@@ -429,7 +477,7 @@ module _ (again : Option RetransmissionStream) (first begin : ℕ) (samples : Li
       let next : Resending = record s { wire = record s.wire { session = done.1; receipts = s.wire.receipts ++ done.0 ∷ [] } } in
       let c : Comes again first begin samples later next t repeated =
       subst (λ (x : Resending). Comes again first begin samples later x t repeated) done.3
-      (rest (subst (λ (x : Resending). IsAt again first begin x repeated) (sym done.3) (record { numbers = at.numbers; next = at.next; kept = at.kept; repeats = at.repeats }))) in
+      (rest (subst (λ (x : Resending). IsAt again first begin x repeated) (sym done.3) (record { numbers = at.numbers; next = at.next; kept = at.kept; newest = at.newest; repeats = at.repeats }))) in
       let copy = copy_at again begin s.wire.datagrams s.retransmissions repeated j bytes at.repeats is in
       let delivers : DeliversCopy again (slice_get s.wire.datagrams copy.0) now s.wire next.wire =
       subst (λ (o : Option (List ℕ)). DeliversCopy again o now s.wire next.wire) (sym copy.3) (bytes, copy.4, done.0, done.1, done.2, refl) in
@@ -474,6 +522,7 @@ module _ (again : Option RetransmissionStream) (first begin : ℕ) (samples : Li
         numbers = at.numbers;
         next = at.next;
         kept = subst (λ (n : ℕ). IsOf again n s.wire.datagrams does.2) (advanced_append again begin s.retransmissions (written does.0 does.1)) here.0;
+        newest = newest_stays first s.wire.datagrams now number s.history does.2 does.0 does.1 at.newest does.3;
         repeats = repeats_append again begin s.wire.datagrams s.retransmissions repeated (written does.0 does.1) (repeated_by does.0 index) at.repeats here.1;
       } in
       let c : Comes again first begin samples later next t more =
@@ -498,17 +547,23 @@ not_failed true fault r y e = absurd (cc)
 not_failed false fault r y e = (refl, e)
 
 abbrev empty_history : HistorySettings → Past
-empty_history s = record { limit = s.limit; interval = s.interval; stream = s.stream; next = first_of s.stream; newest = 0; packets = [] }
+empty_history s = record { limit = s.limit; interval = s.interval; stream = s.stream; next = first_of s.stream; newest = 0; refused = None; packets = [] }
 
-new_history : (settings : HistorySettings) (h : Past) → history_by settings ≡ Ok h → (h.packets ≡ []) × (h.limit ≤ 32768)
+above_zero : (n : ℕ) → (n ≡ 0 → ⊥) → 1 ≤ n
+above_zero zero some = absurd (some refl)
+above_zero (suc n) some = omega arith
+
+new_history : (settings : HistorySettings) (h : Past) → history_by settings ≡ Ok h → (h.packets ≡ []) × (h.limit ≤ 32768) × (1 ≤ h.limit) × (h.newest ≡ 0)
 new_history settings h new =
     let a = not_failed (eqb settings.limit 0 || ltb 32768 settings.limit) errors.Limit _ h new in
     let b = not_failed (not (stream_fits settings.stream)) errors.PayloadType _ h a.1 in
     let is : Ok (empty_history settings) ≡ Ok h = b.1 in
     let made : empty_history settings ≡ h = cc in
     let limit : settings.limit ≡ h.limit = ap (λ (x : Past). x.limit) made in
-    let few : settings.limit ≤ 32768 = ltb-false 32768 settings.limit (or_parts (eqb settings.limit 0) (ltb 32768 settings.limit) a.0).1 in
-    (ap (λ (x : Past). x.packets) (sym made), omega (arith, few, limit))
+    let parts = or_parts (eqb settings.limit 0) (ltb 32768 settings.limit) a.0 in
+    let few : settings.limit ≤ 32768 = ltb-false 32768 settings.limit parts.1 in
+    let some : 1 ≤ settings.limit = above_zero settings.limit (eqb-false settings.limit 0 parts.0) in
+    (ap (λ (x : Past). x.packets) (sym made), omega (arith, few, limit), omega (arith, some, limit), ap (λ (x : Past). x.newest) (sym made))
 
 module _ (samples : List Sample) (all_steps : List HistoryStep) (sender : Sending) (history : Past) (receiver : Session) (t : Resending)
     (run : HistoryRuns samples all_steps (begins_with sender history receiver) t) (settings : HistorySettings) (is_new : history_by settings ≡ Ok history) where
@@ -530,6 +585,12 @@ module _ (samples : List Sample) (all_steps : List HistoryStep) (sender : Sendin
           limit = new.1;
           stream = refl;
           next = refl;
+        };
+        newest = record {
+          none = λ e. new.0;
+          newest = λ n e. absurd (omega (arith, e));
+          small = omega (arith, new.3);
+          some = new.2;
         };
         repeats = tt;
       }

@@ -10,7 +10,7 @@ use Rattle.codec_payload_base.specs.declared.wire.Ticks.{Ticks}
 use Rattle.codec_payload_history.specs.declared.retransmission.RetransmissionStream.{RetransmissionStream}
 use Rattle.codec_payload_runs.specs.Schedule.{Answer}
 use Rattle.codec_payload_send.specs.Sending.{Sample}
-use Rattle.codec_payload_stream.specs.Sessions.{Finishes, Session}
+use Rattle.codec_payload_stream.specs.Sessions.{Ends, Session}
 use Rattle.codec_payload_wire.proofs.Courses.{DeliversCopy, IsCopy, Proceeds}
 use Rattle.codec_payload_wire.specs.Releases.{received_steps, sends_after, sent_after}
 use Rattle.codec_payload_wire.specs.WireRuns.{Delivers, PopsUnit, Receipt, SendsIt, Wire}
@@ -37,7 +37,7 @@ Takes again (steps.Deliver k now ∷ later) datagrams s answers t =
     × (receipt : Receipt) × (mid : Session) × Delivers now bytes s receipt mid × Takes again later datagrams mid answers t
 Takes again (steps.Pop now ∷ later) datagrams s answers t =
     (answer : Answer) × (more : List Answer) × (mid : Session) × (answers ≡ answer ∷ more) × (answer ≢ Some (Err faults.OutOfMemory)) × PopsUnit now s answer mid × Takes again later datagrams mid more t
-Takes again (steps.Finish ∷ later) datagrams s answers t = (mid : Session) × Finishes s mid × Takes again later datagrams mid answers t
+Takes again (steps.Finish ∷ later) datagrams s answers t = (mid : Session) × Ends s mid × Takes again later datagrams mid answers t
 
 -- the effect of the steps of a run
 pub record ComesTo (again : Option RetransmissionStream) (samples : List Sample) (all_steps : List DatagramStep) (s t : Wire) : Type 0 where

@@ -32,6 +32,7 @@ abbrev pub repeated_by : Resent → ℕ → List ℕ
 repeated_by results.Written k = k ∷ []
 repeated_by results.NotKept k = []
 repeated_by results.TooSoon k = []
+repeated_by results.TooLarge k = []
 
 -- how many datagrams were sent after a step, and the remaining entries
 abbrev pub sent_by : List Sample → ℕ → DatagramStep → List SentSample → ℕ

@@ -25,7 +25,7 @@ abbrev pub history_settings : HistorySettings
 history_settings = record { limit = 500; interval = 20; stream = Some (record { ssrc = 8; payload_type = 112; first_number = 7 }) }
 
 abbrev pub new_history : Past
-new_history = record { limit = 500; interval = 20; stream = history_settings.stream; next = 7; newest = 0; packets = [] }
+new_history = record { limit = 500; interval = 20; stream = history_settings.stream; next = 7; newest = 0; refused = None; packets = [] }
 
 abbrev pub resent_settings : Vec ℕ → Settings
 resent_settings no_media = record (opus_settings no_media) { retransmission = Some (record { ssrc = 8; payload_type = 112 }) }

@@ -2,6 +2,7 @@
 use Rattle.std.specs.Prelude.{◌≡◌, ℕ, List, [], ◌∷◌, ◌++◌, ◌⊎◌, Some, Ok, Err, MatchOption, drop, length, slice_get}
 use Rattle.codec_payload_history.specs.Histories.{Keeps, Resends}
 use Rattle.codec_payload_history.specs.Packets.{Past}
+use Rattle.codec_payload_history.specs.declared.retransmission.Kept.{Kept}
 use Rattle.codec_payload_history.specs.declared.retransmission.Resent.{Resent}
 use Rattle.codec_payload_history.specs.declared.retransmission.Resent.TheVariants as results
 use Rattle.codec_payload_rtp.specs.RtpPackets.{Packet}
@@ -39,15 +40,19 @@ begins_with sending history session = record { wire = begins sending session; hi
 abbrev pub IsPacket : List ℕ → Type 0
 IsPacket datagram = (packet : Packet) × (rtp_at datagram ≡ Ok packet)
 
+-- the history keeps this datagram, or it is too old
+abbrev pub KeepsOne : Past → List ℕ → Past → Type 0
+KeepsOne h datagram t = (kept : Kept) × Keeps h datagram kept t
+
 -- the history keeps these datagrams, one after another
 abbrev pub KeepsAll : Past → List (List ℕ) → Past → Type 0
 KeepsAll h [] t = t ≡ h
-KeepsAll h (datagram ∷ datagrams) t = (mid : Past) × Keeps h datagram mid × KeepsAll mid datagrams t
+KeepsAll h (datagram ∷ datagrams) t = (mid : Past) × KeepsOne h datagram mid × KeepsAll mid datagrams t
 
 -- it keeps some of them, up to a datagram for which memory ran out
 abbrev pub KeepsSome : Past → List (List ℕ) → Past → Type 0
 KeepsSome h [] t = ⊥
-KeepsSome h (datagram ∷ datagrams) t = (t ≡ h) ⊎ ((mid : Past) × Keeps h datagram mid × KeepsSome mid datagrams t)
+KeepsSome h (datagram ∷ datagrams) t = (t ≡ h) ⊎ ((mid : Past) × KeepsOne h datagram mid × KeepsSome mid datagrams t)
 
 -- the datagrams that were sent between two states
 abbrev pub sent_since : Wire → Wire → List (List ℕ)
@@ -58,6 +63,7 @@ abbrev pub written : Resent → List ℕ → List (List ℕ)
 written results.Written bytes = bytes ∷ []
 written results.NotKept bytes = []
 written results.TooSoon bytes = []
+written results.TooLarge bytes = []
 
 -- one step: the history keeps what a step of the run without a history sends; a request gets an answer; a retransmission that
 -- exists is received, and gets a receipt

@@ -1,6 +1,7 @@
 -- The steps of a run over datagrams, one after another.
-use Rattle.std.specs.Prelude.{◌≡◌, ◌≢◌, ℕ, ◌<◌, ◌^◌, List, [], ◌∷◌, ◌++◌, ◌⊎◌, Option, Some, None, Result, Err, MatchOption, length, map, slice_get}
+use Rattle.std.specs.Prelude.{◌≡◌, ◌≢◌, ℕ, ◌<◌, ◌^◌, List, [], ◌∷◌, ◌++◌, ◌⊎◌, Option, Some, None, Result, Err, MatchOption, length, map, slice_get, true}
 use Rattle.std.specs.Global.{Vec}
+use Rattle.std.specs.Option.{is_some}
 use Rattle.codec_payload_base.specs.declared.error.PacketError.{PacketError}
 use Rattle.codec_payload_base.specs.declared.error.PacketError.TheVariants as faults
 use Rattle.codec_payload_base.specs.declared.wire.Ticks.{Ticks}
@@ -10,7 +11,7 @@ use Rattle.codec_payload_jitter.specs.declared.outcome.Outcome.{Outcome}
 use Rattle.codec_payload_sender.specs.Datagrams.{Sample as SentNow}
 use Rattle.codec_payload_sender.specs.Senders.{Sending, Sends, Refuses}
 use Rattle.codec_payload_stream.specs.Pops.{PopsGated}
-use Rattle.codec_payload_stream.specs.Sessions.{Finishes, ReceivesBytes, Session}
+use Rattle.codec_payload_stream.specs.Sessions.{Ends, ReceivesBytes, Session, first_waiting}
 use Rattle.codec_payload_stream.specs.declared.receiver.ReceiveError.{ReceiveError}
 use Rattle.codec_payload_stream.specs.declared.receiver.ReceiveError.TheVariants as refusals
 use Rattle.codec_payload_wire.specs.declared.run.DatagramRun.{DatagramRun}
@@ -89,7 +90,7 @@ DoesStep samples (steps.Deliver k now) s t =
     (receipt : Receipt) × (session : Session) × Delivers now bytes s.session receipt session × (t ≡ record s { session = session; receipts = s.receipts ++ receipt ∷ [] }))
 DoesStep samples (steps.Pop now) s t =
     (answer : Answer) × (session : Session) × (answer ≢ Some (Err faults.OutOfMemory)) × PopsUnit now s.session answer session × (t ≡ record s { session = session; pops = s.pops ++ answer ∷ [] })
-DoesStep samples steps.Finish s t = (session : Session) × Finishes s.session session × (t ≡ record s { session = session })
+DoesStep samples steps.Finish s t = (session : Session) × Ends s.session session × (t ≡ record s { session = session })
 
 -- memory ran out for a step: before it began, or inside the call, which leaves sender and receiver as it says. A sample whose
 -- datagrams could not be copied was sent, or refused by the packetizer
@@ -102,7 +103,7 @@ StopsAt samples (steps.Deliver k now) s sending session =
     × ((session ≡ s.session) ⊎ ReceivesBytes now bytes s.session (Err refusals.OutOfMemory) session)
 StopsAt samples (steps.Pop now) s sending session =
     (sending ≡ s.sending) × ((session ≡ s.session) ⊎ PopsUnit now s.session (Some (Err faults.OutOfMemory)) session)
-StopsAt samples steps.Finish s sending session = ⊥
+StopsAt samples steps.Finish s sending session = (sending ≡ s.sending) × (is_some (first_waiting s.session) ≡ true) × (session ≡ s.session)
 
 -- the steps, in order, up to a step for which memory ran out; the sender and the receiver after it
 abbrev pub Stops : List Sample → List DatagramStep → Wire → Sending → Session → Type 0

@@ -153,7 +153,7 @@ fn keep_all(history: &mut History, datagrams: &[Vec<u8>]) -> Result<(), PacketEr
 {
     for datagram in datagrams {
         match history.keep(datagram) {
-            Ok(()) => {}
+            Ok(_) => {}
             Err(KeepError::OutOfMemory) => return Err(PacketError::OutOfMemory),
             Err(KeepError::Rtp(_)) => unreachable!(),
         }

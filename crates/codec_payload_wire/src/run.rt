@@ -22,6 +22,7 @@ use codec_payload_buffer::buffer::Depacketized;
 use codec_payload_codec::codec::{Depacketizer, Packetizer};
 use codec_payload_sender::sender::{Sample, Sender};
 use codec_payload_stream::outcome::Outcome;
+use codec_payload_stream::pops::Popped;
 use codec_payload_stream::receiver::{ReceiveError, Receiver};
 use std::alloc::Global;
 
@@ -48,7 +49,7 @@ pub struct DatagramRun {
     pub sends: Vec<SentSample>,
     /// The result for the datagram of each `Deliver` step that names one, in order.
     pub receipts: Vec<Result<Outcome, ReceiveError>>,
-    /// The answer of each `Pop` step, in order.
+    /// The answer of each `Pop` step, in order: a unit, or the fault of a refused frame.
     pub pops: Vec<Option<Result<Depacketized, PacketError>>>,
 }
 
@@ -152,7 +153,7 @@ pub(crate) fn do_step<P: Packetizer, D: Depacketizer>(
             Ok(())
         }
         DatagramStep::Finish => {
-            receiver.finish();
+            receiver.finish()?;
             Ok(())
         }
     }
@@ -257,7 +258,9 @@ fn pop_at<D: Depacketizer>(
     ensures own { IfOk result (λ answer. AsksForUnit D.state D.depacketize_step now.0 receiver.old answer) }
 {
     match receiver.pop(now) {
-        Some(Err(PacketError::OutOfMemory)) => Err(PacketError::OutOfMemory),
-        answer => Ok(answer),
+        Some(Ok(Popped::Unit(unit))) => Ok(Some(Ok(unit))),
+        Some(Ok(Popped::Refused(fault))) => Ok(Some(Err(fault))),
+        Some(Err(_)) => Err(PacketError::OutOfMemory),
+        None => Ok(None),
     }
 }

@@ -9,11 +9,15 @@ mod audio;
 #[cfg(test)]
 mod av1;
 #[cfg(test)]
+mod clones;
+#[cfg(test)]
 mod media;
 #[cfg(test)]
 mod recovery;
 #[cfg(test)]
 mod red;
+#[cfg(test)]
+mod texts;
 #[cfg(test)]
 mod vp8;
 #[cfg(test)]

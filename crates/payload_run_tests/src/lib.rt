@@ -5,6 +5,8 @@
 #[cfg(test)]
 mod asserts;
 #[cfg(test)]
+mod boxes;
+#[cfg(test)]
 mod gateway;
 #[cfg(test)]
 mod library;
@@ -14,5 +16,7 @@ mod own_codec;
 mod red_run;
 #[cfg(test)]
 mod red_sink;
+#[cfg(test)]
+mod refused;
 #[cfg(test)]
 mod use_it;

@@ -4,10 +4,10 @@
 //!
 //! So the buffer keeps no list of rows. A push, an eviction and a pop write only to the ends of the rows that they change.
 
-use super::frames::{CompleteFrame, frame_of};
+use super::frames::{CompleteFrame, frame_of, is_frame_before};
 use super::held_packet::{HeldPacket, Packet};
 use super::packets::take_lowest;
-use super::rows::{Row, frame_of_left, join, meets, shorten};
+use super::rows::{Row, frame_of_left, is_next, join, meets, shorten};
 use crate::memory::One;
 use crate::queue::tiers::{Noted, TieredQueue};
 use alloc::vec::Vec;
@@ -25,14 +25,12 @@ fn row_to(packets: &TieredQueue<HeldPacket>, first: u64, place: usize) -> Row {
     }
 }
 
-/// Returns whether `later` is the next number after `earlier`.
-fn is_next(earlier: u64, later: u64) -> bool {
-    earlier < later && later - earlier == 1
-}
-
 /// Joins a row with the row that begins at `place`, if they meet.
 #[inline(always)]
 fn join_next(packets: &TieredQueue<HeldPacket>, place: usize, row: Row) -> Row {
+    if row.tail {
+        return row;
+    }
     if place == packets.len() {
         return row;
     }
@@ -59,6 +57,9 @@ fn join_previous(packets: &TieredQueue<HeldPacket>, place: usize, row: Row) -> R
     if !is_next(entry.number, row.first) {
         return row;
     }
+    if entry.packet.tail {
+        return row;
+    }
     let previous = row_to(packets, entry.packet.other_end, place - 1);
     if meets(&previous, &row) {
         join(previous, row)
@@ -68,9 +69,21 @@ fn join_previous(packets: &TieredQueue<HeldPacket>, place: usize, row: Row) -> R
 }
 
 /// Returns the row of a new packet once it is at its place: `row` is the packet alone.
+///
+/// If each packet below is a frame by itself, the list of frames shows that the row does not join the previous one. Then the
+/// previous packet is not read, which most likely is in no cache of the processor.
 #[inline(always)]
-pub(super) fn row_with(packets: &TieredQueue<HeldPacket>, place: usize, row: Row) -> Row {
+pub(super) fn row_with(
+    packets: &TieredQueue<HeldPacket>,
+    complete: &TieredQueue<CompleteFrame>,
+    place: usize,
+    row: Row,
+) -> Row {
+    let first = row.first;
     let row = join_next(packets, place, row);
+    if place < packets.len() && is_frame_before(complete, place, first) {
+        return row;
+    }
     join_previous(packets, place, row)
 }
 
@@ -154,33 +167,6 @@ pub(super) fn place_at(
     if after > 0 {
         set_mark(packets, place + after, first, head);
     }
-}
-
-/// Returns the complete frame that ends at this packet, if one does.
-#[inline(always)]
-pub(super) fn frame_to(entry: &HeldPacket) -> Option<CompleteFrame> {
-    match entry.packet.row_head {
-        Some(first) if entry.packet.tail => Some(CompleteFrame {
-            first,
-            last: entry.number,
-        }),
-        _ => None,
-    }
-}
-
-/// Returns whether no complete frame ends where `row` ends, the row of a new packet. `place` is the place of the packet.
-#[inline(always)]
-pub(super) fn is_new_end(
-    packets: &TieredQueue<HeldPacket>,
-    place: usize,
-    packet: &HeldPacket,
-    row: &Row,
-) -> bool {
-    let after = (row.last - packet.number) as usize;
-    if after == 0 {
-        return true;
-    }
-    frame_to(packets.at(place + after - 1)).is_none()
 }
 
 /// Returns the lowest row.

@@ -14,6 +14,7 @@ use core::mem::size_of;
 /// The metadata of a packet in 72 bytes. Rare values (a capture time, a timing, a layers allocation, values of a sender report)
 /// are in a separate memory block, which exists only if the packet has any of them.
 #[derive(Debug)]
+#[doc(hidden)]
 pub struct PackedMeta {
     received: Ticks,
     time: MediaTime,

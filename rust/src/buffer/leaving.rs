@@ -10,6 +10,7 @@ use alloc::vec::Vec;
 
 /// How many packets left the buffer in a pop without being released in a unit, by the reason.
 #[derive(Clone, Copy, Debug, PartialEq, Eq)]
+#[doc(hidden)]
 pub struct Left {
     /// Packets in no complete frame, whose numbers are below the numbers of a frame that left.
     pub incomplete: usize,

@@ -10,6 +10,7 @@ use core::mem::size_of;
 /// The header of a packet in 40 bytes; an [`RtpHeader`] has more than 300. Rare values of header extensions (a capture time, a
 /// timing, a layers allocation) are in a separate memory block, which exists only if the packet has any of them.
 #[derive(Debug)]
+#[doc(hidden)]
 pub struct PackedHeader {
     pub(super) rare: Option<One<Rare>>,
     pub(super) plain: PlainHeader,

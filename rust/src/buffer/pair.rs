@@ -3,8 +3,8 @@
 //! Two packets are stored at once: all memory is found before either is stored.
 
 use super::DepacketizingBuffer;
-use super::ends::{evict, is_new_end, place_at, row_with};
-use super::frames::{CompleteFrames, frame_of, mend_first, note, reserve_known};
+use super::ends::{evict, place_at, row_with};
+use super::frames::{CompleteFrame, frame_of, mend_first, note};
 use super::held_packet::{HeldPacket, Packet};
 use super::known::PackedMeta;
 use super::packets::{find_place, hold, is_at, is_too_late};
@@ -19,6 +19,7 @@ use alloc::vec::Vec;
 
 /// The metadata of a packet, and its payload.
 #[derive(Debug)]
+#[doc(hidden)]
 pub struct Incoming {
     pub meta: RtpMeta,
     pub payload: Vec<u8>,
@@ -44,7 +45,7 @@ impl<B: Depacketizer> DepacketizingBuffer<B> {
         second: Incoming,
     ) -> Result<(Placed, Placed), PacketError> {
         self.packets.reserve(2)?;
-        reserve_known(&mut self.complete.known, 2)?;
+        self.complete.reserve(2)?;
         let first = entry_of(&mut self.spare, &self.depacketizer, first)?;
         let second = entry_of(&mut self.spare, &self.depacketizer, second)?;
         let (one, gone) = store_entry(
@@ -96,7 +97,7 @@ fn entry_of<B: Depacketizer>(
 /// Stores a packet for which there is memory. Returns the result, and the number of the packet that was evicted.
 fn store_entry(
     packets: &mut TieredQueue<HeldPacket>,
-    complete: &mut CompleteFrames,
+    complete: &mut TieredQueue<CompleteFrame>,
     spare: &mut Vec<One<Packet>>,
     bounds: Bounds,
     entry: HeldPacket,
@@ -110,14 +111,13 @@ fn store_entry(
         return (Placed::Duplicate, None);
     }
     let placed = placed_among(packets, bounds.limit);
-    let row = row_with(packets, place, row_of_packet(&entry));
-    let is_new = is_new_end(packets, place, &entry, &row);
+    let row = row_with(packets, complete, place, row_of_packet(&entry));
     place_at(packets, place, entry, row);
-    note(complete, frame_of(&row), is_new);
+    note(complete, place, frame_of(&row));
     if packets.len() <= bounds.limit {
         return (placed, None);
     }
     let (number, before, after) = evict(packets, spare);
-    mend_first(complete, before, after, packets);
+    mend_first(complete, before, after);
     (placed, Some(number))
 }

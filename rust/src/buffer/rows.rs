@@ -44,6 +44,11 @@ pub(super) fn meets(earlier: &Row, later: &Row) -> bool {
         && !earlier.tail
 }
 
+/// Returns whether `later` is the next number after `earlier`.
+pub(super) fn is_next(earlier: u64, later: u64) -> bool {
+    earlier < later && later - earlier == 1
+}
+
 /// Joins two rows that meet.
 pub(super) fn join(earlier: Row, later: Row) -> Row {
     Row {

@@ -117,7 +117,7 @@ impl<B: Depacketizer> DepacketizingBuffer<B> {
     ) {
         move_frame(&mut self.packets, &mut self.spare, metas, from, to);
         self.packets.give_back();
-        drop_first(&mut self.complete, &self.packets);
+        drop_first(&mut self.complete);
         self.cutoff = Some(frame.last);
     }
 }

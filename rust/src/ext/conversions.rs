@@ -1,8 +1,9 @@
 //! Conversions between numbers of this crate and those of Rust.
 
+use crate::codec::{CodecDepacketizer, CodecPacketizer};
 use crate::rtp::RtpError;
 use crate::stream::ReceiveError;
-use crate::wire::{Frequency, MediaTime, Pt, SeqNo, Ticks};
+use crate::wire::{Codec, Frequency, MediaTime, Pt, SeqNo, Ticks};
 use core::fmt;
 use core::ops::Deref;
 use core::time::Duration;
@@ -96,5 +97,43 @@ impl From<MediaTime> for Duration {
 impl From<RtpError> for ReceiveError {
     fn from(error: RtpError) -> Self {
         ReceiveError::Rtp(error)
+    }
+}
+
+/// A codec that this crate does not packetize: H.264 and its kin, and names that stand for no payloads.
+#[derive(Clone, Copy, Debug, PartialEq, Eq)]
+pub struct UnsupportedCodec(pub Codec);
+
+impl fmt::Display for UnsupportedCodec {
+    fn fmt(&self, f: &mut fmt::Formatter<'_>) -> fmt::Result {
+        write!(f, "{:?} is not supported", self.0)
+    }
+}
+
+impl core::error::Error for UnsupportedCodec {}
+
+/// As [`CodecPacketizer::from_codec`], with an error that names the codec.
+///
+/// # Errors
+///
+/// [`UnsupportedCodec`].
+impl TryFrom<Codec> for CodecPacketizer {
+    type Error = UnsupportedCodec;
+
+    fn try_from(codec: Codec) -> Result<Self, UnsupportedCodec> {
+        CodecPacketizer::from_codec(codec).ok_or(UnsupportedCodec(codec))
+    }
+}
+
+/// As [`CodecDepacketizer::from_codec`], with an error that names the codec.
+///
+/// # Errors
+///
+/// [`UnsupportedCodec`].
+impl TryFrom<Codec> for CodecDepacketizer {
+    type Error = UnsupportedCodec;
+
+    fn try_from(codec: Codec) -> Result<Self, UnsupportedCodec> {
+        CodecDepacketizer::from_codec(codec).ok_or(UnsupportedCodec(codec))
     }
 }

@@ -1,20 +1,24 @@
 //! Iterators over units, payloads and datagrams.
 
 use crate::buffer::{Depacketized, DepacketizingBuffer};
-use crate::codec::{Depacketizer, Packetizer};
+use crate::codec::{Depacketizer, NoBox, Packetizer};
 use crate::error::PacketError;
 use crate::jitter::JitterBuffer;
+use crate::memory::AllocError;
 use crate::payloads::Payloads;
 use crate::sender::Sender;
-use crate::stream::Receiver;
+use crate::stream::{Popped, Receiver};
 use crate::wire::Ticks;
+use core::iter::FusedIterator;
 
-/// The units that are due: pops until `None`. It ends after an `Err` of out of memory as after any other: call it again to go on.
+/// The units of a buffer that are due: pops until `None`. A refused frame is an `Err`, and the next item follows it. After
+/// [`PacketError::OutOfMemory`] the iterator has ended: a frame stays, and another iterator tries it again.
 #[derive(Debug)]
 #[must_use = "units are popped as the iterator is used"]
 pub struct Units<'a, P: ?Sized> {
     from: &'a mut P,
     now: Ticks,
+    has_ended: bool,
 }
 
 /// What units are popped from.
@@ -35,9 +39,13 @@ impl<B: Depacketizer> PopUnits for JitterBuffer<B> {
     }
 }
 
-impl<B: Depacketizer> PopUnits for Receiver<B> {
-    fn pop_at(&mut self, now: Ticks) -> Option<Result<Depacketized, PacketError>> {
-        self.pop(now)
+impl<'a, P: PopUnits + ?Sized> Units<'a, P> {
+    fn new(from: &'a mut P, now: Ticks) -> Self {
+        Units {
+            from,
+            now,
+            has_ended: false,
+        }
     }
 }
 
@@ -45,17 +53,21 @@ impl<P: PopUnits + ?Sized> Iterator for Units<'_, P> {
     type Item = Result<Depacketized, PacketError>;
 
     fn next(&mut self) -> Option<Self::Item> {
-        self.from.pop_at(self.now)
+        if self.has_ended {
+            return None;
+        }
+        let unit = self.from.pop_at(self.now);
+        self.has_ended = matches!(unit, None | Some(Err(PacketError::OutOfMemory)));
+        unit
     }
 }
+
+impl<P: PopUnits + ?Sized> FusedIterator for Units<'_, P> {}
 
 impl<B: Depacketizer> DepacketizingBuffer<B> {
     /// Pops all units that are due. See [`DepacketizingBuffer::pop`].
     pub fn units(&mut self) -> Units<'_, Self> {
-        Units {
-            from: self,
-            now: Ticks(0),
-        }
+        Units::new(self, Ticks(0))
     }
 
     /// Pops all complete units, without waiting for packets that are missing: sets `hold_back` to 0.
@@ -77,20 +89,68 @@ impl<'a, B: Depacketizer> IntoIterator for &'a mut DepacketizingBuffer<B> {
 impl<B: Depacketizer> JitterBuffer<B> {
     /// Pops all units that are due at that time. See [`JitterBuffer::pop`].
     pub fn units(&mut self, now: Ticks) -> Units<'_, Self> {
-        Units { from: self, now }
+        Units::new(self, now)
     }
 }
 
+/// The units of a stream that are due: pops until `None`. Refused frames are skipped; [`StreamUnits::refused`] counts them. An
+/// `Err` is out of memory alone, and then the iterator has ended: the frame stays, and another iterator tries it again.
+#[derive(Debug)]
+#[must_use = "units are popped as the iterator is used"]
+pub struct StreamUnits<'a, B = NoBox> {
+    receiver: &'a mut Receiver<B>,
+    now: Ticks,
+    refused: u64,
+    has_ended: bool,
+}
+
+impl<B> StreamUnits<'_, B> {
+    /// Returns how many refused frames the iterator skipped so far.
+    pub fn refused(&self) -> u64 {
+        self.refused
+    }
+}
+
+impl<B: Depacketizer> Iterator for StreamUnits<'_, B> {
+    type Item = Result<Depacketized, AllocError>;
+
+    fn next(&mut self) -> Option<Self::Item> {
+        while !self.has_ended {
+            match self.receiver.pop(self.now) {
+                Some(Ok(Popped::Unit(unit))) => return Some(Ok(unit)),
+                Some(Ok(Popped::Refused(_))) => self.refused += 1,
+                Some(Err(fault)) => {
+                    self.has_ended = true;
+                    return Some(Err(fault));
+                }
+                None => self.has_ended = true,
+            }
+        }
+        None
+    }
+}
+
+impl<B: Depacketizer> FusedIterator for StreamUnits<'_, B> {}
+
 impl<B: Depacketizer> Receiver<B> {
-    /// Pops all units that are due at that time. See [`Receiver::pop`].
-    pub fn units(&mut self, now: Ticks) -> Units<'_, Self> {
-        Units { from: self, now }
+    /// Pops all units that are due at that time, and skips refused frames. See [`Receiver::pop`], which reports these too.
+    pub fn units(&mut self, now: Ticks) -> StreamUnits<'_, B> {
+        StreamUnits {
+            receiver: self,
+            now,
+            refused: 0,
+            has_ended: false,
+        }
     }
 
     /// Ends the stream and pops all complete units. See [`Receiver::finish`].
-    pub fn drain(&mut self, now: Ticks) -> Units<'_, Self> {
-        self.finish();
-        self.units(now)
+    ///
+    /// # Errors
+    ///
+    /// Out of memory: see [`Receiver::finish`].
+    pub fn drain(&mut self, now: Ticks) -> Result<StreamUnits<'_, B>, AllocError> {
+        self.finish()?;
+        Ok(self.units(now))
     }
 }
 

@@ -2,7 +2,6 @@
 
 use crate::rtp::ExtensionIds;
 use crate::sender::SenderSettings;
-use crate::stream::ReceiverSettings;
 use crate::wire::Frequency;
 
 impl SenderSettings {
@@ -19,13 +18,5 @@ impl SenderSettings {
             tailroom: 0,
             extension_ids: ExtensionIds::default(),
         }
-    }
-}
-
-impl ReceiverSettings {
-    /// Returns settings for a live stream of audio or video: those of [`ReceiverSettings::live_audio`].
-    #[must_use]
-    pub fn for_stream(payload_type: u8, clock_rate: Frequency) -> Self {
-        ReceiverSettings::live_audio(payload_type, clock_rate)
     }
 }

@@ -2,6 +2,7 @@
 
 //! The requests of one stream, and the compound packets that carry them.
 
+use crate::congestion::packet::write_transport_packet;
 use crate::memory::AllocError;
 use crate::requests::keyframe::KeyframeRequests;
 use crate::requests::nack::{NackSchedule, NackSettings};
@@ -34,9 +35,10 @@ pub struct StreamRequests {
 }
 
 impl FeedbackSource {
-    /// Returns a source of feedback with its own SSRC. `cname` is its canonical name (RFC 3550, section 6.5.1); without bytes no
-    /// source description is sent. With `has_report` each packet begins with an empty receiver report, as RFC 3550, section 6.1,
-    /// asks; else it has reduced size (RFC 5506). `None`: the name has more than 255 bytes. Does not allocate.
+    /// Returns a source of feedback with its own SSRC. `cname` is its canonical name (RFC 3550, section 6.5.1). With `has_report`
+    /// each packet is a compound packet: it begins with an empty receiver report and the name, as RFC 3550, section 6.1, asks;
+    /// without bytes in `cname` the name is left out. Else a packet has the requests alone: reduced size (RFC 5506). `None`: the
+    /// name has more than 255 bytes. Does not allocate.
     pub fn new(ssrc: u32, cname: Vec<u8>, has_report: bool) -> Option<FeedbackSource> {
         if cname.len() > 255 {
             return None;
@@ -61,12 +63,26 @@ impl FeedbackSource {
         report.write(out)
     }
 
-    /// Appends the description of the source.
+    /// Appends the description of the source, if the packet is a compound packet.
     fn write_description(&self, out: &mut Vec<u8>) -> Result<(), AllocError> {
-        if self.cname.is_empty() {
+        if !self.has_report || self.cname.is_empty() {
             return Ok(());
         }
         write_cname(self.ssrc, &self.cname, out)
+    }
+
+    /// Returns a packet of transport-wide feedback with this control information, which is whole words and at most 262,132 bytes. In a
+    /// compound packet the report and the name come before it.
+    pub(crate) fn transport_packet(
+        &self,
+        media_ssrc: u32,
+        fci: &[u8],
+    ) -> Result<Vec<u8>, AllocError> {
+        let mut out = Vec::new();
+        self.write_report(&mut out)?;
+        self.write_description(&mut out)?;
+        write_transport_packet(self.ssrc, media_ssrc, fci, &mut out)?;
+        Ok(out)
     }
 
     /// Appends a NACK of the numbers, if there are any.
@@ -156,9 +172,9 @@ impl StreamRequests {
         Ok(())
     }
 
-    /// Returns a compound packet with the requests that are due, and counts them as sent: a NACK of the numbers (RFC 4585, section
-    /// 6.2.1), lowest first, and a PLI if a keyframe is due (section 6.3.1), behind the report and the name of `source`.
-    /// `None`: nothing is due.
+    /// Returns a packet with the requests that are due, and counts them as sent: a NACK of the numbers (RFC 4585, section 6.2.1),
+    /// lowest first, and a PLI if a keyframe is due (section 6.3.1). If `source` sends compound packets, its report and its name come
+    /// before them. `None`: nothing is due.
     ///
     /// # Errors
     ///

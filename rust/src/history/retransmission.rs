@@ -10,7 +10,7 @@ use alloc::vec::Vec;
 use core::fmt;
 use core::mem;
 
-/// The most packets that a history keeps: half of the sequence numbers.
+/// The largest number of packets that a history keeps: half of the sequence numbers.
 pub const MAX_HISTORY: usize = 32_768;
 
 /// The stream of retransmissions (RFC 4588): packets are resent under its SSRC, its payload type and its own sequence numbers.
@@ -27,7 +27,7 @@ pub struct RetransmissionStream {
 /// What a history keeps, and how it resends.
 #[derive(Clone, Copy, Debug, PartialEq, Eq)]
 pub struct HistorySettings {
-    /// How many packets are kept, 1 to [`MAX_HISTORY`]: the last ones.
+    /// How many numbers the history covers, 1 to [`MAX_HISTORY`]: the highest number that was kept, and those below it.
     pub limit: usize,
     /// How many ticks have to pass before the same packet is resent again; 0: none. About a round-trip time is useful: a
     /// receiver that requests the packet again before that has not yet seen the answer.
@@ -63,7 +63,7 @@ impl core::error::Error for HistoryError {}
 pub enum KeepError {
     /// It is not an RTP packet.
     Rtp(RtpError),
-    /// There was not enough memory.
+    /// Out of memory.
     OutOfMemory,
 }
 
@@ -85,15 +85,26 @@ impl core::error::Error for KeepError {
     }
 }
 
+/// What a history did with a datagram.
+#[derive(Clone, Copy, Debug, PartialEq, Eq)]
+pub enum Kept {
+    /// The history keeps it at its number.
+    Stored,
+    /// Its number is `limit` or more below the highest one. The history does not keep it, and keeps all that it had.
+    TooOld,
+}
+
 /// The result of a request for a packet.
 #[derive(Clone, Copy, Debug, PartialEq, Eq)]
 pub enum Resent {
-    /// The packet was written.
+    /// The packet was written, and counts as resent.
     Written,
-    /// It is not in the history: it was never sent, or too long ago.
+    /// It is not in the history: it was never kept, or its number is too old.
     NotKept,
     /// It was resent less than the interval ago.
     TooSoon,
+    /// The datagram has more bytes than [`History::resend_within`] was given. It was written, and nothing is spent.
+    TooLarge,
 }
 
 /// A packet that was sent.
@@ -104,11 +115,24 @@ struct SentPacket {
     resent: Option<Ticks>,
 }
 
+/// Where a history keeps a packet.
+#[derive(Clone, Copy, Debug, PartialEq, Eq)]
+pub(crate) enum Place {
+    /// All others leave.
+    Anew,
+    /// So many numbers above the highest one, at least 1.
+    Above(usize),
+    /// So many numbers below the highest one.
+    Below(usize),
+    /// Nowhere.
+    TooOld,
+}
+
 /// The last packets of one stream, which [`History::resend`] writes again.
 ///
-/// Pass each datagram to [`History::keep`] when you send it, before SRTP encrypts it. The numbers of the packets are consecutive:
-/// where a number does not follow the one before, the history begins again with that packet. Once the history is full and its
-/// memory has grown to the largest packets, no call allocates.
+/// Pass each datagram to [`History::keep`] when you send it or, in a forwarder, when you receive it, before SRTP encrypts it. The
+/// history has a place for each of the last `limit` numbers, so packets may come in any order, and numbers may be missing. Once it
+/// has all places and their memory has grown to the largest packets, no call allocates.
 #[derive(Debug)]
 pub struct History {
     limit: usize,
@@ -116,15 +140,17 @@ pub struct History {
     stream: Option<RetransmissionStream>,
     /// The number of the next retransmission.
     next: u16,
-    /// The number of the newest packet.
+    /// The highest number.
     newest: u16,
-    /// Newest first.
+    /// The number that was refused last, if no packet was kept since.
+    refused: Option<u16>,
+    /// A place for each number, from the highest down. A place without a packet has no bytes.
     packets: VecDeque<SentPacket>,
-    /// Memory of a packet that left the history.
+    /// Memory for the next packet.
     spare: Vec<u8>,
 }
 
-/// Whether the payload type of retransmissions is in range.
+/// Returns whether the payload type of retransmissions is in range.
 fn stream_fits(stream: Option<RetransmissionStream>) -> bool {
     match stream {
         None => true,
@@ -133,7 +159,7 @@ fn stream_fits(stream: Option<RetransmissionStream>) -> bool {
 }
 
 impl RetransmissionStream {
-    /// The header of a retransmission of a packet with that header, under that number.
+    /// Returns the header of a retransmission of a packet with that header, under that number.
     fn header<'a>(&self, header: PacketHeader<'a>, number: u16) -> PacketHeader<'a> {
         PacketHeader {
             payload_type: self.payload_type,
@@ -156,7 +182,7 @@ impl RetransmissionStream {
 }
 
 impl SentPacket {
-    /// Whether it was resent less than `interval` ticks before `now`.
+    /// Returns whether it was resent less than `interval` ticks before `now`.
     fn is_too_soon(&self, now: Ticks, interval: u64) -> bool {
         match self.resent {
             None => false,
@@ -165,20 +191,9 @@ impl SentPacket {
     }
 }
 
-/// Cuts the packets to so many, and returns the memory of the oldest, if it left.
-fn cut(packets: &mut VecDeque<SentPacket>, count: usize) -> Vec<u8> {
-    if packets.len() > count
-        && let Some(oldest) = packets.pop_back()
-    {
-        packets.truncate(count);
-        return oldest.bytes;
-    }
-    Vec::new()
-}
-
 impl History {
-    /// An empty history. It does not allocate. If several settings are out of range, the first in the order of [`HistoryError`] is
-    /// the error.
+    /// Returns an empty history. It does not allocate. If several settings are out of range, the error is the first in the order of
+    /// [`HistoryError`].
     pub fn new(settings: HistorySettings) -> Result<History, HistoryError> {
         if settings.limit == 0 || settings.limit > MAX_HISTORY {
             return Err(HistoryError::Limit);
@@ -196,56 +211,114 @@ impl History {
             stream: settings.stream,
             next,
             newest: 0,
+            refused: None,
             packets: VecDeque::new(),
             spare: Vec::new(),
         })
     }
 
-    /// How many packets are kept.
+    /// Returns how many numbers the history has places for: from the highest number that was kept down to the lowest, each with a
+    /// packet or without one. So 0 means that it is empty.
     pub fn len(&self) -> usize {
         self.packets.len()
     }
 
-    /// Keeps a copy of a datagram that was sent, as the newest packet; the oldest one leaves a full history. If its number does not
-    /// follow the number of the newest packet, all packets before it leave.
+    /// Keeps a copy of a datagram, at the place of its number. Numbers may come in any order, and may be missing.
+    ///
+    /// - Above the highest number: it becomes the highest one, and packets `limit` or more numbers below it leave.
+    /// - Less than `limit` below the highest number: it takes its place. It replaces a packet with the same number; the time at
+    ///   which that packet was resent last stays.
+    /// - Further below: it is not kept ([`Kept::TooOld`]). If the next call has the packet with the number after it, the sender
+    ///   has restarted: all others leave, and the history begins with that packet.
+    ///
+    /// It copies the datagram once. A number ahead of the highest one costs a step for each number in between, at most `limit`.
+    /// Once the history is full and its memory has grown to the largest packets, it does not allocate.
     ///
     /// # Errors
     ///
-    /// The history is then unchanged: the datagram is not an RTP packet, or there was not enough memory.
-    pub fn keep(&mut self, datagram: &[u8]) -> Result<(), KeepError> {
+    /// The history is unchanged: the datagram is not an RTP packet, or memory ran out.
+    pub fn keep(&mut self, datagram: &[u8]) -> Result<Kept, KeepError> {
         match RtpPacket::parse(datagram) {
             Err(fault) => Err(KeepError::Rtp(fault)),
-            Ok(packet) => match self.store(packet.header.sequence_number, datagram) {
-                Ok(()) => Ok(()),
-                Err(_) => Err(KeepError::OutOfMemory),
-            },
+            Ok(packet) => {
+                let number = packet.header.sequence_number;
+                match self.store(self.place_for(number), number, datagram) {
+                    Ok(kept) => Ok(kept),
+                    Err(_) => Err(KeepError::OutOfMemory),
+                }
+            }
         }
     }
 
-    /// How many packets are kept once that number is the newest.
-    fn count_with(&self, number: u16) -> usize {
-        if number == self.newest.wrapping_add(1) {
-            self.limit
+    /// Returns where a packet with that number is kept.
+    fn place_for(&self, number: u16) -> Place {
+        let above = usize::from(number.wrapping_sub(self.newest));
+        let below = usize::from(self.newest.wrapping_sub(number));
+        if self.packets.is_empty() {
+            Place::Anew
+        } else if below < self.limit {
+            Place::Below(below)
+        } else if above < MAX_HISTORY {
+            if above < self.limit {
+                Place::Above(above)
+            } else {
+                Place::Anew
+            }
+        } else if follows(self.refused, number) {
+            Place::Anew
         } else {
-            1
+            Place::TooOld
         }
     }
 
-    /// Stores a packet with that number as the newest.
-    fn store(&mut self, number: u16, bytes: &[u8]) -> Result<(), AllocError> {
-        let count = self.count_with(number);
-        put_newest(&mut self.packets, &mut self.spare, bytes, count)?;
+    /// Keeps a packet with that number at that place.
+    fn store(&mut self, place: Place, number: u16, bytes: &[u8]) -> Result<Kept, AllocError> {
+        match place {
+            Place::Anew => self.store_anew(number, bytes)?,
+            Place::Above(count) => self.store_above(count, number, bytes)?,
+            Place::Below(below) => self.store_below(below, number, bytes)?,
+            Place::TooOld => {
+                self.refused = Some(number);
+                return Ok(Kept::TooOld);
+            }
+        }
+        Ok(Kept::Stored)
+    }
+
+    /// Keeps this packet alone.
+    fn store_anew(&mut self, number: u16, bytes: &[u8]) -> Result<(), AllocError> {
+        copy_in_place(&mut self.spare, bytes)?;
+        put_anew(&mut self.packets, &mut self.spare, self.limit)?;
         self.newest = number;
+        self.refused = None;
         Ok(())
     }
 
-    /// The packet with that number, and its place: its distance from the newest one.
+    /// Keeps a packet so many numbers above the highest one.
+    fn store_above(&mut self, count: usize, number: u16, bytes: &[u8]) -> Result<(), AllocError> {
+        copy_in_place(&mut self.spare, bytes)?;
+        put_above(&mut self.packets, &mut self.spare, count, self.limit)?;
+        self.newest = number;
+        self.refused = None;
+        Ok(())
+    }
+
+    /// Keeps a packet so many numbers below the highest one.
+    fn store_below(&mut self, below: usize, _number: u16, bytes: &[u8]) -> Result<(), AllocError> {
+        copy_in_place(&mut self.spare, bytes)?;
+        put_below(&mut self.packets, &mut self.spare, below)?;
+        self.refused = None;
+        Ok(())
+    }
+
+    /// Returns the packet with that number, and its place: its distance from the highest number.
     fn find(&self, number: u16) -> Option<(usize, &SentPacket)> {
         let place = usize::from(self.newest.wrapping_sub(number));
-        match self.packets.get(place) {
-            None => None,
-            Some(packet) => Some((place, packet)),
+        let packet = self.packets.get(place)?;
+        if packet.bytes.is_empty() {
+            return None;
         }
+        Some((place, packet))
     }
 
     /// Records that the packet at a place was resent.
@@ -255,8 +328,8 @@ impl History {
     }
 
     /// Writes the packet with that number again and replaces what `out` has. Without a stream of retransmissions the packet is as it
-    /// was. Else it has the next number of the stream, and the original number in front of its payload (RFC 4588, section 4).
-    /// Unless [`Resent::Written`] is returned, `out` is unchanged.
+    /// was. Otherwise it has the next number of the stream, and the original number in front of its payload (RFC 4588, section 4).
+    /// Unless the answer is [`Resent::Written`], `out` is unchanged. It is never [`Resent::TooLarge`].
     ///
     /// If an allocation fails, `out` is empty and the history is unchanged.
     pub fn resend(
@@ -277,7 +350,7 @@ impl History {
     }
 
     /// Writes the packet as [`History::resend`] does, and resends it if the datagram has at most `most` bytes. If it has more, `out`
-    /// has the datagram, [`Resent::Written`] is returned, and the history is unchanged: the number of the retransmission is not
+    /// has the datagram, the answer is [`Resent::TooLarge`], and the history is unchanged: the number of the retransmission is not
     /// used, and the packet does not count as resent. So a caller whose memory is limited may try again.
     ///
     /// If an allocation fails, `out` is empty and the history is unchanged.
@@ -296,14 +369,14 @@ impl History {
         }
         write_again(self.stream, self.next, &packet.bytes, out)?;
         if out.len() > most {
-            return Ok(Resent::Written);
+            return Ok(Resent::TooLarge);
         }
         self.record(now, place);
         Ok(Resent::Written)
     }
 }
 
-/// The number of the retransmission after that one.
+/// Returns the number of the retransmission after that one.
 fn next_after(stream: Option<RetransmissionStream>, next: u16) -> u16 {
     match stream {
         None => next,
@@ -316,26 +389,108 @@ fn mark_resent(packets: &mut VecDeque<SentPacket>, place: usize, now: Ticks) {
     packets[place].resent = Some(now);
 }
 
-/// Puts a packet in front of the others, and cuts them to so many.
-fn put_newest(
+/// Returns whether a number comes right after the one that was refused last.
+fn follows(refused: Option<u16>, number: u16) -> bool {
+    match refused {
+        None => false,
+        Some(refused) => number == refused.wrapping_add(1),
+    }
+}
+
+/// Replaces what `out` has by these bytes.
+fn copy_in_place(out: &mut Vec<u8>, bytes: &[u8]) -> Result<(), AllocError> {
+    out.clear();
+    out.try_extend(bytes)
+}
+
+/// Keeps the packet whose bytes `spare` has, alone.
+fn put_anew(
     packets: &mut VecDeque<SentPacket>,
     spare: &mut Vec<u8>,
-    bytes: &[u8],
-    count: usize,
+    limit: usize,
 ) -> Result<(), AllocError> {
-    spare.clear();
-    spare.try_extend(bytes)?;
-    let unused = Vec::new();
-    let bytes = mem::replace(spare, unused);
-    packets.try_push_front(SentPacket {
-        bytes,
-        resent: None,
-    })?;
-    *spare = cut(packets, count);
+    packets.try_room(1_usize.saturating_sub(packets.len()))?;
+    packets.clear();
+    raise(packets, 1, limit);
+    put(packets, spare, 0);
     Ok(())
 }
 
-/// Writes a packet again, in the place of what `out` has.
+/// Puts the packet whose bytes `spare` has so many numbers above the highest one.
+fn put_above(
+    packets: &mut VecDeque<SentPacket>,
+    spare: &mut Vec<u8>,
+    count: usize,
+    limit: usize,
+) -> Result<(), AllocError> {
+    packets.try_room(count.min(limit - packets.len()))?;
+    raise(packets, count, limit);
+    put(packets, spare, 0);
+    Ok(())
+}
+
+/// Puts the packet whose bytes `spare` has so many numbers below the highest one.
+fn put_below(
+    packets: &mut VecDeque<SentPacket>,
+    spare: &mut Vec<u8>,
+    place: usize,
+) -> Result<(), AllocError> {
+    let missing = (place + 1).saturating_sub(packets.len());
+    packets.try_room(missing)?;
+    lower(packets, missing);
+    put(packets, spare, place);
+    Ok(())
+}
+
+/// Puts the bytes of a packet at a place, and takes the memory that was there.
+fn put(packets: &mut VecDeque<SentPacket>, spare: &mut Vec<u8>, place: usize) {
+    mem::swap(&mut packets[place].bytes, spare);
+}
+
+/// Puts so many places in front of the others.
+fn raise(packets: &mut VecDeque<SentPacket>, count: usize, limit: usize) {
+    for _ in 0..count {
+        raise_once(packets, limit);
+    }
+}
+
+/// Puts one place in front of the others. If there are `limit` places, the last one leaves, and its memory is used.
+fn raise_once(packets: &mut VecDeque<SentPacket>, limit: usize) {
+    let bytes = last_memory(packets, limit);
+    packets.push_front(SentPacket {
+        bytes,
+        resent: None,
+    });
+}
+
+/// Takes the last of `limit` places away, and returns its memory.
+fn last_memory(packets: &mut VecDeque<SentPacket>, limit: usize) -> Vec<u8> {
+    if packets.len() >= limit
+        && let Some(mut last) = packets.pop_back()
+    {
+        packets.truncate(limit - 1);
+        last.bytes.clear();
+        return last.bytes;
+    }
+    Vec::new()
+}
+
+/// Appends so many places.
+fn lower(packets: &mut VecDeque<SentPacket>, count: usize) {
+    for _ in 0..count {
+        lower_once(packets);
+    }
+}
+
+/// Appends one place.
+fn lower_once(packets: &mut VecDeque<SentPacket>) {
+    packets.push_back(SentPacket {
+        bytes: Vec::new(),
+        resent: None,
+    });
+}
+
+/// Writes a packet again, and replaces what `out` has.
 fn write_again(
     stream: Option<RetransmissionStream>,
     next: u16,

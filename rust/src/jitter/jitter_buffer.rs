@@ -34,6 +34,7 @@ const AT_ONCE: usize = 2;
 
 /// A suspect packet, which is kept until another suspect packet or a restart.
 #[derive(Debug)]
+#[doc(hidden)]
 pub struct KeptPacket {
     received: Ticks,
     header: PackedHeader,

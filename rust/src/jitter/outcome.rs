@@ -7,6 +7,7 @@ use crate::error::PacketError;
 
 /// What was done with a packet.
 #[derive(Clone, Copy, Debug, PartialEq, Eq)]
+#[non_exhaustive]
 pub enum Outcome {
     /// The packet was stored.
     Held,

@@ -8,7 +8,7 @@ use crate::plain::{PiecesPacketizer, PlainDepacketizer};
 ///
 /// All pieces of a frame get the RTP time of the frame, but a receiver takes the time of a packet as the time of its first
 /// sample (RFC 3551, section 4.1). Choose an MTU above the longest frame.
-pub type G7xxPacketizer = PiecesPacketizer;
+pub type G7xxPacketizer = PiecesPacketizer<false>;
 
 /// Cuts frames of G.711 (μ-law or A-law).
 pub type G711Packetizer = G7xxPacketizer;
@@ -17,4 +17,4 @@ pub type G711Packetizer = G7xxPacketizer;
 pub type G722Packetizer = G7xxPacketizer;
 
 /// Appends each payload of G.711 or G.722; each payload is a unit.
-pub type G711Depacketizer = PlainDepacketizer;
+pub type G711Depacketizer = PlainDepacketizer<1>;

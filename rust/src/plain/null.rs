@@ -47,4 +47,4 @@ impl Packetizer for NullPacketizer {
 }
 
 /// Appends each payload as it is; each payload is a unit.
-pub type NullDepacketizer = PlainDepacketizer;
+pub type NullDepacketizer = PlainDepacketizer<2>;

@@ -5,7 +5,7 @@
 use crate::plain::{PiecesPacketizer, PlainDepacketizer};
 
 /// Cuts Opus frames into pieces of MTU bytes (RFC 7587 has one frame a payload: choose an MTU above the longest frame).
-pub type OpusPacketizer = PiecesPacketizer;
+pub type OpusPacketizer = PiecesPacketizer<true>;
 
 /// Appends each payload of Opus; each payload is a unit.
-pub type OpusDepacketizer = PlainDepacketizer;
+pub type OpusDepacketizer = PlainDepacketizer<0>;

@@ -7,12 +7,25 @@ use crate::error::PacketError;
 use crate::interface::Packetizer;
 use crate::payloads::Payloads;
 use alloc::vec::Vec;
+use core::fmt;
 
-/// Cuts frames into pieces of MTU bytes: the packetizer of Opus, G.711 and G.722.
-#[derive(Clone, Debug, Default, Copy)]
-pub struct PiecesPacketizer;
+/// Cuts frames into pieces of MTU bytes: the packetizer of Opus, and of G.711 and G.722. `IS_OPUS` makes them two types, and has no
+/// other effect.
+#[derive(Clone, Default, Copy)]
+pub struct PiecesPacketizer<const IS_OPUS: bool> {}
 
-impl Packetizer for PiecesPacketizer {
+/// Prints the name of the packetizer.
+impl<const IS_OPUS: bool> fmt::Debug for PiecesPacketizer<IS_OPUS> {
+    fn fmt(&self, f: &mut fmt::Formatter<'_>) -> fmt::Result {
+        if IS_OPUS {
+            f.write_str("OpusPacketizer")
+        } else {
+            f.write_str("G7xxPacketizer")
+        }
+    }
+}
+
+impl<const IS_OPUS: bool> Packetizer for PiecesPacketizer<IS_OPUS> {
     /// The frame in pieces of `mtu` bytes, the last with the rest. An empty frame, or an MTU of 0, gives no packets.
     /// Each byte is copied once.
     fn packetize(&mut self, mtu: usize, b: &[u8]) -> Result<Vec<Vec<u8>>, PacketError> {

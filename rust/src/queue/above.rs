@@ -36,11 +36,6 @@ pub(super) fn item_of<T>(tiers: &Vec<VecDeque<T>>, place: usize) -> &T {
     &tiers[place / TIER][place % TIER]
 }
 
-/// Returns the tier that holds the item at a place in these tiers, and the place in that tier.
-fn tier_holding<T>(tiers: &Vec<VecDeque<T>>, place: usize) -> (&VecDeque<T>, usize) {
-    (&tiers[place / TIER], place % TIER)
-}
-
 /// Writes a note into the item at a place in these tiers.
 #[cold]
 #[inline(never)]
@@ -166,16 +161,6 @@ pub(super) fn last_above<T>(above: &Option<One<Above<T>>>) -> Option<&T> {
 pub(super) fn item_above<T>(above: &Option<One<Above<T>>>, place: usize) -> &T {
     match above {
         Some(above) => item_of(&above.tiers, place),
-        None => unreachable!(),
-    }
-}
-
-/// Returns the tier above the first one that holds the item at a place, and the place in that tier.
-#[cold]
-#[inline(never)]
-pub(super) fn tier_above<T>(above: &Option<One<Above<T>>>, place: usize) -> (&VecDeque<T>, usize) {
-    match above {
-        Some(above) => tier_holding(&above.tiers, place),
         None => unreachable!(),
     }
 }

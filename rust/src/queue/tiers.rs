@@ -5,7 +5,7 @@
 use crate::memory::{AllocError, One, TryQueue};
 use crate::queue::above::{
     Above, TIER, find_spare, insert_above, item_above, last_above, note_above, refill_above,
-    search_above, tier_above,
+    search_above,
 };
 use crate::queue::search::{Numbered, put_at, search_in};
 use alloc::collections::VecDeque;
@@ -77,16 +77,6 @@ impl<T: Numbered> TieredQueue<T> {
         }
     }
 
-    /// Returns the tier that holds the item at a place, and the place in that tier. It is for loops over many items.
-    #[inline(always)]
-    pub fn tier_of(&self, place: usize) -> (&VecDeque<T>, usize) {
-        if place < self.first.len() {
-            (&self.first, place)
-        } else {
-            tier_above(&self.above, place - self.first.len())
-        }
-    }
-
     /// Writes a note into the item at a place.
     #[inline(always)]
     pub fn note<N>(&mut self, place: usize, note: N)
@@ -126,6 +116,18 @@ impl<T: Numbered> TieredQueue<T> {
         }
     }
 
+    /// Appends an item. Memory was found by [`TieredQueue::reserve`]. Nothing moves.
+    #[inline(always)]
+    pub fn push_back(&mut self, item: T) {
+        let len = self.count;
+        self.count += 1;
+        if len < TIER && self.first.len() == len {
+            self.first.push_back(item);
+        } else {
+            insert_above(&mut self.first, &mut self.above, len, item);
+        }
+    }
+
     /// Removes the first item. No other item moves. If the first tier has no items left, the places of the other tiers move.
     #[inline(always)]
     pub fn pop_front(&mut self) -> Option<T> {
@@ -153,6 +155,28 @@ impl<T: Numbered> TieredQueue<T> {
             Some(last) if number <= last.number() => self.place_inside(number),
             _ => self.len(),
         }
+    }
+
+    /// Returns the same as [`TieredQueue::place_of`]. This place is inspected first.
+    #[inline(always)]
+    pub fn place_near(&self, place: usize, number: u64) -> usize {
+        if self.is_place(place, number) {
+            place
+        } else {
+            self.place_inside(number)
+        }
+    }
+
+    /// Returns whether the items on both sides of this place show that it is the place of the number.
+    #[inline(always)]
+    fn is_place(&self, place: usize, number: u64) -> bool {
+        if place == 0 || self.len() <= place {
+            return false;
+        }
+        if number <= self.at(place - 1).number() {
+            return false;
+        }
+        number <= self.at(place).number()
     }
 
     /// Gives memory back, if one tier is left.
@@ -194,7 +218,7 @@ impl<T: Numbered> TieredQueue<T> {
             return None;
         }
         let place = len - (last - number) as usize;
-        if self.at(place - 1).number() < number && number <= self.at(place).number() {
+        if self.is_place(place, number) {
             Some(place)
         } else {
             None

@@ -141,6 +141,12 @@ fn bytes_for<'a>(id: Option<u8>, extension: &Option<HeaderExtension<'a>>) -> Opt
     bytes_with(id, elements)
 }
 
+/// Returns the value of the first element with this id in the extension of a packet. `None`: there is no such element. Costs a step
+/// for each element, and does not allocate.
+pub fn extension_value<'a>(id: u8, extension: &Option<HeaderExtension<'a>>) -> Option<&'a [u8]> {
+    bytes_for(Some(id), extension)
+}
+
 /// A value of one byte.
 fn byte_of(bytes: Option<&[u8]>) -> Option<u8> {
     match bytes {

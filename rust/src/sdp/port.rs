@@ -1,10 +1,12 @@
 //! The settings of a session from the sections of a port.
 
 use super::section::join_ids;
-use super::{Kind, Media, Role};
+use super::{Media, Role};
 use crate::jitter::WaitLimits;
 use crate::memory::{AllocError, TryVec};
-use crate::session::{Format, SessionSettings, SsrcPair};
+use crate::session::{Format, SessionSettings, SessionSettingsError, SsrcPair};
+use crate::stream::RedSettings;
+use crate::wire::Codec;
 use core::fmt;
 
 /// The highest number of pairs of SSRCs in the settings of a session.
@@ -18,7 +20,7 @@ const PAYLOAD_TYPES: usize = 128;
 pub enum SessionError {
     /// No section has media of a codec of this crate.
     NoMedia,
-    /// This payload type is above 127, or two sections use it differently.
+    /// This payload type is 64 to 95 (RFC 5761, section 4) or above 127, or two sections use it differently.
     PayloadType(u8),
     /// Two sections use this id for different header extensions, or another id for the same one.
     ExtensionId(u8),
@@ -33,7 +35,10 @@ impl fmt::Display for SessionError {
         match self {
             SessionError::NoMedia => f.write_str("no media of a supported codec"),
             SessionError::PayloadType(it) => {
-                write!(f, "payload type {it} exceeds 127 or has two uses")
+                write!(
+                    f,
+                    "payload type {it} is 64 to 95, exceeds 127 or has two uses"
+                )
             }
             SessionError::ExtensionId(it) => {
                 write!(f, "header extension id {it} differs between sections")
@@ -56,7 +61,8 @@ impl From<AllocError> for SessionError {
 /// of a port of its own. Leave out sections that were refused. Sections that are not RTP are ignored.
 ///
 /// - Formats: those of [`Media::session_format`], in the order of the sections. If two sections have a payload type, packets or
-///   keyframes of it are requested only if both agree on that.
+///   keyframes of it are requested only if both agree on that. If RED that names no payload type would be over two formats, it is
+///   over the first.
 /// - Telephone events: polls return their packets.
 /// - Types without media: comfort noise, error correction.
 /// - Pairs of SSRCs: those of [`pairs`].
@@ -64,12 +70,14 @@ impl From<AllocError> for SessionError {
 /// - Wait limits: for live audio and video, with retransmission if a format of the kind has `nack`.
 /// - All else is as in [`SessionSettings::live`]. Nothing is requested until you set `feedback`.
 ///
-/// The cost is a step for each format and each SSRC.
+/// A session can meet the settings: [`SessionSettings::check`] finds no fault. The cost is a step for each pair of formats and for
+/// each SSRC.
 ///
 /// # Errors
 ///
 /// - `NoMedia`: no section has media of a codec of this crate.
-/// - `PayloadType`: two sections use a payload type differently, so that a packet does not say what it is.
+/// - `PayloadType`: two sections use a payload type differently, so that a packet does not say what it is; or the settings would
+///   have one of 64 to 95, whose packets can look like RTCP on the same port.
 /// - `ExtensionId`: the sections use the ids of header extensions differently.
 /// - `TooManyPairs`: more than [`MAX_PAIRS`] pairs.
 /// - `OutOfMemory`: only with the feature `fallible`.
@@ -107,7 +115,33 @@ pub fn session_settings(media: &[Media<'_>]) -> Result<SessionSettings, SessionE
         settings.pairs.try_push(pair)?;
     }
     settings.extension_ids = port.ids.extension_ids;
-    Ok(settings)
+    set_wait_limits(&mut settings);
+    match settings.check() {
+        Err(
+            SessionSettingsError::PayloadType { payload_type, .. }
+            | SessionSettingsError::TwoMeanings { payload_type, .. },
+        ) => Err(SessionError::PayloadType(payload_type)),
+        _ => Ok(settings),
+    }
+}
+
+/// Sets how long frames wait: with retransmission if a format of their kind has `nack`.
+fn set_wait_limits(settings: &mut SessionSettings) {
+    let has_nack = |video: bool| {
+        let mut formats = settings.formats.iter();
+        formats.any(|format| format.nack && is_video(format.spec.codec) == video)
+    };
+    let (audio, video) = (has_nack(false), has_nack(true));
+    if audio {
+        settings.audio = WaitLimits::live_with_nack();
+    }
+    if video {
+        settings.video = WaitLimits::live_video_with_nack();
+    }
+}
+
+fn is_video(codec: Codec) -> bool {
+    matches!(codec, Codec::Vp8 | Codec::Vp9 | Codec::Av1)
 }
 
 /// Returns the pairs of SSRCs of these sections (`a=ssrc-group:FID`), in order. If a later description has others, pass each to
@@ -199,23 +233,28 @@ impl Port {
             }
             _ => {}
         }
-        let Some(format) = section.session_format(payload_type) else {
+        let Some(mut format) = section.session_format(payload_type) else {
             return Ok(());
         };
-        match section.kind {
-            Kind::Video if format.nack => self.settings.video = WaitLimits::live_video_with_nack(),
-            Kind::Audio if format.nack => self.settings.audio = WaitLimits::live_with_nack(),
-            _ => {}
-        }
+        format.red = format.red.filter(|red| !self.has_red(red));
         self.settings.formats.try_push(format)
+    }
+
+    /// Whether an earlier format is sent in this RED, which names no payload type then.
+    fn has_red(&self, red: &RedSettings) -> bool {
+        let mut others = self.settings.formats.iter().filter_map(|format| format.red);
+        others.any(|other| other.payload_type == red.payload_type)
     }
 
     /// Joins a format with the same one of an earlier section.
     fn join(&mut self, section: &Media<'_>, payload_type: u8) {
+        let Some(other) = section.session_format(payload_type) else {
+            return;
+        };
+        let red = other.red.filter(|red| !self.has_red(red));
         let mut formats = self.settings.formats.iter_mut();
-        let earlier = formats.find(|format| format.payload_type == payload_type);
-        if let (Some(format), Some(other)) = (earlier, section.session_format(payload_type)) {
-            format.red = format.red.or(other.red);
+        if let Some(format) = formats.find(|format| format.payload_type == payload_type) {
+            format.red = format.red.or(red);
             format.retransmission = format.retransmission.or(other.retransmission);
             format.nack &= other.nack;
             format.pli &= other.pli;

@@ -132,7 +132,7 @@ fn may_be_of(stream: &StreamState, pairs: &[SsrcPair], now: Ticks, packet: Unpai
 
 /// Returns whether the RTP time is near the clock of the stream's sender.
 fn is_on_time(stream: &StreamState, now: Ticks, rtp_time: u32) -> bool {
-    match stream.receiver.transit_change(now, rtp_time) {
+    match stream.receiver.inner().transit_change(now, rtp_time) {
         Some(distance) => {
             u64::from(distance) <= LARGEST_DISTANCE * u64::from(stream.format.spec.clock_rate.get())
         }

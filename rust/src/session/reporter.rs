@@ -72,7 +72,7 @@ impl Streams {
 impl StreamState {
     /// Returns the block that a report about the stream's sender has now, and changes nothing.
     fn peek_report(&self, now: Ticks, tick_rate: Frequency) -> Option<ReportBlock> {
-        match self.receiver.peek_report() {
+        match self.receiver.inner().peek_report() {
             Some(report) => Some(block_about(
                 self.ssrc,
                 self.sender_clock,

@@ -9,6 +9,7 @@ use crate::jitter::outcome::Outcome;
 use crate::memory::AllocError;
 use crate::rtcp::items::ReportBlock;
 use crate::session::association::{add_pair, take_in};
+use crate::session::checks::SessionSettingsError;
 use crate::session::formats::{SessionSettings, SsrcPair};
 use crate::session::pairs::remove_pair;
 use crate::session::reporter::report_deadline;
@@ -23,6 +24,7 @@ use alloc::vec::Vec;
 
 /// What a session did with a datagram.
 #[derive(Clone, Copy, Debug, PartialEq, Eq)]
+#[non_exhaustive]
 pub enum Arrival {
     /// A compound packet of RTCP. The streams that its BYE names end (RFC 3550, section 6.6), and its sender reports state the
     /// clocks of streams (section 6.4.1).
@@ -49,12 +51,13 @@ pub enum Arrival {
 
 /// An event of a session.
 #[derive(Debug)]
+#[non_exhaustive]
 pub enum Event {
     /// A stream is announced. This is the first event of the stream.
     Begun { ssrc: u32, payload_type: u8 },
-    /// A unit of a stream, or the error of a pop. After `OutOfMemory` the frame is kept, and the next poll tries again. After
-    /// any other error the frame was dropped. `rtp_time` is in ticks of the RTP clock, without wrapping. A decoder can show the
-    /// unit if it is `decodable`: see [`Receiver::unit_is_decodable`], and [`Receiver::unit_is_keyframe`] for `keyframe`.
+    /// A unit of a stream. If memory ran out for it, the frame is kept, and the next poll tries again. `rtp_time` is in ticks of
+    /// the RTP clock, without wrapping. A decoder can show the unit if it is `decodable`: see [`Receiver::unit_is_decodable`],
+    /// and [`Receiver::unit_is_keyframe`] for `keyframe`.
     ///
     /// [`Receiver::unit_is_decodable`]: crate::stream::receiver::Receiver::unit_is_decodable
     /// [`Receiver::unit_is_keyframe`]: crate::stream::receiver::Receiver::unit_is_keyframe
@@ -64,7 +67,15 @@ pub enum Event {
         rtp_time: Option<u64>,
         decodable: bool,
         keyframe: bool,
-        unit: Result<Depacketized, PacketError>,
+        unit: Result<Depacketized, AllocError>,
+    },
+    /// A frame of a stream that the depacketizer refused, since its payloads are malformed. The frame was dropped, its packets
+    /// count as `left`, and the stream continues. Any peer can send such a frame, so do not end a program for it. `fault` is
+    /// never [`PacketError::OutOfMemory`].
+    Refused {
+        ssrc: u32,
+        payload_type: u8,
+        fault: PacketError,
     },
     /// A compound packet of RTCP for the sender of a stream, which `packet` returns: a NACK of the packets that are to be
     /// requested now (RFC 4585, section 6.2.1), and a PLI if a keyframe is (section 6.3.1). Send it: its requests count as
@@ -152,14 +163,22 @@ pub struct Session {
 }
 
 impl Session {
-    /// Returns a session without streams. Does not allocate.
-    pub fn new(settings: SessionSettings) -> Session {
-        Session {
-            settings,
-            streams: Streams::none(),
-            counts: ArrivalCounts::none(),
-            telephone: TelephoneQueue::none(),
-            report_due: None,
+    /// Returns a session without streams. Does not allocate. Each payload type of the settings has one meaning, and each of their
+    /// formats can begin streams.
+    ///
+    /// # Errors
+    ///
+    /// The first setting that no session can meet ([`SessionSettings::check`]).
+    pub fn new(settings: SessionSettings) -> Result<Session, SessionSettingsError> {
+        match settings.fault() {
+            Some(fault) => Err(fault),
+            None => Ok(Session {
+                settings,
+                streams: Streams::none(),
+                counts: ArrivalCounts::none(),
+                telephone: TelephoneQueue::none(),
+                report_due: None,
+            }),
         }
     }
 
@@ -350,7 +369,7 @@ impl Session {
     /// [`Receiver::wants_keyframe`]: crate::stream::receiver::Receiver::wants_keyframe
     pub fn receiver_at(&self, place: usize) -> Option<&Receiver> {
         match self.streams.list.get(place) {
-            Some(stream) => Some(&stream.receiver),
+            Some(stream) => Some(stream.receiver.inner()),
             None => None,
         }
     }

@@ -10,14 +10,17 @@ use crate::jitter::outcome::Outcome;
 use crate::memory::AllocError;
 use crate::session::changes::{are_alike, takes_turns};
 use crate::session::formats::{Format, SessionSettings, SsrcPair, retransmission_for};
+use crate::session::named::NamedReceiver;
 use crate::session::reports::SenderClock;
 use crate::session::requests::{Feedback, hear, requests_due, rest_time, round_trip, wait_by};
-use crate::stream::receiver::{Counters, ReceiveError, Receiver};
+use crate::stream::pops::Popped;
+use crate::stream::receiver::{Counters, ReceiveError};
 use crate::wire::Ticks;
 use alloc::vec::Vec;
 
 /// Why a stream ended.
 #[derive(Clone, Copy, Debug, PartialEq, Eq)]
+#[non_exhaustive]
 pub enum Ending {
     /// Its sender left by a BYE (RFC 3550, section 6.6).
     Bye,
@@ -31,6 +34,7 @@ pub enum Ending {
 
 /// The stage of a stream's life.
 #[derive(Clone, Copy, Debug, PartialEq, Eq)]
+#[non_exhaustive]
 pub enum Stage {
     /// Too few datagrams were accepted so far, and the stream is not announced.
     Probation,
@@ -67,7 +71,7 @@ pub struct StreamInfo {
 pub(crate) struct StreamState {
     pub(crate) ssrc: u32,
     pub(crate) format: Format,
-    pub(crate) receiver: Receiver,
+    pub(crate) receiver: NamedReceiver,
     pub(crate) stage: Stage,
     /// Whether the stream was announced.
     pub(crate) told: bool,
@@ -90,7 +94,10 @@ pub(crate) struct StreamState {
 #[derive(Debug)]
 pub(crate) enum Step {
     Begun,
-    Unit(Result<Depacketized, PacketError>),
+    /// A unit. If memory ran out for it, the frame is kept.
+    Unit(Result<Depacketized, AllocError>),
+    /// A frame that the depacketizer refused.
+    Refused(PacketError),
     /// A packet of RTCP to send. If memory ran out, its requests stay due.
     Feedback(Result<Vec<u8>, AllocError>),
     Ended(Ending),
@@ -98,23 +105,19 @@ pub(crate) enum Step {
 }
 
 impl StreamState {
-    /// Creates a stream without datagrams. `None`: no receiver can be made by these settings.
+    /// Creates a stream without datagrams.
     pub(crate) fn begin(
         settings: &SessionSettings,
         ssrc: u32,
         format: &Format,
-    ) -> Result<Option<StreamState>, AllocError> {
-        let Some(mut depacketizer) = CodecDepacketizer::from_codec(format.spec.codec) else {
-            return Ok(None);
-        };
+    ) -> Result<StreamState, AllocError> {
+        let mut depacketizer = CodecDepacketizer::from_codec(format.spec.codec).unwrap();
         depacketizer.configure_for(&format.spec);
         let max_wait = settings.limits(format).max_wait;
         let feedback = Feedback::begin(&settings.feedback, ssrc, format, max_wait)?;
         let settings = settings.receiver(ssrc, format)?;
-        let Ok(receiver) = Receiver::new(depacketizer, settings) else {
-            return Ok(None);
-        };
-        Ok(Some(StreamState {
+        let receiver = NamedReceiver::begin(depacketizer, settings).unwrap();
+        Ok(StreamState {
             ssrc,
             format: *format,
             receiver,
@@ -127,7 +130,7 @@ impl StreamState {
             sender_clock: None,
             quiet_until: 0,
             work: 0,
-        }))
+        })
     }
 
     /// Returns whether the stream has this SSRC and payload type.
@@ -176,7 +179,7 @@ impl StreamState {
     fn follow_round_trip(&mut self) {
         if let Some(wait) = wait_by(&self.feedback) {
             self.quiet_until = 0;
-            let mut limits = self.receiver.wait_limits();
+            let mut limits = self.receiver.inner().wait_limits();
             limits.max_wait = Some(wait);
             self.receiver.set_wait_limits(limits);
         }
@@ -298,15 +301,15 @@ impl StreamState {
         self.pop(now)
     }
 
-    /// Returns the next unit of the stream, or what follows without one.
+    /// Returns the next unit or refused frame of the stream, or what follows without one.
     fn pop(&mut self, now: Ticks) -> Step {
         self.quiet_until = 0;
-        let held = self.receiver.held();
+        let held = self.receiver.inner().held();
         match self.receiver.pop(now) {
-            Some(unit) => Step::Unit(unit),
+            Some(popped) => step_with(popped),
             None => {
                 let step = self.rest(now);
-                if is_nothing(&step) && self.receiver.held() == held {
+                if is_nothing(&step) && self.receiver.inner().held() == held {
                     let work = self.find_work();
                     let until = self.quiet_time(now, work);
                     let kept = or_none(work);
@@ -324,7 +327,7 @@ impl StreamState {
         if !self.told || !is_playing(self.stage) {
             return 0;
         }
-        let rest = rest_time(&self.feedback, now, self.last, &self.receiver);
+        let rest = rest_time(&self.feedback, now, self.last, self.receiver.inner());
         match work {
             Some(at) => rest.min(at),
             None => rest,
@@ -344,7 +347,7 @@ impl StreamState {
     fn request(&mut self, now: Ticks) -> Step {
         self.quiet_until = 0;
         if let Some(feedback) = &mut self.feedback {
-            return step_of(feedback.take_due(now, self.last, &self.receiver));
+            return step_of(feedback.take_due(now, self.last, self.receiver.inner()));
         }
         Step::Nothing
     }
@@ -359,7 +362,7 @@ impl StreamState {
 
     /// Finds the same time by the receiver and the requests.
     fn find_work(&self) -> Option<u64> {
-        let unit = match self.receiver.next_deadline() {
+        let unit = match self.receiver.inner().next_deadline() {
             Some(at) => Some(at.0),
             None => None,
         };
@@ -413,8 +416,8 @@ impl StreamState {
             payload_type: self.format.payload_type,
             stage: self.stage,
             taken: self.taken,
-            held: self.receiver.held(),
-            counters: self.receiver.counters(),
+            held: self.receiver.inner().held(),
+            counters: self.receiver.inner().counters(),
             round_trip: round_trip(&self.feedback),
             sender_clock: self.sender_clock,
         }
@@ -449,6 +452,15 @@ fn or_max(time: Option<u64>) -> u64 {
 /// Returns whether a step has no event.
 pub(crate) fn is_nothing(step: &Step) -> bool {
     matches!(step, Step::Nothing)
+}
+
+/// Returns the step of a stream with this answer of a pop.
+fn step_with(popped: Result<Popped, AllocError>) -> Step {
+    match popped {
+        Ok(Popped::Unit(unit)) => Step::Unit(Ok(unit)),
+        Ok(Popped::Refused(fault)) => Step::Refused(fault),
+        Err(e) => Step::Unit(Err(e)),
+    }
 }
 
 /// Returns the step of a stream with these requests.

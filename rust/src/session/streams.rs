@@ -157,9 +157,7 @@ impl Streams {
             return Ok(Arrival::Refused);
         }
         let (ssrc, format) = of;
-        let Some(mut stream) = StreamState::begin(settings, ssrc, &format)? else {
-            return Ok(Arrival::Unknown);
-        };
+        let mut stream = StreamState::begin(settings, ssrc, &format)?;
         let answer = stream.take(now, settings.probation, datagram);
         if is_no_memory(&answer) {
             return Err(AllocError);
@@ -229,7 +227,7 @@ impl Streams {
         match turn.step {
             Step::Begun => Some(Event::Begun { ssrc, payload_type }),
             Step::Unit(unit) => {
-                let receiver = &stream.receiver;
+                let receiver = stream.receiver.inner();
                 Some(Event::Unit {
                     ssrc,
                     payload_type,
@@ -239,6 +237,11 @@ impl Streams {
                     unit,
                 })
             }
+            Step::Refused(fault) => Some(Event::Refused {
+                ssrc,
+                payload_type,
+                fault,
+            }),
             Step::Feedback(packet) => Some(Event::Feedback {
                 ssrc,
                 payload_type,

@@ -3,11 +3,12 @@
 //! Settings by purpose.
 
 use crate::jitter::jitter_buffer::WaitLimits;
+use crate::keyframes::gate::is_video;
 use crate::keyframes::unit_gate::FromKeyframe;
 use crate::rtp::values::ExtensionIds;
 use crate::stream::receiver::ReceiverSettings;
 use crate::stream::windows::Windows;
-use crate::wire::Frequency;
+use crate::wire::{Codec, Frequency};
 use alloc::vec::Vec;
 
 /// The largest number of packets that a receiver with default settings holds.
@@ -27,6 +28,17 @@ const VIDEO: Windows = Windows {
 };
 
 impl ReceiverSettings {
+    /// Returns settings for a live stream of this codec without retransmission: for VP8, VP9 and AV1 those of
+    /// [`ReceiverSettings::live_video`], and else those of [`ReceiverSettings::live_audio`]. `payload_type` is 0 to 127, and `clock_rate` is the
+    /// rate of the RTP clock. Allocates nothing.
+    pub fn for_stream(payload_type: u8, codec: Codec, clock_rate: Frequency) -> ReceiverSettings {
+        if is_video(codec) {
+            ReceiverSettings::live_video(payload_type, clock_rate)
+        } else {
+            ReceiverSettings::live_audio(payload_type, clock_rate)
+        }
+    }
+
     /// Returns settings for live audio without retransmission. `payload_type` is 0 to 127, and `clock_rate` is the rate of the
     /// RTP clock.
     ///

@@ -2,12 +2,14 @@
 
 //! The receiver of one stream: datagrams in, units out.
 
+use crate::memory::AllocError;
 use alloc::vec::Vec;
 
 mod hearing;
+mod pops;
 mod unit_pops;
 
-use crate::buffer::{Depacketized, DepacketizingBuffer, RtpMeta, UnitInfo};
+use crate::buffer::DepacketizingBuffer;
 use crate::codec::{CodecDepacketizer, Depacketizer, NoBox};
 use crate::error::PacketError;
 use crate::jitter::jitter_buffer::{JitterBuffer, Outcome, PacketCounters, WaitLimits};
@@ -21,10 +23,9 @@ use crate::stream::answers::is_out_of_memory;
 use crate::stream::checks::{packets_at_once, red_of, retransmission_fits};
 use crate::stream::choice::{Choice, Origin, Verdict};
 use crate::stream::datagram::{Datagram, RedStream, StreamKinds};
-use crate::stream::gated::{follow, follow_into, gate_for};
+use crate::stream::gated::gate_for;
 use crate::stream::reports::{ReceptionReport, ReceptionStatistics};
 use crate::stream::seen_times::LazySeenTimes;
-use crate::stream::unit_times::{extend_into, extend_with};
 use crate::wire::{Frequency, Ticks};
 use core::fmt;
 use core::mem;
@@ -52,7 +53,7 @@ pub struct Retransmission {
 }
 
 /// The settings of a receiver.
-#[derive(Debug)]
+#[derive(Clone, Debug)]
 pub struct ReceiverSettings {
     /// The payload type of the stream, 0 to 127.
     pub payload_type: u8,
@@ -406,63 +407,9 @@ impl<B: Depacketizer> Receiver<B> {
         self.arrived = turned_away(self.arrived, count as u64);
     }
 
-    /// Returns the next unit, if one is due at time `now`. See [`JitterBuffer::pop`].
-    ///
-    /// For video, [`Receiver::unit_is_decodable`] then says whether a decoder can show the unit. With [`FromKeyframe::Drop`]
-    /// the pop drops units that a decoder cannot show, and continues with the next unit.
-    pub fn pop(&mut self, now: Ticks) -> Option<Result<Depacketized, PacketError>> {
-        loop {
-            let (answer, is_passed) = self.pop_once(now);
-            if is_passed {
-                return answer;
-            }
-        }
-    }
-
-    /// Pops the jitter buffer once, and returns whether the answer is passed on.
-    fn pop_once(&mut self, now: Ticks) -> (Option<Result<Depacketized, PacketError>>, bool) {
-        let left = self.packets.counters().left;
-        let answer = self.packets.pop(now);
-        extend_with(&mut self.times, &answer);
-        let has_left = self.packets.counters().left != left;
-        let is_passed = follow(&mut self.gates, &answer, has_left);
-        (answer, is_passed)
-    }
-
-    /// Does the same as [`Receiver::pop`], and writes to the caller's memory, which can be reused. See
-    /// [`JitterBuffer::pop_into`].
-    pub fn pop_into(
-        &mut self,
-        now: Ticks,
-        bytes: &mut Vec<u8>,
-        metas: &mut Vec<RtpMeta>,
-    ) -> Option<Result<UnitInfo, PacketError>> {
-        loop {
-            let (answer, is_passed) = self.pop_once_into(now, bytes, metas);
-            if is_passed {
-                return answer;
-            }
-        }
-    }
-
-    /// Pops the jitter buffer once into this memory, and returns whether the answer is passed on.
-    fn pop_once_into(
-        &mut self,
-        now: Ticks,
-        bytes: &mut Vec<u8>,
-        metas: &mut Vec<RtpMeta>,
-    ) -> (Option<Result<UnitInfo, PacketError>>, bool) {
-        let left = self.packets.counters().left;
-        let answer = self.packets.pop_into(now, bytes, metas);
-        extend_into(&mut self.times, &answer);
-        let has_left = self.packets.counters().left != left;
-        let is_passed = follow_into(&mut self.gates, &answer, bytes, has_left);
-        (answer, is_passed)
-    }
-
     /// Returns whether a decoder can show the latest popped unit: it is a keyframe, or it follows a decodable unit without a
-    /// gap. True for audio, and with [`FromKeyframe::Off`]. False for video before the first unit, and after a pop that
-    /// returned an error.
+    /// gap. True for audio, and with [`FromKeyframe::Off`]. False for video before the first unit, and after a refused
+    /// frame.
     pub fn unit_is_decodable(&self) -> bool {
         self.gates.is_decodable()
     }
@@ -477,7 +424,7 @@ impl<B: Depacketizer> Receiver<B> {
     /// from one of these events until a pop releases a keyframe:
     ///
     /// - A pop found a unit that a decoder cannot show.
-    /// - A pop returned an error other than [`PacketError::OutOfMemory`].
+    /// - A pop refused a frame.
     /// - A pop returned no unit and discarded packets, for example because the picture ids of the sender jumped back.
     /// - You called [`Receiver::restart`].
     ///
@@ -516,10 +463,14 @@ impl<B: Depacketizer> Receiver<B> {
     ///
     /// # Errors
     ///
-    /// `OutOfMemory`: all waiting packets still wait; you can call `finish` again.
-    pub fn finish(&mut self) {
-        let _with_memory = self.settle_first();
+    /// Out of memory for that packet: nothing has changed, and the stream has not ended. You can call `finish` again. Without a
+    /// waiting packet there is no error.
+    pub fn finish(&mut self) -> Result<(), AllocError> {
+        if !self.settle_first() {
+            return Err(AllocError);
+        }
         self.packets.finish();
+        Ok(())
     }
 
     /// Announces that the sender has restarted. The next packet of the stream gets a number above all earlier numbers, with

@@ -6,6 +6,7 @@ use codec_payload::codec::{CodecDepacketizer, NoBox};
 use codec_payload::jitter::jitter_buffer::WaitLimits;
 use codec_payload::keyframes::unit_gate::FromKeyframe;
 use codec_payload::rtp::values::ExtensionIds;
+use codec_payload::stream::pops::Popped;
 use codec_payload::stream::receiver::{Receiver, ReceiverSettings};
 use codec_payload::wire::{Codec, Frequency, Ticks};
 
@@ -81,7 +82,7 @@ const MOMENTS: [Moment; 4] = [
 /// How many units pops give at that time.
 fn units_at(receiver: &mut Receiver<NoBox>, now: u64) -> usize {
     (0..4)
-        .filter(|_| matches!(receiver.pop(Ticks(now)), Some(Ok(_))))
+        .filter(|_| matches!(receiver.pop(Ticks(now)), Some(Ok(Popped::Unit(_)))))
         .count()
 }
 

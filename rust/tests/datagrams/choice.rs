@@ -136,7 +136,7 @@ fn one_packet_comes_out_at_the_end() -> Result<(), Fail> {
     let mut told = String::new();
     take_all(&mut receiver, &[Comes(0, 7, 10)], &mut told);
     assert_eq!(receiver.counters().undecided, 1);
-    receiver.finish();
+    receiver.finish().unwrap();
     pop_all(&mut receiver, 0, &mut told);
     assert_eq!(told, "u 10.");
     assert_eq!(receiver.ssrc(), Some(7));

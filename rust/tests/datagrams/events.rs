@@ -5,6 +5,7 @@ use codec_payload::codec::{CodecDepacketizer, NoBox};
 use codec_payload::jitter::jitter_buffer::{Outcome, WaitLimits};
 use codec_payload::keyframes::unit_gate::FromKeyframe;
 use codec_payload::rtp::values::ExtensionIds;
+use codec_payload::stream::pops::Popped;
 use codec_payload::stream::receiver::{Receiver, ReceiverSettings};
 use codec_payload::wire::{Codec, Frequency, Ticks};
 
@@ -128,6 +129,7 @@ fn letter_of(outcome: Outcome) -> char {
         Outcome::OtherStream => 'o',
         Outcome::Rtcp => 'c',
         Outcome::Undecided => 'u',
+        _ => unreachable!("this version has no other"),
     }
 }
 
@@ -142,7 +144,7 @@ pub fn take(receiver: &mut Receiver<NoBox>, now: u64, bytes: &[u8]) -> char {
 /// The first byte of the unit that a pop gives.
 fn byte_popped(receiver: &mut Receiver<NoBox>, now: u64) -> Option<u8> {
     match receiver.pop(Ticks(now)) {
-        Some(Ok(unit)) => unit.bytes.first().copied(),
+        Some(Ok(Popped::Unit(unit))) => unit.bytes.first().copied(),
         _ => None,
     }
 }
@@ -210,7 +212,7 @@ fn step(receiver: &mut Receiver<NoBox>, event: Event, told: &mut String) {
         Event::Pops(now) => pop_all(receiver, now, told),
         Event::Deadline => deadline(receiver, told),
         Event::Waits(wait_limits) => wait_by(receiver, wait_limits, told),
-        Event::Finish => receiver.finish(),
+        Event::Finish => receiver.finish().unwrap(),
         _ => arrive(receiver, event, told),
     }
 }

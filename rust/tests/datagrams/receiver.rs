@@ -5,6 +5,7 @@ use crate::events::{Event, STARTS_LATER, WAITS, WAITS_LONGER, packet, receiver_o
 use codec_payload::buffer::RtpMeta;
 use codec_payload::codec::NoBox;
 use codec_payload::jitter::jitter_buffer::WaitLimits;
+use codec_payload::stream::pops::Popped;
 use codec_payload::stream::receiver::Receiver;
 use codec_payload::wire::Ticks;
 
@@ -211,7 +212,7 @@ fn assert_next(
     bytes: &mut Vec<u8>,
     metas: &mut Vec<RtpMeta>,
 ) -> Result<(), Fail> {
-    let Some(Ok(info)) = receiver.pop_into(Ticks(0), bytes, metas) else {
+    let Some(Ok(Popped::Unit(info))) = receiver.pop_into(Ticks(0), bytes, metas) else {
         return Err("no unit".into());
     };
     assert_eq!(info.time.numer(), u64::from(number), "the time of the unit");

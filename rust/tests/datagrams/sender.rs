@@ -121,7 +121,7 @@ fn over_a_network_that_loses_and_repeats() -> Result<(), Fail> {
         assert!(speak(&mut sender, u64::from(n), &[n]));
         deliver(&sender, &mut receiver, n, &mut told);
     }
-    receiver.finish();
+    receiver.finish().unwrap();
     pop_all(&mut receiver, 20, &mut told);
     assert_eq!(
         told,

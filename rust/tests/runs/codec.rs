@@ -48,7 +48,7 @@ fn from_codec_eleven() -> Result<(), Fail> {
         assert_same("other codecs", &is_there(codec), &(false, false));
     }
     let opus = CodecPacketizer::from_codec(Codec::Opus).ok_or("no packetizer")?;
-    assert_shown(&opus, "Opus(PiecesPacketizer)")?;
+    assert_shown(&opus, "Opus(OpusPacketizer)")?;
     let payloader = Payloader::with_packetizer(opus, Frequency::FORTY_EIGHT_KHZ);
     assert_same(
         "the clock",

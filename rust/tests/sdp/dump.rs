@@ -260,7 +260,7 @@ fn add_session(out: &mut String, media: &[Media<'_>]) -> std::fmt::Result {
 pub fn reason(fault: SessionError) -> String {
     match fault {
         SessionError::PayloadType(it) => {
-            format!("payload type exceeds 127 or has two uses ({it})")
+            format!("payload type is 64 to 95, exceeds 127 or has two uses ({it})")
         }
         SessionError::ExtensionId(it) => {
             format!("header extension id differs between sections ({it})")

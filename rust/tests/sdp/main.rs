@@ -1,4 +1,5 @@
-//! Session descriptions: `c/sdp` has descriptions of Chromium, Firefox, GStreamer and pion, and examples of the RFCs. What is read
+//! Session descriptions: `c/sdp` has descriptions of Chromium, Firefox, GStreamer and pion, examples of the RFCs, and sections that
+//! join formats. What is read
 //! of each was written by hand after the RFCs, as was the table of faults.
 
 mod dump;
@@ -7,7 +8,7 @@ mod session;
 use codec_payload::sdp::{self, ErrorKind, MAX_MEDIA, MAX_SOURCES};
 use dump::{changed, dump};
 
-const DESCRIPTIONS: [(&str, &str); 5] = [
+const DESCRIPTIONS: [(&str, &str); 6] = [
     (
         include_str!("../../../c/sdp/chromium.sdp"),
         include_str!("../../../c/sdp/chromium.txt"),
@@ -23,6 +24,10 @@ const DESCRIPTIONS: [(&str, &str); 5] = [
     (
         include_str!("../../../c/sdp/pion.sdp"),
         include_str!("../../../c/sdp/pion.txt"),
+    ),
+    (
+        include_str!("../../../c/sdp/joined.sdp"),
+        include_str!("../../../c/sdp/joined.txt"),
     ),
     (
         include_str!("../../../c/sdp/rfcs.sdp"),

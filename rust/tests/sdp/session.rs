@@ -149,7 +149,7 @@ fn stream(session: &mut Session, datagram: &[u8]) -> Result<Option<(u32, u8)>, F
 fn a_session_of_chromium() -> Result<(), Fail> {
     let text = include_str!("../../../c/sdp/chromium.sdp");
     let (video, again, audio) = (27_689_401, 1_659_217_349, 3_859_731_468);
-    let mut session = Session::new(settings(text)?);
+    let mut session = Session::new(settings(text)?).expect("settings that can be met");
     let vp8 = packet(96, video, 1, &[0x10, 1]);
     assert_eq!(stream(&mut session, &vp8)?, Some((video, 96)));
     let retransmission = packet(97, again, 9, &[0, 2, 0x10, 1]);
@@ -221,7 +221,7 @@ fn faults_by_name() {
     assert_eq!(fault, SessionError::PayloadType(128));
     assert_eq!(
         fault.to_string(),
-        "payload type 128 exceeds 127 or has two uses"
+        "payload type 128 is 64 to 95, exceeds 127 or has two uses"
     );
 }
 
@@ -309,6 +309,7 @@ fn changed_descriptions() {
                 && let Ok(settings) = sdp::session_settings(&media)
             {
                 assert!(!settings.formats.is_empty());
+                assert_eq!(settings.check(), Ok(()), "{text}");
                 made += 1;
             }
         }

@@ -16,9 +16,9 @@ fn session(change: impl Fn(&mut SessionSettings)) -> Session {
     let mut settings = SessionSettings::live();
     settings.formats = vec![answered_vp8(), answered_opus()];
     (settings.video.start, settings.video.max_wait) = (0, Some(2_000));
-    settings.feedback = Some(FeedbackSettings::live(9));
+    settings.feedback = Some(FeedbackSettings::live(9, b"me@host".to_vec()));
     change(&mut settings);
-    Session::new(settings)
+    Session::new(settings).expect("settings that can be met")
 }
 
 /// A packet of VP8, whose frame has one packet.
@@ -174,7 +174,7 @@ fn only_who_requests_can_associate() -> Result<(), Fail> {
     for (feedback, nack) in [(false, true), (true, false)] {
         let mut session = session(|s| {
             s.formats[0].nack = nack;
-            s.feedback = feedback.then(|| FeedbackSettings::live(9));
+            s.feedback = feedback.then(|| FeedbackSettings::live(9, b"me@host".to_vec()));
         });
         send_with_a_gap(&mut session, 5, 0)?;
         assert_eq!(requests(&mut session, 10)?, []);

@@ -21,7 +21,7 @@ fn session() -> Session {
     (settings.audio.start, settings.video.start) = (0, 0);
     settings.feedback = Some(FeedbackSettings {
         report_interval: None,
-        ..FeedbackSettings::live(1)
+        ..FeedbackSettings::live(1, b"me@host".to_vec())
     });
     let eight_khz = Frequency::make(8_000).unwrap();
     let red = Some(RedSettings {
@@ -40,7 +40,7 @@ fn session() -> Session {
         requested(EVENTS, Codec::Tele, eight_khz),
         requested(NOISE, Codec::CN, eight_khz),
     ];
-    Session::new(settings)
+    Session::new(settings).expect("settings that can be met")
 }
 
 /// A packet of SSRC 5.
@@ -68,12 +68,14 @@ fn told(session: &mut Session, now: u64) -> Vec<String> {
         lines.push(match event {
             Event::Begun { payload_type, .. } => format!("begun {payload_type}"),
             Event::Unit { payload_type, .. } => format!("unit {payload_type}"),
+            Event::Refused { payload_type, .. } => format!("refused {payload_type}"),
             Event::Feedback { payload_type, .. } => format!("feedback {payload_type}"),
             Event::Telephone { payload_type, .. } => format!("telephone {payload_type}"),
             Event::Report { .. } => "report".to_string(),
             Event::Ended {
                 payload_type, why, ..
             } => format!("ended {payload_type} {why:?}"),
+            _ => unreachable!("this version has no other"),
         });
     }
     lines

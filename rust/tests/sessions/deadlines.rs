@@ -56,7 +56,7 @@ fn random(dice: &mut Dice) -> SessionSettings {
     settings.feedback = (dice.below(2) == 0).then(|| FeedbackSettings {
         report_interval: (dice.below(2) == 0).then_some(1_000),
         silence: 200,
-        ..FeedbackSettings::live(9)
+        ..FeedbackSettings::live(9, b"me@host".to_vec())
     });
     settings
 }
@@ -101,7 +101,7 @@ fn drain(session: &mut Session, now: u64) -> bool {
 
 fn run(seed: u32, seen: &mut BTreeMap<(bool, bool), u64>) -> Result<(), Fail> {
     let mut dice = Dice(seed);
-    let mut session = Session::new(random(&mut dice));
+    let mut session = Session::new(random(&mut dice)).expect("settings that can be met");
     let mut numbers = [0, 65_500, 100];
     let mut now = 0;
     for _ in 0..300 {
@@ -151,7 +151,8 @@ fn a_poll_that_skips_a_frame() -> Result<(), Fail> {
         hold_back: Some(1),
         start: 0,
         max_wait: Some(100),
-    }));
+    }))
+    .expect("settings that can be met");
     for number in [100, 101] {
         let frame = layered(number, true, number == 100);
         session.receive(Ticks(0), &video(7, number, &frame))?;

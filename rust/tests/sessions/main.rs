@@ -11,6 +11,7 @@ mod reporting;
 mod reports;
 mod requests;
 mod runs;
+mod settings;
 mod streams;
 mod telephone;
 

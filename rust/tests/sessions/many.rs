@@ -38,14 +38,14 @@ fn settings() -> SessionSettings {
         },
         answered_opus(),
     ];
-    settings.feedback = Some(FeedbackSettings::live(1));
+    settings.feedback = Some(FeedbackSettings::live(1, b"me@host".to_vec()));
     settings
 }
 
 impl Call {
     fn new(ssrc: u32) -> Call {
         Call {
-            session: Session::new(settings()),
+            session: Session::new(settings()).expect("settings that can be met"),
             ssrc,
             number: 0,
             dice: Dice(ssrc),
@@ -96,10 +96,12 @@ impl Call {
             let told = match event {
                 Event::Begun { .. } => Told::Begun,
                 Event::Unit { unit, .. } => Told::Unit(unit.expect("it is valid").bytes),
+                Event::Refused { fault, .. } => unreachable!("{fault}"),
                 Event::Feedback { packet, .. } => Told::Requests(packet.expect("there is memory")),
                 Event::Telephone { .. } => unreachable!("nobody sends telephone events"),
                 Event::Report { packet } => Told::Report(packet.expect("there is memory")),
                 Event::Ended { .. } => Told::Ended,
+                _ => unreachable!("this version has no other"),
             };
             if let Told::Requests(packet) = &told {
                 self.answer(now, packet);
@@ -184,12 +186,13 @@ fn play(session: &mut Session, ssrc: u32, packets: u16, datagram: impl Fn(u32, u
 /// docs/SESSION.md has these figures.
 #[test]
 fn memory_of_sessions_and_streams() {
-    let (_session, session) = bytes_behind(|| Session::new(settings()));
+    let (_session, session) =
+        bytes_behind(|| Session::new(settings()).expect("settings that can be met"));
     println!(
         "a session: {} bytes, and {session} behind it",
         size_of::<Session>()
     );
-    assert!(size_of::<Session>() + session <= 580);
+    assert!(size_of::<Session>() + session <= 590);
     println!("a receiver: {} bytes", size_of::<Receiver>());
     assert!(size_of::<Receiver>() <= 1_000);
     type Datagram = fn(u32, u16) -> Vec<u8>;
@@ -204,7 +207,7 @@ fn memory_of_sessions_and_streams() {
     for (name, datagram, packets, most) in lines {
         // The list of streams has places for a power of two.
         let (session, streams) = bytes_behind(|| {
-            let mut session = Session::new(settings());
+            let mut session = Session::new(settings()).expect("settings that can be met");
             (0..16).for_each(|ssrc| play(&mut session, ssrc, packets, datagram));
             session
         });

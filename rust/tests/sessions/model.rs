@@ -102,13 +102,13 @@ fn session(rules: Rules) -> Session {
     settings.feedback = Some(FeedbackSettings {
         longest_wait: None,
         report_interval: None,
-        ..FeedbackSettings::live(OWN)
+        ..FeedbackSettings::live(OWN, b"me@host".to_vec())
     });
     settings.max_streams = rules.max_streams;
     settings.probation = rules.probation;
     settings.idle_timeout = rules.idle_timeout;
     settings.bye_wait = rules.bye_wait;
-    Session::new(settings)
+    Session::new(settings).expect("settings that can be met")
 }
 
 /// Retransmissions of VP8 under an SSRC.
@@ -381,10 +381,11 @@ impl Model {
             }
             let (why, at) = stream.end(self.rules);
             if at <= now && stream.over.is_none() {
-                stream.receiver.finish();
+                stream.receiver.finish().unwrap();
                 stream.over = Some(why);
             }
             if let Some(unit) = stream.receiver.pop(Ticks(now)) {
+                let unit = unit.expect("there is memory").into_result();
                 return Some(format!("{key:?} {:?}", unit.map(|it| it.bytes)));
             }
             if let Some(why) = stream.over {
@@ -433,7 +434,18 @@ fn line(event: Event) -> String {
             payload_type,
             unit,
             ..
-        } => format!("{:?} {:?}", (ssrc, payload_type), unit.map(|it| it.bytes)),
+        } => {
+            let unit: Result<_, PacketError> = Ok(unit.expect("there is memory").bytes);
+            format!("{:?} {unit:?}", (ssrc, payload_type))
+        }
+        Event::Refused {
+            ssrc,
+            payload_type,
+            fault,
+        } => {
+            let unit: Result<Vec<u8>, _> = Err(fault);
+            format!("{:?} {unit:?}", (ssrc, payload_type))
+        }
         Event::Ended {
             ssrc,
             payload_type,
@@ -449,6 +461,7 @@ fn line(event: Event) -> String {
             format!("{:?} {packet:?} requested", (ssrc, payload_type))
         }
         Event::Report { .. } => panic!("no report is sent"),
+        _ => unreachable!("this version has no other"),
     }
 }
 

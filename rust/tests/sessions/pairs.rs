@@ -16,7 +16,7 @@ fn session() -> Session {
     });
     let vp9 = format(VP9, Codec::Vp9, Frequency::NINETY_KHZ);
     settings.formats.push(vp9);
-    Session::new(settings)
+    Session::new(settings).expect("settings that can be met")
 }
 
 /// A packet with a frame of VP8, one byte long (RFC 7741, section 4.2: the descriptor 0x10 begins a partition).
@@ -164,7 +164,7 @@ fn retransmissions_of_red() -> Result<(), Fail> {
     settings.probation = 1;
     let (vp8, red, rtx, rtx_of_red) = (96, 98, 100, 101);
     let (ssrc, again) = (1_111, 3_396_958_610);
-    let mut session = Session::new(settings);
+    let mut session = Session::new(settings).expect("settings that can be met");
     for number in [1, 2, 5] {
         // One block: the last bit of its header is 0, and 7 bits are the payload type.
         let payload = [vp8, 0x10, number];
@@ -194,11 +194,12 @@ fn retransmissions_of_red_alone() -> Result<(), Fail> {
     let sections = codec_payload::sdp::read(text)?;
     let mut without = codec_payload::sdp::session_settings(&sections)?;
     without.formats[0].retransmission = None;
-    let mut session = Session::new(without);
+    let mut session = Session::new(without).expect("settings that can be met");
     let of_red = |ssrc| packet(101, ssrc, 7, 9_000, &[0, 3, 96, 0x10, 3]);
     let arrival = session.receive(Ticks(0), &of_red(3_396_958_610))?;
     assert_eq!(arrival, Arrival::Unknown);
-    let mut session = Session::new(codec_payload::sdp::session_settings(&sections)?);
+    let mut session = Session::new(codec_payload::sdp::session_settings(&sections)?)
+        .expect("settings that can be met");
     assert_eq!(
         session.receive(Ticks(0), &of_red(5))?,
         Arrival::Unassociated

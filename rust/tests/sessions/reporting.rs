@@ -13,10 +13,10 @@ const OWN: u32 = 0x0a0b_0c0d;
 fn session(change: impl FnOnce(&mut SessionSettings, &mut FeedbackSettings)) -> Session {
     let mut settings = SessionSettings::live();
     settings.formats = vec![opus_format(), vp8_format()];
-    let mut feedback = FeedbackSettings::live(OWN);
+    let mut feedback = FeedbackSettings::live(OWN, b"me@host".to_vec());
     change(&mut settings, &mut feedback);
     settings.feedback = Some(feedback);
-    Session::new(settings)
+    Session::new(settings).expect("settings that can be met")
 }
 
 /// A compound packet, read: the blocks of each receiver report, and the names of OWN.
@@ -120,7 +120,10 @@ fn blocks_in_groups_of_31() -> Result<(), Fail> {
             return Err("there is one packet".into());
         };
         let sizes: Vec<_> = packets.iter().map(Vec::len).collect();
-        assert_eq!((&sizes[..], names.len()), (groups, 0));
+        assert_eq!(
+            (&sizes[..], &names[..]),
+            (groups, &[b"me@host".to_vec()][..])
+        );
         let told: Vec<_> = packets.iter().flatten().map(|block| block.ssrc).collect();
         assert_eq!(told, (1..=count).collect::<Vec<_>>());
     }
@@ -202,7 +205,7 @@ fn intervals() -> Result<(), Fail> {
     // Without feedback there is none.
     let mut settings = SessionSettings::live();
     settings.formats = vec![opus_format()];
-    let mut none = Session::new(settings);
+    let mut none = Session::new(settings).expect("settings that can be met");
     for number in [1, 2] {
         none.receive(Ticks(7), &opus(5, number))?;
     }
@@ -217,7 +220,7 @@ fn an_empty_report() -> Result<(), Fail> {
     let mut session = session(|settings, feedback| {
         settings.formats = answered_formats();
         feedback.report_interval = Some(50);
-        feedback.cname = vec![b'n'; 300];
+        feedback.cname = vec![b'n'; 255];
     });
     // RED whose block is longer than the packet.
     session.receive(
@@ -341,7 +344,8 @@ fn reports_beside_the_counters_of_rfc_3550() -> Result<(), Fail> {
                     .iter()
                     .map(|ssrc| counts.get_mut(ssrc).unwrap().block(now, *ssrc))
                     .collect();
-                assert_eq!(told, [(vec![wanted], vec![])], "seed {seed} at {now}");
+                let names = vec![b"me@host".to_vec()];
+                assert_eq!(told, [(vec![wanted], names)], "seed {seed} at {now}");
                 (due, checked) = (Some(now + 300), checked + 1);
             } else {
                 assert_eq!(told, []);

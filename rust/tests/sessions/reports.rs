@@ -11,7 +11,7 @@ fn session(tick_rate: u32) -> Session {
     let mut settings = SessionSettings::live();
     settings.tick_rate = Frequency::make(tick_rate).unwrap();
     settings.formats = vec![opus_format(), vp8_format()];
-    Session::new(settings)
+    Session::new(settings).expect("settings that can be met")
 }
 
 /// A sender report without blocks (RFC 3550, section 6.4.1).

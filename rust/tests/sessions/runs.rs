@@ -134,7 +134,7 @@ fn streams_do_not_disturb_each_other() -> Result<(), Fail> {
 /// A run goes on with a session that was used before, and makes each call.
 #[test]
 fn every_call() -> Result<(), Fail> {
-    let mut session = Session::new(settings());
+    let mut session = Session::new(settings()).expect("settings that can be met");
     run_session(&mut session, &[receive(0, opus(1, 1))])?;
     let wait_limits = codec_payload::jitter::WaitLimits {
         hold_back: Some(0),

@@ -15,7 +15,7 @@ fn session(change: impl Fn(&mut SessionSettings)) -> Session {
     settings.formats = answered_formats();
     settings.no_media.push(EVENTS);
     change(&mut settings);
-    Session::new(settings)
+    Session::new(settings).expect("settings that can be met")
 }
 
 /// The events of a poll, each as a line.
@@ -24,14 +24,16 @@ fn told(session: &mut Session, now: u64) -> Vec<String> {
     while let Some(event) = session.poll(Ticks(now)) {
         lines.push(match event {
             Event::Begun { ssrc, payload_type } => format!("begun {ssrc} {payload_type}"),
-            Event::Unit { ssrc, unit, .. } => match unit {
-                Ok(unit) => format!("unit {ssrc} {:?}", unit.bytes),
-                Err(fault) => format!("fault {ssrc} {fault}"),
-            },
+            Event::Unit { ssrc, unit, .. } => {
+                let unit = unit.expect("there is memory");
+                format!("unit {ssrc} {:?}", unit.bytes)
+            }
+            Event::Refused { ssrc, fault, .. } => format!("fault {ssrc} {fault}"),
             Event::Feedback { ssrc, .. } => format!("feedback {ssrc}"),
             Event::Telephone { ssrc, .. } => format!("telephone {ssrc}"),
             Event::Report { .. } => "report".to_string(),
             Event::Ended { ssrc, why, .. } => format!("ended {ssrc} {why:?}"),
+            _ => unreachable!("this version has no other"),
         });
     }
     lines
@@ -292,10 +294,8 @@ fn alone() -> Result<Receiver, Fail> {
 fn units_of(receiver: &mut Receiver, now: u64) -> Vec<String> {
     let mut lines = Vec::new();
     while let Some(unit) = receiver.pop(Ticks(now)) {
-        lines.push(format!(
-            "unit 5 {:?}",
-            unit.map(|u| u.bytes).unwrap_or_default()
-        ));
+        let unit = unit.expect("there is memory").unit().expect("it is valid");
+        lines.push(format!("unit 5 {:?}", unit.bytes));
     }
     lines
 }

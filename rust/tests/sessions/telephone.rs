@@ -15,7 +15,7 @@ fn session() -> Session {
     settings.formats = vec![opus_format()];
     settings.no_media.push(NOISE);
     settings.telephone_events.push(EVENTS);
-    Session::new(settings)
+    Session::new(settings).expect("settings that can be met")
 }
 
 /// A report (RFC 4733, section 2.3): the event, E and the volume, and the duration.
@@ -64,10 +64,12 @@ fn poll(session: &mut Session, now: u64) -> (Vec<Told>, Vec<u8>) {
                 });
             }
             Event::Unit { unit, .. } => units.push(unit.expect("it is valid").bytes[0]),
+            Event::Refused { fault, .. } => unreachable!("{fault}"),
             Event::Begun { .. }
             | Event::Ended { .. }
             | Event::Feedback { .. }
             | Event::Report { .. } => {}
+            _ => unreachable!("this version has no other"),
         }
     }
     (told, units)
@@ -210,15 +212,14 @@ fn other_datagrams_do_not_wait() -> Result<(), Fail> {
     Ok(())
 }
 
-/// If a format has the payload type too, the packets are its media.
+/// A format of telephone events is a stream of its own.
 #[test]
-fn a_format_has_precedence() -> Result<(), Fail> {
+fn a_format_of_telephone_events() -> Result<(), Fail> {
     let mut settings = SessionSettings::live();
     settings.probation = 1;
     settings.audio.start = 0;
     settings.formats = vec![format(EVENTS, Codec::Tele, Frequency::EIGHT_KHZ)];
-    settings.telephone_events.push(EVENTS);
-    let mut session = Session::new(settings);
+    let mut session = Session::new(settings)?;
     session.receive(Ticks(0), &events(5, 1, 0, true, &report(8, false, 160)))?;
     assert_eq!(poll(&mut session, 0), (vec![], vec![8]));
     Ok(())

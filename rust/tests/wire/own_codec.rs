@@ -11,6 +11,7 @@ use codec_payload::error::PacketError;
 use codec_payload::jitter::jitter_buffer::{JitterBuffer, Outcome, WaitLimits};
 use codec_payload::schedule::datagrams::run::{DatagramStep, run_datagrams};
 use codec_payload::sender::{Sample, Sender};
+use codec_payload::stream::pops::Popped;
 use codec_payload::stream::receiver::Receiver;
 use codec_payload::wire::{ExtensionValues, Frequency, Pt, RtpHeader, Ticks};
 use std::cell::RefCell;
@@ -193,10 +194,17 @@ fn receiver_asks_a_custom_depacketizer() -> Result<(), Fail> {
             Outcome::Held
         );
     }
-    assert_eq!(bytes_of(receiver.pop(Ticks(0))).as_deref(), Some(UNITS[0]));
+    assert_eq!(
+        receiver
+            .pop(Ticks(0))
+            .and_then(|it| it.ok()?.unit())
+            .map(|it| it.bytes)
+            .as_deref(),
+        Some(UNITS[0])
+    );
     let (mut bytes, mut metas) = (Vec::new(), Vec::new());
     let info = receiver.pop_into(Ticks(0), &mut bytes, &mut metas);
-    assert!(matches!(info, Some(Ok(_))));
+    assert!(matches!(info, Some(Ok(Popped::Unit(_)))));
     assert_eq!(bytes, UNITS[1]);
     assert_eq!(*read.borrow(), PAYLOADS);
     Ok(())

@@ -9,7 +9,7 @@ use codec_payload::stream::{Receiver, ReceiverSettings, RedSettings, Retransmiss
 fn receiver_of(input: &mut Input) -> Option<Receiver> {
     let spec = spec(input);
     let how = input.byte();
-    let mut settings = ReceiverSettings::for_stream(96, spec.clock_rate);
+    let mut settings = ReceiverSettings::for_stream(96, spec.codec, spec.clock_rate);
     settings.no_media = vec![97, 13];
     settings.ssrc = (how & 1 != 0).then_some(1);
     settings.red = (how & 2 != 0).then(|| RedSettings {
@@ -100,7 +100,7 @@ pub fn receiver(input: &mut Input) {
             2 => now = now.wrapping_add(u64::from(how / 16) * u64::from(input.byte())),
             3 => assert!(receiver.missing(usize::from(how)).is_sorted()),
             4 => match how / 16 {
-                0 => receiver.finish(),
+                0 => receiver.finish().expect("there is memory"),
                 1..9 => drop(receiver.report()),
                 _ => drop(receiver.next_deadline()),
             },

@@ -16,8 +16,8 @@ use watch::Watch;
 /// The SSRC of the session.
 pub const OWN: u32 = 77;
 
-/// A format with RED and retransmissions, Opus, and two formats that can begin no stream: RED has its own payload type, or
-/// step 0.
+/// A format with RED and retransmissions, Opus, and in one of eight cases a format that can begin no stream: RED has its own payload
+/// type, or step 0.
 fn formats(input: &mut Input) -> Vec<Format> {
     let how = input.byte();
     let opus = CodecSpec {
@@ -40,12 +40,13 @@ fn formats(input: &mut Input) -> Vec<Format> {
     };
     let mut first = format(96, spec(input), red(63, 90));
     first.retransmission = (how & 4 == 0).then_some(98);
-    vec![
-        first,
-        format(100, opus, None),
-        format(102, opus, red(102, 90)),
-        format(103, opus, red(64, 0)),
-    ]
+    let mut formats = vec![first, format(100, opus, None)];
+    match how >> 4 {
+        0 => formats.push(format(102, opus, red(102, 90))),
+        1 => formats.push(format(103, opus, red(61, 0))),
+        _ => {}
+    }
+    formats
 }
 
 fn wait_limits(input: &mut Input) -> WaitLimits {
@@ -61,7 +62,7 @@ fn wait_limits(input: &mut Input) -> WaitLimits {
 fn feedback(input: &mut Input) -> FeedbackSettings {
     let how = input.byte();
     FeedbackSettings {
-        cname: vec![b'n'; usize::from(how >> 4) * 20],
+        cname: vec![b'n'; 1 + usize::from(how >> 4) * 16],
         has_report: how & 1 != 0,
         nack: NackSettings {
             first_wait: (input.byte() % 32).into(),
@@ -75,7 +76,7 @@ fn feedback(input: &mut Input) -> FeedbackSettings {
         silence: input.word().into(),
         longest_wait: (how & 8 == 0).then(|| input.word().into()),
         report_interval: (how & 16 == 0).then(|| input.word().into()),
-        ..FeedbackSettings::live(OWN)
+        ..FeedbackSettings::live(OWN, b"me@host".to_vec())
     }
 }
 
@@ -115,7 +116,9 @@ pub fn session(input: &mut Input) {
     } else {
         0
     };
-    let mut watch = Watch::new(settings, begin);
+    let Some(mut watch) = Watch::new(settings, begin) else {
+        return;
+    };
     let mut numbers = [0, 0, 65_500, 0, 0];
     while !input.is_empty() {
         let how = input.byte();

@@ -4,7 +4,7 @@ use super::input::Input;
 use super::{Compared, proved_history};
 use codec_payload::Ticks;
 use codec_payload::history::{
-    History, HistorySettings, Request, Resent, RetransmissionStream, read_requests,
+    History, HistorySettings, Kept, Request, Resent, RetransmissionStream, read_requests,
 };
 use codec_payload::rtcp::CompoundRule;
 
@@ -101,6 +101,7 @@ fn number_of(resent: Resent) -> u32 {
         Resent::Written => 0,
         Resent::NotKept => 1,
         Resent::TooSoon => 2,
+        Resent::TooLarge => unreachable!("resend has no bound"),
     }
 }
 
@@ -117,7 +118,7 @@ fn resend(
         Err((status, size)) => {
             assert_eq!(status, proved_history::TOO_SMALL);
             let answer = ours.resend_within(Ticks(now), number, room, &mut written);
-            assert_eq!((answer, written.len()), (Ok(Resent::Written), size));
+            assert_eq!((answer, written.len()), (Ok(Resent::TooLarge), size));
             assert!(size > room);
         }
         Ok(theirs) => {
@@ -143,6 +144,7 @@ fn requested(rtcp: &[u8], how: u8, compared: &mut Compared) -> Vec<u16> {
             match request {
                 Request::Packet(number) => numbers.push(number),
                 Request::Keyframe => wants_keyframe = true,
+                _ => unreachable!("this version has no other"),
             }
         }
         let fit = numbers[..numbers.len().min(room)].to_vec();
@@ -181,7 +183,8 @@ pub fn histories(input: &mut Input, compared: &mut Compared) {
             2 => now = now.wrapping_add(u64::from(how / 8)),
             _ => {
                 let packet = packet(&mut number, input);
-                compared.answers(ours.keep(&packet), theirs.keep(&packet));
+                let answer = ours.keep(&packet).map(|kept| u32::from(kept == Kept::TooOld));
+                compared.answers(answer, theirs.keep(&packet));
             }
         }
     }

@@ -159,6 +159,7 @@ fn extra_of(extra: &CodecExtra) -> [u64; 3] {
         CodecExtra::Vp9(it) => [2, it.is_keyframe.into(), it.picture_id.unwrap_or(0)],
         CodecExtra::Av1(it) => [3, it.is_keyframe.into(), 0],
         CodecExtra::Tele(_) => [4, 0, 0],
+        _ => unreachable!("this version has no other"),
     }
 }
 
@@ -205,7 +206,7 @@ fn settings(spec: &CodecSpec, input: &mut Input) -> (ReceiverSettings, [u64; 9])
         0
     };
     let retransmission = u64::from(how & 8 != 0) * 2;
-    let mut ours = ReceiverSettings::for_stream(96, spec.clock_rate);
+    let mut ours = ReceiverSettings::for_stream(96, spec.codec, spec.clock_rate);
     ours.no_media = vec![97, 13];
     ours.ssrc = Some(1);
     ours.wait_limits = WaitLimits {
@@ -294,7 +295,7 @@ fn receive(input: &mut Input, compared: &mut Compared) {
                 theirs.missing(usize::from(how))
             ),
             4 if how >> 4 == 0 => {
-                ours.finish();
+                ours.finish().unwrap();
                 theirs.finish();
             }
             4 => assert_eq!(ours.next_deadline().map(|it| it.0), theirs.next_deadline()),
@@ -329,7 +330,9 @@ fn receive(input: &mut Input, compared: &mut Compared) {
 }
 
 fn pop(ours: &mut Receiver, theirs: &mut proved::Receiver, now: u64, compared: &mut Compared) {
-    let unit = ours.pop(Ticks(now));
+    let unit = ours
+        .pop(Ticks(now))
+        .map(|it| it.expect("there is memory").into_result());
     let time = ours.unit_time().unwrap_or(0);
     let unit = unit.map(|it| {
         it.map(|it| {

@@ -158,16 +158,20 @@ impl Receiver {
         Ok(outcome)
     }
 
-    /// First and last number, RTP time, whether it is contiguous, and the bytes.
+    /// First and last number, RTP time, whether it is contiguous, and the bytes; or the fault of a refused frame.
     pub fn pop(&mut self, now: u64) -> Option<Result<([u64; 4], Vec<u8>), u32>> {
-        let (mut bytes, mut unit) = (vec![0; ROOM], [0; 5]);
+        let (mut bytes, mut unit) = (vec![0; ROOM], [0; 6]);
         match unsafe { twin_pop(self.0, now, bytes.as_mut_ptr(), ROOM, unit.as_mut_ptr()) } {
             NONE => None,
+            0 if unit[5] != 0 => {
+                assert_eq!(unit[..5], [0; 5]);
+                Some(Err(unit[5] as u32))
+            }
             0 => {
                 bytes.truncate(unit[4] as usize);
                 Some(Ok(([unit[0], unit[1], unit[2], unit[3]], bytes)))
             }
-            status => Some(Err(status)),
+            status => panic!("status {status} of a pop"),
         }
     }
 

@@ -4,7 +4,7 @@ use std::ffi::c_void;
 
 unsafe extern "C" {
     fn twin_history(values: *const u64) -> *mut c_void;
-    fn twin_history_keep(it: *mut c_void, datagram: *const u8, len: usize) -> u32;
+    fn twin_history_keep(it: *mut c_void, datagram: *const u8, len: usize, kept: *mut u32) -> u32;
     fn twin_history_resend(
         it: *mut c_void,
         now: u64,
@@ -38,10 +38,15 @@ impl History {
         (!it.is_null()).then_some(History(it))
     }
 
-    pub fn keep(&mut self, datagram: &[u8]) -> Result<(), u32> {
-        match unsafe { twin_history_keep(self.0, datagram.as_ptr(), datagram.len()) } {
-            0 => Ok(()),
-            status => Err(status),
+    /// What was done, or the status.
+    pub fn keep(&mut self, datagram: &[u8]) -> Result<u32, u32> {
+        let mut kept = 9;
+        match unsafe { twin_history_keep(self.0, datagram.as_ptr(), datagram.len(), &mut kept) } {
+            0 => Ok(kept),
+            status => {
+                assert_eq!(kept, 9);
+                Err(status)
+            }
         }
     }
 

@@ -57,7 +57,7 @@ fn settings(spec: CodecSpec, input: &mut Input) -> (SessionSettings, [u64; 8]) {
     ours.idle_timeout = u64::from(input.word());
     ours.bye_wait = u64::from(input.byte());
     let from_keyframe = input.byte() % 3;
-    ours.feedback = Some(FeedbackSettings::live(77));
+    ours.feedback = Some(FeedbackSettings::live(77, b"me@host".to_vec()));
     ours.from_keyframe =
         [FromKeyframe::Off, FromKeyframe::Mark, FromKeyframe::Drop][usize::from(from_keyframe)];
     let values = [
@@ -155,6 +155,7 @@ fn told(event: Event) -> ([u64; 12], Vec<u8>, Option<String>) {
                 Ending::Timeout => 1,
                 Ending::Told => 2,
                 Ending::Changed => 3,
+                _ => unreachable!("this version has no other"),
             };
         }
         Event::Unit {
@@ -164,26 +165,30 @@ fn told(event: Event) -> ([u64; 12], Vec<u8>, Option<String>) {
             decodable,
             keyframe,
             unit,
-        } => match unit {
-            Err(fault) => {
-                stream(2, ssrc, payload_type);
-                return (it, Vec::new(), Some(format!("{fault:?}")));
-            }
-            Ok(unit) => {
-                stream(1, ssrc, payload_type);
-                let range = unit.seq_range();
-                it[5..].copy_from_slice(&[
-                    range.start().0,
-                    range.end().0,
-                    rtp_time.unwrap_or(0),
-                    unit.contiguous.into(),
-                    decodable.into(),
-                    keyframe.into(),
-                    unit.start_of_talkspurt().into(),
-                ]);
-                return (it, unit.bytes, None);
-            }
-        },
+        } => {
+            let unit = unit.expect("there is memory");
+            stream(1, ssrc, payload_type);
+            let range = unit.seq_range();
+            it[5..].copy_from_slice(&[
+                range.start().0,
+                range.end().0,
+                rtp_time.unwrap_or(0),
+                unit.contiguous.into(),
+                decodable.into(),
+                keyframe.into(),
+                unit.start_of_talkspurt().into(),
+            ]);
+            return (it, unit.bytes, None);
+        }
+        Event::Refused {
+            ssrc,
+            payload_type,
+            fault,
+        } => {
+            stream(2, ssrc, payload_type);
+            return (it, Vec::new(), Some(format!("{fault:?}")));
+        }
+        _ => unreachable!("this version has no other"),
     }
     (it, Vec::new(), None)
 }
@@ -233,6 +238,7 @@ fn receive(
         Arrival::Unknown => [3, 0, 0, 0, 0],
         Arrival::Refused => [4, 0, 0, 0, 0],
         Arrival::Unassociated => [5, 0, 0, 0, 0],
+        _ => unreachable!("this version has no other"),
     };
     assert_eq!(wanted, found);
 }
@@ -255,7 +261,7 @@ fn counts(ours: &Session) -> [u64; 9] {
 pub fn sessions(input: &mut Input, compared: &mut Compared) {
     let (spec, theirs) = codec(input);
     let (settings, values) = settings(spec, input);
-    let mut ours = Session::new(settings);
+    let mut ours = Session::new(settings).expect("settings that can be met");
     let mut theirs = proved_session::Session::new(theirs, &values).expect("the settings are right");
     let (mut now, mut numbers) = (0_u64, [0; 5]);
     while !input.is_empty() {

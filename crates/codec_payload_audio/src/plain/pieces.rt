@@ -10,12 +10,25 @@ use codec_payload_base::error::PacketError;
 use codec_payload_base::interface::Packetizer;
 use codec_payload_base::payloads::Payloads;
 use std::alloc::Global;
+use std::fmt;
 
-/// Cuts frames into pieces of MTU bytes: the packetizer of Opus, G.711 and G.722.
-#[derive(Clone, Debug, Default, Drop)]
-pub struct PiecesPacketizer {}
+/// Cuts frames into pieces of MTU bytes: the packetizer of Opus, and of G.711 and G.722. `IS_OPUS` makes them two types, and has no
+/// other effect.
+#[derive(Clone, Default, Drop)]
+pub struct PiecesPacketizer<const IS_OPUS: bool> {}
 
-impl Packetizer for PiecesPacketizer {
+/// Prints the name of the packetizer.
+impl<const IS_OPUS: bool> fmt::Debug for PiecesPacketizer<IS_OPUS> {
+    fn fmt<W: fmt::Write>(&self, f: &mut fmt::Formatter<W>) -> fmt::Result {
+        if IS_OPUS {
+            f.write_str("OpusPacketizer")
+        } else {
+            f.write_str("G7xxPacketizer")
+        }
+    }
+}
+
+impl<const IS_OPUS: bool> Packetizer for PiecesPacketizer<IS_OPUS> {
     ghost state = { λ _. [] };
 
     ghost packetize_step = { λ _ mtu frame answer after. AnswersPieces mtu frame answer × (after ≡ []) };
@@ -45,7 +58,7 @@ impl Packetizer for PiecesPacketizer {
         out: &mut Payloads,
     ) -> Result<(), PacketError>
         ensures written { AnswersPieces mtu b.now (written result out.new.payloads) }
-        ensures step { IsWritten (λ answer. ⟦<PiecesPacketizer as Packetizer>⟧.packetize_step self.old mtu b.now answer []) result out.new.payloads }
+        ensures step { IsWritten (λ answer. ⟦<PiecesPacketizer<IS_OPUS> as Packetizer>⟧.packetize_step self.old mtu b.now answer []) result out.new.payloads }
         ensures fault { OnErr result (out.new.payloads ≡ []) }
         ensures rooms { rooms_of out.new ≡ rooms_of out.old }
     {

@@ -5,16 +5,15 @@
 ghost use Rattle.std.specs.Prelude.{if◌then◌else◌, ◌≡◌, ◌≢◌, ◌≤◌, ◌<◌, ◌+◌, ◌==◌, true, false, not, ℕ, IfSome, Option, length, map, slice_index_or, slice_set};
 ghost use Rattle.codec_payload_buffer.specs.Held.{held_of, Rises, TakesLowest, has_number, placed};
 ghost use Rattle.codec_payload_buffer.specs.Frames.{frames};
-ghost use Rattle.codec_payload_buffer.specs.KnownFrames.{frame_told, has_end};
 ghost use Rattle.codec_payload_buffer.specs.Scan.{place_of};
 ghost use Rattle.codec_payload_buffer.specs.Rows.{row_of, rows, merged, first_mended};
 ghost use Rattle.codec_payload_buffer.specs.Ends.{mark_of, mark_at, no_mark, IsTold, AreTold, next_of, previous_of, ahead, behind, row_ending, marked, IsLowestRow, IsBeyond};
 ghost use Rattle.codec_payload_buffer.specs.declared.buffer.held_packet.HeldPacket.{HeldPacket as Entry};
 
-use super::frames::{CompleteFrame, frame_of};
+use super::frames::{CompleteFrame, frame_of, is_frame_before};
 use super::held_packet::{HeldPacket, Packet};
 use super::packets::take_lowest;
-use super::rows::{Row, frame_of_left, join, meets, shorten};
+use super::rows::{Row, frame_of_left, is_next, join, meets, shorten};
 use codec_payload_queue::tiers::{Noted, TieredQueue};
 
 /// Returns the row from `first` to the packet at `place`, which is its last.
@@ -33,13 +32,6 @@ fn row_to(packets: &TieredQueue<HeldPacket>, first: u64, place: usize) -> Row
     }
 }
 
-/// Returns whether `later` is the next number after `earlier`.
-fn is_next(earlier: u64, later: u64) -> bool
-    ensures { result ≡ (earlier + 1 == later) }
-{
-    earlier < later && later - earlier == 1
-}
-
 /// Joins a row with the row that begins at `place`, if they meet.
 #[inline(always)]
 fn join_next(packets: &TieredQueue<HeldPacket>, place: usize, row: Row) -> Row
@@ -49,6 +41,9 @@ fn join_next(packets: &TieredQueue<HeldPacket>, place: usize, row: Row) -> Row
     requires fresh { has_number row.last (map held_of packets.now.items) ≡ false }
     ensures { result ≡ ahead row (next_of row.last (rows (map held_of packets.now.items))) }
 {
+    if row.tail {
+        return row;
+    }
     if place == packets.len() {
         return row;
     }
@@ -81,6 +76,9 @@ fn join_previous(packets: &TieredQueue<HeldPacket>, place: usize, row: Row) -> R
     if !is_next(entry.number, row.first) {
         return row;
     }
+    if entry.packet.tail {
+        return row;
+    }
     let previous = row_to(packets, entry.packet.other_end, place - 1);
     if meets(&previous, &row) {
         join(previous, row)
@@ -90,8 +88,17 @@ fn join_previous(packets: &TieredQueue<HeldPacket>, place: usize, row: Row) -> R
 }
 
 /// Returns the row of a new packet once it is at its place: `row` is the packet alone.
+///
+/// If each packet below is a frame by itself, the list of frames shows that the row does not join the previous one. Then the
+/// previous packet is not read, which most likely is in no cache of the processor.
 #[inline(always)]
-pub(super) fn row_with(packets: &TieredQueue<HeldPacket>, place: usize, row: Row) -> Row
+pub(super) fn row_with(
+    packets: &TieredQueue<HeldPacket>,
+    complete: &TieredQueue<CompleteFrame>,
+    place: usize,
+    row: Row,
+) -> Row
+    requires complete { complete.now.items ≡ frames (map held_of packets.now.items) }
     requires rises { Rises (map held_of packets.now.items) }
     requires told { AreTold (rows (map held_of packets.now.items)) (map mark_of packets.now.items) }
     requires one { row.first ≡ row.last }
@@ -99,7 +106,11 @@ pub(super) fn row_with(packets: &TieredQueue<HeldPacket>, place: usize, row: Row
     requires fresh { has_number row.last (map held_of packets.now.items) ≡ false }
     ensures { result ≡ merged row (rows (map held_of packets.now.items)) }
 {
+    let first = row.first;
     let row = join_next(packets, place, row);
+    if place < packets.len() && is_frame_before(complete, place, first) {
+        return row;
+    }
     join_previous(packets, place, row)
 }
 
@@ -214,43 +225,6 @@ pub(super) fn place_at(
     if after > 0 {
         set_mark(packets, place + after, first, head);
     }
-}
-
-/// Returns the complete frame that ends at this packet, if one does.
-#[inline(always)]
-pub(super) fn frame_to(entry: &HeldPacket) -> Option<CompleteFrame>
-    ensures { result ≡ frame_told entry.now }
-{
-    match entry.packet.row_head {
-        Some(first) if entry.packet.tail => Some(CompleteFrame {
-            first,
-            last: entry.number,
-        }),
-        _ => None,
-    }
-}
-
-/// Returns whether no complete frame ends where `row` ends, the row of a new packet. `place` is the place of the packet.
-#[inline(always)]
-pub(super) fn is_new_end(
-    packets: &TieredQueue<HeldPacket>,
-    place: usize,
-    packet: &HeldPacket,
-    row: &Row,
-) -> bool
-    requires rises { Rises (map held_of packets.now.items) }
-    requires told { AreTold (rows (map held_of packets.now.items)) (map mark_of packets.now.items) }
-    requires place { place ≡ place_of packet.now.number (map held_of packets.now.items) }
-    requires fresh { has_number packet.now.number (map held_of packets.now.items) ≡ false }
-    requires row { row.now ≡ merged (row_of (held_of packet.now)) (rows (map held_of packets.now.items)) }
-    requires few { length packets.now.items ≤ usize.MAX }
-    ensures { result ≡ not (has_end row.now.last (frames (map held_of packets.now.items))) }
-{
-    let after = (row.last - packet.number) as usize;
-    if after == 0 {
-        return true;
-    }
-    frame_to(packets.at(place + after - 1)).is_none()
 }
 
 /// Returns the lowest row.

@@ -1,21 +1,19 @@
 //! Two packets are stored at once: all memory is found before either is stored.
 
 ghost use Rattle.std.specs.Prelude.{◌≡◌, ◌≤◌, ◌<◌, ◌+◌, ◌||◌, IfOk, OnErr, IfErr, OnOk, false, length, map};
-ghost use Rattle.std.specs.VecDeque.{deque_capacity};
 ghost use Rattle.codec_payload_base.specs.declared.error.PacketError.TheVariants.{OutOfMemory};
 ghost use Rattle.codec_payload_codec.specs.Depacketizers.{depacketizer_state_of, is_built_in_depacketizer};
 ghost use Rattle.codec_payload_codec.specs.declared.codec.depacketizer.CodecDepacketizer.TheVariants.{Boxed};
 ghost use Rattle.codec_payload_buffer.specs.Held.{held_of, Rises, number_of};
 ghost use Rattle.codec_payload_buffer.specs.Frames.{frames};
-ghost use Rattle.codec_payload_buffer.specs.KnownFrames.{AreKept};
 ghost use Rattle.codec_payload_buffer.specs.Rows.{rows};
 ghost use Rattle.codec_payload_buffer.specs.Ends.{mark_of, AreTold};
 ghost use Rattle.codec_payload_buffer.specs.Steps.{State, IsArrived, arrived_by, placed_at, pushed};
 ghost use Rattle.codec_payload_buffer.specs.Pairs.{StoresTwo, stored, IsAt, is_there};
 
 use super::DepacketizingBuffer;
-use super::ends::{evict, is_new_end, place_at, row_with};
-use super::frames::{CompleteFrames, frame_of, mend_first, note, reserve_known};
+use super::ends::{evict, place_at, row_with};
+use super::frames::{CompleteFrame, frame_of, mend_first, note};
 use super::held_packet::{HeldPacket, Packet};
 use super::known::PackedMeta;
 use super::packets::{find_place, hold, is_at, is_too_late};
@@ -61,7 +59,7 @@ impl<B: Depacketizer> DepacketizingBuffer<B> {
         ensures own { is_built_in_depacketizer self.old.depacketizer ≡ false → OnOk result ((b : B) × (self.new ≡ pushed (pushed self.old (arrived_by (B.is_head b) (B.is_tail b) first.meta first.payload.items)) (arrived_by (B.is_head b) (B.is_tail b) second.meta second.payload.items))) }
     {
         self.packets.reserve(2)?;
-        reserve_known(&mut self.complete.known, 2)?;
+        self.complete.reserve(2)?;
         let alloc = self.packets.alloc();
         let first = entry_of(alloc, &mut self.spare, &self.depacketizer, first)?;
         let second = entry_of(alloc, &mut self.spare, &self.depacketizer, second)?;
@@ -121,26 +119,26 @@ fn entry_of<B: Depacketizer>(
 /// Stores a packet for which there is memory. Returns the result, and the number of the packet that was evicted.
 fn store_entry(
     packets: &mut TieredQueue<HeldPacket>,
-    complete: &mut CompleteFrames,
+    complete: &mut TieredQueue<CompleteFrame>,
     spare: &mut Vec<Box<Packet>>,
     bounds: Bounds,
     entry: HeldPacket,
 ) -> (Placed, Option<u64>)
     requires rises { Rises (map held_of packets.old.items) }
     requires told { AreTold (rows (map held_of packets.old.items)) (map mark_of packets.old.items) }
-    requires kept { AreKept (frames (map held_of packets.old.items)) complete.old.ready complete.old.known.items }
+    requires complete { complete.old.items ≡ frames (map held_of packets.old.items) }
     requires few { length packets.old.items ≤ bounds.limit }
     requires most { bounds.limit ≤ 65536 }
     requires packet_room { 0 < packets.old.room }
-    requires frame_room { 0 < deque_capacity complete.old.known }
+    requires frame_room { 0 < complete.old.room }
     ensures placed { (s : State) → IsAt s (map held_of packets.old.items) bounds.cutoff bounds.limit → result.0 ≡ placed_at s (number_of (held_of entry)) }
     ensures pushes { (s : State) → IsAt s (map held_of packets.old.items) bounds.cutoff bounds.limit → stored s (map held_of packets.new.items) result.1 ≡ pushed s (held_of entry) }
     ensures rises { Rises (map held_of packets.new.items) }
     ensures told { AreTold (rows (map held_of packets.new.items)) (map mark_of packets.new.items) }
-    ensures kept { AreKept (frames (map held_of packets.new.items)) complete.new.ready complete.new.known.items }
+    ensures complete { complete.new.items ≡ frames (map held_of packets.new.items) }
     ensures few { length packets.new.items ≤ bounds.limit }
     ensures packet_room { packets.old.room ≤ packets.new.room + 1 }
-    ensures frame_room { deque_capacity complete.old.known ≤ deque_capacity complete.new.known }
+    ensures frame_room { complete.old.room ≤ complete.new.room + 1 }
 {
     let number = entry.number;
     if is_too_late(bounds.cutoff, number) {
@@ -151,14 +149,13 @@ fn store_entry(
         return (Placed::Duplicate, None);
     }
     let placed = placed_among(packets, bounds.limit);
-    let row = row_with(packets, place, row_of_packet(&entry));
-    let is_new = is_new_end(packets, place, &entry, &row);
+    let row = row_with(packets, complete, place, row_of_packet(&entry));
     place_at(packets, place, entry, row);
-    note(complete, frame_of(&row), is_new);
+    note(complete, place, frame_of(&row));
     if packets.len() <= bounds.limit {
         return (placed, None);
     }
     let (number, before, after) = evict(packets, spare);
-    mend_first(complete, before, after, packets);
+    mend_first(complete, before, after);
     (placed, Some(number))
 }

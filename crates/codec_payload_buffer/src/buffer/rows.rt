@@ -1,6 +1,6 @@
 //! Rows: ranges of consecutive held packets in which a frame can be complete.
 
-ghost use Rattle.std.specs.Prelude.{◌≡◌, ◌≤◌, map};
+ghost use Rattle.std.specs.Prelude.{◌≡◌, ◌≤◌, ◌+◌, ◌==◌, map};
 ghost use Rattle.codec_payload_buffer.specs.Held.{held_of};
 ghost use Rattle.codec_payload_buffer.specs.Rows.{row_of, meet, joined, next_head, shortened, frame_of_rest, IsHeadKept};
 
@@ -48,6 +48,13 @@ pub(super) fn meets(earlier: &Row, later: &Row) -> bool
         && later.first - earlier.last == 1
         && earlier.time == later.time
         && !earlier.tail
+}
+
+/// Returns whether `later` is the next number after `earlier`.
+pub(super) fn is_next(earlier: u64, later: u64) -> bool
+    ensures { result ≡ (earlier + 1 == later) }
+{
+    earlier < later && later - earlier == 1
 }
 
 /// Joins two rows that meet.

@@ -6,20 +6,48 @@ ghost use Rattle.codec_payload_buffer.specs.Steps.{HasPacketsIn, HasTaken, poppe
 ghost use Rattle.codec_payload_codec.specs.Depacketizers.{is_built_in_depacketizer};
 ghost use Rattle.codec_payload_jitter.specs.Receiving.{is_pressed, settled};
 ghost use Rattle.codec_payload_stream.specs.OwnSessions.{OwnPopsGated, OwnPopsOnce};
-ghost use Rattle.codec_payload_stream.specs.Pops.{PopsGated, PopsOnce, is_passed_on};
+ghost use Rattle.codec_payload_stream.specs.Pops.{NamesFault, PopsGated, PopsOnce, answer_of, is_passed_on};
 
 use super::Receiver;
 use crate::gated::follow_to;
+use crate::pops::{Popped, sorted};
 use crate::unit_times::extend_to;
 use codec_payload_base::error::PacketError;
 use codec_payload_base::wire::Ticks;
 use codec_payload_buffer::buffer::PoppedUnit;
 use codec_payload_codec::codec::Depacketizer;
+use std::alloc::AllocError;
 
 impl<B: Depacketizer> Receiver<B> {
     /// Does the same as [`Receiver::pop`], and writes the unit to memory that can be used again. See
     /// [`codec_payload_jitter::jitter::JitterBuffer::pop_unit`].
-    pub fn pop_unit(&mut self, now: Ticks, unit: &mut PoppedUnit) -> Option<Result<(), PacketError>>
+    #[inline(always)]
+    pub fn pop_unit(
+        &mut self,
+        now: Ticks,
+        unit: &mut PoppedUnit,
+    ) -> Option<Result<Popped<()>, AllocError>>
+        ensures pops { PopsGated now.0 self.old (popped_to (answer_of result) unit.new) self.new }
+        // A refused frame has a fault of its own: out of memory is an error.
+        ensures refused { NamesFault result }
+        // A unit has packets.
+        ensures some { HasPacketsIn (answer_of result) unit.new }
+        // Each answer except `None` and out of memory leaves fewer packets, so a loop of pops ends.
+        ensures fewer { HasTaken (popped_to (answer_of result) unit.new) self.old.packets.buffer self.new.packets.buffer }
+        // If the stream has ended or the first complete frame is overdue, `None` says that no frame is complete.
+        ensures drained { self.old.gates.drops ≡ false → is_pressed (settled self.old.packets) now.0 ≡ true → result ≡ Option.None → length (frames self.new.packets.buffer.held) ≤ 0 }
+        // A custom depacketizer is asked once for each payload of the unit.
+        ensures own { is_built_in_depacketizer self.old.packets.buffer.depacketizer ≡ false → OwnPopsGated B.state B.depacketize_step now.0 self.old (popped_to (answer_of result) unit.new) }
+    {
+        sorted(self.pop_unit_gated(now, unit))
+    }
+
+    /// Does the same, with out of memory as one of the faults.
+    fn pop_unit_gated(
+        &mut self,
+        now: Ticks,
+        unit: &mut PoppedUnit,
+    ) -> Option<Result<(), PacketError>>
         ensures pops { PopsGated now.0 self.old (popped_to result unit.new) self.new }
         // A unit has packets.
         ensures some { HasPacketsIn result unit.new }

@@ -113,7 +113,7 @@ fn do_history_step<P: Packetizer, D: Depacketizer>(
 fn keep_all(history: &mut History, datagrams: &[Vec<u8>]) -> Result<(), PacketError> {
     for datagram in datagrams {
         match history.keep(datagram) {
-            Ok(()) => {}
+            Ok(_) => {}
             Err(KeepError::OutOfMemory) => return Err(PacketError::OutOfMemory),
             Err(KeepError::Rtp(_)) => unreachable!(),
         }

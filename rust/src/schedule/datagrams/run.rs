@@ -8,6 +8,7 @@ use crate::error::PacketError;
 use crate::jitter::outcome::Outcome;
 use crate::memory::TryVec;
 use crate::sender::{Sample, Sender};
+use crate::stream::pops::Popped;
 use crate::stream::receiver::{ReceiveError, Receiver};
 use crate::wire::{Ticks, ToPayload};
 use alloc::vec::Vec;
@@ -35,7 +36,7 @@ pub struct DatagramRun {
     pub sends: Vec<SentSample>,
     /// The result for the datagram of each `Deliver` step that names one, in order.
     pub receipts: Vec<Result<Outcome, ReceiveError>>,
-    /// The answer of each `Pop` step, in order.
+    /// The answer of each `Pop` step, in order: a unit, or the fault of a refused frame.
     pub pops: Vec<Option<Result<Depacketized, PacketError>>>,
 }
 
@@ -115,7 +116,7 @@ pub(crate) fn do_step<P: Packetizer, D: Depacketizer>(
             Ok(())
         }
         DatagramStep::Finish => {
-            receiver.finish();
+            receiver.finish()?;
             Ok(())
         }
     }
@@ -194,7 +195,9 @@ fn pop_at<D: Depacketizer>(
     now: Ticks,
 ) -> Result<Option<Result<Depacketized, PacketError>>, PacketError> {
     match receiver.pop(now) {
-        Some(Err(PacketError::OutOfMemory)) => Err(PacketError::OutOfMemory),
-        answer => Ok(answer),
+        Some(Ok(Popped::Unit(unit))) => Ok(Some(Ok(unit))),
+        Some(Ok(Popped::Refused(fault))) => Ok(Some(Err(fault))),
+        Some(Err(_)) => Err(PacketError::OutOfMemory),
+        None => Ok(None),
     }
 }

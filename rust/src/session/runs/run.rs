@@ -5,10 +5,12 @@
 use crate::jitter::waiting::WaitLimits;
 use crate::memory::{AllocError, TryVec};
 use crate::rtcp::items::ReportBlock;
+use crate::session::checks::SessionSettingsError;
 use crate::session::formats::SessionSettings;
 use crate::session::sessions::{Arrival, Event, Session, SessionCounts};
 use crate::wire::Ticks;
 use alloc::vec::Vec;
+use core::fmt;
 
 /// A call of a session that can change it.
 #[derive(Debug)]
@@ -88,18 +90,51 @@ pub struct RecordedSession {
     pub run: SessionRun,
 }
 
+/// Why no run was made.
+#[derive(Clone, Copy, Debug, PartialEq, Eq)]
+#[non_exhaustive]
+pub enum NewRunError {
+    /// No session can meet the settings.
+    Settings(SessionSettingsError),
+    /// Out of memory for the list of answers.
+    OutOfMemory,
+}
+
+impl fmt::Display for NewRunError {
+    fn fmt(&self, f: &mut fmt::Formatter<'_>) -> fmt::Result {
+        match self {
+            NewRunError::Settings(..) => f.write_str("no session can meet the settings"),
+            NewRunError::OutOfMemory => f.write_str("out of memory"),
+        }
+    }
+}
+
+impl core::error::Error for NewRunError {
+    fn source(&self) -> Option<&(dyn core::error::Error + 'static)> {
+        match self {
+            NewRunError::Settings(cause) => Some(cause),
+            _ => None,
+        }
+    }
+}
+
 /// Makes a new session, and makes the calls in order with it. See [`run_session`].
 ///
 /// # Errors
 ///
-/// Out of memory for the list of answers.
+/// - `Settings`: the first setting that no session can meet ([`SessionSettings::check`]).
+/// - `OutOfMemory`: for the list of answers.
 pub fn run_new_session(
     settings: SessionSettings,
     steps: &[SessionStep],
-) -> Result<RecordedSession, AllocError> {
-    let mut session = Session::new(settings);
-    let run = run_session(&mut session, steps)?;
-    Ok(RecordedSession { session, run })
+) -> Result<RecordedSession, NewRunError> {
+    match Session::new(settings) {
+        Ok(mut session) => match run_session(&mut session, steps) {
+            Ok(run) => Ok(RecordedSession { session, run }),
+            Err(_) => Err(NewRunError::OutOfMemory),
+        },
+        Err(fault) => Err(NewRunError::Settings(fault)),
+    }
 }
 
 /// Makes one call, and returns its answer.

@@ -6,14 +6,26 @@ use super::Receiver;
 use crate::buffer::PoppedUnit;
 use crate::codec::Depacketizer;
 use crate::error::PacketError;
+use crate::memory::AllocError;
 use crate::stream::gated::follow_to;
+use crate::stream::pops::{Popped, sorted};
 use crate::stream::unit_times::extend_to;
 use crate::wire::Ticks;
 
 impl<B: Depacketizer> Receiver<B> {
     /// Does the same as [`Receiver::pop`], and writes the unit to memory that can be used again. See
     /// [`crate::jitter::jitter_buffer::JitterBuffer::pop_unit`].
+    #[inline(always)]
     pub fn pop_unit(
+        &mut self,
+        now: Ticks,
+        unit: &mut PoppedUnit,
+    ) -> Option<Result<Popped<()>, AllocError>> {
+        sorted(self.pop_unit_gated(now, unit))
+    }
+
+    /// Does the same, with out of memory as one of the faults.
+    fn pop_unit_gated(
         &mut self,
         now: Ticks,
         unit: &mut PoppedUnit,

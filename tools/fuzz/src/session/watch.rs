@@ -28,11 +28,15 @@ pub struct Watch {
 }
 
 impl Watch {
-    pub fn new(settings: SessionSettings, now: u64) -> Watch {
+    /// `None`: the settings are refused, as their check says.
+    pub fn new(settings: SessionSettings, now: u64) -> Option<Watch> {
         let has_report = settings.feedback.as_ref().is_some_and(|it| it.has_report);
         let (formats, max_streams) = (settings.formats.clone(), settings.max_streams);
+        let checked = settings.check();
         let session = Session::new(settings);
-        Watch {
+        assert_eq!(checked.err(), session.as_ref().err().copied());
+        let session = session.ok()?;
+        Some(Watch {
             now,
             formats,
             max_streams,
@@ -46,7 +50,7 @@ impl Watch {
             telephone: 0,
             is_drained: true,
             session,
-        }
+        })
     }
 
     pub fn receive(&mut self, datagram: &[u8]) {
@@ -55,6 +59,8 @@ impl Watch {
         let arrival = self.session.receive(Ticks(self.now), datagram);
         let arrival = arrival.expect("there is memory");
         self.note_telephone(&arrival, datagram);
+        let is_media = |format: &Format| format.payload_type == datagram[1] & 0x7f;
+        assert!(arrival != Arrival::Unknown || !self.formats.iter().any(is_media));
         *match arrival {
             Arrival::Rtcp => &mut self.counts.rtcp,
             Arrival::Malformed => &mut self.counts.malformed,
@@ -62,6 +68,7 @@ impl Watch {
             Arrival::Refused => &mut self.counts.refused,
             Arrival::Unassociated => &mut self.counts.unassociated,
             Arrival::Stream { .. } => &mut self.counts.ended,
+            _ => unreachable!("this version has no other"),
         } += 1;
     }
 
@@ -192,13 +199,14 @@ impl Watch {
                     .announced
                     .get_mut(&(ssrc, payload_type))
                     .expect("it is announced");
-                if let Ok(unit) = unit {
-                    let range = unit.seq_range();
-                    assert!(range.start().0 <= range.end().0);
-                    assert!(last.is_none_or(|last| last < range.start().0));
-                    *last = Some(range.end().0);
-                }
+                let range = unit.expect("there is memory").seq_range();
+                assert!(range.start().0 <= range.end().0);
+                assert!(last.is_none_or(|last| last < range.start().0));
+                *last = Some(range.end().0);
             }
+            Event::Refused {
+                ssrc, payload_type, ..
+            } => assert!(self.announced.contains_key(&(ssrc, payload_type))),
             Event::Telephone { payload_type, .. } => {
                 assert_eq!(payload_type, 97);
                 self.telephone -= 1;
@@ -216,6 +224,7 @@ impl Watch {
             } => {
                 assert!(self.announced.remove(&(ssrc, payload_type)).is_some());
             }
+            _ => unreachable!("this version has no other"),
         }
     }
 

@@ -3,6 +3,7 @@
 //!
 //!   orders HELD ROUNDS     nanoseconds of a packet, for each order: a copy of its bytes, the buffer, the earlier form of it, a map
 //!   orders memory          bytes and allocations, for buffers that hold 0 to 65,536 packets of Opus
+//!   orders spike           the longest pop that a peer can cause before 60,000 packets that are no frame; fails above 2,000 nanoseconds
 //!
 //! All forms take turns in one run, and the least time of each counts. The earlier form keeps its packets in two plain queues
 //! (rust/tests/buffer_beside). The map is a `BTreeMap` of the same packets, which looks for no frames and releases in order.
@@ -45,6 +46,10 @@ static COUNTING: Counting = Counting;
 
 const SIZE: usize = 120;
 const LIMIT: usize = 65_536;
+/// The frames and the packets of `orders spike`, and its bound in nanoseconds.
+const FRAMES: usize = 256;
+const JUNK: u64 = 60_000;
+const LONGEST: u128 = 2_000;
 
 /// In which order packets come, and what is held before.
 #[derive(Clone, Copy, PartialEq)]
@@ -265,6 +270,31 @@ fn least(order: Order, held: usize, rounds: usize) -> [f64; 4] {
     least
 }
 
+/// The longest pop in nanoseconds: of each pop the least time of some rounds counts. Frames of one packet are held, packets that
+/// are no frame above them, and one frame above these. So once the frames below have left, the next one is far away. The first
+/// pops do not count: after so many pushes their packets are in no cache.
+fn longest_pop(rounds: usize) -> u128 {
+    let mut frame = [7; SIZE];
+    frame[0] = 0x10;
+    let mut least = [u128::MAX; FRAMES];
+    for _ in 0..rounds {
+        let mut form = Now::with_hold_back(0);
+        // The memory into which it pops is there.
+        form.push(0, &frame);
+        form.pop();
+        (1..=FRAMES as u64).for_each(|it| form.push(it, &frame));
+        (0..JUNK).for_each(|it| form.push(1_000 + 32 * it, &[0; SIZE]));
+        form.push(1_000 + 32 * JUNK, &frame);
+        for least in &mut least {
+            let began = Instant::now();
+            assert!(form.pop());
+            *least = (*least).min(began.elapsed().as_nanos());
+        }
+        assert_eq!(form.0.ready(), 1);
+    }
+    least.into_iter().skip(FRAMES / 2).max().unwrap()
+}
+
 fn print_memory() {
     println!(
         "| held | bytes in all | a packet beyond its payload | allocations a packet | bytes once emptied |"
@@ -306,6 +336,11 @@ fn main() {
     let words: Vec<String> = std::env::args().skip(1).collect();
     match &words[..] {
         [it] if it == "memory" => print_memory(),
+        [it] if it == "spike" => {
+            let longest = longest_pop(30);
+            println!("the longest pop before {JUNK} packets that are no frame: {longest} ns");
+            assert!(longest <= LONGEST, "more than {LONGEST} ns");
+        }
         [held, rounds] => {
             let (held, rounds) = (held.parse().unwrap(), rounds.parse().unwrap());
             for (order, name) in ORDERS {
@@ -316,6 +351,6 @@ fn main() {
                 );
             }
         }
-        _ => panic!("orders HELD ROUNDS, or orders memory"),
+        _ => panic!("orders HELD ROUNDS, orders memory, or orders spike"),
     }
 }

@@ -14,7 +14,7 @@
 //! The difference of two runs under callgrind, divided by the difference of their datagrams, is what a datagram takes.
 
 use codec_payload::session::{Event, FeedbackSettings, Format, Session, SessionSettings};
-use codec_payload::stream::{Receiver, ReceiverSettings};
+use codec_payload::stream::{Popped, Receiver, ReceiverSettings};
 use codec_payload::{Codec, CodecDepacketizer, CodecSpec, Frequency, PoppedUnit, RtpMeta, Ticks};
 
 const VP8: u8 = 96;
@@ -47,8 +47,8 @@ fn session(kind: &str, streams: u32) -> Session {
         pli: requests,
         ..Format::new(payload_type, spec(is_video))
     });
-    settings.feedback = requests.then(|| FeedbackSettings::live(1));
-    Session::new(settings)
+    settings.feedback = requests.then(|| FeedbackSettings::live(1, b"me@host".to_vec()));
+    Session::new(settings).expect("settings that can be met")
 }
 
 /// A receiver with the settings that a session gives to its streams.
@@ -116,16 +116,16 @@ impl Load {
         if way == "bare" {
             let receiver = &mut self.receivers[place];
             receiver.receive(now, datagram).unwrap();
-            while let Some(unit) = receiver.pop(now) {
-                self.units += u64::from(unit.is_ok());
+            while let Some(popped) = receiver.pop(now) {
+                self.units += u64::from(matches!(popped, Ok(Popped::Unit(_))));
             }
             return;
         }
         if way == "unit" {
             let receiver = &mut self.receivers[place];
             receiver.receive(now, datagram).unwrap();
-            while let Some(answer) = receiver.pop_unit(now, &mut self.unit) {
-                self.units += u64::from(answer.is_ok());
+            while let Some(popped) = receiver.pop_unit(now, &mut self.unit) {
+                self.units += u64::from(matches!(popped, Ok(Popped::Unit(()))));
             }
             return;
         }

@@ -2,7 +2,7 @@ use Rattle.std.proofs.Common.{◌≡◌, ◌∙◌, ℕ, zero, suc, ◌+◌, ◌
 use Rattle.std.specs.Global.{Vec}
 use Rattle.std.proofs.lemmas.List.{length-map}
 use Rattle.codec_payload_history.specs.Histories.{IsFault, Keeps}
-use Rattle.codec_payload_wire.specs.HistoryRuns.{IsPacket, KeepsAll, KeepsSome}
+use Rattle.codec_payload_wire.specs.HistoryRuns.{IsPacket, KeepsAll, KeepsOne, KeepsSome}
 use Rattle.codec_payload_wire.specs.WireRuns.{bytes_in}
 use Rattle.codec_payload_wire.proofs.history_run.keep_all.Goals as goal
 
@@ -22,7 +22,8 @@ items_at (x ∷ vs) (suc i) v within is = items_at vs i v (omega (arith, within)
 pub loop-datagram-preserved : goal.loop-datagram-preserved
 loop-datagram-preserved c =
     let is = items_from c.args.datagrams.now c.loop-datagram.datagram-index c.datagram-item.result c.loop-datagram-test.true c.datagram-item.is in
-    let kept : Keeps c.loop-datagram.history c.datagram-item.result.items c.keep.new.self = rw c.deref.ensures.value at c.in-Ok.ensures.ok in
+    let keeps : Keeps c.loop-datagram.history c.datagram-item.result.items c.in-Ok.field-0 c.keep.new.self = rw c.deref.ensures.value at c.in-Ok.ensures.ok in
+    let kept : KeepsOne c.loop-datagram.history c.datagram-item.result.items c.keep.new.self = (c.in-Ok.field-0, keeps) in
     record {
       keeps = λ t later. c.loop-datagram.invariant.keeps t (subst (λ (ds : List (List ℕ)). KeepsAll c.loop-datagram.history ds t) (sym is) (c.keep.new.self, kept, later));
       stops = λ t later. c.loop-datagram.invariant.stops t (subst (λ (ds : List (List ℕ)). KeepsSome c.loop-datagram.history ds t) (sym is) (inr (c.keep.new.self, kept, later)));

@@ -1,11 +1,18 @@
-use Rattle.std.proofs.Common.{◌≡◌}
+use Rattle.std.proofs.Common.{◌≡◌, Some, Result, Ok, arith, subst}
+use Rattle.std.specs.declared.alloc.AllocError.{AllocError}
+use Rattle.codec_payload_buffer.specs.Release.{Release}
+use Rattle.codec_payload_stream.specs.OwnSessions.{OwnPopsGated}
+use Rattle.codec_payload_stream.specs.Pops.{answer_of}
+use Rattle.codec_payload_stream.specs.declared.pops.Popped.{Popped}
+use Rattle.codec_payload_stream.specs.declared.pops.Popped.TheVariants as popped
 use Rattle.codec_payload_wire.proofs.run.pop_at.Goals as goal
-use Rattle.codec_payload_wire.proofs.run.pop_at.Goals.{in_default-via-in-Some+in-Err+in-ErrShortPacket-1, in_default-via-in-Some+in-Ok-1, in_default-via-in-None-1}
 
--- in each case the answer is the result of the pop
-pub returns-in_default-clause-own : goal.returns-in_default-clause-own
-returns-in_default-clause-own g c = elim c.in_default-1.branch [
-  | in_default-via-in-Some+in-Err+in-ErrShortPacket-1 w ↦ let e : c.pop.result ≡ c.in_default-1.answer = cc (w.answer-is) in rw e at c.pop.ensures.own
-  | in_default-via-in-Some+in-Ok-1 w ↦ let e : c.pop.result ≡ c.in_default-1.answer = cc (w.answer-is) in rw e at c.pop.ensures.own
-  | in_default-via-in-None-1 w ↦ let e : c.pop.result ≡ c.in_default-1.answer = cc (w.answer-is) in rw e at c.pop.ensures.own
-]
+pub returns-in-Some-Ok-Unit-clause-own : goal.returns-in-Some-Ok-Unit-clause-own
+returns-in-Some-Ok-Unit-clause-own g c = λ other.
+    let is : c.in-Some-Ok-Unit.field-0 ≡ Ok (popped.Unit c.in-Some-Ok-Unit.unit) = grind (arith, c.in-Some-Ok-Unit.field-0-is, c.in-Some-Ok-Unit.field-0-0-is, c.in-Some-Ok-Unit.unit-is) in
+    subst (λ (r : Result (Popped Release) AllocError). OwnPopsGated g.D.Depacketizer.state g.D.Depacketizer.depacketize_step c.args.now.0 c.args.receiver.now (answer_of (Some r))) is (c.in-Some-Ok-Unit.ensures.own other)
+
+pub returns-in-Some-Ok-Refused-clause-own : goal.returns-in-Some-Ok-Refused-clause-own
+returns-in-Some-Ok-Refused-clause-own g c = λ other.
+    let is : c.in-Some-Ok-Refused.field-0 ≡ Ok (popped.Refused c.in-Some-Ok-Refused.fault) = grind (arith, c.in-Some-Ok-Refused.field-0-is, c.in-Some-Ok-Refused.field-0-0-is, c.in-Some-Ok-Refused.fault-is) in
+    subst (λ (r : Result (Popped Release) AllocError). OwnPopsGated g.D.Depacketizer.state g.D.Depacketizer.depacketize_step c.args.now.0 c.args.receiver.now (answer_of (Some r))) is (c.in-Some-Ok-Refused.ensures.own other)

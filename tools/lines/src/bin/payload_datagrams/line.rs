@@ -1,12 +1,12 @@
 //! The lines of the input.
 
+use crate::codecs::{codec_named, is_octet_aligned};
+use crate::digits::hex_field;
 use crate::setup::{SenderSetup, Setting, Stream};
 use codec_payload::jitter::WaitLimits;
 use codec_payload::stream::{RedSettings, Retransmission};
 use codec_payload::{CodecSpec, Frequency};
-use lines::codecs::{codec_named, is_octet_aligned};
-use lines::digits::hex_field;
-use lines::numbers::{number, truth};
+use payload_lines::numbers::{decimal, truth};
 
 /// A line of the input, without its newline.
 #[derive(Debug)]
@@ -130,8 +130,13 @@ fn stream_of(codec: &str, rate: &str, payload_type: &str) -> Option<Stream> {
     })
 }
 
+/// The number that decimal digits spell, if it fits the type.
+fn number<T: TryFrom<u64>>(field: &str) -> Option<T> {
+    T::try_from(decimal(field)?).ok()
+}
+
 /// A number, or `-` for none.
-fn optional<T: std::str::FromStr>(field: &str) -> Option<Option<T>> {
+fn optional<T: TryFrom<u64>>(field: &str) -> Option<Option<T>> {
     match field {
         "-" => Some(None),
         _ => number(field).map(Some),

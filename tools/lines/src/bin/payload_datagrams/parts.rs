@@ -1,7 +1,7 @@
 //! The parts of an RTP packet, printed.
 
+use crate::digits::hex_text;
 use codec_payload::rtp::{RtpPacket, is_rtcp};
-use lines::digits::hex_text;
 
 /// The type of a datagram: `rtcp`, the parts of an RTP packet, or the fault.
 pub fn packet_lines(bytes: &[u8]) -> String {

@@ -104,7 +104,7 @@ impl Player {
             Event::Counters => counters_line(&receiver.counters(), receiver.held()),
             Event::Report => report_line(receiver.report()),
             Event::Finish => {
-                receiver.finish();
+                receiver.finish().ok()?;
                 return Some(());
             }
             Event::Restart => {

@@ -1,10 +1,10 @@
 //! The lines of the output.
 
+use crate::digits::hex_text;
 use codec_payload::jitter::{MissingNumbers, Outcome};
 use codec_payload::sender::Sender;
-use codec_payload::stream::{Counters, ReceptionReport};
-use codec_payload::{Depacketized, PacketError, Ticks};
-use lines::digits::hex_text;
+use codec_payload::stream::{Counters, Popped, ReceptionReport};
+use codec_payload::{AllocError, PacketError, Ticks};
 
 /// The word of an outcome.
 pub fn word_of(outcome: Outcome) -> &'static str {
@@ -20,15 +20,17 @@ pub fn word_of(outcome: Outcome) -> &'static str {
         Outcome::OtherStream => "other stream",
         Outcome::Rtcp => "rtcp",
         Outcome::Undecided => "undecided",
+        _ => unreachable!("this version has no other"),
     }
 }
 
 /// What a pop gave, and the RTP time of the latest unit.
-pub fn popped_line(popped: Option<Result<Depacketized, PacketError>>, time: Option<u64>) -> String {
+pub fn popped_line(popped: Option<Result<Popped, AllocError>>, time: Option<u64>) -> String {
     match popped {
         None => "none".into(),
-        Some(Err(fault)) => format!("fault {}", fault.number()),
-        Some(Ok(unit)) => {
+        Some(Err(_)) => format!("fault {}", PacketError::OutOfMemory.number()),
+        Some(Ok(Popped::Refused(fault))) => format!("fault {}", fault.number()),
+        Some(Ok(Popped::Unit(unit))) => {
             let numbers = unit.seq_range();
             let (first, last) = (numbers.start().0, numbers.end().0);
             let contiguous = u8::from(unit.contiguous);

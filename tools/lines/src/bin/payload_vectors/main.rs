@@ -1,24 +1,27 @@
 //! Reads a codec, samples and steps from the standard input, runs the steps, and prints the sent packets and the released units
-//! (docs/PROGRAM.md).
+//! (docs/PROGRAM.md). The other files are the proved program as plain Rust.
 
+// The proved sources compare with each bound.
+#![allow(clippy::manual_range_contains)]
+
+mod fields;
 mod line;
 mod print;
 mod red_line;
 mod run;
 mod script;
 
-use lines::memory::OrEnd;
-use script::Script;
+use payload_lines::memory::OrEnd;
+use payload_lines::streams::finish;
+use run::run_lines;
 use std::process::ExitCode;
 
 #[global_allocator]
 static ALLOCATOR: OrEnd = OrEnd;
 
-/// The greatest length of the input, in bytes.
-const INPUT_LIMIT: u64 = 1_048_576;
-
 fn main() -> ExitCode {
-    lines::streams::run(INPUT_LIMIT, |input| {
-        Ok(run::output_of(&Script::read(input)?))
-    })
+    let mut input = std::io::stdin().lock();
+    let mut output = std::io::stdout().lock();
+    let answer = run_lines(&mut input, &mut output);
+    ExitCode::from(finish(answer, &mut std::io::stderr()))
 }

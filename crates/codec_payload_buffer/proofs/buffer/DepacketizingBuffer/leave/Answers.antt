@@ -1,12 +1,13 @@
 use Rattle.std.proofs.Common.{◌≡◌, ◌∙◌, ap, sym, refl, arith, List, map, drop, Some}
 use Rattle.std.proofs.lemmas.List.{length-map, drop-map}
 use Rattle.codec_payload_buffer.specs.Buffer.{state_of}
+use Rattle.codec_payload_buffer.specs.Frames.{frames}
 use Rattle.codec_payload_buffer.specs.Held.{Held, held_of, above}
 use Rattle.codec_payload_buffer.specs.Scan.{end_of}
 use Rattle.codec_payload_buffer.specs.Steps.{State, due_of}
 use Rattle.codec_payload_buffer.proofs.RowEnds.{left_told}
-use Rattle.codec_payload_buffer.proofs.ToldFrames.{kept_left}
-use Rattle.codec_payload_buffer.proofs.PopLemmas.{above_rises, due_is_first, sound_left}
+use Rattle.codec_payload_buffer.proofs.IndexLemmas.{left_index}
+use Rattle.codec_payload_buffer.proofs.PopLemmas.{due_is_first, sound_left}
 use Rattle.codec_payload_buffer.proofs.RangeLemmas.{end_within, drop_above}
 use Rattle.codec_payload_buffer.proofs.buffer.DepacketizingBuffer.leave.Goals as goal
 
@@ -15,37 +16,6 @@ drop_front-requires g c =
     let items = c.self.inside.packets.items in
     let count : c.args.count ≡ end_of c.args.frame.last (map held_of items) = c.requires.count ∙ ap (λ (s : State). end_of c.args.frame.last s.held) (sym c.self.view_is) in
     omega (arith, count, end_within c.args.frame.last (map held_of items), length-map items held_of)
-
-pub drop_first-requires-clause-rises : goal.drop_first-requires-clause-rises
-drop_first-requires-clause-rises g c =
-    let s = state_of c.self.inside in
-    let last = c.args.frame.last in
-    let left : map held_of c.give_back.new.self.items ≡ above last s.held =
-    ap (map held_of) (c.give_back.ensures ∙ c.drop_front.ensures) ∙ sym (drop-map held_of c.args.count c.self.inside.packets.items)
-    ∙ ap (λ k. drop k s.held) (c.requires.count ∙ ap (λ (t : State). end_of last t.held) (sym c.self.view_is)) ∙ drop_above last s.held c.self.invariant.sound.rises in
-    rw left (above_rises last s.held c.self.invariant.sound.rises)
-
-pub drop_first-requires-clause-told : goal.drop_first-requires-clause-told
-drop_first-requires-clause-told g c =
-    let s = state_of c.self.inside in
-    let last = c.args.frame.last in
-    let left : map held_of c.give_back.new.self.items ≡ above last s.held =
-    ap (map held_of) (c.give_back.ensures ∙ c.drop_front.ensures) ∙ sym (drop-map held_of c.args.count c.self.inside.packets.items)
-    ∙ ap (λ k. drop k s.held) (c.requires.count ∙ ap (λ (t : State). end_of last t.held) (sym c.self.view_is)) ∙ drop_above last s.held c.self.invariant.sound.rises in
-    let due : due_of s ≡ Some c.args.frame = ap due_of c.self.view_is ∙ c.requires.due in
-    let count : c.args.count ≡ end_of last s.held = c.requires.count ∙ ap (λ (t : State). end_of last t.held) (sym c.self.view_is) in
-    let drops : c.give_back.new.self.items ≡ drop (end_of last s.held) c.self.inside.packets.items = c.give_back.ensures ∙ c.drop_front.ensures ∙ ap (λ k. drop k c.self.inside.packets.items) count in
-    left_told c.self.inside.packets.items c.give_back.new.self.items c.args.frame c.self.invariant.sound.rises c.self.invariant.told (due_is_first s c.args.frame due) drops left
-
-pub drop_first-requires-clause-kept : goal.drop_first-requires-clause-kept
-drop_first-requires-clause-kept g c =
-    let s = state_of c.self.inside in
-    let last = c.args.frame.last in
-    let left : map held_of c.give_back.new.self.items ≡ above last s.held =
-    ap (map held_of) (c.give_back.ensures ∙ c.drop_front.ensures) ∙ sym (drop-map held_of c.args.count c.self.inside.packets.items)
-    ∙ ap (λ k. drop k s.held) (c.requires.count ∙ ap (λ (t : State). end_of last t.held) (sym c.self.view_is)) ∙ drop_above last s.held c.self.invariant.sound.rises in
-    let due : due_of s ≡ Some c.args.frame = ap due_of c.self.view_is ∙ c.requires.due in
-    kept_left s.held (map held_of c.give_back.new.self.items) c.args.frame _ _ c.self.invariant.sound.rises (due_is_first s c.args.frame due) c.self.invariant.kept left
 
 pub invariant_of-self : goal.invariant_of-self
 invariant_of-self g c =
@@ -63,7 +33,7 @@ invariant_of-self g c =
       least = c.self.invariant.least;
       most = c.self.invariant.most;
       told = left_told c.self.inside.packets.items c.give_back.new.self.items c.args.frame c.self.invariant.sound.rises c.self.invariant.told first drops left;
-      kept = c.drop_first.ensures.kept;
+      frames_are = c.drop_first.ensures ∙ ap (drop 1) c.self.invariant.frames_are ∙ (left_index s.held c.args.frame c.self.invariant.sound.rises first).1 ∙ ap frames (sym left);
     }
 
 pub returns : goal.returns

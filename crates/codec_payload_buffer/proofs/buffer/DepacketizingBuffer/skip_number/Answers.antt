@@ -17,5 +17,5 @@ invariant_of-self g c =
       least = c.self.invariant.least;
       most = c.self.invariant.most;
       told = c.self.invariant.told;
-      kept = c.self.invariant.kept;
+      frames_are = c.self.invariant.frames_are;
     }

@@ -23,7 +23,7 @@ invariant_of-self-2 g c =
       least = c.self.invariant.least;
       most = c.self.invariant.most;
       told = c.store_entry-two.ensures.told;
-      kept = c.store_entry-two.ensures.kept;
+      frames_are = c.store_entry-two.ensures.complete;
     }
 
 pub returns-clause-ok : goal.returns-clause-ok

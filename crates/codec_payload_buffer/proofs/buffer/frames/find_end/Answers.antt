@@ -1,10 +1,8 @@
-use Rattle.std.proofs.Common.{arith}
 use Rattle.codec_payload_buffer.proofs.FramePlaces.{frames_by_end, end_from_point}
 use Rattle.codec_payload_buffer.proofs.buffer.frames.find_end.Goals as goal
 
-pub place_of_number-requires : goal.place_of_number-requires
-place_of_number-requires c = frames_by_end c.args.known.now.items c.requires
+pub place_near-requires : goal.place_near-requires
+place_near-requires c = frames_by_end c.args.complete.now.items c.requires
 
 pub returns : goal.returns
-returns c = end_from_point c.args.last c.args.known.now.items c.place_of_number.result c.place_of_number.ensures.point
-    (omega (arith, c.place_of_number.ensures.bound, c.args.known.now.ok.0))
+returns c = end_from_point c.args.last c.args.complete.now.items c.place_near.result c.place_near.ensures.point c.place_near.ensures.bound

@@ -1,12 +1,13 @@
-use Rattle.codec_payload_buffer.proofs.KnownLemmas.{kept_new, kept_same}
+use Rattle.std.proofs.Common.{◌≡◌, ◌∙◌, ◌≤◌, sym, arith, length}
+use Rattle.std.proofs.lemmas.Bool.Decides.{nat_tests}
+use Rattle.codec_payload_buffer.specs.Rows.{frame_place}
+use Rattle.codec_payload_buffer.proofs.FramePlaces.{frame_place_within, noted_last}
 use Rattle.codec_payload_buffer.proofs.buffer.frames.note.Goals as goal
 
-pub returns-then-is_new-clause-kept : goal.returns-then-is_new-clause-kept
-returns-then-is_new-clause-kept c = λ all rise kept new.
-    let one = rw c.in-Some.is at new in
-    rw c.in-Some.is (kept_new c.in-Some.frame all _ _ _ c.args.is_new rise kept one c.if-is_new.true (c.note_known.ensures.kept all kept) (c.note_known.ensures.some all kept))
-
-pub returns-else-is_new-clause-kept : goal.returns-else-is_new-clause-kept
-returns-else-is_new-clause-kept c = λ all rise kept new.
-    let one = rw c.in-Some.is at new in
-    rw c.in-Some.is (kept_same c.in-Some.frame all _ _ _ c.args.is_new rise kept one c.if-is_new.false (c.note_known.ensures.kept all kept) (c.note_known.ensures.some all kept))
+pub returns-else-is_within-clause-frames : goal.returns-else-is_within-clause-frames
+returns-else-is_within-clause-frames c =
+    let items = c.args.complete.now.items in
+    let last = c.in-Some.frame.last in
+    let over : length items ≤ frame_place last items = grind (arith, nat_tests, sym c.is_within.ensures ∙ c.if-is_within.false) in
+    let at : frame_place last items ≡ length items = omega (arith, over, frame_place_within last items) in
+    rw c.in-Some.is (c.push_back.ensures.items ∙ sym (noted_last c.in-Some.frame items at))

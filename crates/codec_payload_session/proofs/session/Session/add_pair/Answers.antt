@@ -3,12 +3,14 @@ use Rattle.codec_payload_session.specs.Pairs.{Pairs, with_pair}
 use Rattle.codec_payload_session.specs.Ports.{Session}
 use Rattle.codec_payload_session.specs.declared.formats.SsrcPair.{SsrcPair}
 use Rattle.codec_payload_session.proofs.AssociationLemmas.{adds_or_stays, named_pair}
+use Rattle.codec_payload_session.proofs.CheckLemmas.{paired_usable}
 use Rattle.codec_payload_session.proofs.session.Session.add_pair.Goals as goal
 
 pub invariant_of-self : goal.invariant_of-self
 invariant_of-self c =
     let pair : SsrcPair = record { ssrc = c.args.ssrc; retransmission = c.args.retransmission } in
     record {
+      usable = paired_usable c.add_pair.result pair c.self.inside.settings c.self.inside.streams c.add_pair.new.settings c.add_pair.new.streams c.add_pair.ensures.ok c.add_pair.ensures.settings c.self.invariant.usable;
       port = adds_or_stays c.add_pair.result pair c.self.inside.settings c.self.inside.streams c.add_pair.new.settings c.add_pair.new.streams c.self.inside.counts c.add_pair.ensures.ok
           c.add_pair.ensures.settings c.add_pair.ensures.streams c.self.invariant.port;
       few = c.self.invariant.few;

@@ -7,6 +7,7 @@ use Rattle.codec_payload_session.proofs.session.Session.end.Goals as goal
 pub invariant_of-self : goal.invariant_of-self
 invariant_of-self c =
     record {
+      usable = c.self.invariant.usable;
       port = subst (λ (p : Port). IsPort c.self.inside.settings p c.self.inside.counts) (sym c.leave.ensures)
           (left_keeps c.self.inside.settings c.self.inside.counts _ _ _ c.self.inside.streams.finished c.self.inside.streams c.self.invariant.port);
       few = c.self.invariant.few;

@@ -7,12 +7,14 @@ use Rattle.codec_payload_session.proofs.session.Session.poll.Goals as goal
 
 pub invariant_of-self : goal.invariant_of-self
 invariant_of-self c = record {
+  usable = c.self.invariant.usable;
   port = c.self.invariant.port;
   few = stay_fewer c.self.inside.telephone c.take.result c.take.new.self c.take.ensures c.self.invariant.few;
 }
 
 pub invariant_of-self-in-None : goal.invariant_of-self-in-None
 invariant_of-self-in-None c = record {
+  usable = c.self.invariant.usable;
   port = c.self.invariant.port;
   few = stay_fewer c.self.inside.telephone c.take.result c.take.new.self c.take.ensures c.self.invariant.few;
 }

@@ -6,11 +6,13 @@ use Rattle.codec_payload_session.specs.Telephone.{Queue, is_without_media, telep
 use Rattle.codec_payload_session.specs.declared.formats.SsrcPair.{SsrcPair}
 use Rattle.codec_payload_session.specs.declared.session.ArrivalCounts.{ArrivalCounts}
 use Rattle.codec_payload_session.proofs.AssociationLemmas.{associates, takes_in_by_keeps}
+use Rattle.codec_payload_session.proofs.CheckLemmas.{takes_usable}
 use Rattle.codec_payload_session.proofs.TelephoneLemmas.{queues_settled, stay_few}
 use Rattle.codec_payload_session.proofs.session.Session.receive.Goals as goal
 
 pub invariant_of-self : goal.invariant_of-self
 invariant_of-self c = record {
+  usable = c.self.invariant.usable;
   port = c.self.invariant.port;
   few = subst (λ (q : Queue). length q.waiting ≤ 32) (sym c.in_err-noted.ensures.unchanged) c.self.invariant.few;
 }
@@ -21,6 +23,8 @@ invariant_of-self-2 c =
     let told : Option Packet = telephone_at c.self.inside.settings c.args.datagram.now in
     let pair : Option SsrcPair = pair_at c.self.inside.settings c.args.now.0 c.args.datagram.now c.self.inside.streams.streams in
     record {
+      usable = takes_usable pair c.args.now c.args.datagram.now c.self.inside.settings c.self.inside.streams c.take_in-answer.result c.take_in-answer.new.settings c.take_in-answer.new.streams
+          c.take_in-answer.ensures c.self.invariant.usable;
       port = subst (λ (n : ArrivalCounts). IsPort c.take_in-answer.new.settings c.take_in-answer.new.streams n) (sym c.with_answer-self-inside.ensures)
           (takes_in_by_keeps pair c.args.now c.args.datagram.now c.self.inside.settings c.self.inside.streams c.take_in-answer.result c.take_in-answer.new.settings c.take_in-answer.new.streams
           c.self.inside.counts c.take_in-answer.ensures c.self.invariant.port);

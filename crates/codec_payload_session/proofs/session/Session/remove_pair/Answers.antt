@@ -11,6 +11,7 @@ pub invariant_of-self : goal.invariant_of-self
 invariant_of-self c =
     let changed : SessionSettings = record c.self.inside.settings { pairs = c.remove_pair.new.pairs } in
     record {
+      usable = c.self.invariant.usable;
       port = subst (λ (p : Port). IsPort changed p c.self.inside.counts) (sym c.pair.ensures)
           (paired_keeps c.self.inside.settings changed c.self.inside.counts c.args.ssrc c.deref.result.now c.self.inside.streams refl c.self.invariant.port);
       few = c.self.invariant.few;

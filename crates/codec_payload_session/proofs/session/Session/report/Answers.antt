@@ -8,6 +8,7 @@ use Rattle.codec_payload_session.proofs.session.Session.report.Goals as goal
 
 pub invariant_of-self : goal.invariant_of-self
 invariant_of-self c = record {
+  usable = c.self.invariant.usable;
   port = reports_keep c.self.inside.settings c.self.inside.counts _ _ _ _ c.self.inside.streams c.report.new.self c.report.ensures.reports c.self.invariant.port;
   few = c.self.invariant.few;
 }

@@ -6,6 +6,7 @@ use Rattle.codec_payload_session.proofs.session.Session.report_streams.Goals as 
 
 pub invariant_of-self : goal.invariant_of-self
 invariant_of-self c = record {
+  usable = c.self.invariant.usable;
   port = report_keeps c.self.inside.settings.feedback c.self.inside.settings c.self.inside.counts c.self.inside.settings.tick_rate c.args.now.0 c.self.inside.report_due c.self.inside.streams
       c.report_due-packet.result c.report_due-packet.new.due c.report_due-packet.new.self c.report_due-packet.ensures c.self.invariant.port;
   few = c.self.invariant.few;

@@ -6,12 +6,14 @@ use Rattle.codec_payload_session.proofs.session.Session.turn.Goals as goal
 
 pub invariant_of-self : goal.invariant_of-self
 invariant_of-self c = record {
+  usable = c.self.invariant.usable;
   port = turn_keeps c.args.now c.self.inside.settings.idle_timeout c.self.inside.settings c.self.inside.counts c.self.inside.streams c.turn.new.self c.turn.result c.turn.ensures c.self.invariant.port;
   few = c.self.invariant.few;
 }
 
 pub invariant_of-self-in-None : goal.invariant_of-self-in-None
 invariant_of-self-in-None c = record {
+  usable = c.self.invariant.usable;
   port = turn_keeps c.args.now c.self.inside.settings.idle_timeout c.self.inside.settings c.self.inside.counts c.self.inside.streams c.turn.new.self c.turn.result c.turn.ensures c.self.invariant.port;
   few = c.self.invariant.few;
 }

@@ -1,10 +1,14 @@
-use Rattle.std.proofs.Common.{◌≡◌, ◌∙◌, ◌+◌, ◌-◌, ◌^◌, ℕ, Ok, ap, min, refl, rules, subst}
+use Rattle.std.proofs.Common.{◌≡◌, ◌∙◌, ◌+◌, ◌-◌, ◌^◌, ℕ, Ok, ap, min, refl, rules, subst, sym}
 use Rattle.codec_payload_session.specs.Arrivals.{Port, TakesInAs, goodbye_at, left_where}
 use Rattle.codec_payload_session.specs.Reports.{noted_at}
 use Rattle.codec_payload_session.specs.declared.session.Arrival.TheVariants as arrivals
 use Rattle.codec_payload_session.specs.declared.sort.Sorted.{Sorted}
 use Rattle.codec_payload_session.specs.declared.stream.Ending.TheVariants as endings
+use Rattle.codec_payload_session.proofs.CheckLemmas.{media_begins}
 use Rattle.codec_payload_session.proofs.streams.Streams.take_in.Goals as goal
+
+pub take_media-requires : goal.take_media-requires
+take_media-requires c = media_begins c.args.settings.now c.args.datagram.now c.in-Media.ssrc c.in-Media.format c.requires (sym c.in-Media.ensures)
 
 pub returns-in-Rtcp : goal.returns-in-Rtcp
 returns-in-Rtcp c =

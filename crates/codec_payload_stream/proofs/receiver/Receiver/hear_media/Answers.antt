@@ -1,4 +1,4 @@
-use Rattle.std.proofs.Common.{◌≡◌, ◌∙◌, refl, ap, subst, true, Some, Ok}
+use Rattle.std.proofs.Common.{◌≡◌, ◌∙◌, refl, ap, subst, true, Ok}
 use Rattle.codec_payload_rtp.specs.RtpValues.{packet_of}
 use Rattle.codec_payload_stream.specs.Choice.{Choosing, latest_after, origin_of}
 use Rattle.codec_payload_stream.specs.Kinds.{Datagram, WithMedia}

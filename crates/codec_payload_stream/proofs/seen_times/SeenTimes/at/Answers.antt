@@ -1,4 +1,4 @@
-use Rattle.std.proofs.Common.{◌≡◌, ◌∙◌, ◌<◌, arith, sym, ℕ, length}
+use Rattle.std.proofs.Common.{◌∙◌, arith, sym}
 use Rattle.codec_payload_stream.proofs.SeenLemmas.{place_is}
 use Rattle.codec_payload_stream.specs.declared.seen_times.Kind.TheVariants.{Nothing}
 use Rattle.codec_payload_stream.proofs.seen_times.SeenTimes.at.Goals as goal

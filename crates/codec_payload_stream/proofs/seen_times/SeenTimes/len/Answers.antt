@@ -1,4 +1,4 @@
-use Rattle.std.proofs.Common.{◌≡◌, ◌∙◌, ap, sym, length}
+use Rattle.std.proofs.Common.{◌∙◌, ap, sym, length}
 use Rattle.codec_payload_stream.proofs.SeenLemmas.{length_places}
 use Rattle.codec_payload_stream.proofs.seen_times.SeenTimes.len.Goals as goal
 

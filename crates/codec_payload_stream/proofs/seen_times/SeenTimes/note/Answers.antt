@@ -1,6 +1,6 @@
-use Rattle.std.proofs.Common.{◌≡◌, ◌∙◌, ◌+◌, ◌%◌, ap, ℕ, List, Option, map, slice_set}
+use Rattle.std.proofs.Common.{◌∙◌, ◌+◌, ◌%◌, ap, ℕ, List, Option, map, slice_set}
 use Rattle.std.specs.List.{zip}
-use Rattle.codec_payload_stream.specs.SeenTimes.{Seen, seen_at, seen_with}
+use Rattle.codec_payload_stream.specs.SeenTimes.{seen_at}
 use Rattle.codec_payload_stream.specs.declared.seen_times.SeenTime.{SeenTime}
 use Rattle.codec_payload_stream.proofs.SeenLemmas.{set_place}
 use Rattle.codec_payload_stream.proofs.seen_times.SeenTimes.note.Goals as goal

@@ -1,0 +1,46 @@
+-- The numbers of faults of refused frames.
+use Rattle.std.proofs.Common.{◌≡◌, false, arith}
+use Rattle.std.specs.Prelude.{◌≢◌}
+use Rattle.codec_payload_core.specs.Faults.{fault_number}
+use Rattle.codec_payload_core.specs.declared.error.PacketError.{PacketError}
+use Rattle.codec_payload_core.specs.declared.error.PacketError.TheVariants as faults
+use Rattle.codec_payload_stream.specs.Pops.{is_memory}
+
+-- each is above 0, and none is out of memory
+pub some_number : (fault : PacketError) → is_memory fault ≡ false → fault_number fault ≢ 0
+some_number faults.ErrShortPacket refused = λ is. absurd (omega (arith, is))
+some_number faults.ErrPayloadTooLarge refused = λ is. absurd (omega (arith, is))
+some_number faults.ErrTooManySpatialLayers refused = λ is. absurd (omega (arith, is))
+some_number faults.ErrTooManyPDiff refused = λ is. absurd (omega (arith, is))
+some_number faults.ErrH265CorruptedPacket refused = λ is. absurd (omega (arith, is))
+some_number faults.ErrH266CorruptedPacket refused = λ is. absurd (omega (arith, is))
+some_number faults.ErrInvalidH265PacketType refused = λ is. absurd (omega (arith, is))
+some_number faults.ErrH265PACIPHESTooLong refused = λ is. absurd (omega (arith, is))
+some_number (faults.StapASizeLargerThanBuffer a b) refused = λ is. absurd (omega (arith, is))
+some_number (faults.NaluTypeIsNotHandled a) refused = λ is. absurd (omega (arith, is))
+some_number faults.ErrVP8CorruptedPacket refused = λ is. absurd (omega (arith, is))
+some_number faults.ErrVP9CorruptedPacket refused = λ is. absurd (omega (arith, is))
+some_number faults.ErrAv1CorruptedPacket refused = λ is. absurd (omega (arith, is))
+some_number faults.ErrRedCorruptedPacket refused = λ is. absurd (omega (arith, is))
+some_number (faults.InvalidTelephoneEvent a) refused = λ is. absurd (omega (arith, is))
+some_number faults.ErrAmrWbCorruptedPacket refused = λ is. absurd (omega (arith, is))
+some_number faults.OutOfMemory refused = absurd (cc)
+
+pub other_number : (fault : PacketError) → is_memory fault ≡ false → fault_number fault ≢ 17
+other_number faults.ErrShortPacket refused = λ is. absurd (omega (arith, is))
+other_number faults.ErrPayloadTooLarge refused = λ is. absurd (omega (arith, is))
+other_number faults.ErrTooManySpatialLayers refused = λ is. absurd (omega (arith, is))
+other_number faults.ErrTooManyPDiff refused = λ is. absurd (omega (arith, is))
+other_number faults.ErrH265CorruptedPacket refused = λ is. absurd (omega (arith, is))
+other_number faults.ErrH266CorruptedPacket refused = λ is. absurd (omega (arith, is))
+other_number faults.ErrInvalidH265PacketType refused = λ is. absurd (omega (arith, is))
+other_number faults.ErrH265PACIPHESTooLong refused = λ is. absurd (omega (arith, is))
+other_number (faults.StapASizeLargerThanBuffer a b) refused = λ is. absurd (omega (arith, is))
+other_number (faults.NaluTypeIsNotHandled a) refused = λ is. absurd (omega (arith, is))
+other_number faults.ErrVP8CorruptedPacket refused = λ is. absurd (omega (arith, is))
+other_number faults.ErrVP9CorruptedPacket refused = λ is. absurd (omega (arith, is))
+other_number faults.ErrAv1CorruptedPacket refused = λ is. absurd (omega (arith, is))
+other_number faults.ErrRedCorruptedPacket refused = λ is. absurd (omega (arith, is))
+other_number (faults.InvalidTelephoneEvent a) refused = λ is. absurd (omega (arith, is))
+other_number faults.ErrAmrWbCorruptedPacket refused = λ is. absurd (omega (arith, is))
+other_number faults.OutOfMemory refused = absurd (cc)

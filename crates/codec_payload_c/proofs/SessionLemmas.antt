@@ -1,0 +1,66 @@
+-- New sessions: the faults of their settings.
+use Rattle.std.proofs.Common.{◌≡◌, ◌∙◌, ◌&&◌, ℕ, List, Bool, true, false, not, if◌then◌else◌, Option, Some, None, Result, Ok, Err, is_some, length, ap, refl, sym}
+use Rattle.codec_payload_session.specs.Checks.{fault_of, feedback_fault, name_fault}
+use Rattle.codec_payload_session.specs.Ports.{Session, made_of, new_session}
+use Rattle.codec_payload_session.specs.declared.checks.SessionSettingsError.{SessionSettingsError}
+use Rattle.codec_payload_session.specs.declared.formats.FeedbackSettings.{FeedbackSettings}
+use Rattle.codec_payload_session.specs.declared.formats.SessionSettings.{SessionSettings as Settings}
+use Rattle.codec_payload_c.specs.SessionFormats.{AreSessionSettings, MatchFeedbackIf, fault_given}
+use Rattle.codec_payload_c.specs.declared.session_settings.SessionFeedback.{SessionFeedback}
+use Rattle.codec_payload_c.specs.declared.session_settings.SessionFormat.{SessionFormat}
+use Rattle.codec_payload_c.specs.declared.session_settings.SessionSettings.{SessionSettings}
+use Rattle.codec_payload_c.specs.declared.session_settings.SsrcPair.{SsrcPair}
+
+feedback_same : (b : Bool) (c : SessionFeedback) (t : Option FeedbackSettings) → MatchFeedbackIf b c t → feedback_fault t ≡ (if b then name_fault c.cname_len else None)
+feedback_same false c t got = ap feedback_fault got
+feedback_same true c None got = absurd got
+feedback_same true c (Some f) got = ap name_fault got.cname_len
+
+-- the session finds the fault of the settings from C
+pub fault_same : (s : SessionSettings) (formats : List SessionFormat) (no_media : List ℕ) (pairs : List SsrcPair) (t : Settings) → AreSessionSettings s formats no_media pairs t
+    → fault_of t ≡ fault_given s formats no_media
+fault_same s formats no_media pairs t are =
+    rw (
+      are.plain.limit,
+      are.plain.max_streams,
+      are.formats_are,
+      are.no_media_are,
+      are.telephone_events_are,
+      feedback_same s.has_feedback s.feedback t.feedback are.feedback_is,
+    ) refl
+
+made_none : (o : Option SessionSettingsError) (t : Settings) (x : Session) → Ok x ≡ made_of o t → o ≡ None
+made_none None t x is = refl
+made_none (Some fault) t x is = absurd (cc)
+
+pub made_new : (o : Option SessionSettingsError) (t : Settings) (x : Session) → Ok x ≡ made_of o t → x ≡ new_session t
+made_new None t x is = cc
+made_new (Some fault) t x is = absurd (cc)
+
+refused_some : (o : Option SessionSettingsError) (t : Settings) (e : SessionSettingsError) → Err e ≡ made_of o t → is_some o ≡ true
+refused_some None t e is = absurd (cc)
+refused_some (Some fault) t e is = refl
+
+all_true : (a b : Bool) (o : Option SessionSettingsError) → a ≡ true → b ≡ true → o ≡ None → (a && (b && not (is_some o))) ≡ true
+all_true true true None x y z = refl
+all_true true true (Some fault) x y z = absurd (cc)
+all_true true false o x y z = absurd (cc)
+all_true false b o x y z = absurd (cc)
+
+none_true : (a b : Bool) (o : Option SessionSettingsError) → is_some o ≡ true → (a && (b && not (is_some o))) ≡ false
+none_true true true (Some fault) some = refl
+none_true true true None some = absurd (cc)
+none_true true false o some = refl
+none_true false b o some = refl
+
+-- a session was made: the settings are in range
+pub range_of_made : (a b : Bool) (s : SessionSettings) (formats : List SessionFormat) (no_media : List ℕ) (pairs : List SsrcPair) (t : Settings) (x : Session)
+    → AreSessionSettings s formats no_media pairs t → a ≡ true → b ≡ true → Ok x ≡ made_of (fault_of t) t → (a && (b && not (is_some (fault_given s formats no_media)))) ≡ true
+range_of_made a b s formats no_media pairs t x are first second made =
+    all_true a b (fault_given s formats no_media) first second (sym (fault_same s formats no_media pairs t are) ∙ made_none (fault_of t) t x made)
+
+-- no session was made: they are not
+pub range_of_refused : (a b : Bool) (s : SessionSettings) (formats : List SessionFormat) (no_media : List ℕ) (pairs : List SsrcPair) (t : Settings) (e : SessionSettingsError)
+    → AreSessionSettings s formats no_media pairs t → Err e ≡ made_of (fault_of t) t → (a && (b && not (is_some (fault_given s formats no_media)))) ≡ false
+range_of_refused a b s formats no_media pairs t e are made =
+    none_true a b (fault_given s formats no_media) (ap is_some (sym (fault_same s formats no_media pairs t are)) ∙ refused_some (fault_of t) t e made)

@@ -1,0 +1,9 @@
+mod ArrivalLemmas
+mod ArrivalLaws
+mod ArrivalRunLemmas
+mod ChunkLemmas
+mod FeedbackLemmas
+mod PacketLemmas
+mod ReadingLemmas
+mod ReportLemmas
+mod RembLemmas

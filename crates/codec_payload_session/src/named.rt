@@ -1,0 +1,108 @@
+//! The receiver of a stream of a session: its settings name the SSRC, so no packet waits for the choice of a stream.
+
+ghost use Rattle.std.specs.Prelude.{◌≡◌, false};
+ghost use Rattle.codec_payload_codec.specs.Depacketizers.{depacketizer_state_of};
+ghost use Rattle.codec_payload_stream.specs.Pops.{NamesFault, PopsGated, answer_of};
+ghost use Rattle.codec_payload_stream.specs.Reports.{report_of, reported};
+ghost use Rattle.codec_payload_stream.specs.Sessions.{Ends, ReceivesBytes, is_none_of, session_by};
+
+use codec_payload_base::wire::Ticks;
+use codec_payload_codec::codec::CodecDepacketizer;
+use codec_payload_jitter::jitter::WaitLimits;
+use codec_payload_jitter::outcome::Outcome;
+use codec_payload_stream::pops::Popped;
+use codec_payload_stream::receiver::{
+    ReceiveError, Receiver, Retransmission, Settings, SettingsError,
+};
+use codec_payload_stream::reports::ReceptionReport;
+use std::alloc::{AllocError, Global};
+use std::marker::Model;
+
+/// A receiver whose settings name the SSRC.
+#[derive(Debug, Drop)]
+pub(crate) struct NamedReceiver {
+    receiver: Receiver,
+}
+
+impl Model for NamedReceiver {
+    ghost use Rattle.codec_payload_stream.specs.Sessions.{Session};
+
+    ghost Value = { Session };
+
+    ghost use Rattle.codec_payload_session.specs.Named.{IsNamed};
+
+    ghost view = { λ r. r.receiver };
+
+    ghost invariant = { λ r. IsNamed r.receiver };
+}
+
+impl NamedReceiver {
+    /// Creates a receiver with these settings. See [`Receiver::new`].
+    pub(crate) fn begin(
+        alloc: Global,
+        depacketizer: CodecDepacketizer,
+        settings: Settings,
+    ) -> Result<NamedReceiver, SettingsError>
+        requires { is_none_of settings.ssrc ≡ false }
+        ensures { result ≡ session_by settings (depacketizer_state_of depacketizer) }
+    {
+        match Receiver::new(alloc, depacketizer, settings) {
+            Ok(receiver) => Ok(NamedReceiver { receiver }),
+            Err(fault) => Err(fault),
+        }
+    }
+
+    /// Lends the receiver.
+    #[inline(always)]
+    pub(crate) fn inner(&self) -> &Receiver
+        ensures { result.now ≡ self.now }
+    {
+        &self.receiver
+    }
+
+    /// Receives a datagram. See [`Receiver::receive`].
+    #[inline(always)]
+    pub(crate) fn receive(&mut self, now: Ticks, datagram: &[u8]) -> Result<Outcome, ReceiveError>
+        ensures received { ReceivesBytes now datagram.now self.old result self.new }
+    {
+        self.receiver.receive(now, datagram)
+    }
+
+    /// Returns the next unit or refused frame. See [`Receiver::pop`].
+    #[inline(always)]
+    pub(crate) fn pop(&mut self, now: Ticks) -> Option<Result<Popped, AllocError>>
+        ensures pops { PopsGated now.0 self.old (answer_of result) self.new }
+        ensures refused { NamesFault result }
+    {
+        self.receiver.pop(now)
+    }
+
+    /// Ends the stream. Allocates nothing, since no packet waits. See [`Receiver::finish`].
+    pub(crate) fn finish(&mut self)
+        ensures finished { Ends self.old self.new }
+    {
+        self.receiver.finish().unwrap();
+    }
+
+    /// Replaces the wait limits. See [`Receiver::set_wait_limits`].
+    pub(crate) fn set_wait_limits(&mut self, wait_limits: WaitLimits)
+        ensures { self.new ≡ record self.old { packets = record self.old.packets { wait_limits = wait_limits } } }
+    {
+        self.receiver.set_wait_limits(wait_limits);
+    }
+
+    /// Replaces the SSRC and payload type of retransmissions. See [`Receiver::set_retransmission`].
+    pub(crate) fn set_retransmission(&mut self, retransmission: Option<Retransmission>)
+        ensures { self.new ≡ record self.old { stream = record self.old.stream { retransmission = retransmission } } }
+    {
+        self.receiver.set_retransmission(retransmission);
+    }
+
+    /// Returns the fields of a receiver report. See [`Receiver::report`].
+    pub(crate) fn report(&mut self) -> Option<ReceptionReport>
+        ensures value { result ≡ report_of self.old.reception }
+        ensures after { self.new ≡ record self.old { reception = reported self.old.reception } }
+    {
+        self.receiver.report()
+    }
+}

@@ -1,0 +1,2 @@
+pub mod HexFieldLemmas
+pub mod Limits

@@ -1,0 +1,3 @@
+pub mod HexField
+pub mod Numbers
+pub mod Ends

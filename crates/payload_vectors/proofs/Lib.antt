@@ -1,0 +1,2 @@
+pub mod DistanceLemmas
+pub mod LineLemmas

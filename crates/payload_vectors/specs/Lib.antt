@@ -1,0 +1,4 @@
+pub mod Fields
+pub mod Line
+pub mod Program
+pub mod RedFields
