@@ -7,11 +7,10 @@
 //!
 //! The clock is simulated. A packet takes 20 ms. A lost packet is retransmitted, and arrives a given time after the others, or never.
 
-use codec_payload::sender::{Sample, Sender, SenderSettings};
-use codec_payload::stream::{Receiver, ReceiverSettings};
 use codec_payload::waiting::{AdaptiveWait, AdaptiveWaitSettings};
 use codec_payload::{
-    Codec, CodecDepacketizer, CodecPacketizer, ExtensionValues, Frequency, MediaTime, Ticks,
+    Codec, CodecDepacketizer, CodecPacketizer, ExtensionValues, Frequency, MediaTime, Receiver,
+    ReceiverSettings, Sample, Sender, SenderSettings, Ticks,
 };
 use std::collections::BTreeMap;
 use std::error::Error;

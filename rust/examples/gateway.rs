@@ -15,8 +15,10 @@
 
 use codec_payload::jitter::WaitLimits;
 use codec_payload::rtp::{PacketHeader, RtpPacket};
-use codec_payload::stream::{Receiver, ReceiverSettings, RedSettings};
-use codec_payload::{Codec, CodecDepacketizer, Frequency, Pt, RedSender, Ticks};
+use codec_payload::{
+    Codec, CodecDepacketizer, Frequency, Pt, Receiver, ReceiverSettings, RedSender, RedSettings,
+    Ticks,
+};
 use std::error::Error;
 
 const FRAMES: u16 = 1_000;

@@ -15,11 +15,9 @@
 
 use codec_payload::media::frame_info;
 use codec_payload::rtcp::PictureLoss;
-use codec_payload::sender::{Sample, Sender, SenderSettings};
-use codec_payload::stream::{Popped, Receiver, ReceiverSettings};
 use codec_payload::{
     Codec, CodecDepacketizer, CodecPacketizer, Depacketized, ExtensionValues, Frequency, MediaTime,
-    Ticks,
+    Popped, Receiver, ReceiverSettings, Sample, Sender, SenderSettings, Ticks,
 };
 use std::error::Error;
 

@@ -5,10 +5,9 @@
 //! cargo run --example loopback
 //! ```
 
-use codec_payload::sender::{Sample, Sender, SenderSettings};
-use codec_payload::stream::{ReceiveError, Receiver, ReceiverSettings};
 use codec_payload::{
     Clock, Codec, CodecDepacketizer, CodecPacketizer, ExtensionValues, Frequency, MediaTime,
+    ReceiveError, Receiver, ReceiverSettings, Sample, Sender, SenderSettings,
 };
 use std::error::Error;
 use std::net::{Ipv4Addr, UdpSocket};

@@ -12,14 +12,14 @@
 //! - A retransmission under its own SSRC and payload type (RFC 4588) needs `ReceiverSettings::retransmission`. One under the stream's
 //!   own SSRC needs nothing.
 
-use codec_payload::history::{History, HistorySettings, Request, Resent, read_requests};
+use codec_payload::history::{Request, Resent};
 use codec_payload::jitter::WaitLimits;
 use codec_payload::requests::{NackSchedule, NackSettings};
 use codec_payload::rtcp::{CompoundRule, Nack, pack_numbers};
-use codec_payload::sender::{Sample, Sender, SenderSettings};
-use codec_payload::stream::{Receiver, ReceiverSettings};
 use codec_payload::{
-    Codec, CodecDepacketizer, CodecPacketizer, ExtensionValues, Frequency, MediaTime, Ticks,
+    Codec, CodecDepacketizer, CodecPacketizer, ExtensionValues, Frequency, History,
+    HistorySettings, MediaTime, Receiver, ReceiverSettings, Sample, Sender, SenderSettings, Ticks,
+    read_requests,
 };
 use std::error::Error;
 

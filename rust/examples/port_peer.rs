@@ -11,9 +11,7 @@
 //! - The SSRCs of retransmissions are those of the offer (`sdp::session_settings`). For a sender that joins later, a program with
 //!   signalling passes `sdp::pairs` of the new offer to `Session::add_pair`; this one has none.
 
-use codec_payload::sdp;
-use codec_payload::session::{Event, FeedbackSettings, Session};
-use codec_payload::{Clock, Ticks};
+use codec_payload::{Clock, Event, FeedbackSettings, Session, Ticks, sdp};
 use std::error::Error;
 use std::io::{self, ErrorKind, Write};
 use std::net::{Ipv4Addr, UdpSocket};

@@ -15,10 +15,9 @@
 
 use codec_payload::jitter::WaitLimits;
 use codec_payload::media::frame_info;
-use codec_payload::sender::{Sample, Sender, SenderSettings};
-use codec_payload::stream::{Popped, Receiver, ReceiverSettings};
 use codec_payload::{
-    Codec, CodecDepacketizer, CodecPacketizer, ExtensionValues, Frequency, MediaTime, Ticks,
+    Codec, CodecDepacketizer, CodecPacketizer, ExtensionValues, Frequency, MediaTime, Popped,
+    Receiver, ReceiverSettings, Sample, Sender, SenderSettings, Ticks,
 };
 use std::error::Error;
 use std::fs::{self, File};

@@ -9,8 +9,7 @@
 //! - Without a=ssrc lines, or with several SSRCs (simulcast), the settings name no SSRC: set it, or let two packets choose it.
 
 use codec_payload::sdp::{self, Media, Role};
-use codec_payload::stream::Receiver;
-use codec_payload::{Codec, CodecDepacketizer};
+use codec_payload::{Codec, CodecDepacketizer, Receiver};
 use std::error::Error;
 
 const SESSION: &str = "v=0

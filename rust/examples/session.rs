@@ -10,10 +10,9 @@
 //! - Make a decoder at `Event::Begun`, and drop it at `Event::Ended`.
 
 use codec_payload::rtcp::Goodbye;
-use codec_payload::sender::{Sample, Sender, SenderSettings};
-use codec_payload::session::{Event, Format, Session, SessionSettings};
 use codec_payload::{
-    Codec, CodecPacketizer, CodecSpec, ExtensionValues, Frequency, MediaTime, Ticks,
+    Codec, CodecPacketizer, CodecSpec, Event, ExtensionValues, Format, Frequency, MediaTime,
+    Sample, Sender, SenderSettings, Session, SessionSettings, Ticks,
 };
 use std::collections::BTreeMap;
 use std::error::Error;

@@ -9,12 +9,12 @@
 //! - `Event::Feedback` has the RTCP packet to send.
 //! - Wait for at least four round trips: `FeedbackSettings::longest_wait`.
 
-use codec_payload::history::{History, HistorySettings, Request, read_requests};
+use codec_payload::history::Request;
 use codec_payload::rtcp::CompoundRule;
-use codec_payload::sender::{Sample, Sender, SenderSettings};
-use codec_payload::session::{Event, FeedbackSettings, Format, Session, SessionSettings};
 use codec_payload::{
-    Codec, CodecPacketizer, CodecSpec, ExtensionValues, Frequency, MediaTime, Ticks,
+    Codec, CodecPacketizer, CodecSpec, Event, ExtensionValues, FeedbackSettings, Format, Frequency,
+    History, HistorySettings, MediaTime, Sample, Sender, SenderSettings, Session, SessionSettings,
+    Ticks, read_requests,
 };
 use std::collections::BTreeMap;
 use std::error::Error;

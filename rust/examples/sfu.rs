@@ -12,11 +12,10 @@
 //! - `Vp8Patch` keeps the width of a picture id: use senders that send 15 bits.
 
 use codec_payload::rtp::{PacketHeader, RtpPacket};
-use codec_payload::sender::{Sample, Sender, SenderSettings};
-use codec_payload::stream::{Receiver, ReceiverSettings};
 use codec_payload::{
-    Codec, CodecDepacketizer, CodecPacketizer, ExtensionValues, Frequency, MediaTime, Ticks,
-    Vp8Descriptor, Vp8Packetizer, detect_vp8_keyframe,
+    Codec, CodecDepacketizer, CodecPacketizer, ExtensionValues, Frequency, MediaTime, Receiver,
+    ReceiverSettings, Sample, Sender, SenderSettings, Ticks, Vp8Descriptor, Vp8Packetizer,
+    detect_vp8_keyframe,
 };
 use std::error::Error;
 

@@ -8,10 +8,9 @@
 //! The clock is simulated, one millisecond a step. The network takes 20 ms. The receiver has the settings for live media and the
 //! SSRC. The caller pops until no unit is due, in each millisecond.
 
-use codec_payload::sender::{Sample, Sender, SenderSettings};
-use codec_payload::stream::{Receiver, ReceiverSettings};
 use codec_payload::{
-    Codec, CodecDepacketizer, CodecPacketizer, ExtensionValues, Frequency, MediaTime, Ticks,
+    Codec, CodecDepacketizer, CodecPacketizer, ExtensionValues, Frequency, MediaTime, Receiver,
+    ReceiverSettings, Sample, Sender, SenderSettings, Ticks,
 };
 use std::collections::{BTreeMap, HashMap};
 use std::error::Error;

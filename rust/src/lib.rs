@@ -5,9 +5,7 @@
 //! reads no clock and starts no thread. It has no dependency, needs `alloc` alone, and holds no `unsafe` code.
 //!
 //! ```
-//! use codec_payload::sender::{Sample, Sender, SenderSettings};
-//! use codec_payload::stream::{Receiver, ReceiverSettings};
-//! use codec_payload::{Codec, CodecDepacketizer, CodecPacketizer, Frequency, MediaTime, Ticks};
+//! use codec_payload::{Codec, CodecDepacketizer, CodecPacketizer, Frequency, MediaTime, Receiver, ReceiverSettings, Sample, Sender, SenderSettings, Ticks};
 //!
 //! # fn main() -> Result<(), Box<dyn std::error::Error>> {
 //! let packetizer = CodecPacketizer::try_from(Codec::Vp8)?;
@@ -36,24 +34,16 @@
 //!
 //! # What is where
 //!
-//! | where | what |
+//! | for | types |
 //! |---|---|
-//! | the root | the names of `str0m`'s `src/packet`: [`CodecPacketizer`], [`CodecDepacketizer`], [`DepacketizingBuffer`], codecs, errors, and numbers and times |
-//! | [`sender`], [`stream`] | one stream between frames and a socket: `Sender` and `Receiver` |
-//! | [`session`] | all streams of one port: units, and when streams begin and end |
-//! | [`jitter`] | the jitter buffer of a receiver, for callers who read RTP headers themselves |
-//! | [`rtp`], [`rtcp`] | RTP packets, header extensions and their values; RTCP packets |
-//! | [`history`] | retransmission: sent packets that are resent on request, and the requests in RTCP feedback |
-//! | [`red_writer`] | puts the datagrams of a sender in RED |
-//! | [`sdp`] | from a session description to the settings of receivers |
-//! | [`keyframes`] | which units of video a decoder can show, and when to request a keyframe |
-//! | [`requests`] | when to request missing packets by NACK, and keyframes |
-//! | [`feedback`] | the requests of one stream as RTCP packets: NACK and PLI |
-//! | [`congestion`] | when packets arrived, as congestion control needs it: transport-wide feedback, and REMB |
-//! | [`waiting`] | a limit of waiting that follows how late missing packets arrive |
-//! | [`media`] | what frames say: keyframe, size, duration; OBUs, superframes, `av1C`, the Opus header |
-//! | [`red`], [`vp8`], [`vp9`], [`av1`], [`amr_wb`], [`tele`], [`plain`] | one format each |
-//! | [`payload`], [`payloads`] | samples become packets, in fresh memory or in memory that is used again |
+//! | all streams of one port | [`Session`] with [`SessionSettings`]: each datagram in, an [`Event`] out |
+//! | one stream from a socket | [`Receiver`] with [`ReceiverSettings`], which orders and reassembles |
+//! | one stream to a socket | [`Sender`] with [`SenderSettings`]; [`History`] resends its packets on request |
+//! | a session description | [`sdp`], from the text to the settings of sessions and receivers |
+//! | the payload layer alone | [`CodecPacketizer`], [`CodecDepacketizer`] and [`DepacketizingBuffer`], as `str0m`'s `src/packet` has them |
+//! | everything else | [`parts`]: RTP and RTCP packets, each format, requests, feedback, what frames say |
+//!
+//! Each name of `str0m`'s `src/packet` may be used from the root too, as [`parts`] says.
 //!
 //! # Where the code comes from
 //!
@@ -103,89 +93,136 @@ extern crate alloc;
 #[cfg(feature = "std")]
 extern crate std;
 
-pub mod memory;
-
 mod ext;
+pub mod parts;
+pub mod sdp;
 
+// Modules that are documented in `parts`.
+#[doc(hidden)]
 pub mod amr_wb;
+#[doc(hidden)]
 pub mod av1;
 #[doc(hidden)]
 pub mod bits;
+#[doc(hidden)]
 pub mod buffer;
+#[doc(hidden)]
 pub mod codec;
+#[doc(hidden)]
 pub mod congestion;
 #[doc(hidden)]
 pub mod contiguity;
 #[doc(hidden)]
 pub mod described;
+#[doc(hidden)]
 pub mod error;
+#[doc(hidden)]
 pub mod feedback;
+#[doc(hidden)]
 pub mod history;
+#[doc(hidden)]
 pub mod interface;
+#[doc(hidden)]
 pub mod jitter;
+#[doc(hidden)]
 pub mod keyframes;
+#[doc(hidden)]
 pub mod media;
+#[doc(hidden)]
+pub mod memory;
+#[doc(hidden)]
 pub mod payload;
+#[doc(hidden)]
 pub mod payloads;
 #[doc(hidden)]
 pub mod picture_id;
+#[doc(hidden)]
 pub mod plain;
 mod queue;
+#[doc(hidden)]
 pub mod red;
+#[doc(hidden)]
 pub mod red_writer;
+#[doc(hidden)]
 pub mod requests;
+#[doc(hidden)]
 pub mod rtcp;
+#[doc(hidden)]
 pub mod rtp;
 #[doc(hidden)]
 pub mod schedule;
-pub mod sdp;
+#[doc(hidden)]
 pub mod sender;
+#[doc(hidden)]
 pub mod session;
+#[doc(hidden)]
 pub mod stream;
+#[doc(hidden)]
 pub mod tele;
+#[doc(hidden)]
 pub mod vp8;
+#[doc(hidden)]
 pub mod vp9;
+#[doc(hidden)]
 pub mod waiting;
 mod whole;
+#[doc(hidden)]
 pub mod wire;
 
-#[doc(no_inline)]
-pub use amr_wb::*;
-#[doc(no_inline)]
-pub use av1::*;
-#[doc(no_inline)]
-pub use bits::{BitRead, BitReader};
-#[doc(no_inline)]
-pub use buffer::{Depacketized, DepacketizingBuffer, PoppedPackets, PoppedUnit, RtpMeta, UnitInfo};
-#[doc(no_inline)]
-pub use codec::*;
-#[doc(no_inline)]
+pub use buffer::{Depacketized, DepacketizingBuffer, PoppedUnit};
+pub use codec::{CodecDepacketizer, CodecPacketizer, Depacketizer, Packetizer};
 pub use error::PacketError;
 #[cfg(feature = "std")]
 pub use ext::clock::Clock;
-pub use ext::conversions::{UnsupportedCodec, ZeroFrequency};
-pub use ext::iterators::{PayloadsIter, PopUnits, StreamUnits, Units};
-pub use ext::names::UnknownCodec;
-pub use ext::values::*;
-#[doc(no_inline)]
-pub use interface::*;
+pub use ext::conversions::UnsupportedCodec;
+pub use history::{History, HistorySettings, read_requests};
+pub use interface::CodecExtra;
 pub use memory::AllocError;
-#[doc(no_inline)]
+pub use sender::{Sample, Sender, SenderSettings};
+pub use session::{
+    Arrival, Ending, Event, FeedbackSettings, Format, Session, SessionSettings,
+    SessionSettingsError, SsrcPair, StreamInfo,
+};
+pub use stream::{Popped, ReceiveError, Receiver, ReceiverSettings, RedSettings, Retransmission};
+pub use wire::{Codec, ExtensionValues, Frequency, MediaTime, Pt, SeqNo, Ticks};
+
+// The other names of `src/packet`, which are documented in `parts`.
+#[doc(hidden)]
+pub use amr_wb::*;
+#[doc(hidden)]
+pub use av1::*;
+#[doc(hidden)]
+pub use bits::{BitRead, BitReader};
+#[doc(hidden)]
+pub use buffer::{PoppedPackets, RtpMeta, UnitInfo};
+#[doc(hidden)]
+pub use codec::*;
+#[doc(hidden)]
+pub use ext::conversions::ZeroFrequency;
+#[doc(hidden)]
+pub use ext::iterators::{PayloadsIter, PopUnits, StreamUnits, Units};
+#[doc(hidden)]
+pub use ext::names::UnknownCodec;
+#[doc(hidden)]
+pub use ext::values::*;
+#[doc(hidden)]
+pub use interface::*;
+#[doc(hidden)]
 pub use payload::{MemorySink, OutgoingPacket, PacketSink, Payloader, RedSink};
-#[doc(no_inline)]
+#[doc(hidden)]
 pub use payloads::{PayloadWriter, Payloads};
-#[doc(no_inline)]
+#[doc(hidden)]
 pub use plain::*;
-#[doc(no_inline)]
+#[doc(hidden)]
 pub use red::*;
-#[doc(no_inline)]
+#[doc(hidden)]
 pub use tele::*;
-#[doc(no_inline)]
+#[doc(hidden)]
 pub use vp8::*;
-#[doc(no_inline)]
+#[doc(hidden)]
 pub use vp9::*;
-#[doc(no_inline)]
+#[doc(hidden)]
 pub use wire::{
-    AbsCaptureTime, Codec, CodecSpec, ExtensionValues, Frequency, MediaKind, MediaTime, MediaType,
-    Pt, RtpHeader, SenderInfo, SeqNo, Ticks, ToPayload, VideoLayersAllocation, VideoTiming,
+    AbsCaptureTime, CodecSpec, MediaKind, MediaType, RtpHeader, SenderInfo, ToPayload,
+    VideoLayersAllocation, VideoTiming,
 };

@@ -3,7 +3,7 @@
 //! Written by hand and not proved. Any text may be given: [`read`] does not panic, and reads the text twice.
 //!
 //! ```
-//! use codec_payload::sdp::{self, Role};
+//! use codec_payload::sdp::{Role, self};
 //!
 //! # fn main() -> Result<(), Box<dyn std::error::Error>> {
 //! let media = sdp::read("v=0\r\nm=audio 9 RTP/AVP 111 0\r\na=rtpmap:111 opus/48000/2\r\na=ptime:60\r\n")?;

@@ -40,4 +40,5 @@ pub use sessions::{Arrival, Event, Session, SessionCounts};
 #[doc(inline)]
 pub use stream::{Ending, Stage, StreamInfo};
 
+#[doc(hidden)]
 pub mod runs;

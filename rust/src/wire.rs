@@ -195,6 +195,7 @@ pub struct ToPayload {
 /// # Panics
 ///
 /// Unless `value < 1 << 63`.
+#[doc(hidden)]
 pub fn encode_leb_u63(value: u64, buf: &mut [u8]) -> usize {
     assert!(value < 1 << 63);
     let mut rest = value;
@@ -223,6 +224,7 @@ fn nearest_of(previous: u64, id: u64, range: u64) -> u64 {
 
 /// An id of 7 bits extended: without a previous number the id, else the number nearest to it, modulo 2^64, whose low 7
 /// bits are the id's, half the range going forward.
+#[doc(hidden)]
 pub fn extend_u7(previous: Option<u64>, id: u8) -> u64 {
     match previous {
         Some(previous) => nearest_of(previous, u64::from(id), 128),
@@ -231,6 +233,7 @@ pub fn extend_u7(previous: Option<u64>, id: u8) -> u64 {
 }
 
 /// Extends an id of 8 bits in the same way.
+#[doc(hidden)]
 pub fn extend_u8(previous: Option<u64>, id: u8) -> u64 {
     match previous {
         Some(previous) => nearest_of(previous, u64::from(id), 256),
@@ -239,6 +242,7 @@ pub fn extend_u8(previous: Option<u64>, id: u8) -> u64 {
 }
 
 /// Extends an id of 15 bits in the same way.
+#[doc(hidden)]
 pub fn extend_u15(previous: Option<u64>, id: u16) -> u64 {
     match previous {
         Some(previous) => nearest_of(previous, u64::from(id), 32_768),
@@ -247,6 +251,7 @@ pub fn extend_u15(previous: Option<u64>, id: u16) -> u64 {
 }
 
 /// Extends a number of 32 bits, such as an RTP time, in the same way.
+#[doc(hidden)]
 pub fn extend_u32(previous: Option<u64>, number: u32) -> u64 {
     match previous {
         Some(previous) => nearest_of(previous, u64::from(number), 1 << 32),

@@ -16,7 +16,7 @@ MORE = {"PacketError": ["Clone", "Copy"], "Depacketized": ["Clone"], "RedundantB
 GROWING = {"Arrival", "Codec", "CodecExtra", "Ending", "Event", "Outcome", "Request", "Stage"}
 
 # Types that only the crate's own modules pass to one another.
-INNER = {"Incoming", "KeptPacket", "Left", "PackedHeader", "PackedMeta"}
+INNER = {"CompleteFrame", "Incoming", "KeptPacket", "Left", "NotedTime", "PackedHeader", "PackedMeta", "Placed"}
 
 # What Rattle derives as Rust does, and `Drop`, which Rust does by itself.
 DERIVES = {"Clone", "Copy", "Debug", "Default", "PartialEq", "Eq", "PartialOrd", "Ord", "Hash", "Drop", "Error"}

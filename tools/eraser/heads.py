@@ -1,7 +1,7 @@
 """The files that name the modules of a crate: hidden modules, and what they hold in the module above them."""
 import re
 
-from layout import KEPT_MODULES, LIBRARY, PLACES, RENAMED_MODULES, UNNAMED_MODULES
+from layout import KEPT_MODULES, LIBRARY, PLACES, RENAMED_MODULES, UNDOCUMENTED_MODULES, UNNAMED_MODULES
 from source import drop_item
 from tokens import OPEN, close, elements, joined, plain, tokens
 
@@ -106,7 +106,13 @@ def of_media(sources, passed_on):
 
 def below(module):
     """The items that name the modules directly below a module of a crate's own."""
-    return "".join(f"pub mod {path.rsplit('::', 1)[1]};\n" for path in PLACES.values() if path.startswith(f"{module}::"))
+    found = [path for path in PLACES.values() if path.startswith(f"{module}::")]
+    return "".join(f"{undocumented(path)}pub mod {path.rsplit('::', 1)[1]};\n" for path in found)
+
+
+def undocumented(path):
+    """The attribute in front of a module that is left out of the documentation."""
+    return "#[doc(hidden)]\n" if path in UNDOCUMENTED_MODULES else ""
 
 
 def named_below(module):

@@ -16,6 +16,12 @@ RENAMED_MODULES = {("rtp", "rtp"): "packet", ("jitter", "jitter"): "jitter_buffe
 RENAMED_TYPES = {("stream", "receiver", "Settings"): "ReceiverSettings"}
 # Crates whose public modules are hidden: what they hold is public in the module above them.
 FLAT = {"rtp", "rtcp", "congestion", "history", "vpx", "media", "keyframes", "requests", "feedback", "adaptive_wait", "jitter", "stream", "session", "wire", "session_runs"}
+# Modules that are left out of the documentation of the one crate: runs are there for its tests alone.
+UNDOCUMENTED_MODULES = {"session::runs"}
+# Public functions that are left out of it too, since only other modules and ports of `str0m` call them.
+UNDOCUMENTED_FUNCTIONS = {"abs_capture_time_of", "all_fit", "append_report", "audio_level_byte", "audio_level_of", "encode_leb_u63", "extend_u7",
+                          "extend_u8", "extend_u15", "extend_u32", "extension_value", "form_for", "is_video", "most_reported",
+                          "video_timing_bytes", "video_timing_of"}
 # Modules of such crates that stay.
 KEPT_MODULES = {("media", "amr_wb"), ("media", "av1"), ("media", "opus"), ("vpx", "vp8"), ("vpx", "vp9")}
 # Modules of such crates whose names are for the crate alone.

@@ -7,6 +7,7 @@ use crate::queue::tiers::{Noted, TieredQueue};
 
 /// A complete frame: the sequence numbers of its first and last packet.
 #[derive(Clone, Copy, Debug, PartialEq, Eq)]
+#[doc(hidden)]
 pub struct CompleteFrame {
     pub first: u64,
     pub last: u64,

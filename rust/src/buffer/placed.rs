@@ -7,6 +7,7 @@ use crate::queue::tiers::TieredQueue;
 
 /// What was done with a pushed packet.
 #[derive(Clone, Copy, Debug, PartialEq, Eq)]
+#[doc(hidden)]
 pub enum Placed {
     /// The packet was stored.
     Held,

@@ -15,6 +15,7 @@ const FIRST_ROOM: usize = 16;
 
 /// A number, and the RTP time of its packet.
 #[derive(Clone, Copy, Debug)]
+#[doc(hidden)]
 pub struct NotedTime {
     pub number: u64,
     pub time: u32,

@@ -6,6 +6,7 @@ use crate::media::frame_info::{FrameInfo, frame_info};
 use crate::wire::Codec;
 
 /// Whether a codec has keyframes: VP8, VP9 and AV1.
+#[doc(hidden)]
 pub fn is_video(codec: Codec) -> bool {
     matches!(codec, Codec::Vp8 | Codec::Vp9 | Codec::Av1)
 }

@@ -66,6 +66,7 @@ impl<'a> Element<'a> {
 }
 
 /// Whether a form has room for all of the elements.
+#[doc(hidden)]
 pub fn all_fit(form: ElementForm, elements: &[Element<'_>]) -> bool {
     for element in elements {
         if !element.fits(form) {
@@ -76,6 +77,7 @@ pub fn all_fit(form: ElementForm, elements: &[Element<'_>]) -> bool {
 }
 
 /// The one-byte form if it has room for all elements, else the two-byte form.
+#[doc(hidden)]
 pub fn form_for(elements: &[Element<'_>]) -> ElementForm {
     if all_fit(ElementForm::OneByte, elements) {
         ElementForm::OneByte

@@ -10,6 +10,7 @@ use crate::wire::{AbsCaptureTime, ExtensionValues, VideoLayersAllocation, VideoT
 pub const VIDEO_TIMING_LEN: usize = 13;
 
 /// The value of video-timing: the flags, and six times of 16 bits.
+#[doc(hidden)]
 pub fn video_timing_bytes(timing: VideoTiming) -> [u8; VIDEO_TIMING_LEN] {
     let [a1, a0] = timing.encode_start.to_be_bytes();
     let [b1, b0] = timing.encode_finish.to_be_bytes();
@@ -21,6 +22,7 @@ pub fn video_timing_bytes(timing: VideoTiming) -> [u8; VIDEO_TIMING_LEN] {
 }
 
 /// The video-timing that these bytes are, or `None` for another number of them.
+#[doc(hidden)]
 pub fn video_timing_of(bytes: &[u8]) -> Option<VideoTiming> {
     let [flags, a1, a0, b1, b0, c1, c0, d1, d0, e1, e0, f1, f0] = *bytes else {
         return None;
@@ -37,11 +39,13 @@ pub fn video_timing_of(bytes: &[u8]) -> Option<VideoTiming> {
 }
 
 /// The level in dBov, 0 to -127, and whether there is speech, of the byte of RFC 6464, section 3.
+#[doc(hidden)]
 pub fn audio_level_of(byte: u8) -> (i8, bool) {
     (-((byte % 128) as i8), byte >= 128)
 }
 
 /// The byte of RFC 6464, or `None` for a level above 0 or below -127 dBov.
+#[doc(hidden)]
 pub fn audio_level_byte(level: i8, voice: bool) -> Option<u8> {
     if !(-127..=0).contains(&level) {
         return None;
@@ -62,6 +66,7 @@ fn number_of(bytes: &[u8]) -> u64 {
 }
 
 /// The abs-capture-time of 8 bytes, or of 16 with the offset of the clock; `None` for another number of them.
+#[doc(hidden)]
 pub fn abs_capture_time_of(bytes: &[u8]) -> Option<AbsCaptureTime> {
     if bytes.len() == 8 {
         return Some(AbsCaptureTime {
@@ -143,6 +148,7 @@ fn bytes_for<'a>(id: Option<u8>, extension: &Option<HeaderExtension<'a>>) -> Opt
 
 /// Returns the value of the first element with this id in the extension of a packet. `None`: there is no such element. Costs a step
 /// for each element, and does not allocate.
+#[doc(hidden)]
 pub fn extension_value<'a>(id: u8, extension: &Option<HeaderExtension<'a>>) -> Option<&'a [u8]> {
     bytes_for(Some(id), extension)
 }
