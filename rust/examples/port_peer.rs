@@ -104,6 +104,8 @@ fn receive_all(peer: &mut Peer, socket: &UdpSocket, clock: &Clock) -> Result<boo
             Err(why) if matches!(why.kind(), ErrorKind::WouldBlock | ErrorKind::TimedOut) => {
                 return Ok(true);
             }
+            // The program was stopped and continues.
+            Err(why) if why.kind() == ErrorKind::Interrupted => {}
             Err(why) => return Err(why.into()),
         }
         socket.set_nonblocking(true)?;

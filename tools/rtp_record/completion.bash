@@ -6,7 +6,7 @@ _rtp_record() {
     -f | --filter | -p | --map) COMPREPLY=() ;;
     *)
         if [[ $word == -* ]]; then
-            mapfile -t COMPREPLY < <(compgen -W "--interface --filter --output --mux --sdp --map --all --keep-undecodable --fill \
+            mapfile -t COMPREPLY < <(compgen -W "--interface --filter --output --mux --sdp --map --all --decodable --fill \
                 --json --quiet --help" -- "$word")
         else
             mapfile -t COMPREPLY < <(compgen -f -- "$word")

@@ -20,7 +20,7 @@ static const char HELP[] =
     "  -s, --sdp FILE         the signalled session, as SDP; may be given more than once\n"
     "  -p, --map PT=NAME/RATE a payload type by hand; /CHANNELS and ;PARAMETERS may follow\n"
     "  -a, --all              frames before the first keyframe too\n"
-    "  -k, --keep-undecodable after a loss, frames that a decoder cannot show too\n"
+    "  -d, --decodable        after a loss, no frames that a decoder cannot show\n"
     "  -F, --fill             writes silence for lost packets of G.711 and AMR-WB\n"
     "  -j, --json             the list as JSON\n"
     "  -q, --quiet            no progress, and no remarks\n"
@@ -31,7 +31,7 @@ static const char HELP[] =
 static const struct option LONG[] = {
     {"interface", required_argument, NULL, 'i'}, {"filter", required_argument, NULL, 'f'}, {"output", required_argument, NULL, 'o'},
     {"mux", required_argument, NULL, 'm'},       {"sdp", required_argument, NULL, 's'},    {"map", required_argument, NULL, 'p'},
-    {"all", no_argument, NULL, 'a'},             {"keep-undecodable", no_argument, NULL, 'k'},
+    {"all", no_argument, NULL, 'a'},             {"decodable", no_argument, NULL, 'd'},
     {"fill", no_argument, NULL, 'F'},            {"json", no_argument, NULL, 'j'},
     {"quiet", no_argument, NULL, 'q'},           {"help", no_argument, NULL, 'h'},         {NULL, 0, NULL, 0},
 };
@@ -51,7 +51,7 @@ static options_answer take(options *it, int letter) {
         complain("--map %s: not PT=NAME/RATE", optarg);
         return OPTIONS_WRONG;
     case 'a': it->output.options.all = true; return OPTIONS_RUN;
-    case 'k': it->output.options.keep_undecodable = true; return OPTIONS_RUN;
+    case 'd': it->output.options.decodable = true; return OPTIONS_RUN;
     case 'F': it->output.options.fill = true; return OPTIONS_RUN;
     case 'j': it->json = true; return OPTIONS_RUN;
     case 'q': messages_quiet(); return OPTIONS_RUN;
@@ -63,7 +63,7 @@ static options_answer take(options *it, int letter) {
 options_answer options_read(options *it, int count, char **words) {
     int letter;
     *it = (options){0};
-    while ((letter = getopt_long(count, words, "i:f:o:m:s:p:akFjqh", LONG, NULL)) != -1) {
+    while ((letter = getopt_long(count, words, "i:f:o:m:s:p:adFjqh", LONG, NULL)) != -1) {
         options_answer answer = take(it, letter);
         if (answer != OPTIONS_RUN) return answer;
     }

@@ -10,9 +10,9 @@
 #include <stdint.h>
 
 typedef struct {
-    bool all;   /* write frames before the first keyframe too */
-    bool keep_undecodable; /* write frames that a decoder cannot show too, from the first keyframe on */
-    bool fill;  /* put "no data" frames of AMR-WB and silence of G.711 where packets are lost */
+    bool all;       /* write frames before the first keyframe too */
+    bool decodable; /* leave out frames that a decoder cannot show, up to the next keyframe */
+    bool fill;      /* put "no data" frames of AMR-WB and silence of G.711 where packets are lost */
 } record_options;
 
 /* A stream, as it was found. */

@@ -45,7 +45,9 @@ static void print_row(stream *it) {
            " %7.1fms %9.3f  %s  %s  %s > %s\n",
            it->ssrc, types, name, it->packets, statistics_lost(&it->headers), it->headers.duplicates, it->headers.reordered,
            it->headers.late, it->headers.restarts, jitter(it), seconds(it), first, last + TIME_OF_DAY, from, to);
-    if (it->path && it->totals.frames > 0)
+    if (it->recorded && it->totals.frames == 0)
+        printf("          nothing was written: %" PRIu64 " left out\n", it->totals.skipped + it->totals.refused);
+    else if (it->path && it->totals.frames > 0)
         printf("          %s: %" PRIu64 " frames, %.3f s, %" PRIu64 " gaps, %" PRIu64 " left out (%" PRIu64 " undecodable), %" PRIu64
                " damaged\n",
                it->path, it->totals.frames, it->totals.seconds, it->totals.gaps, it->totals.skipped + it->totals.refused,
@@ -110,9 +112,11 @@ static void print_stream(stream *it) {
            it->packets, it->bytes, statistics_lost(&it->headers), it->headers.duplicates, it->headers.reordered,
            it->headers.late, it->headers.restarts, jitter(it));
     printf(",\n     \"first\": %.6f, \"last\": %.6f, \"seconds\": %.6f", (double)it->first / 1e9, (double)it->last / 1e9, seconds(it));
-    if (it->path && it->totals.frames > 0) {
+    bool is_written = it->path && it->totals.frames > 0;
+    if (is_written || it->recorded) {
         printf(",\n     ");
-        print_text("file", it->path);
+        if (is_written) print_text("file", it->path);
+        else printf("\"file\": null");
         printf(", ");
         print_totals(&it->totals);
     }

@@ -207,6 +207,7 @@ static void begin_record(streams *all, stream *it, const signalling *known, stre
         begin_file(all, it, &described, output);
     }
     if (!it->record) return;
+    it->recorded = true;
     for (size_t i = 0; i < REPORTS && i < all->report_count; i++) {
         const wire_report *report = &all->reports[i];
         if (report->ssrc == it->ssrc) record_sender_report(it->record, report->ntp, report->rtp_time);
@@ -350,6 +351,9 @@ static void close_stream(streams *all, stream *it, const signalling *known, stre
     if (it->file && !writer_close(it->file)) whole = false;
     it->file = NULL;
     if (!whole) complain("stream %08" PRIx32 ": %s is not written as a whole", it->ssrc, it->path ? it->path : "it");
+    else if (it->recorded && it->totals.frames == 0)
+        complain("stream %08" PRIx32 ": nothing was written: there is no whole %s", it->ssrc,
+                 it->use.codec->kind == CODEC_VIDEO ? "keyframe" : "frame");
     if (it->events && events_count(it->events) > 0 && (output->folder || output->file)) {
         char *path = path_of(all, it, output, "events.json");
         if (path) events_write(it->events, path);

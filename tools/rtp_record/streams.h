@@ -39,6 +39,7 @@ typedef struct stream {
     record_packet kept[MOST_KEPT]; /* until it is settled; their bytes are the stream's */
     size_t kept_count;
     record *record;
+    bool recorded; /* it had a record */
     writer *file;
     char *path;       /* of the file of this stream, or of all streams */
     bool has_name;    /* the file has exactly the name that was given for the output */

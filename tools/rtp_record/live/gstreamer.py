@@ -59,7 +59,7 @@ def of_gstreamer(stream, path, folder):
 
 
 def of_recorder(stream, path, folder):
-    subprocess.run([PROGRAM, "--keep-undecodable", *stream.words, path, "-o", folder], check=True, stdout=subprocess.DEVNULL)
+    subprocess.run([PROGRAM, *stream.words, path, "-o", folder], check=True, stdout=subprocess.DEVNULL)
     files = [name for name in os.listdir(folder) if not name.endswith(".json")]
     return found_in(stream.codec, f"{folder}/{files[0]}")
 

@@ -107,16 +107,16 @@ class Recorded:
                 shown.append(place)
         return shown
 
-    def wanted(self, packets, there, keeps_undecodable=False, restart=None):
+    def wanted(self, packets, there, only_decodable=False, restart=None):
         """The expected content of the file if the packets at some places arrived: the MD5s of the frames, or bytes. With
-        keeps_undecodable all whole frames of video from the first keyframe on, else the decodable ones. The sender restarts with the
-        packet at the place `restart`."""
+        only_decodable the frames of video that a decoder can show, else all whole frames from the first keyframe on. The sender
+        restarts with the packet at the place `restart`."""
         units = self.units(packets)
         there = there | self.recovered(packets, there)
         whole = [place for place, (places, _) in enumerate(units) if set(places) <= there]
         if self.codec in VIDEO:
             first = min(set(whole) & self.keyframes())
-            whole = [place for place in whole if place >= first] if keeps_undecodable else self.decodable(units, whole, there, restart)
+            whole = self.decodable(units, whole, there, restart) if only_decodable else [place for place in whole if place >= first]
         found = [units[place][1] for place in whole]
         return found if self.codec in FRAMES else b"".join(found)
 

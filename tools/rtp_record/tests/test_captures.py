@@ -65,9 +65,9 @@ def faults_of_file(path):
 
 
 def faults_of(program, stream, path, there, restart, folder):
-    """Writes a capture into a folder, and compares the stream's file."""
+    """Writes a capture into a folder, without frames that a decoder cannot show, and compares the stream's file."""
     os.mkdir(folder)
-    ran = words(program, *stream.words, path, "-o", folder)
+    ran = words(program, "--decodable", *stream.words, path, "-o", folder)
     if ran.returncode:
         yield f"status {ran.returncode}: {ran.stderr.decode().strip()}"
     files = [name for name in os.listdir(folder) if name.startswith(f"{stream.ssrc:08x}.") and not name.endswith(".json")]
@@ -75,7 +75,7 @@ def faults_of(program, stream, path, there, restart, folder):
         yield f"{len(files)} files: {ran.stderr.decode().strip()}"
         return
     file = f"{folder}/{files[0]}"
-    wanted, found = stream.wanted(stream.packets(), there, restart=restart), found_in(stream.codec, file)
+    wanted, found = stream.wanted(stream.packets(), there, only_decodable=True, restart=restart), found_in(stream.codec, file)
     if wanted != found:
         yield f"expected {told(wanted)}, found {told(found)}"
     yield from faults_of_file(file)

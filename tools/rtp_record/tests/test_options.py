@@ -1,5 +1,5 @@
 #!/usr/bin/env python3
-"""What options change: the file that is named, --mux by sender reports, --all, --keep-undecodable, --fill, --map, and RED,
+"""What options change: the file that is named, --mux by sender reports, --all, --decodable, --fill, --map, and RED,
 retransmissions and events of Chromium; a sender that comes back.
 
   tests/test_options.py [PROGRAM]
@@ -135,24 +135,40 @@ def keyframe_lost(folder):
         check(not said, f"{name}: --all plays, but for what a decoder says of references that lack: {said}")
 
 
+def nothing(folder):
+    """Without a whole keyframe nothing is written: a message and the list say so, and the status is 1."""
+    for name in ("vp8", "vp9"):
+        stream = STREAMS[name]
+        packets = stream.packets()
+        units = stream.units(packets)
+        firsts = {units[place][0][0] for place in stream.keyframes()}
+        path = source_of(stream, folder, [packet for place, packet in enumerate(packets) if place not in firsts])
+        found = run(*stream.words, path, "-o", f"{folder}/n.webm", wanted=1)["streams"][0]
+        check(found["file"] is None and found["frames"] == 0, f"{name}: no file: {found}")
+        check(found["left_out"] == len(units) - len(firsts), f"{name}: frames left out: {found}")
+        check(not os.path.exists(f"{folder}/n.webm"), f"{name}: no empty file")
+        ran = subprocess.run([PROGRAM, *stream.words, path, "-o", f"{folder}/n.webm"], capture_output=True, check=False)
+        check(b"nothing was written" in ran.stdout and b"no whole keyframe" in ran.stderr, f"{name}: a message: {ran.stderr.decode()}")
+
+
 def undecodable(folder):
-    """Frames after a lost one are left out up to the next keyframe, and counted; with --keep-undecodable they are written."""
+    """Frames after a lost one are written and counted; with --decodable they are left out up to the next keyframe."""
     for name in ("vp8", "vp9", "chromium-vp8 video", "chromium-av1 video", "chromium-layers video", "chromium-av1-layers video"):
         stream = STREAMS[name]
         packets = stream.packets()
         come, there = conditions.lossy(packets)
-        shown, kept = stream.wanted(packets, there), stream.wanted(packets, there, keeps_undecodable=True)
+        shown, kept = stream.wanted(packets, there, only_decodable=True), stream.wanted(packets, there)
         path = source_of(stream, folder, come)
-        found = run(*stream.words, path, "-o", f"{folder}/u.webm")["streams"][0]
+        found = run("--decodable", *stream.words, path, "-o", f"{folder}/u.webm")["streams"][0]
         check(0 < len(shown) < len(kept) and md5s_in(f"{folder}/u.webm") == shown, f"{name}: {len(shown)} decodable frames")
         # a unit that lacks its lower layers is one more frame that is left out
         check(found["undecodable"] >= len(kept) - len(shown) and found["damaged"] == 0, f"{name}: counted: {found}")
-        table = subprocess.run([PROGRAM, *stream.words, path, "-o", f"{folder}/u.webm"], capture_output=True, check=False).stdout.decode()
+        table = subprocess.run([PROGRAM, "--decodable", *stream.words, path, "-o", f"{folder}/u.webm"], capture_output=True, check=False).stdout.decode()
         check(f"({found['undecodable']} undecodable), 0 damaged" in table, f"{name}: the table reports them")
-        found = run("--keep-undecodable", *stream.words, path, "-o", f"{folder}/u.webm")["streams"][0]
+        found = run(*stream.words, path, "-o", f"{folder}/u.webm")["streams"][0]
         written = md5s_in(f"{folder}/u.webm")
-        check([md5 for md5 in written if md5 in kept] == kept, f"{name}: --keep-undecodable has all {len(kept)} whole frames")
-        check(found["damaged"] == len(written) - len(shown) and found["undecodable"] == 0, f"{name}: --keep-undecodable: {found}")
+        check([md5 for md5 in written if md5 in kept] == kept, f"{name}: the file has all {len(kept)} whole frames")
+        check(found["damaged"] == len(written) - len(shown) and found["undecodable"] == 0, f"{name}: counted without an option: {found}")
 
 
 def malformed(folder):
@@ -166,8 +182,8 @@ def malformed(folder):
     tag = bytes([packet.payload[frame] | 0xE0, 0xFF, 0xFF])
     payload = packet.payload[:frame] + tag + packet.payload[frame + 3 :]
     packets[places[0]] = replace(packet, payload=payload)
-    found = run(*stream.words, source_of(stream, folder, packets), "-o", f"{folder}/m.webm")["streams"][0]
-    wanted = stream.wanted(stream.packets(), set(range(len(packets))) - set(places))
+    found = run("--decodable", *stream.words, source_of(stream, folder, packets), "-o", f"{folder}/m.webm")["streams"][0]
+    wanted = stream.wanted(stream.packets(), set(range(len(packets))) - set(places), only_decodable=True)
     left_out = min(key for key in stream.keyframes() if key > place) - place - 1
     check(md5s_in(f"{folder}/m.webm") == wanted and len(wanted) == len(units) - 1 - left_out, "malformed: frames up to the next keyframe")
     check((found["refused"], found["undecodable"]) == (1, left_out), f"malformed: counted: {found}")
@@ -183,8 +199,8 @@ def layers(folder):
         check(first in media, f"{name}: a picture of several packets")
         come = packets[:first] + packets[first + 1 :]
         there = set(range(len(packets))) - {first}
-        found = run(*stream.words, source_of(stream, folder, come), "-o", f"{folder}/l.webm")["streams"][0]
-        check(md5s_in(f"{folder}/l.webm") == stream.wanted(packets, there), f"{name}: only whole pictures that a decoder can show")
+        found = run("--decodable", *stream.words, source_of(stream, folder, come), "-o", f"{folder}/l.webm")["streams"][0]
+        check(md5s_in(f"{folder}/l.webm") == stream.wanted(packets, there, only_decodable=True), f"{name}: only whole pictures that a decoder can show")
         check(found["gaps"] >= 1 and found["damaged"] == 0, f"{name}: {found}")
 
 
@@ -268,8 +284,8 @@ def retransmissions(folder):
     found, beside = told[f"{stream.ssrc:08x}"], told[f"{RTX_SSRC:08x}"]
     check((found["retransmitted"], found["undecodable"]) == (len(lost), 0), f"retransmissions: counted: {found}")
     check(beside["codec"] == "rtx" and beside["packets"] == len(lost) and "file" not in beside, f"retransmissions: listed: {beside}")
-    found = run("--map", "96=VP8/90000", path, "-o", f"{folder}/again.webm")["streams"][0]
-    check(found.get("frames", 0) < len(stream.all_wanted()), f"retransmissions: not known without an SDP: {found}")
+    found = run("--map", "96=VP8/90000", path, "-o", f"{folder}/again.webm", wanted=1)["streams"][0]  # the keyframe lost a packet
+    check(found["frames"] == 0, f"retransmissions: not known without an SDP: {found}")
 
 
 RTX_SSRC, RTX_TYPE = 1915424868, 97  # of captures/chromium-vp8.sdp
@@ -317,7 +333,7 @@ def guesses(folder):
 
 def main():
     with tempfile.TemporaryDirectory() as folder:
-        for test in [named_files, two_flows, reports, call, keyframe_lost, undecodable, malformed, layers, fill, red, red_later,
+        for test in [named_files, two_flows, reports, call, keyframe_lost, nothing, undecodable, malformed, layers, fill, red, red_later,
                      retransmissions, comes_back, keys, guesses]:
             test(folder)
     return status_of_checks()
