@@ -62,6 +62,7 @@ RUN_ELSEWHERE = {
     "rt version": ("scripts/documents.py", "rt version"),
     "scripts/bindings.sh": ("scripts/test.sh", "runs scripts/bindings.sh"),
     "scripts/process.py": ("scripts/rust.sh", "scripts/process.py"),
+    "scripts/try.sh": ("scripts/rust.sh", "scripts/try.sh"),
     "scripts/theorem.py": ("scripts/test.sh", "runs scripts/theorem.py"),
     "scripts/statements.py": ("scripts/test.sh", "runs scripts/statements.py"),
     "scripts/refuse.sh": ("scripts/test.sh", "runs scripts/refuse.sh"),

@@ -39,6 +39,7 @@ step cargo clippy --quiet --all-targets --features fallible -- -D warnings
 step cargo check --quiet --lib --no-default-features
 step cargo test --quiet
 passed=$(sed -n 's/^test result: ok. \([0-9]*\) passed.*/\1/p' "$work/log" | awk '{ sum += $1 } END { print sum }')
+step "$root/scripts/try.sh" vp9
 step cargo test --quiet --features fallible
 fallible=$(sed -n 's/^test result: ok. \([0-9]*\) passed.*/\1/p' "$work/log" | awk '{ sum += $1 } END { print sum }')
 RUSTDOCFLAGS="-D warnings" step cargo doc --quiet --no-deps

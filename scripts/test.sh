@@ -15,6 +15,8 @@ set -u
 
 root=$(cd "$(dirname "$0")/.." && pwd)
 cd "$root" || exit 2
+# Cargo's files for debuggers and for later builds take gigabytes, which a full disk lacks.
+export CARGO_INCREMENTAL=0 CARGO_PROFILE_DEV_DEBUG=0
 work=$(mktemp -d)
 trap 'rm -rf "$work"' EXIT
 passed=0
