@@ -1,6 +1,7 @@
 -- The units that a run sends, with their packets.
-use Rattle.std.specs.Prelude.{◌≡◌, ℕ, ◌<◌, ◌⊎◌, Bool, true, false, List, [], ◌∷◌, ◌++◌, Option, Some, None, length, slice_get}
+use Rattle.std.specs.Prelude.{◌≡◌, ℕ, ◌<◌, ◌⊎◌, Bool, true, false, List, [], ◌∷◌, ◌++◌, Option, Some, None, length, map, slice_get}
 use Rattle.std.specs.List.{flat_map}
+use Rattle.codec_payload_av1.specs.Av1Receiving.{all_received}
 use Rattle.codec_payload_base.specs.Pieces.{joined}
 use Rattle.codec_payload_codec.specs.Depacketizers.{DepacketizerKind, tail_in}
 use Rattle.codec_payload_codec.specs.Packetizers.{PacketizerState}
@@ -54,8 +55,14 @@ abbrev pub AllEndWithTail : DepacketizerKind → List SentUnit → Type 0
 AllEndWithTail kind [] = Unit {0}
 AllEndWithTail kind (u ∷ us) = EndsWithTail kind u.packets × AllEndWithTail kind us
 
--- the bytes are the whole unit, if no packet of it is missing, or else its last parts, if it may be split
+-- these packets carry exactly these parts, each part whole: an AV1 receiver in any state that gets these packets alone gives them
+abbrev pub CarryParts : List Packet → List (List ℕ) → Type 0
+CarryParts packets parts = (pending : List ℕ) → (after : List ℕ) × (all_received pending (map (λ (p : Packet). p.payload) packets) ≡ Some (joined parts, after))
+
+-- the bytes are the whole unit, if no packet of it is missing, or else, if it may be split, the unit without exactly the parts that
+-- the missing packets carry
 abbrev pub IsReleaseOf : Bool → SentUnit → List Packet → List ℕ → Type 0
 IsReleaseOf splits u missing bytes =
     ((missing ≡ []) × (bytes ≡ joined u.parts))
-    ⊎ ((splits ≡ true) × (0 < length missing) × (lost : List (List ℕ)) × (kept : List (List ℕ)) × (u.parts ≡ lost ++ kept) × (0 < length kept) × (bytes ≡ joined kept))
+    ⊎ ((splits ≡ true) × (0 < length missing) × (lost : List (List ℕ)) × (kept : List (List ℕ)) × (u.parts ≡ lost ++ kept) × (0 < length kept) × (bytes ≡ joined kept)
+    × CarryParts missing lost)

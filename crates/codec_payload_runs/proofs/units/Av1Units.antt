@@ -1,21 +1,22 @@
 -- An AV1 frame is one lawful unit, whose parts are its kept OBUs: a receiver that lost its first packets may get the last of them.
 use Rattle.std.proofs.Common.{◌≡◌, ◌≢◌, ◌∙◌, sym, ap, refl, subst, ℕ, ◌+◌, ◌*◌, ◌<◌, ◌≤◌, ◌%◌, ◌^◌, ◌||◌, inl, inr, List, []}
-use Rattle.std.proofs.Common.{◌∷◌, ◌++◌, length, map, arith, append_assoc, Bool, true, false, Option, Some, None, Result, Ok, Err, cond, leb, ltb}
-use Rattle.std.specs.Prelude.{MatchResult}
+use Rattle.std.proofs.Common.{◌∷◌, ◌++◌, length, map, arith, append_assoc, Bool, true, false, Option, Some, None, Result, Ok, Err, cond, leb, ltb, not}
+use Rattle.std.specs.Prelude.{MatchResult, ◌&&◌, ◌==◌, ◌/◌}
 use Rattle.std.specs.Int.Bits.{bit_and}
 use Rattle.std.specs.List.{AllByRecursion, flat_map}
 use Rattle.std.proofs.lemmas.Bool.{eq-eqb, ltb-false}
-use Rattle.std.proofs.lemmas.List.{append-nil, map-append, length-map}
+use Rattle.std.proofs.lemmas.Grind.{flat_map-append}
+use Rattle.std.proofs.lemmas.List.{append-nil, append_cancel_right, map-append, length-map}
 use Rattle.std.proofs.lemmas.Nat.Bits.{and_pow}
 use Rattle.codec_payload_base.specs.Pieces.{joined}
 use Rattle.codec_payload_base.specs.declared.error.PacketError.{PacketError}
 use Rattle.codec_payload_base.specs.declared.error.PacketError.TheVariants as faults
 use Rattle.codec_payload_av1.proofs.Av1ObuGrammar.{sequence_complete}
 use Rattle.codec_payload_av1.specs.Av1Reading.{◌>>=◌}
-use Rattle.codec_payload_av1.specs.Av1Obu.{Obu, IsSequence, canonical, canonical_unit, frame_kept, kept, string, strings_of}
+use Rattle.codec_payload_av1.specs.Av1Obu.{Obu, IsSequence, has_bit, canonical, canonical_unit, frame_kept, kept, string, strings_of}
 use Rattle.codec_payload_av1.specs.Av1Packing.{IsElement, HasElement, StandsAfter, StandsFor, ended, is_begun, left_open}
-use Rattle.codec_payload_av1.specs.Av1Payload.{Payload, aggregation_header, body, element_count, is_head, payload_at, written}
-use Rattle.codec_payload_av1.specs.Av1Receiving.{all_received, received}
+use Rattle.codec_payload_av1.specs.Av1Payload.{Payload, aggregation_header, body, element_count, elements_at, is_head, payload_at, written}
+use Rattle.codec_payload_av1.specs.Av1Receiving.{all_received, received, still_pending, taken, usable}
 use Rattle.codec_payload_av1.specs.Av1Steps.{AnswersAv1, Av1Step, IsRefusedPayload, IsSentFrame, keeps_nothing, refusal_of_kept}
 use Rattle.codec_payload_codec.proofs.CaseLemmas.{by_test}
 use Rattle.codec_payload_runs.proofs.order.ReportLemmas.{quiet_tells}
@@ -27,7 +28,7 @@ use Rattle.codec_payload_send.specs.Packets.{Packet}
 use Rattle.codec_payload_runs.specs.Schedule.{payloads_of}
 use Rattle.codec_payload_send.specs.Sending.{Sample, packets_from}
 use Rattle.codec_payload_runs.specs.LawfulUnits.{StartsWithHead, payloads_held, payloads_sent, IsLawful}
-use Rattle.codec_payload_runs.specs.SentStream.{SentUnit, EndsWithTail, IsReleaseOf}
+use Rattle.codec_payload_runs.specs.SentStream.{CarryParts, SentUnit, EndsWithTail, IsReleaseOf}
 use Rattle.codec_payload_buffer.specs.Steps.{Unpacked, Unpacks, nothing_unpacked}
 use Rattle.codec_payload_runs.specs.Units.{canonical_obus, canonical_units, units_by}
 
@@ -81,6 +82,60 @@ all_given (p ∷ ps) pending x end u answer e reads gives =
     let x_is : x ≡ first.0.0 ++ others.0.0 = sym (some_pair (first.0.0 ++ others.0.0) x others.0.1 end others.2).0 in
     one_given (u.bytes ++ x) p ps pending others.0.0 first.0 u gives.2 gives.0 gives.3.0 gives.1 answer e first.1 gives.3.1 gives.3.2 (ap (λ (xs : List ℕ). u.bytes ++ xs) x_is) gives.4
     (λ left_is unpacks. all_given ps gives.3.0 others.0.0 others.0.1 gives.2 answer e (ap (λ (l : List ℕ). all_received l (payloads_held ps)) left_is ∙ others.1) unpacks)
+
+bind_again : {A B : Type 0} (o : Option A) (a : A) (f : A → Option B) → o ≡ Some a → (o >>= f) ≡ f a
+bind_again o a f is = ap (λ (x : Option _). x >>= f) is
+
+-- packets that can be read give what the first of them give, and then what the others give
+append_split : (front behind : List (List ℕ)) (pending x end : List ℕ) → all_received pending (front ++ behind) ≡ Some (x, end)
+    → (u : List ℕ) × (mid : List ℕ) × (v : List ℕ) × (all_received pending front ≡ Some (u, mid)) × (all_received mid behind ≡ Some (v, end)) × (x ≡ u ++ v)
+unfolding all_received
+append_split [] behind pending x end reads = ([], pending, x, refl, reads, refl)
+append_split (p ∷ ps) behind pending x end reads =
+    let first = bind_split (received pending p) (λ r. all_received r.1 (ps ++ behind) >>= λ rs. Some (r.0 ++ rs.0, rs.1)) (x, end) reads in
+    let others = bind_split (all_received first.0.1 (ps ++ behind)) (λ rs. Some (first.0.0 ++ rs.0, rs.1)) (x, end) first.2 in
+    let both = some_pair (first.0.0 ++ others.0.0) x others.0.1 end others.2 in
+    let (u, mid, v, reads_front, reads_behind, is) = append_split ps behind first.0.1 others.0.0 others.0.1 others.1 in
+    let reads_all : all_received pending (p ∷ ps) ≡ Some (first.0.0 ++ u, mid) =
+    bind_again (received pending p) first.0 (λ r. all_received r.1 ps >>= λ rs. Some (r.0 ++ rs.0, rs.1)) first.1
+    ∙ bind_again (all_received first.0.1 ps) (u, mid) (λ rs. Some (first.0.0 ++ rs.0, rs.1)) reads_front in (
+      first.0.0 ++ u,
+      mid,
+      v,
+      reads_all,
+      reads_behind ∙ ap (λ (e : List ℕ). Some (v, e)) both.1,
+      sym both.0 ∙ (ap (λ (xs : List ℕ). first.0.0 ++ xs) is ∙ sym (append_assoc first.0.0 u v)),
+    )
+
+not_true : (b : Bool) → not b ≡ true → b ≡ false
+not_true true e = absurd (cc)
+not_true false e = refl
+
+-- a payload that does not continue an element is read alike after any pending bytes
+abbrev taken_after : List ℕ → Payload → Option (List ℕ × List ℕ)
+taken_after pending p = taken p.goes_on (still_pending p pending) (usable p (still_pending p pending))
+
+same_taken : (a b : List ℕ) (p : Payload) → p.continues ≡ false → taken_after a p ≡ taken_after b p
+same_taken a b p is = rw is refl
+
+same_of_elements : (o : Option (List (List ℕ))) (f : List (List ℕ) → Payload) (a b : List ℕ) → ((es : List (List ℕ)) → (f es).continues ≡ false)
+    → ((o >>= λ es. Some (f es)) >>= taken_after a) ≡ ((o >>= λ es. Some (f es)) >>= taken_after b)
+same_of_elements None f a b all = refl
+same_of_elements (Some es) f a b all = same_taken a b (f es) (all es)
+
+head_received : (a b packet : List ℕ) → is_head packet ≡ true → received a packet ≡ received b packet
+unfolding received payload_at
+head_received a b [] head = refl
+head_received a b (h ∷ bytes) head =
+    let w = bit_and h 0x30 / 16 in
+    same_of_elements (elements_at w bytes)
+    (λ es. record { continues = has_bit 128 h; goes_on = has_bit 64 h && (w == 0 || length es == w); starts = has_bit 8 h; elements = es })
+    a b (λ es. not_true (has_bit 128 h) head)
+
+head_all_received : (a b packet : List ℕ) (packets : List (List ℕ)) → is_head packet ≡ true → all_received a (packet ∷ packets) ≡ all_received b (packet ∷ packets)
+unfolding all_received
+head_all_received a b packet packets head =
+    ap (λ (o : Option (List ℕ × List ℕ)). o >>= λ r. all_received r.1 packets >>= λ rs. Some (r.0 ++ rs.0, rs.1)) (head_received a b packet head)
 
 -- a depacketizer of these payloads holds the pending bytes
 is_av1 : (d : DepacketizerState) → kind_of_depacketizer d ≡ Av1Payloads → (pending : List ℕ) × (d ≡ Av1Depacketizing pending)
@@ -172,12 +227,36 @@ module _ (sample : Sample) (rtp_time : ℕ) where
     whole_released (Ok v) e given = (given.0, inl (refl, given.1 ∙ flat_joined (kept s.obus)))
     whole_released (Err fault) e given = given
 
+    -- the packets in front of the last ones carry exactly the OBUs that the last ones lack
+    front_carries : (front : List (List ℕ)) (next : List ℕ) (behind : List (List ℕ)) → packet ∷ others ≡ front ++ next ∷ behind → is_head next ≡ true
+        → (first last : List Obu) → kept s.obus ≡ first ++ last → (before end : List ℕ) → all_received before (next ∷ behind) ≡ Some (flat_map canonical last, end)
+        → (pending : List ℕ) → (after : List ℕ) × (all_received pending front ≡ Some (joined (map canonical first), after))
+    front_carries front next behind split head first last parts before end read pending =
+        let total = s.comes_back pending in
+        let (u, mid, v, reads, rest, is) = append_split front (next ∷ behind) pending (canonical_unit s.obus) total.0 (ap (all_received pending) (sym split) ∙ total.1) in
+        let v_is : v ≡ flat_map canonical last = (some_pair v (flat_map canonical last) total.0 end (sym rest ∙ (head_all_received mid before next behind head ∙ read))).0 in
+        let whole : u ++ flat_map canonical last ≡ flat_map canonical first ++ flat_map canonical last =
+        ap (λ (xs : List ℕ). u ++ xs) (sym v_is) ∙ (sym is ∙ (ap (flat_map canonical) parts ∙ flat_map-append canonical first last)) in
+        let u_is : u ≡ joined (map canonical first) = append_cancel_right u (flat_map canonical first) (flat_map canonical last) whole ∙ flat_joined first in
+        (mid, reads ∙ ap (λ (xs : List ℕ). Some (xs, mid)) u_is)
+
     last_released : (m : Packet) (ms : List Packet) (first last : List Obu) (answer : Result Unpacked PacketError) (e : DepacketizerState) → kept s.obus ≡ first ++ last
-        → 0 < length last → Given (flat_map canonical last) answer e → Released (m ∷ ms) answer e
-    last_released m ms first last (Ok v) e split some given =
-        let size : length (map canonical last) ≡ length last = length-map last canonical in
-        (given.0, inr (refl, omega arith, map canonical first, map canonical last, ap (map canonical) split ∙ map-append canonical first last, omega (arith, size, some), given.1 ∙ flat_joined last))
-    last_released m ms first last (Err fault) e split some given = given
+        → 0 < length last → CarryParts (m ∷ ms) (map canonical first) → Given (flat_map canonical last) answer e → Released (m ∷ ms) answer e
+    last_released m ms first last (Ok v) e split some carried given =
+        let size : length (map canonical last) ≡ length last = length-map last canonical in (
+          given.0,
+          inr (
+            refl,
+            omega arith,
+            map canonical first,
+            map canonical last,
+            ap (map canonical) split ∙ map-append canonical first last,
+            omega (arith, size, some),
+            given.1 ∙ flat_joined last,
+            carried,
+          ),
+        )
+    last_released m ms first last (Err fault) e split some carried given = given
 
     gives_unit : (missing rest : List Packet) → missing ++ rest ≡ laid number 0 (packet ∷ others) → StartsWithHead Av1Payloads rest → (ps : List Held) → payloads_held ps ≡ payloads_sent rest
         → (d : DepacketizerState) (answer : Result Unpacked PacketError) (e : DepacketizerState) → kind_of_depacketizer d ≡ Av1Payloads
@@ -194,7 +273,8 @@ module _ (sample : Sample) (rtp_time : ℕ) where
         let split : packet ∷ others ≡ payloads_sent (m ∷ ms) ++ r.payload ∷ payloads_sent rs =
         sym (payloads_laid number 0 (packet ∷ others)) ∙ (ap payloads_sent (sym whole) ∙ map-append (λ (p : Packet). p.payload) (m ∷ ms) (r ∷ rs)) in
         let (first, last, end, parts, some, read) = s.last_come_back (payloads_sent (m ∷ ms)) r.payload (payloads_sent rs) split head holds.0 in
-        last_released m ms first last answer e parts some (all_given ps holds.0 (flat_map canonical last) end nothing_unpacked answer e
+        let carried = front_carries (payloads_sent (m ∷ ms)) r.payload (payloads_sent rs) split head first last parts holds.0 end read in
+        last_released m ms first last answer e parts some carried (all_given ps holds.0 (flat_map canonical last) end nothing_unpacked answer e
         (ap (all_received holds.0) same ∙ read) (subst (λ (x : DepacketizerState). Unpacks x ps nothing_unpacked answer e) holds.1 gives))
 
     first_head : (ps : List Payload) → packet ∷ others ≡ map written ps → StandsFor ps (strings_of s.obus) → is_head packet ≡ true
