@@ -1,0 +1,2 @@
+pub mod NumberRuns
+pub mod Numbers

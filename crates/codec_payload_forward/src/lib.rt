@@ -1,0 +1,6 @@
+//! What a forwarder (SFU) needs for each viewer: the numbers of its packets between and across switches of the source
+//! (docs/FORWARDING.md).
+#![tactic(auto)]
+
+pub mod renumbering;
+pub mod theorems;
