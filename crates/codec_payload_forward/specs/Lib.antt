@@ -1,2 +1,3 @@
 pub mod NumberRuns
 pub mod Numbers
+pub mod Times

@@ -4,3 +4,4 @@
 
 pub mod renumbering;
 pub mod theorems;
+pub mod times;

@@ -1,6 +1,7 @@
-//! Theorems about the numbers of a viewer's stream. These functions exist for what they prove; they do nothing.
+//! Theorems about the numbers and times of a viewer's stream. These functions exist for what they prove; they do nothing.
 
 ghost use Rattle.codec_payload_forward.specs.NumberRuns.{KeepsGaps, KeepsNumbers, Renumbers, SendsGiven, SwitchesNext};
+ghost use Rattle.codec_payload_forward.specs.Times.{NeverGoesBack, Retimes};
 
 /// Proves for each sequence of calls: the number on the wire is the number received plus an offset, less the packets left out
 /// before it since the last switch.
@@ -23,4 +24,15 @@ pub fn keeps_numbers()
 /// Proves that at a switch the first packet has the number after the highest one so far.
 pub fn switches_next()
     ensures { SwitchesNext }
+{}
+
+/// Proves for each sequence of calls: the time on the wire is the time received plus an offset, if each packet's time is less than
+/// 2^31 ticks from the highest time that was sent before it.
+pub fn retimes()
+    ensures { Retimes }
+{}
+
+/// Proves that the time goes on by the given ticks at a switch, from the highest time that was sent, and never goes back.
+pub fn never_goes_back()
+    ensures { NeverGoesBack }
 {}
