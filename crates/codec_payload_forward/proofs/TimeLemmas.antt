@@ -1,8 +1,8 @@
 -- The RTP times of a viewer's stream over whole runs.
-use Rattle.std.proofs.Common.{◌≡◌, ◌∙◌, refl, sym, ap, ℕ, ◌+◌, ◌-◌, ◌%◌, ◌<◌, ◌≤◌, max, List, [], ◌∷◌, Bool, true, false, cond, ltb, arith}
+use Rattle.std.proofs.Common.{◌≡◌, ◌∙◌, refl, ap, ℕ, ◌+◌, ◌-◌, ◌%◌, ◌<◌, ◌≤◌, max, List, [], ◌∷◌, Bool, true, false, cond, ltb, arith}
 use Rattle.std.proofs.lemmas.Bool.{ltb-false, ltb-true}
 use Rattle.codec_payload_forward.specs.declared.times.Retiming.{Retiming}
-use Rattle.codec_payload_forward.specs.Times.{AreAtMost, AreNear, IsNear, NeverGoesBack, Retimes, TimeCall, Timeline, after_call, after_time, begun_times, call_of, later, sends, switched_times, switches, time_as, time_of, timeline_after, times_after, times_sent}
+use Rattle.codec_payload_forward.specs.Times.{AreAtMost, AreNear, IsNear, NeverGoesBack, Retimes, TimeCall, Timeline, after_call, begun_times, call_of, later, sends, switches, time_as, time_of, timeline_after, times_after, times_sent}
 
 -- the map and the stretch of the same calls
 pub record Agrees (s : Timeline) (m : Retiming) : Type 0 where

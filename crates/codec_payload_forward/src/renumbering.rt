@@ -1,6 +1,6 @@
 //! The sequence numbers of a viewer's stream, which is made of packets of one source after another.
 
-ghost use Rattle.std.specs.Prelude.{◌≡◌, ◌+◌, ◌<◌, ◌≤◌, ◌∷◌, ℕ, length, take, get_or, IfSome, IfNone, IfOk, IsOk, OnOk, OnErr, IsTrue, false};
+ghost use Rattle.std.specs.Prelude.{◌≡◌, ◌+◌, ◌<◌, ◌≤◌, ◌∷◌, ℕ, length, take, get_or, IfSome, IfNone, IfOk, IsOk, OnOk, OnErr, IsTrue, false, true};
 ghost use Rattle.codec_payload_forward.specs.Numbers.{AllBelow, Falls, HasNumber, above, after_packet, begun, closed, is_in, is_too_old, next_number, placed, sent_as, source_at, without_lowest};
 
 use std::alloc::{AllocError, Global};
@@ -160,6 +160,36 @@ impl Renumbering {
             .wrapping_sub(lower as u16)
     }
 
+    /// Returns the highest number of the source so far.
+    pub fn highest(&self) -> u64
+        ensures { result ≡ self.now.highest }
+    {
+        self.highest
+    }
+
+    /// Returns what [`Renumbering::place`] answers for a packet that is wanted. The map stays as it is.
+    pub fn placed(&self, number: u64) -> Placed
+        ensures { result ≡ placed self.now number true }
+    {
+        if self.is_too_old(number) {
+            return Placed::TooOld;
+        }
+        if number <= self.highest {
+            return self.place_within(number, true);
+        }
+        Placed::Sent(self.sent_as(number))
+    }
+
+    /// Records a packet that is wanted, as [`Renumbering::place`] does. Does not allocate.
+    pub fn record(&mut self, number: u64)
+        ensures { self.new ≡ after_packet number true self.old }
+    {
+        if self.is_too_old(number) || number <= self.highest {
+            return;
+        }
+        self.highest = number;
+    }
+
     /// Returns the number of the viewer's stream for a packet, which is wanted or is to be left out.
     ///
     /// A number keeps its place: the answer for a packet that comes again, or late, is that of the first time. A packet that is
@@ -187,8 +217,9 @@ impl Renumbering {
             self.leave_out(number)?;
             return Ok(Placed::LeftOut);
         }
+        let sent = self.placed(number);
         self.highest = number;
-        Ok(Placed::Sent(self.sent_as(number)))
+        Ok(sent)
     }
 
     /// Returns the number for a packet that is not above all others.
