@@ -44,6 +44,7 @@
 //! | [`jitter`] | the jitter buffer of a receiver, for callers who read RTP headers themselves |
 //! | [`rtp`], [`rtcp`] | RTP packets, header extensions and their values; RTCP packets |
 //! | [`history`] | retransmission: sent packets that are resent on request, and the requests in RTCP feedback |
+//! | [`forward`] | forwarding to viewers: numbers and times that go on from one source to the next |
 //! | [`red_writer`] | puts the datagrams of a sender in RED |
 //! | [`sdp`] | from a session description to the settings of receivers |
 //! | [`keyframes`] | which units of video a decoder can show, and when to request a keyframe |
@@ -120,6 +121,7 @@ pub mod contiguity;
 pub mod described;
 pub mod error;
 pub mod feedback;
+pub mod forward;
 pub mod history;
 pub mod interface;
 pub mod jitter;
