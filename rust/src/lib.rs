@@ -119,6 +119,8 @@ pub mod error;
 #[doc(hidden)]
 pub mod feedback;
 #[doc(hidden)]
+pub mod forward;
+#[doc(hidden)]
 pub mod history;
 #[doc(hidden)]
 pub mod interface;

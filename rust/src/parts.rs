@@ -10,6 +10,7 @@
 //! | [`jitter`] | the jitter buffer of a receiver, for callers who read RTP headers themselves |
 //! | [`rtp`], [`rtcp`] | RTP packets, header extensions and their values; RTCP packets |
 //! | [`history`] | retransmission: sent packets that are resent on request, and the requests in RTCP feedback |
+//! | [`forward`] | forwarding to viewers: numbers and times that go on from one source to the next |
 //! | [`red_writer`] | puts the datagrams of a sender in RED |
 //! | [`keyframes`] | which units of video a decoder can show, and when to request a keyframe |
 //! | [`requests`] | when to request missing packets by NACK, and keyframes |
@@ -26,9 +27,9 @@
 
 #[doc(inline)]
 pub use crate::{
-    amr_wb, av1, buffer, codec, congestion, error, feedback, history, interface, jitter, keyframes,
-    media, memory, payload, payloads, plain, red, red_writer, requests, rtcp, rtp, sender, session,
-    stream, tele, vp8, vp9, waiting, wire,
+    amr_wb, av1, buffer, codec, congestion, error, feedback, forward, history, interface, jitter,
+    keyframes, media, memory, payload, payloads, plain, red, red_writer, requests, rtcp, rtp,
+    sender, session, stream, tele, vp8, vp9, waiting, wire,
 };
 
 /// Iterators over what a receiver, a buffer or a packetizer returns, and the faults of conversions.

@@ -1,0 +1,4 @@
+pub mod MapLemmas
+pub mod NumberLemmas
+pub mod NumberRunLemmas
+pub mod TimeLemmas

@@ -1,0 +1,156 @@
+-- What a forwarder does with a packet.
+use Rattle.std.specs.Prelude.{◌≡◌, ℕ, ◌+◌, ◌-◌, ◌%◌, ◌≤◌, ◌==◌, ◌&&◌, max, min, nat_lt, not, if◌then◌else◌, Bool, true, false, List, [], ◌∷◌, Option, Some, None, Result, Ok, Err}
+use Rattle.codec_payload_base.specs.Extended.{nearest}
+use Rattle.codec_payload_base.specs.Flags.{has_bit}
+use Rattle.codec_payload_base.specs.declared.wire.Codec.{Codec}
+use Rattle.codec_payload_base.specs.declared.wire.Codec.TheVariants as codecs
+use Rattle.codec_payload_rtp.specs.RtpPackets.{Packet, packet_bytes}
+use Rattle.codec_payload_rtp.specs.RtpReading.{rtp_at}
+use Rattle.codec_payload_vp8.specs.Vp8Keyframe.{is_keyframe}
+use Rattle.codec_payload_vp9.specs.Vp9Keyframe.{is_key_payload}
+use Rattle.codec_payload_forward.specs.declared.forwarder.ForwardError.{ForwardError}
+use Rattle.codec_payload_forward.specs.declared.forwarder.ForwardError.TheVariants as errors
+use Rattle.codec_payload_forward.specs.declared.forwarder.ForwardSettings.{ForwardSettings}
+use Rattle.codec_payload_forward.specs.declared.forwarder.Forwarded.{Forwarded}
+use Rattle.codec_payload_forward.specs.declared.forwarder.Forwarded.TheVariants as answers
+use Rattle.codec_payload_forward.specs.declared.renumbering.Placed.TheVariants as places
+use Rattle.codec_payload_forward.specs.declared.times.Retiming.{Retiming}
+use Rattle.codec_payload_forward.specs.Numbers.{HasNumber, Numbers, after_packet, begun, next_number, placed}
+use Rattle.codec_payload_forward.specs.Times.{after_time, begun_times, switched_times, time_as}
+
+-- a forwarder: its settings; the source that is forwarded, and the one to go over to; the maps of numbers and times; and when the
+-- packet with the highest number was written
+pub record Forward : Type 0 where
+  pub settings : ForwardSettings
+  pub source : Option ℕ
+  pub wanted : Option ℕ
+  pub numbers : Numbers
+  pub times : Retiming
+  pub written_at : Option ℕ
+
+abbrev pub codec_fits : Codec → Bool
+codec_fits codecs.H264 = false
+codec_fits codecs.H265 = false
+codec_fits codecs.H266 = false
+codec_fits codec = true
+
+-- a forwarder that wants no source, or the first setting that is out of range
+abbrev pub forward_by : ForwardSettings → Result Forward ForwardError
+forward_by s =
+    if nat_lt 127 s.payload_type then Err errors.PayloadType
+    else if not (codec_fits s.codec) then Err errors.Codec
+    else Ok (record { settings = s; source = None; wanted = None; numbers = begun 0 ((s.first_number + 65535) % 65536); times = begun_times 0 s.first_time; written_at = None })
+
+abbrev pub is_source : Option ℕ → ℕ → Bool
+is_source None ssrc = false
+is_source (Some source) ssrc = source == ssrc
+
+-- ---- which packets a viewer can begin with
+
+-- VP9: P is clear, and B is set (RFC 9628, section 4.2)
+abbrev pub begins_vp9 : List ℕ → Bool
+begins_vp9 [] = false
+begins_vp9 (flags ∷ bytes) = is_key_payload (flags ∷ bytes) && has_bit flags 3
+
+-- AV1: N is set, and Z is clear (RTP payload format for AV1, section 4.4)
+abbrev pub begins_av1 : List ℕ → Bool
+begins_av1 [] = false
+begins_av1 (header ∷ bytes) = has_bit header 3 && not (has_bit header 7)
+
+abbrev pub begins : Codec → List ℕ → Bool
+begins codecs.Vp8 payload = is_keyframe payload
+begins codecs.Vp9 payload = begins_vp9 payload
+begins codecs.Av1 payload = begins_av1 payload
+begins codec payload = true
+
+-- ---- what is written
+
+-- the packet received, with the viewer's SSRC and payload type, this number and this time, without CSRCs and extension
+abbrev pub sent_packet : ForwardSettings → (number time : ℕ) → Packet → Packet
+sent_packet s number time p = record {
+  header = record { marker = p.header.marker; payload_type = s.payload_type; sequence_number = number; timestamp = time; ssrc = s.ssrc; csrcs = []; extension = None };
+  payload = p.payload;
+  padding = p.padding;
+}
+
+-- the number of a packet of the source, extended
+abbrev pub number_in : Forward → Packet → ℕ
+number_in f p = nearest 65536 f.numbers.highest p.header.sequence_number
+
+-- by how many ticks the time goes on at a switch
+abbrev pub ticks_between : Option ℕ → ℕ → ℕ
+ticks_between None now = 0
+ticks_between (Some last) now = min (max (now - last) 1) 2147483647
+
+-- the packet of the source that is forwarded, as it is sent
+abbrev pub next_packet : Forward → ℕ → Packet → Packet
+next_packet f sent p = sent_packet f.settings sent (time_as f.times p.header.timestamp) p
+
+-- the first packet of another source: the number goes on by one, the time by the ticks that passed
+abbrev pub first_packet : ℕ → Forward → Packet → Packet
+first_packet now f p = sent_packet f.settings (next_number f.numbers) ((f.times.highest + ticks_between f.written_at now) % 4294967296) p
+
+-- ---- the forwarder after it
+
+abbrev pub written_when : Bool → ℕ → Option ℕ → Option ℕ
+written_when ahead now last = if ahead then Some now else last
+
+abbrev pub after_written : (now number time : ℕ) → Forward → Forward
+after_written now number time f = record f {
+  numbers = after_packet number true f.numbers;
+  times = after_time time f.times;
+  written_at = written_when (nat_lt f.numbers.highest number) now f.written_at;
+}
+
+abbrev pub after_next : ℕ → Packet → Forward → Forward
+after_next now p f = after_written now (number_in f p) p.header.timestamp f
+
+abbrev pub after_begin : ℕ → Packet → Forward → Forward
+after_begin now p f = record f {
+  source = Some p.header.ssrc;
+  numbers = begun (65536 + p.header.sequence_number) (next_number f.numbers);
+  times = switched_times p.header.timestamp (ticks_between f.written_at now) f.times;
+  written_at = Some now;
+}
+
+-- nothing is written
+abbrev pub IsLeft : Forward → List ℕ → Forward → Type 0
+IsLeft f bytes t = (bytes ≡ []) × (t ≡ f)
+
+-- the bytes are that packet, and are read as it
+abbrev pub IsWritten : Packet → List ℕ → Type 0
+IsWritten p bytes = (bytes ≡ packet_bytes p) × (rtp_at bytes ≡ Ok p)
+
+-- What is done with a packet: the answer, the bytes written, and the forwarder after it
+abbrev pub Forwards : ℕ → Packet → Forward → Forwarded → List ℕ → Forward → Type 0
+Forwards now p f answers.Began bytes t =
+    (is_source f.source p.header.ssrc ≡ false) × (is_source f.wanted p.header.ssrc ≡ true) × (begins f.settings.codec p.payload ≡ true)
+    × IsWritten (first_packet now f p) bytes × (t ≡ after_begin now p f)
+Forwards now p f answers.Written bytes t =
+    (is_source f.source p.header.ssrc ≡ true)
+    × ((sent : ℕ) × (placed f.numbers (number_in f p) true ≡ places.Sent sent) × IsWritten (next_packet f sent p) bytes)
+    × (t ≡ after_next now p f)
+Forwards now p f answers.NoKeyframe bytes t =
+    (is_source f.source p.header.ssrc ≡ false) × (is_source f.wanted p.header.ssrc ≡ true) × (begins f.settings.codec p.payload ≡ false) × IsLeft f bytes t
+Forwards now p f answers.OtherSource bytes t = (is_source f.source p.header.ssrc ≡ false) × (is_source f.wanted p.header.ssrc ≡ false) × IsLeft f bytes t
+Forwards now p f answers.TooOld bytes t = (is_source f.source p.header.ssrc ≡ true) × (placed f.numbers (number_in f p) true ≡ places.TooOld) × IsLeft f bytes t
+Forwards now p f answers.LeftOut bytes t = (is_source f.source p.header.ssrc ≡ true) × (placed f.numbers (number_in f p) true ≡ places.LeftOut) × IsLeft f bytes t
+
+-- ---- what was sent
+
+-- the source's packet with that number is sent under that number of the viewer's stream
+abbrev pub IsNumberOf : Forward → (number n low : ℕ) → Type 0
+IsNumberOf f number n low = HasNumber f.numbers number n × (low ≡ n % 65536)
+
+-- a packet of the source that has a number, not above the highest one, is written as it was sent
+abbrev pub Repeats : Packet → Forward → Bool → List ℕ → Type 0
+Repeats p f true bytes =
+    (is_source f.source p.header.ssrc ≡ true) × (number_in f p ≤ f.numbers.highest)
+    × ((sent : ℕ) × (placed f.numbers (number_in f p) true ≡ places.Sent sent) × IsWritten (next_packet f sent p) bytes)
+Repeats p f false bytes =
+    (bytes ≡ [])
+    × ((sent : ℕ) → is_source f.source p.header.ssrc ≡ true → number_in f p ≤ f.numbers.highest → placed f.numbers (number_in f p) true ≡ places.Sent sent → ⊥)
+
+-- the time of the viewer's stream for a time of the source
+abbrev pub time_for : Forward → (ssrc time : ℕ) → Option ℕ
+time_for f ssrc time = if is_source f.source ssrc then Some (time_as f.times time) else None

@@ -1,0 +1,4 @@
+pub mod Forwarding
+pub mod NumberRuns
+pub mod Numbers
+pub mod Times

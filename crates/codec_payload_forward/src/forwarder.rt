@@ -1,0 +1,389 @@
+//! One stream of a viewer: packets of one source after another, under the viewer's SSRC, payload type, numbers and times.
+
+ghost use Rattle.std.specs.Prelude.{◌≡◌, ◌<◌, ℕ, [], Some, None, Ok, true, false, IfOk, IfSome, IfNone, IsTrue, OnOk, OnErr};
+ghost use Rattle.codec_payload_base.specs.Extended.{nearest};
+ghost use Rattle.codec_payload_rtp.specs.RtpPackets.{packet_bytes};
+ghost use Rattle.codec_payload_rtp.specs.RtpReading.{rtp_at};
+ghost use Rattle.codec_payload_rtp.specs.RtpValues.{packet_of};
+ghost use Rattle.codec_payload_forward.specs.Forwarding.{IsNumberOf, Forwards, Repeats, after_begin, after_next, after_written, begins, codec_fits, forward_by, is_source, sent_packet, ticks_between, time_for, written_when};
+ghost use Rattle.codec_payload_forward.specs.Numbers.{after_packet};
+ghost use Rattle.codec_payload_forward.specs.Times.{time_as};
+
+use crate::renumbering::{Placed, Renumbering};
+use crate::times::Retiming;
+use codec_payload_base::wire::Codec;
+use codec_payload_rtp::rtp::{PacketHeader, RtpPacket};
+use codec_payload_vp8::vp8::detect_vp8_keyframe;
+use codec_payload_vp9::vp9::detect_vp9_keyframe;
+use std::alloc::{AllocError, Global};
+use std::marker::Model;
+use thiserror::Error;
+
+/// The most ticks that the time goes on by at a switch: below half of the RTP times.
+const MAX_TICKS: u64 = 2_147_483_647;
+
+/// How a viewer's stream is sent.
+#[derive(Clone, Copy, Debug, PartialEq, Eq)]
+pub struct ForwardSettings {
+    /// The codec of all sources. It says with which packets a viewer can begin; see [`Forwarder::write`].
+    pub codec: Codec,
+    /// The SSRC of the viewer's stream.
+    pub ssrc: u32,
+    /// Its payload type, 0 to 127.
+    pub payload_type: u8,
+    /// The sequence number of its first packet.
+    pub first_number: u16,
+    /// The RTP time of its first packet.
+    pub first_time: u32,
+}
+
+/// Which setting is out of range.
+#[derive(Clone, Copy, Debug, PartialEq, Eq, Error)]
+pub enum ForwardError {
+    /// The payload type is above 127.
+    #[error("payload type of the viewer's stream exceeds 127")]
+    PayloadType,
+    /// The codec is H.264, H.265 or H.266, whose keyframes the library does not find.
+    #[error("codec of the viewer's stream is not supported")]
+    Codec,
+}
+
+/// What [`Forwarder::write`] did with a packet.
+#[derive(Clone, Copy, Debug, PartialEq, Eq)]
+pub enum Forwarded {
+    /// The packet was written, and is the first of another source. Packets of this source with higher numbers may have come before
+    /// it: pass them again.
+    Began,
+    /// The packet was written.
+    Written,
+    /// The packet is of the wanted source, but a viewer cannot begin with it.
+    NoKeyframe,
+    /// The packet is of a source that the viewer does not get.
+    OtherSource,
+    /// The packet is older than the keyframe with which its source began, or too old to have a number.
+    TooOld,
+    /// The packet was left out before, and has no number.
+    LeftOut,
+}
+
+/// Forwards the packets of one source after another to a viewer.
+///
+/// Name a source by [`Forwarder::want`], and pass each packet that arrived to [`Forwarder::write`], before SRTP encrypts it.
+/// The forwarder goes over to the wanted source at its next keyframe. Until then it forwards the source before. Each written packet
+/// has the payload, the marker and the padding of the packet received. It has the viewer's SSRC and payload type, and the number and
+/// time of the maps [`Renumbering`] and [`Retiming`]. It has no CSRCs and no header extension, since ids of extensions differ
+/// between connections.
+#[derive(Debug, Drop)]
+pub struct Forwarder {
+    settings: ForwardSettings,
+    /// The source that is forwarded.
+    source: Option<u32>,
+    /// The source to go over to.
+    wanted: Option<u32>,
+    numbers: Renumbering,
+    times: Retiming,
+    /// When the packet with the highest number was written.
+    written_at: Option<u64>,
+}
+
+impl Model for Forwarder {
+    ghost use Rattle.std.specs.Prelude.{◌<◌};
+    ghost use Rattle.codec_payload_forward.specs.Forwarding.{Forward};
+
+    ghost Value = { Forward };
+
+    ghost view = { λ f. record { settings = f.settings; source = f.source; wanted = f.wanted; numbers = f.numbers; times = f.times; written_at = f.written_at } };
+
+    ghost invariant = { λ f. f.settings.payload_type < 128 };
+}
+
+/// Returns whether the library finds the keyframes of a codec, or needs none.
+fn codec_fits(codec: Codec) -> bool
+    ensures { result ≡ codec_fits codec }
+{
+    !matches!(codec, Codec::H264 | Codec::H265 | Codec::H266)
+}
+
+/// Returns whether a viewer can begin with a packet that has this payload.
+fn begins(codec: Codec, payload: &[u8]) -> bool
+    ensures { result ≡ begins codec payload.now }
+{
+    match codec {
+        Codec::Vp8 => detect_vp8_keyframe(payload),
+        Codec::Vp9 => match payload.first() {
+            Some(flags) => detect_vp9_keyframe(payload) && flags & 0x08 != 0,
+            None => false,
+        },
+        Codec::Av1 => match payload.first() {
+            Some(header) => header & 0x08 != 0 && header & 0x80 == 0,
+            None => false,
+        },
+        _ => true,
+    }
+}
+
+/// Returns whether a source is the one with this SSRC.
+fn is_source(source: Option<u32>, ssrc: u32) -> bool
+    ensures { result ≡ is_source source ssrc }
+{
+    match source {
+        None => false,
+        Some(source) => source == ssrc,
+    }
+}
+
+/// Returns the number nearest to `highest` with these low 16 bits.
+fn extended(highest: u64, number: u16) -> u64
+    ensures { result ≡ nearest 65536 highest number }
+{
+    let ahead = (u64::from(number) + 65_536 - highest % 65_536) % 65_536;
+    if ahead <= 32_768 {
+        highest.wrapping_add(ahead)
+    } else {
+        highest.wrapping_sub(65_536 - ahead)
+    }
+}
+
+/// Returns by how many ticks the time goes on at a switch.
+fn ticks_between(last: Option<u64>, now: u64) -> u32
+    ensures { result ≡ ticks_between last now }
+{
+    match last {
+        None => 0,
+        Some(last) => now.saturating_sub(last).max(1).min(MAX_TICKS) as u32,
+    }
+}
+
+/// Writes a packet of a source as a packet of the viewer's stream, and replaces what `out` has.
+fn write_as(
+    settings: ForwardSettings,
+    number: u16,
+    time: u32,
+    packet: &RtpPacket<'_>,
+    out: &mut Vec<u8>,
+) -> Result<(), AllocError>
+    requires { settings.payload_type < 128 }
+    ensures ok { OnOk result (out.new.items ≡ packet_bytes (sent_packet settings number time (packet_of packet.now))) }
+    ensures reads { OnOk result (rtp_at out.new.items ≡ Ok (sent_packet settings number time (packet_of packet.now))) }
+    ensures err { OnErr result (out.new.items ≡ []) }
+{
+    out.clear();
+    let header = PacketHeader {
+        marker: packet.header.marker,
+        payload_type: settings.payload_type,
+        sequence_number: number,
+        timestamp: time,
+        ssrc: settings.ssrc,
+        csrcs: &[],
+        extension: None,
+    };
+    let sent = RtpPacket {
+        header,
+        payload: packet.payload,
+        padding: packet.padding,
+    };
+    sent.write(out)
+}
+
+impl Forwarder {
+    /// Returns a forwarder that wants no source yet. Does not allocate. If several settings are out of range, the error is the
+    /// first in the order of [`ForwardError`].
+    pub fn new(alloc: Global, settings: ForwardSettings) -> Result<Forwarder, ForwardError>
+        ensures { result ≡ forward_by settings }
+    {
+        if settings.payload_type > 127 {
+            return Err(ForwardError::PayloadType);
+        }
+        if !codec_fits(settings.codec) {
+            return Err(ForwardError::Codec);
+        }
+        Ok(Forwarder {
+            settings,
+            source: None,
+            wanted: None,
+            numbers: Renumbering::new(alloc, 0, settings.first_number.wrapping_sub(1)),
+            times: Retiming::new(0, settings.first_time),
+            written_at: None,
+        })
+    }
+
+    /// Returns the SSRC of the source that is forwarded. `None`: the viewer gets nothing now.
+    pub fn source(&self) -> Option<u32>
+        ensures { result ≡ self.now.source }
+    {
+        self.source
+    }
+
+    /// Returns the SSRC of the source that the forwarder goes over to, or has gone over to.
+    pub fn wanted(&self) -> Option<u32>
+        ensures { result ≡ self.now.wanted }
+    {
+        self.wanted
+    }
+
+    /// Wants the source with this SSRC: the forwarder goes over to it at its next keyframe. Ask its sender for one.
+    pub fn want(&mut self, ssrc: u32)
+        ensures { self.new ≡ record self.old { wanted = Some ssrc } }
+    {
+        self.wanted = Some(ssrc);
+    }
+
+    /// Forwards nothing until a source is wanted again. Then the viewer's stream goes on with a keyframe, also of the same
+    /// source. So call this, and then [`Forwarder::want`], if the sender has restarted under the same SSRC.
+    pub fn mute(&mut self)
+        ensures { self.new ≡ record self.old { source = None; wanted = None } }
+    {
+        self.source = None;
+        self.wanted = None;
+    }
+
+    /// Writes a packet for the viewer and replaces what `out` has, or says why not; then `out` is empty.
+    ///
+    /// `now` is the time of your clock in ticks of the RTP clock. At a switch the time goes on by the ticks since the packet with
+    /// the highest number was written: at least 1, at most 2^31 - 1. A viewer begins with:
+    ///
+    /// - VP8: the first packet of a keyframe (RFC 7741, section 4.2).
+    /// - VP9: the first packet of a frame that refers to no other: P is clear, and B is set (RFC 9628, section 4.2).
+    /// - AV1: the first packet of a coded video sequence: N is set, and Z is clear (RTP payload format for AV1, section 4.4).
+    /// - Other codecs: any packet.
+    ///
+    /// It copies the payload once. Once `out` has grown to the largest packet, it does not allocate.
+    ///
+    /// # Errors
+    ///
+    /// Memory ran out: the forwarder is unchanged, and `out` is empty.
+    pub fn write(
+        &mut self,
+        now: u64,
+        packet: &RtpPacket<'_>,
+        out: &mut Vec<u8>,
+    ) -> Result<Forwarded, AllocError>
+        ensures ok { IfOk result (λ answer. Forwards now (packet_of packet.now) self.old answer out.new.items self.new) }
+        ensures err { OnErr result ((self.new ≡ self.old) × (out.new.items ≡ [])) }
+    {
+        out.clear();
+        let ssrc = packet.header.ssrc;
+        if is_source(self.source, ssrc) {
+            return self.write_next(now, packet, out);
+        }
+        if !is_source(self.wanted, ssrc) {
+            return Ok(Forwarded::OtherSource);
+        }
+        if !begins(self.settings.codec, packet.payload) {
+            return Ok(Forwarded::NoKeyframe);
+        }
+        self.begin(now, packet, out)
+    }
+
+    /// Writes a packet of the source that is forwarded.
+    fn write_next(
+        &mut self,
+        now: u64,
+        packet: &RtpPacket<'_>,
+        out: &mut Vec<u8>,
+    ) -> Result<Forwarded, AllocError>
+        requires source { IsTrue (is_source self.old.source packet.now.header.ssrc) }
+        requires empty { out.old.items ≡ [] }
+        ensures ok { IfOk result (λ answer. Forwards now (packet_of packet.now) self.old answer out.new.items self.new) }
+        ensures err { OnErr result ((self.new ≡ self.old) × (out.new.items ≡ [])) }
+    {
+        let number = extended(self.numbers.highest(), packet.header.sequence_number);
+        match self.numbers.placed(number) {
+            Placed::Sent(sent) => {
+                let time = self.times.sent_as(packet.header.timestamp);
+                write_as(self.settings, sent, time, packet, out)?;
+                self.record(now, number, packet.header.timestamp);
+                Ok(Forwarded::Written)
+            }
+            Placed::LeftOut => Ok(Forwarded::LeftOut),
+            Placed::TooOld | Placed::Unused(_) => Ok(Forwarded::TooOld),
+        }
+    }
+
+    /// Records that a packet was written.
+    fn record(&mut self, now: u64, number: u64, time: u32)
+        ensures { self.new ≡ after_written now number time self.old }
+    {
+        if number > self.numbers.highest() {
+            self.written_at = Some(now);
+        }
+        self.numbers.record(number);
+        self.times.record(time);
+    }
+
+    /// Goes over to the source of a packet, and writes the packet.
+    fn begin(
+        &mut self,
+        now: u64,
+        packet: &RtpPacket<'_>,
+        out: &mut Vec<u8>,
+    ) -> Result<Forwarded, AllocError>
+        requires other { is_source self.old.source packet.now.header.ssrc ≡ false }
+        requires wanted { IsTrue (is_source self.old.wanted packet.now.header.ssrc) }
+        requires begins { IsTrue (begins self.old.settings.codec packet.now.payload.now) }
+        ensures ok { IfOk result (λ answer. Forwards now (packet_of packet.now) self.old answer out.new.items self.new) }
+        ensures err { OnErr result ((self.new ≡ self.old) × (out.new.items ≡ [])) }
+    {
+        let header = &packet.header;
+        let ticks = ticks_between(self.written_at, now);
+        let number = self.numbers.next_number();
+        let time = self.times.next_time(ticks);
+        write_as(self.settings, number, time, packet, out)?;
+        self.numbers
+            .switch(65_536 + u64::from(header.sequence_number));
+        self.times.switch(header.timestamp, ticks);
+        self.source = Some(header.ssrc);
+        self.written_at = Some(now);
+        Ok(Forwarded::Began)
+    }
+
+    /// Returns the number of the source's packet that was sent, or is to be sent, under this number: the packet to resend if the
+    /// viewer requests the number. Take it from a store of the source's packets, and pass it to [`Forwarder::write_again`]. `None`:
+    /// there is no such packet, or it is too old.
+    pub fn source_of(&self, number: u16) -> Option<u16>
+        ensures some { IfSome result (λ low. (n : ℕ) × IsNumberOf self.now number n low) }
+        ensures none { IfNone result ((n low : ℕ) → IsNumberOf self.now number n low → ⊥) }
+    {
+        let number = self.numbers.source_of(number)?;
+        Some((number % 65_536) as u16)
+    }
+
+    /// Writes a packet of the source again, as it was sent: under the same number, with the same time. Replaces what `out` has.
+    /// `false`: the packet is of another source, has no number, or is above the highest number; then `out` is empty.
+    ///
+    /// # Errors
+    ///
+    /// Memory ran out: `out` is empty.
+    pub fn write_again(&self, packet: &RtpPacket<'_>, out: &mut Vec<u8>) -> Result<bool, AllocError>
+        ensures ok { IfOk result (λ written. Repeats (packet_of packet.now) self.now written out.new.items) }
+        ensures err { OnErr result (out.new.items ≡ []) }
+    {
+        out.clear();
+        if !is_source(self.source, packet.header.ssrc) {
+            return Ok(false);
+        }
+        let number = extended(self.numbers.highest(), packet.header.sequence_number);
+        if number > self.numbers.highest() {
+            return Ok(false);
+        }
+        match self.numbers.placed(number) {
+            Placed::Sent(sent) => {
+                let time = self.times.sent_as(packet.header.timestamp);
+                write_as(self.settings, sent, time, packet, out)?;
+                Ok(true)
+            }
+            _ => Ok(false),
+        }
+    }
+
+    /// Returns the RTP time of the viewer's stream for an RTP time of a source, as in the source's sender report. With its NTP time
+    /// it goes into the sender report of the viewer's stream (RFC 3550, section 6.4.1). `None`: this source is not forwarded.
+    pub fn time_for(&self, ssrc: u32, time: u32) -> Option<u32>
+        ensures { result ≡ time_for self.now ssrc time }
+    {
+        if !is_source(self.source, ssrc) {
+            return None;
+        }
+        Some(self.times.sent_as(time))
+    }
+}

@@ -1,0 +1,8 @@
+//! What a forwarder (SFU) needs for each viewer: the numbers of its packets between and across switches of the source
+//! (docs/FORWARDING.md).
+#![tactic(auto)]
+
+pub mod forwarder;
+pub mod renumbering;
+pub mod theorems;
+pub mod times;

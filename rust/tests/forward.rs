@@ -1,0 +1,370 @@
+//! A forwarder between two senders and a viewer's receiver, with losses, repetitions and reordering on both hops.
+
+use codec_payload::forward::*;
+use codec_payload::history::{History, HistorySettings, Resent};
+use codec_payload::rtp::RtpPacket;
+use codec_payload::sender::{Sample, Sender, SenderSettings};
+use codec_payload::stream::{Receiver, ReceiverSettings};
+use codec_payload::{
+    Codec, CodecDepacketizer, CodecPacketizer, ExtensionValues, Frequency, MediaTime, Ticks,
+};
+use std::collections::{BTreeMap, BTreeSet};
+use std::error::Error;
+
+type Outcome = Result<(), Box<dyn Error>>;
+
+const VIEWER: u32 = 0x7777;
+
+fn settings(codec: Codec) -> ForwardSettings {
+    ForwardSettings {
+        codec,
+        ssrc: VIEWER,
+        payload_type: 101,
+        first_number: 65_530,
+        first_time: u32::MAX - 5_000,
+    }
+}
+
+/// A packet of RTP with a payload (RFC 3550, section 5.1), without an extension.
+fn packet(number: u16, time: u32, ssrc: u32, payload: &[u8]) -> Vec<u8> {
+    let mut bytes = vec![0x80, 0x80 | 96];
+    bytes.extend(number.to_be_bytes());
+    bytes.extend(time.to_be_bytes());
+    bytes.extend(ssrc.to_be_bytes());
+    bytes.extend(payload);
+    bytes
+}
+
+#[test]
+fn settings_are_checked() {
+    let wrong = |change: fn(&mut ForwardSettings)| {
+        let mut settings = settings(Codec::Vp8);
+        change(&mut settings);
+        Forwarder::new(settings).err()
+    };
+    assert_eq!(
+        wrong(|s| s.payload_type = 128),
+        Some(ForwardError::PayloadType)
+    );
+    assert_eq!(wrong(|s| s.codec = Codec::H264), Some(ForwardError::Codec));
+    assert_eq!(wrong(|s| s.payload_type = 127), None);
+}
+
+#[test]
+fn bytes_of_a_forwarded_packet() -> Outcome {
+    let mut forwarder = Forwarder::new(settings(Codec::Opus))?;
+    let mut out = vec![1];
+    // With the marker, one CSRC, a header extension of one word, and two bytes of padding.
+    let datagram = [
+        0xb1, 0xe0, 0x12, 0x34, 0, 0, 1, 0, 0, 0, 0, 9, 1, 2, 3, 4, 0xbe, 0xde, 0, 1, 0x10, 5, 0,
+        0, 42, 43, 0, 2,
+    ];
+    let read = RtpPacket::parse(&datagram)?;
+    assert_eq!(forwarder.write(0, &read, &mut out)?, Forwarded::OtherSource);
+    assert!(out.is_empty());
+    forwarder.want(9);
+    assert_eq!(forwarder.write(0, &read, &mut out)?, Forwarded::Began);
+    let sent = [
+        0xa0, 0xe5, 0xff, 0xfa, 0xff, 0xff, 0xec, 0x77, 0, 0, 0x77, 0x77, 42, 43, 0, 2,
+    ];
+    assert_eq!(out, sent);
+    assert_eq!((forwarder.source(), forwarder.wanted()), (Some(9), Some(9)));
+    assert_eq!(forwarder.time_for(9, 356), Some(u32::MAX - 4_900));
+    assert_eq!(forwarder.time_for(8, 356), None);
+    assert_eq!(forwarder.source_of(65_530), Some(0x1234));
+    assert_eq!(forwarder.source_of(65_531), None);
+    out.clear();
+    assert!(forwarder.write_again(&read, &mut out)?);
+    assert_eq!(out, sent);
+    Ok(())
+}
+
+#[test]
+fn begins_at_keyframes_only() -> Outcome {
+    let cases: [(Codec, &[u8], &[u8]); 4] = [
+        (Codec::Vp8, &[0x10, 0x01, 7], &[0x10, 0x00, 7]),
+        (Codec::Vp8, &[0x00, 0x00, 7], &[0x10, 0x00, 7]),
+        (Codec::Vp9, &[0x04, 7], &[0x08, 7]),
+        (Codec::Av1, &[0x98, 7], &[0x18, 7]),
+    ];
+    for (codec, other, first) in cases {
+        let mut forwarder = Forwarder::new(settings(codec))?;
+        let mut out = Vec::new();
+        forwarder.want(1);
+        let datagram = packet(10, 0, 1, other);
+        assert_eq!(
+            forwarder.write(0, &RtpPacket::parse(&datagram)?, &mut out)?,
+            Forwarded::NoKeyframe
+        );
+        let datagram = packet(11, 0, 1, first);
+        assert_eq!(
+            forwarder.write(0, &RtpPacket::parse(&datagram)?, &mut out)?,
+            Forwarded::Began
+        );
+        let datagram = packet(10, 0, 1, other);
+        assert_eq!(
+            forwarder.write(0, &RtpPacket::parse(&datagram)?, &mut out)?,
+            Forwarded::TooOld
+        );
+        let datagram = packet(13, 0, 1, other);
+        assert_eq!(
+            forwarder.write(0, &RtpPacket::parse(&datagram)?, &mut out)?,
+            Forwarded::Written
+        );
+        assert_eq!(out[2..4], 65_532_u16.to_be_bytes());
+    }
+    Ok(())
+}
+
+#[test]
+fn times_go_on_by_the_clock() -> Outcome {
+    let mut forwarder = Forwarder::new(settings(Codec::Opus))?;
+    let mut out = Vec::new();
+    let time = |out: &[u8]| u32::from_be_bytes([out[4], out[5], out[6], out[7]]);
+    forwarder.want(1);
+    let one = packet(5, 1_000, 1, &[1]);
+    forwarder.write(100, &RtpPacket::parse(&one)?, &mut out)?;
+    let begun = time(&out);
+    let next = packet(6, 1_960, 1, &[1]);
+    forwarder.write(1_060, &RtpPacket::parse(&next)?, &mut out)?;
+    assert_eq!(time(&out), begun.wrapping_add(960));
+    // A packet that comes late changes neither the highest time nor the clock.
+    forwarder.write(2_000, &RtpPacket::parse(&one)?, &mut out)?;
+    assert_eq!(time(&out), begun);
+    forwarder.want(2);
+    let other = packet(60_000, 7, 2, &[1]);
+    assert_eq!(
+        forwarder.write(3_060, &RtpPacket::parse(&other)?, &mut out)?,
+        Forwarded::Began
+    );
+    assert_eq!(time(&out), begun.wrapping_add(960 + 2_000));
+    assert_eq!(out[2..4], 65_532_u16.to_be_bytes());
+    // At least one tick, also if the clock stands still; the same source again after `mute`.
+    forwarder.mute();
+    assert_eq!(
+        forwarder.write(3_060, &RtpPacket::parse(&other)?, &mut out)?,
+        Forwarded::OtherSource
+    );
+    forwarder.want(2);
+    assert_eq!(
+        forwarder.write(3_060, &RtpPacket::parse(&other)?, &mut out)?,
+        Forwarded::Began
+    );
+    assert_eq!(time(&out), begun.wrapping_add(960 + 2_001));
+    Ok(())
+}
+
+/// Numbers by a plain model: a map from each number of the source to the one sent.
+#[test]
+fn numbers_follow_a_model() -> Outcome {
+    let mut random = 1_u64;
+    let mut next = |below: u64| {
+        random = random
+            .wrapping_mul(6_364_136_223_846_793_005)
+            .wrapping_add(1_442_695_040_888_963_407);
+        (random >> 33) % below
+    };
+    for run in 0..20 {
+        let first = 100_000 + next(100_000);
+        let mut map = Renumbering::new(first, 65_000 + run);
+        let (mut highest, mut start) = (first, u64::from(65_000 + run));
+        let (mut first, mut gone) = (first, BTreeSet::new());
+        let mut given = BTreeMap::new();
+        for _ in 0..3_000 {
+            let number = (highest + 4).saturating_sub(next(30));
+            let wanted = next(4) != 0;
+            let before = gone.range(..number).count() as u64;
+            let expected = if number < first {
+                Placed::TooOld
+            } else if gone.contains(&number) {
+                Placed::LeftOut
+            } else if wanted {
+                Placed::Sent((start + number - first - before) as u16)
+            } else if number > highest {
+                gone.insert(number);
+                Placed::LeftOut
+            } else {
+                Placed::Unused((start + number - first - before) as u16)
+            };
+            if wanted {
+                assert_eq!(map.placed(number), expected);
+            }
+            assert_eq!(map.place(number, wanted)?, expected);
+            highest = highest.max(number);
+            if let Placed::Sent(sent) | Placed::Unused(sent) = expected {
+                assert_eq!(map.source_of(sent), Some(number));
+                // No two packets share a number.
+                assert_eq!(*given.entry(sent).or_insert(number), number);
+            }
+            let following = start + highest + 1 - first - gone.len() as u64;
+            assert_eq!(map.next_number(), following as u16);
+            assert_eq!(map.source_of(following as u16), None);
+            if next(1_000) == 0 {
+                let number = next(1 << 20);
+                map.switch(number);
+                (first, highest, start) = (number, number, following);
+                gone.clear();
+                given.clear();
+            }
+        }
+    }
+    Ok(())
+}
+
+/// More packets are left out than are remembered: the older numbers have no place any more, and the others keep theirs.
+#[test]
+fn forgets_the_oldest_left_out() -> Outcome {
+    let mut map = Renumbering::new(0, 0);
+    let count = MAX_LEFT_OUT as u64 + 10;
+    for number in 1..=2 * count {
+        map.place(number, number % 2 == 0)?;
+    }
+    // Numbers 1, 3, .. 2 * count - 1 were left out; the lowest ten are forgotten.
+    assert_eq!(map.placed(19), Placed::TooOld);
+    assert_eq!(map.placed(20), Placed::Sent(10));
+    assert_eq!(map.placed(2 * count), Placed::Sent(count as u16));
+    assert_eq!(map.source_of(10), Some(20));
+    assert_eq!(map.source_of(9), None);
+    Ok(())
+}
+
+/// A datagram that is lost, or comes now, later, or twice.
+fn delivered(kind: u64) -> &'static [usize] {
+    match kind {
+        0 => &[],
+        1 => &[3],
+        2 => &[0, 2],
+        _ => &[0],
+    }
+}
+
+/// Two simulcast layers, a forwarder that switches between them, and a viewer: it gets whole frames of VP8, in order, each layer
+/// beginning with a keyframe. What the viewer misses is resent from the store of the layer.
+#[test]
+fn a_viewer_gets_whole_frames() -> Outcome {
+    let mut random = 7_u64;
+    let mut next = |below: u64| {
+        random = random
+            .wrapping_mul(6_364_136_223_846_793_005)
+            .wrapping_add(1_442_695_040_888_963_407);
+        (random >> 33) % below
+    };
+    let layer = |place: u32| -> Result<Sender, Box<dyn Error>> {
+        Ok(Sender::new(
+            CodecPacketizer::try_from(Codec::Vp8)?,
+            SenderSettings {
+                first_number: 65_000 - 30_000 * place as u16,
+                ..SenderSettings::for_stream(96, place + 1, Frequency::NINETY_KHZ)
+            },
+        )?)
+    };
+    let mut layers = [layer(0)?, layer(1)?];
+    let store = || {
+        History::new(HistorySettings {
+            limit: 2_048,
+            interval: 0,
+            stream: None,
+        })
+    };
+    let mut stores = [store()?, store()?];
+    let mut forwarder = Forwarder::new(settings(Codec::Vp8))?;
+    let mut viewer = Receiver::new(
+        CodecDepacketizer::try_from(Codec::Vp8)?,
+        ReceiverSettings::for_stream(101, Codec::Vp8, Frequency::NINETY_KHZ),
+    )?;
+    let (mut out, mut kept) = (Vec::new(), Vec::new());
+    let mut late: Vec<(usize, Vec<u8>)> = Vec::new();
+    let (mut frames, mut switches, mut before) = (0, 0, None);
+    for number in 0..600_u32 {
+        let now = Ticks(u64::from(33 * number));
+        if number % 60 == 0 {
+            forwarder.want(1 + number / 60 % 2);
+        }
+        let mut arrived: Vec<Vec<u8>> = Vec::new();
+        for (place, layer) in layers.iter_mut().enumerate() {
+            let mut frame = vec![place as u8; 3_500];
+            let keyframe = number % 20 == 10 * place as u32;
+            let tag = u32::from(!keyframe) | 1 << 4 | 100 << 5;
+            frame[..3].copy_from_slice(&tag.to_le_bytes()[..3]);
+            if keyframe {
+                frame[3..10].copy_from_slice(&[0x9d, 0x01, 0x2a, 0x40, 0x01, 0xf0, 0x00]);
+            }
+            layer.send(&Sample {
+                rtp_time: MediaTime::from_90khz(u64::from(2_970 * number) + 999_999 * place as u64),
+                bytes: &frame,
+                start_of_talk_spurt: false,
+                ext_vals: ExtensionValues::default(),
+            })?;
+            for datagram in layer.datagrams() {
+                // The first hop reorders and repeats; what it loses was requested and comes two frames later.
+                for wait in delivered(next(12) + 1) {
+                    if *wait == 0 {
+                        arrived.push(datagram.to_vec());
+                    } else {
+                        late.push((number as usize + wait, datagram.to_vec()));
+                    }
+                }
+            }
+        }
+        let due = late
+            .iter()
+            .filter(|l| l.0 == number as usize)
+            .map(|l| l.1.clone());
+        arrived.extend(due);
+        late.retain(|l| l.0 != number as usize);
+        let mut sent: Vec<Vec<u8>> = Vec::new();
+        for datagram in &arrived {
+            let packet = RtpPacket::parse(datagram)?;
+            let store = &mut stores[packet.header.ssrc as usize - 1];
+            store.keep(datagram)?;
+            match forwarder.write(2_970 * u64::from(number), &packet, &mut out)? {
+                Forwarded::Began => {
+                    sent.push(out.clone());
+                    switches += 1;
+                    // Packets of the keyframe that came before its first one.
+                    for step in 1..64 {
+                        let number = packet.header.sequence_number.wrapping_add(step);
+                        if store.resend(Ticks(0), number, &mut kept)? == Resent::Written
+                            && forwarder.write(2_970, &RtpPacket::parse(&kept)?, &mut out)?
+                                == Forwarded::Written
+                        {
+                            sent.push(out.clone());
+                        }
+                    }
+                }
+                Forwarded::Written => sent.push(out.clone()),
+                _ => assert!(out.is_empty()),
+            }
+        }
+        for datagram in sent {
+            if next(20) != 0 {
+                viewer.receive_any(now, &datagram)?;
+            }
+        }
+        // The viewer's requests, answered from the store.
+        let missing: Vec<u64> = viewer.missing(64).collect();
+        for number in missing {
+            let Some(number) = forwarder.source_of(number as u16) else {
+                continue;
+            };
+            let source = forwarder.source().ok_or("no source")?;
+            if stores[source as usize - 1].resend(Ticks(0), number, &mut kept)? == Resent::Written {
+                assert!(forwarder.write_again(&RtpPacket::parse(&kept)?, &mut out)?);
+                viewer.receive_any(now, &out)?;
+            }
+        }
+        for unit in viewer.units(now) {
+            let unit = unit?;
+            let layer = unit.bytes[3_499];
+            assert_eq!(unit.bytes.len(), 3_500);
+            assert!(unit.bytes[10..].iter().all(|&b| b == layer));
+            assert!(before == Some(layer) || unit.bytes[0] & 1 == 0);
+            before = Some(layer);
+            frames += 1;
+        }
+    }
+    println!("{frames} frames, {switches} switches");
+    assert_eq!(switches, 10);
+    assert!(frames >= 560, "{frames} frames");
+    Ok(())
+}
