@@ -165,6 +165,7 @@ pub use error::PacketError;
 pub use ext::clock::Clock;
 pub use ext::conversions::{UnsupportedCodec, ZeroFrequency};
 pub use ext::iterators::{PayloadsIter, PopUnits, StreamUnits, Units};
+pub use ext::popped::LostFrame;
 pub use ext::names::UnknownCodec;
 pub use ext::values::*;
 #[doc(no_inline)]
