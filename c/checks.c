@@ -94,7 +94,8 @@ static void texts(void) {
         {63, "the RTCP NACK has a wrong length"},
         {64, "the RTCP PLI has a wrong length"},
         {65, "the RTCP FIR has a wrong length"},
-        {66, "unknown status"},
+        {66, "the unit is larger than the settings allow"},
+        {67, "unknown status"},
     };
     for (size_t i = 0; i < sizeof rows / sizeof *rows; i++)
         CHECK(strcmp(cpay_status_text((cpay_status)rows[i].status), rows[i].text) == 0);

@@ -734,6 +734,41 @@ static void refused_frame(void) {
     cpay_receiver_free(&receiver);
 }
 
+/* A unit of 11 bytes between two of 10, where 10 bytes are allowed: it is told and dropped, and the next pop goes on. */
+static void large_unit(void) {
+    static const uint8_t key[] = {0x10, 0x10, 0, 0, 0x9d, 0x01, 0x2a, 0x10, 0, 0x10, 0, 5};
+    cpay_spec spec = {.codec = CPAY_VP8, .rate = 90000};
+    cpay_receiver_settings settings = settings_of(spec);
+    CHECK(settings.max_unit == 1048576);
+    settings.max_unit = 10;
+    cpay_receiver receiver = receiver_of(&settings);
+    cpay_unit unit = {0};
+    uint8_t bytes[24], taken[16] = {9};
+    cpay_outcome outcome = (cpay_outcome)99;
+    bool wants = false;
+    for (uint16_t number = 1; number <= 3; number++) {
+        packet(bytes, 0x80 | TYPE, number, (uint32_t)number * 3000, 0);
+        size_t size = number == 2 ? sizeof key : sizeof key - 1;
+        memcpy(bytes + 12, key, size);
+        CHECK(cpay_receiver_receive(&receiver, 0, bytes, 12 + size, &outcome) == CPAY_OK && outcome == CPAY_HELD);
+    }
+    CHECK(cpay_receiver_finish(&receiver) == CPAY_OK);
+    CHECK(cpay_receiver_pop(&receiver, 0, &unit, taken, sizeof taken) == CPAY_OK && unit.fault == 0 && unit.bytes == 10);
+    memset(taken, 9, sizeof taken);
+    CHECK(cpay_receiver_pop(&receiver, 0, &unit, taken, 0) == CPAY_OK && unit.fault == CPAY_UNIT_TOO_LARGE);
+    CHECK(unit.first == 0 && unit.last == 0 && unit.rtp_time == 0 && unit.bytes == 0 && !unit.contiguous && taken[0] == 9);
+    CHECK(cpay_receiver_wants_keyframe(&receiver, &wants) == CPAY_OK && wants);
+    CHECK(counts_of(&receiver).refused == 1 && counts_of(&receiver).left == 1 && counts_of(&receiver).too_large == 1);
+    CHECK(counts_of(&receiver).released == 1 && counts_of(&receiver).units == 1 && !counts_of(&receiver).waiting);
+    CHECK(cpay_receiver_pop(&receiver, 0, &unit, taken, sizeof taken) == CPAY_OK && unit.fault == 0 && unit.first % 65536 == 3);
+    CHECK(cpay_receiver_pop(&receiver, 0, &unit, taken, sizeof taken) == CPAY_NONE);
+    cpay_receiver_free(&receiver);
+    settings.max_unit = CPAY_NO_MAX_UNIT;
+    receiver = receiver_of(&settings);
+    CHECK(came(&receiver, 0, TYPE, 1) == CPAY_HELD);
+    cpay_receiver_free(&receiver);
+}
+
 /* Frames of VP8 (RFC 6386, section 9.1; RFC 7741, section 4.2), in one packet each: packet 3 is lost, 1 and 6 are keyframes. */
 static void keyframes(uint8_t from_keyframe, const char *marks, const char *decodable, const char *keyframe, uint64_t undecodable) {
     static const uint8_t key[] = {0x10, 0x10, 0, 0, 0x9d, 0x01, 0x2a, 0x10, 0, 0x10, 0}, delta[] = {0x10, 0x11, 0, 0};
@@ -793,6 +828,7 @@ int main(void) {
     reports();
     missing();
     refused_frame();
+    large_unit();
     keyframes(CPAY_KEYFRAME_MARK, "124567", "dd--dd", "k---k-", 2);
     keyframes(CPAY_KEYFRAME_DROP, "1267", "dddd", "k-k-", 2);
     keyframes(CPAY_KEYFRAME_OFF, "124567", "dddddd", "------", 0);

@@ -518,6 +518,44 @@ static void values_and_places(void) {
     cpay_session_free(&session);
 }
 
+/* A frame of 1.2 MB against a buffer of 1 MiB: it is a fault, and both streams go on. */
+static void large_unit(void) {
+    static uint8_t room[1048576];
+    static const uint8_t key[] = {0x10, 0x10, 0, 0, 0x9d, 0x01, 0x2a, 0x10, 0, 0x10, 0};
+    cpay_session session = live();
+    cpay_event event = {0};
+    unsigned units[2] = {0}, faults = 0;
+    uint16_t numbers[2] = {0};
+    for (uint8_t time = 0; time < 6; time++) {
+        for (uint8_t ssrc = 1; ssrc <= 2; ssrc++) {
+            const unsigned packets = ssrc == 1 && time == 2 ? 1000 : 1;
+            for (unsigned place = 0; place < packets; place++) {
+                uint8_t bytes[12 + 1 + 1200] = {0x80, VIDEO};
+                cpay_arrival arrival = {0};
+                const uint16_t number = numbers[ssrc - 1]++;
+                if (place + 1 == packets) bytes[1] |= 0x80;
+                bytes[2] = (uint8_t)(number >> 8);
+                bytes[3] = (uint8_t)number;
+                bytes[6] = time;
+                bytes[11] = ssrc;
+                if (place == 0) memcpy(bytes + 12, key, sizeof key);
+                CHECK(cpay_session_receive(&session, time, bytes, sizeof bytes, &arrival) == CPAY_OK);
+                CHECK(arrival.kind == CPAY_ARRIVAL_STREAM);
+            }
+        }
+        cpay_status status;
+        while ((status = cpay_session_poll(&session, time, &event, room, sizeof room)) == CPAY_OK) {
+            if (event.kind == CPAY_EVENT_UNIT) units[event.ssrc - 1]++;
+            if (event.kind != CPAY_EVENT_FAULT) continue;
+            CHECK(event.ssrc == 1 && event.status == CPAY_UNIT_TOO_LARGE && event.bytes == 0 && event.unit.bytes == 0);
+            faults++;
+        }
+        CHECK(status == CPAY_NONE);
+    }
+    CHECK(units[0] == 5 && units[1] == 6 && faults == 1);
+    cpay_session_free(&session);
+}
+
 /* Settings out of range. */
 static void settings(void) {
     cpay_session_settings right;
@@ -699,6 +737,7 @@ int main(void) {
     reports();
     small_buffers();
     values_and_places();
+    large_unit();
     settings();
     handles();
     return checked();

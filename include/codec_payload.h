@@ -174,7 +174,8 @@ typedef enum {
     CPAY_RTCP_FEEDBACK_TOO_SHORT = 62, /**< feedback ends inside its two SSRCs */
     CPAY_RTCP_NACK_LENGTH = 63,        /**< a generic NACK names no packet, or ends inside an entry */
     CPAY_RTCP_PLI_LENGTH = 64,         /**< a PLI has bytes after its two SSRCs */
-    CPAY_RTCP_FIR_LENGTH = 65          /**< a FIR has no entries, or ends inside one */
+    CPAY_RTCP_FIR_LENGTH = 65,         /**< a FIR has no entries, or ends inside one */
+    CPAY_UNIT_TOO_LARGE = 66           /**< a unit has more bytes than the settings of its receiver allow */
 } cpay_status;
 
 /** Codecs. */
@@ -422,8 +423,8 @@ typedef struct {
     bool keyframe;          /**< of cpay_receiver_pop: its frame header says so; false with CPAY_KEYFRAME_OFF and for audio.
                                  cpay_buffer_pop: false */
     cpay_extra extra;
-    cpay_status fault;      /**< of cpay_receiver_pop: CPAY_OK for a unit; 1 to 16 for a frame that the depacketizer refused, whose other
-                                 fields are 0. Otherwise 0 */
+    cpay_status fault;      /**< of cpay_receiver_pop: CPAY_OK for a unit; 1 to 16 for a frame that the depacketizer refused, and
+                                 CPAY_UNIT_TOO_LARGE for a unit above `max_unit`; then all other fields are 0. Otherwise 0 */
 } cpay_unit;
 
 /** Returns the next unit that is due. CPAY_NONE: no unit is due. CPAY_TOO_SMALL: *unit is written, and the unit waits for the
@@ -644,6 +645,9 @@ CPAY_CHECKED cpay_status cpay_read_requests(const uint8_t *rtcp, size_t rtcp_len
 /** For a receiver: no frame is released by count alone. */
 #define CPAY_NO_HOLD_BACK SIZE_MAX
 
+/** For a receiver or a session: a unit may have any number of bytes. */
+#define CPAY_NO_MAX_UNIT SIZE_MAX
+
 /** What a receiver of video does with units that a decoder cannot show. A decoder can show a keyframe, and a contiguous unit after
  * a unit that it can show. A unit is a keyframe by its frame header. Audio and custom codecs are never inspected. */
 enum {
@@ -670,6 +674,8 @@ typedef struct {
     size_t start;             /**< the first frame is released once more than this many complete frames are held */
     size_t limit;             /**< maximum number of packets held, 1 to 65536; while less than an eighth of these places is free,
                                    no frame waits */
+    size_t max_unit;          /**< maximum size of a unit in bytes, or CPAY_NO_MAX_UNIT. A larger unit is CPAY_UNIT_TOO_LARGE in
+                                   `fault` of its description, and counts as a refused frame */
     uint64_t max_wait;        /**< with has_max_wait: a complete frame is released once this number of ticks of your clock has
                                    passed since its last packet was received */
     uint32_t ssrc;            /**< with has_ssrc: SSRC of the stream; otherwise two packets choose it: see cpay_receiver_receive */
@@ -696,7 +702,7 @@ typedef struct {
 } cpay_receiver_settings;
 
 /** Sets how a receiver of this codec, clock rate and payload type begins, for a purpose (CPAY_FOR_LIVE and so on). Then change what
- * differs. The limit is 4096 packets, your clock has ticks of milliseconds, no frame is released by count alone
+ * differs. The limit is 4096 packets, a unit has at most 1048576 bytes, your clock has ticks of milliseconds, no frame is released by count alone
  * (CPAY_NO_HOLD_BACK), units of video are marked (CPAY_KEYFRAME_MARK), and RED, retransmissions and header extensions are off. The
  * windows of audio are 3000 numbers ahead (MAX_DROPOUT of RFC 3550, appendix A.1) and 1000 behind. The windows of VP8, VP9 and AV1,
  * and of files, are 12000 and 5000: 12 s and 5 s of 1000 packets per second. Does not allocate. */
@@ -751,10 +757,11 @@ typedef enum {
 CPAY_CHECKED cpay_status cpay_receiver_receive(cpay_receiver *receiver, uint64_t now, const uint8_t *datagram,
                                                size_t datagram_len, cpay_outcome *outcome);
 
-/** Returns the next unit, or the next refused frame, that is due at time `now`. Call it until CPAY_NONE. CPAY_TOO_SMALL: *unit is
+/** Returns the next unit, or the next frame without one, that is due at time `now`. Call it until CPAY_NONE. CPAY_TOO_SMALL: *unit is
  * written, and the unit waits for the next call. CPAY_OUT_OF_MEMORY: the frame stays, and the next call tries it again.
- * With CPAY_OK look at `fault` of *unit first. 1 to 16: the depacketizer refused a frame, which is discarded, and there are no bytes.
- * Any peer can send such a frame: count it, and continue with the next call. 0: a unit. Its `rtp_time` is extended to 64 bits. The
+ * With CPAY_OK look at `fault` of *unit first. 1 to 16: the depacketizer refused a frame. CPAY_UNIT_TOO_LARGE: a unit is above
+ * `max_unit`. In both cases it is discarded, and there are no bytes. Any peer can send such a frame: count it, and continue with
+ * the next call. 0: a unit. Its `rtp_time` is extended to 64 bits. The
  * first unit has the timestamp of its packets plus 2^32; each later unit has the value nearest to the previous unit's.
  * With CPAY_KEYFRAME_DROP the call continues after a unit that a decoder cannot show. [m] */
 CPAY_CHECKED cpay_status cpay_receiver_pop(cpay_receiver *receiver, uint64_t now, cpay_unit *unit, uint8_t *bytes,
@@ -766,8 +773,8 @@ CPAY_CHECKED cpay_status cpay_receiver_pop(cpay_receiver *receiver, uint64_t now
 CPAY_CHECKED cpay_status cpay_receiver_values(cpay_receiver *receiver, cpay_extension_values *values);
 
 /** Reports whether to request a keyframe (by PLI, RFC 4585, section 6.3.1, or FIR, RFC 5104, section 4.3.1). True from one of
- * these events until a pop returns a keyframe: a pop found a unit that a decoder cannot show; a pop returned 1 to 16 (a refused
- * frame); a pop returned CPAY_NONE and discarded complete frames, as after a backward jump of picture ids; you called
+ * these events until a pop returns a keyframe: a pop found a unit that a decoder cannot show; a pop gave a refused frame or a unit
+ * above `max_unit`; a pop returned CPAY_NONE and discarded complete frames, as after a backward jump of picture ids; you called
  * cpay_receiver_restart. False for audio, and with CPAY_KEYFRAME_OFF. Does not allocate. */
 CPAY_CHECKED cpay_status cpay_receiver_wants_keyframe(cpay_receiver *receiver, bool *wants);
 
@@ -840,12 +847,14 @@ typedef struct {
     uint64_t left;     /**< packets discarded with a frame: incomplete + skipped + refused */
     uint64_t incomplete; /**< discarded packets of frames that were never complete: packets were lost, or came too late */
     uint64_t skipped;    /**< discarded packets of complete frames whose picture ids of VP8 or VP9 are too old */
-    uint64_t refused;    /**< discarded packets of frames that the depacketizer refused: the sender's payloads are not valid */
+    uint64_t refused;    /**< discarded packets of frames that the depacketizer refused, since the sender's payloads are not valid,
+                              and of units above `max_unit` */
     uint64_t restarts; /**< restarts of the sender */
     uint64_t retransmitted; /**< missing packets filled in by retransmissions */
     uint64_t recovered;     /**< missing packets filled in by redundant blocks of RED; they are not in `received` */
     uint64_t units;
     uint64_t undecodable; /**< units of video that a decoder cannot show; they are in `units`, also if they were dropped */
+    uint64_t too_large;   /**< units above `max_unit`; they are not in `units` */
     size_t held;   /**< packets held now */
     uint32_t ssrc; /**< with has_ssrc: SSRC of the stream */
     bool has_ssrc;
@@ -950,6 +959,8 @@ typedef struct {
     uint64_t probation;       /**< a stream is announced once this number of datagrams was accepted: a stray packet announces
                                    nothing. Duplicates, late and suspect packets do not count */
     size_t limit;             /**< maximum number of packets that a stream holds, 1 to 65536 */
+    size_t max_unit;          /**< maximum size of a unit in bytes, or CPAY_NO_MAX_UNIT. A larger unit is CPAY_EVENT_FAULT, and
+                                   counts as a refused frame: so no peer can choose how large your buffer must be */
     size_t max_streams;       /**< maximum number of streams, above 0; announced or not */
     uint32_t tick_rate;       /**< ticks per second of your clock, above 0 */
     uint8_t from_keyframe;    /**< what happens to video units that a decoder cannot show: CPAY_KEYFRAME_OFF, CPAY_KEYFRAME_MARK
@@ -960,7 +971,7 @@ typedef struct {
 } cpay_session_settings;
 
 /** Sets how a session begins, for a purpose (CPAY_FOR_LIVE and so on) and a clock of milliseconds. Audio waits as the purpose says,
- * and live video for at most 200 ms. A session has at most 64 streams of 4096 packets. A stream is announced with its second datagram,
+ * and live video for at most 200 ms. A session has at most 64 streams of 4096 packets, and a unit at most 1048576 bytes. A stream is announced with its second datagram,
  * ends 30 s after its last one, and takes packets for 200 ms after its BYE. Units that a decoder cannot show are marked. Nothing is
  * requested, and no report is sent: see cpay_session_settings_feedback. Does not allocate. */
 void cpay_session_settings_init(cpay_session_settings *settings, cpay_purpose purpose);
@@ -1017,8 +1028,8 @@ CPAY_CHECKED cpay_status cpay_session_receive(cpay_session *session, uint64_t no
 typedef enum {
     CPAY_EVENT_BEGUN = 0, /**< a stream is announced: the first event of the stream */
     CPAY_EVENT_UNIT = 1,  /**< a unit: see `unit`; its bytes are in the output buffer */
-    CPAY_EVENT_FAULT = 2, /**< the depacketizer refused a frame, which is discarded: see `status`. Any peer can send such a frame:
-                               count it, and go on polling */
+    CPAY_EVENT_FAULT = 2, /**< the depacketizer refused a frame, or a unit is above `max_unit`: see `status`. It is discarded. Any
+                               peer can send such a frame: count it, and go on polling */
     CPAY_EVENT_ENDED = 3, /**< a stream was removed: the last event of the stream; see `why` */
     CPAY_EVENT_FEEDBACK = 4, /**< a compound packet of RTCP for the sender of the stream is in the output buffer: send it. It has a
                                  NACK of missing packets, and a PLI if a keyframe is needed (RFC 4585, sections 6.2.1, 6.3.1) */
@@ -1042,7 +1053,7 @@ typedef enum {
 typedef struct {
     cpay_event_kind kind; /**< CPAY_EVENT_BEGUN and so on */
     uint32_t ssrc;        /**< SSRC of the stream */
-    cpay_status status;   /**< of CPAY_EVENT_FAULT: the error, 1 to 16; of other events CPAY_OK */
+    cpay_status status;   /**< of CPAY_EVENT_FAULT: the error, 1 to 16 or CPAY_UNIT_TOO_LARGE; of other events CPAY_OK */
     cpay_ending why;      /**< of CPAY_EVENT_ENDED: CPAY_ENDED_BY_BYE and so on; of other events 0 */
     size_t bytes;         /**< bytes in the output buffer: of the unit, the RTCP packet, or the payload of telephone events */
     uint8_t payload_type; /**< payload type of the stream's format, also if the unit came in RED or was retransmitted; of
@@ -1307,6 +1318,7 @@ static inline const char *cpay_status_text(cpay_status status) {
     case CPAY_RTCP_NACK_LENGTH: return "the RTCP NACK has a wrong length";
     case CPAY_RTCP_PLI_LENGTH: return "the RTCP PLI has a wrong length";
     case CPAY_RTCP_FIR_LENGTH: return "the RTCP FIR has a wrong length";
+    case CPAY_UNIT_TOO_LARGE: return "the unit is larger than the settings allow";
     default: return "unknown status";
     }
 }

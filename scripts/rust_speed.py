@@ -30,7 +30,7 @@ WAYS = {"into": "`push`, `pop_into`", "unit": "`push`, `pop_unit`", "packed": "`
 ROUNDS = 12
 # The streams and the hostile datagrams of tools/speed/src/bin/session.rs.
 KINDS = {"audio": "Opus", "video": "VP8", "requests": "VP8, requests"}
-POPS = {"bare": "`pop`", "into": "`pop_into`", "unit": "`pop_unit`", "once": "one `pop_into`"}
+POPS = {"bare": "`pop`", "unit": "`pop_unit`", "once": "one `pop_unit`"}
 # Settings of a build, as variables for cargo.
 BUILDS = {"as cargo builds it": {}, "`codegen-units = 1`": {"CODEGEN_UNITS": "1"}, "and `lto = \"fat\"`": {"CODEGEN_UNITS": "1", "LTO": "fat"}}
 HOSTILE = {"goodbyes": "300 BYEs of nobody, 1,200 bytes", "strays": "a packet of a new SSRC, all places taken"}

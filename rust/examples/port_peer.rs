@@ -65,6 +65,9 @@ impl Peer {
                 }
                 Event::Unit { unit: Err(e), .. } => return Err(e.into()),
                 Event::Refused { fault, .. } => writeln!(out, "fault {fault}")?,
+                Event::TooLarge { unit, .. } => {
+                    writeln!(out, "too large: {} bytes", unit.bytes.len())?
+                }
                 Event::Feedback { packet, .. } | Event::Report { packet } => {
                     self.feedback.push(packet?)
                 }

@@ -103,6 +103,10 @@ impl<W: Write> Recorder<W> {
         while let Some(popped) = self.receiver.pop(Ticks(now)) {
             let unit = match popped? {
                 Popped::Unit(unit) => unit,
+                Popped::TooLarge(unit) => {
+                    eprintln!("a frame of {} bytes is too large", unit.bytes.len());
+                    continue;
+                }
                 Popped::Refused(fault) => {
                     eprintln!("a frame is lost: {fault}");
                     continue;

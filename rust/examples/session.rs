@@ -93,6 +93,12 @@ fn drain(session: &mut Session, now: u64, units: &mut BTreeMap<u32, u64>) {
             Event::Unit { ssrc, unit, .. } => {
                 *units.entry(ssrc).or_default() += u64::from(unit.is_ok());
             }
+            Event::TooLarge { ssrc, unit, .. } => {
+                println!(
+                    "{now:5} ms: stream {ssrc} loses a frame of {} bytes",
+                    unit.bytes.len()
+                );
+            }
             Event::Refused { ssrc, fault, .. } => {
                 println!("{now:5} ms: stream {ssrc} loses a frame: {fault}");
             }

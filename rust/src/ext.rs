@@ -9,6 +9,6 @@ pub(crate) mod conversions;
 mod defaults;
 pub(crate) mod iterators;
 pub(crate) mod names;
-mod popped;
+pub(crate) mod popped;
 mod settings;
 pub(crate) mod values;

@@ -177,6 +177,7 @@ pub use error::PacketError;
 #[cfg(feature = "std")]
 pub use ext::clock::Clock;
 pub use ext::conversions::UnsupportedCodec;
+pub use ext::popped::LostFrame;
 pub use history::{History, HistorySettings, read_requests};
 pub use interface::CodecExtra;
 pub use memory::AllocError;

@@ -37,5 +37,6 @@ pub mod values {
     pub use crate::ext::conversions::{UnsupportedCodec, ZeroFrequency};
     pub use crate::ext::iterators::{PayloadsIter, PopUnits, StreamUnits, Units};
     pub use crate::ext::names::UnknownCodec;
+    pub use crate::ext::popped::LostFrame;
     pub use crate::ext::values::*;
 }

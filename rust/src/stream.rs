@@ -5,6 +5,7 @@
 
 mod answers;
 mod blocks;
+mod bound;
 mod checks;
 mod choice;
 mod datagram;

@@ -55,7 +55,7 @@ fn receiver(from_keyframe: FromKeyframe) -> Result<Receiver, Box<dyn Error>> {
 type Judged = (u8, bool, bool, bool);
 
 /// The units that are due long after the last datagram.
-fn units(receiver: &mut Receiver) -> Result<Vec<Judged>, PacketError> {
+fn units(receiver: &mut Receiver) -> Result<Vec<Judged>, Box<dyn Error>> {
     let mut units = Vec::new();
     while let Some(unit) = receiver.pop(Ticks(1_000)) {
         units.push((
@@ -142,11 +142,11 @@ fn dropped_units_want_a_keyframe_though_no_unit_comes() -> Result<(), Box<dyn Er
 fn pops_into_memory_drop_the_same_units() -> Result<(), Box<dyn Error>> {
     let mut receiver = receiver(FromKeyframe::Drop)?;
     with_a_gap(&mut receiver)?;
-    let (mut bytes, mut metas, mut marks) = (Vec::new(), Vec::new(), Vec::new());
-    while let Some(unit) = receiver.pop_into(Ticks(1_000), &mut bytes, &mut metas) {
-        unit?.into_result()?;
+    let (mut unit, mut marks) = (PoppedUnit::new(), Vec::new());
+    while let Some(popped) = receiver.pop_unit(Ticks(1_000), &mut unit) {
+        popped?.into_result()?;
         assert!(receiver.unit_is_decodable());
-        marks.push((bytes.last().copied(), metas.len()));
+        marks.push((unit.bytes.last().copied(), unit.packets()));
     }
     assert_eq!(
         marks,

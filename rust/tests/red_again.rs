@@ -67,7 +67,7 @@ fn red_sender(distances: &[u32]) -> RedSender {
 }
 
 /// The first byte of each unit that is due.
-fn units(receiver: &mut Receiver, now: u64) -> Result<Vec<u8>, PacketError> {
+fn units(receiver: &mut Receiver, now: u64) -> Result<Vec<u8>, Fail> {
     let mut units = Vec::new();
     while let Some(unit) = receiver.pop(Ticks(now)) {
         units.push(unit?.into_result()?.bytes[0]);

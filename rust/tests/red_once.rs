@@ -48,7 +48,7 @@ fn red_sender(distances: &[u32]) -> RedSender {
 }
 
 /// The units that are due.
-fn units(receiver: &mut Receiver, now: u64) -> Result<Vec<Vec<u8>>, PacketError> {
+fn units(receiver: &mut Receiver, now: u64) -> Result<Vec<Vec<u8>>, Box<dyn std::error::Error>> {
     let mut units = Vec::new();
     while let Some(unit) = receiver.pop(Ticks(now)) {
         units.push(unit?.into_result()?.bytes);

@@ -34,31 +34,28 @@ fn receiver() -> Result<Receiver, Box<dyn Error>> {
     Ok(receiver)
 }
 
-/// `u` for a unit, and the number of the fault of a refused frame.
+/// `u` for a unit, `l` for one that is too large, and the number of the fault of a refused frame.
 fn word<U>(popped: Popped<U>) -> String {
-    match popped.into_result() {
-        Ok(_) => "u".to_string(),
-        Err(fault) => format!("{}", fault.number()),
+    match popped {
+        Popped::Unit(_) => "u".to_string(),
+        Popped::TooLarge(_) => "l".to_string(),
+        Popped::Refused(fault) => format!("{}", fault.number()),
     }
 }
 
 #[test]
 fn pops_go_on_after_a_refused_frame() -> Result<(), Box<dyn Error>> {
-    let mut words = [String::new(), String::new(), String::new()];
+    let mut words = [String::new(), String::new()];
     let mut one = receiver()?;
     while let Some(popped) = one.pop(Ticks(0)) {
         words[0] += &word(popped?);
     }
-    let (mut other, mut bytes, mut metas) = (receiver()?, Vec::new(), Vec::new());
-    while let Some(popped) = other.pop_into(Ticks(0), &mut bytes, &mut metas) {
+    let (mut other, mut unit) = (receiver()?, PoppedUnit::new());
+    while let Some(popped) = other.pop_unit(Ticks(0), &mut unit) {
         words[1] += &word(popped?);
     }
-    let (mut third, mut unit) = (receiver()?, PoppedUnit::new());
-    while let Some(popped) = third.pop_unit(Ticks(0), &mut unit) {
-        words[2] += &word(popped?);
-    }
-    assert_eq!(words, ["u11u", "u11u", "u11u"]);
-    for receiver in [&one, &other, &third] {
+    assert_eq!(words, ["u11u", "u11u"]);
+    for receiver in [&one, &other] {
         let packets = receiver.counters().packets;
         assert_eq!((packets.units, packets.refused, packets.left), (2, 1, 1));
     }

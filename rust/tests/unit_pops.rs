@@ -1,4 +1,4 @@
-//! `pop_unit` of a receiver beside `pop_into`: two receivers get the same datagrams, and must return the same units.
+//! `pop_unit` of a receiver beside `pop`: two receivers get the same datagrams, and must return the same units.
 
 use codec_payload::keyframes::FromKeyframe;
 use codec_payload::stream::{Popped, Receiver, ReceiverSettings};
@@ -62,36 +62,35 @@ fn datagram(random: &mut Random, codec: Codec, number: u16) -> Vec<u8> {
 
 /// Pops both until no unit is due. Returns how many units came.
 fn pop_all(pair: &mut [Receiver; 2], unit: &mut PoppedUnit, now: Ticks) -> u64 {
-    let (mut bytes, mut metas, mut units) = (Vec::new(), Vec::new(), 0);
+    let mut units = 0;
     let [one, other] = pair;
     loop {
-        let told = one
-            .pop_unit(now, unit)
-            .map(|answer| answer.map(Popped::into_result));
-        let wanted = other
-            .pop_into(now, &mut bytes, &mut metas)
-            .map(|answer| answer.map(Popped::into_result));
-        assert_eq!(told, wanted.map(|answer| answer.map(|it| it.map(|_| ()))));
+        let told = one.pop_unit(now, unit).map(|it| it.expect("memory"));
+        let wanted = other.pop(now).map(|it| it.expect("memory"));
         assert_eq!(one.counters(), other.counters());
         assert_eq!(one.unit_time(), other.unit_time());
         assert_eq!(one.unit_is_decodable(), other.unit_is_decodable());
         assert_eq!(one.unit_is_keyframe(), other.unit_is_keyframe());
         assert_eq!(one.wants_keyframe(), other.wants_keyframe());
         assert_eq!(one.next_deadline(), other.next_deadline());
-        match wanted {
-            None => return units,
-            Some(Err(_) | Ok(Err(_))) => {}
-            Some(Ok(Ok(info))) => {
-                units += 1;
-                assert_eq!(unit.time, info.time);
-                assert_eq!(unit.contiguous, info.contiguous);
-                assert_eq!(unit.codec_extra, info.codec_extra);
-                assert_eq!(unit.bytes, bytes);
-                assert_eq!(unit.packets(), metas.len());
-                for (place, meta) in metas.iter().enumerate() {
-                    assert_eq!(unit.meta(place), *meta);
-                }
+        let wanted = match (told, wanted) {
+            (None, None) => return units,
+            (Some(Popped::Refused(one)), Some(Popped::Refused(other))) => {
+                assert_eq!(one, other);
+                continue;
             }
+            (Some(Popped::Unit(())), Some(Popped::Unit(wanted))) => wanted,
+            (Some(Popped::TooLarge(())), Some(Popped::TooLarge(wanted))) => wanted,
+            other => panic!("{other:?}"),
+        };
+        units += 1;
+        assert_eq!(unit.time, wanted.time);
+        assert_eq!(unit.contiguous, wanted.contiguous);
+        assert_eq!(unit.codec_extra, wanted.codec_extra);
+        assert_eq!(unit.bytes, wanted.bytes);
+        assert_eq!(unit.packets(), wanted.meta().len());
+        for (place, meta) in wanted.meta().iter().enumerate() {
+            assert_eq!(unit.meta(place), *meta);
         }
     }
 }

@@ -44,3 +44,23 @@ other_number faults.ErrRedCorruptedPacket refused = λ is. absurd (omega (arith,
 other_number (faults.InvalidTelephoneEvent a) refused = λ is. absurd (omega (arith, is))
 other_number faults.ErrAmrWbCorruptedPacket refused = λ is. absurd (omega (arith, is))
 other_number faults.OutOfMemory refused = absurd (cc)
+
+-- nor is it the number of a unit that is too large
+pub no_size : (fault : PacketError) → fault_number fault ≢ 66
+no_size faults.ErrShortPacket = λ is. absurd (omega (arith, is))
+no_size faults.ErrPayloadTooLarge = λ is. absurd (omega (arith, is))
+no_size faults.ErrTooManySpatialLayers = λ is. absurd (omega (arith, is))
+no_size faults.ErrTooManyPDiff = λ is. absurd (omega (arith, is))
+no_size faults.ErrH265CorruptedPacket = λ is. absurd (omega (arith, is))
+no_size faults.ErrH266CorruptedPacket = λ is. absurd (omega (arith, is))
+no_size faults.ErrInvalidH265PacketType = λ is. absurd (omega (arith, is))
+no_size faults.ErrH265PACIPHESTooLong = λ is. absurd (omega (arith, is))
+no_size (faults.StapASizeLargerThanBuffer a b) = λ is. absurd (omega (arith, is))
+no_size (faults.NaluTypeIsNotHandled a) = λ is. absurd (omega (arith, is))
+no_size faults.ErrVP8CorruptedPacket = λ is. absurd (omega (arith, is))
+no_size faults.ErrVP9CorruptedPacket = λ is. absurd (omega (arith, is))
+no_size faults.ErrAv1CorruptedPacket = λ is. absurd (omega (arith, is))
+no_size faults.ErrRedCorruptedPacket = λ is. absurd (omega (arith, is))
+no_size (faults.InvalidTelephoneEvent a) = λ is. absurd (omega (arith, is))
+no_size faults.ErrAmrWbCorruptedPacket = λ is. absurd (omega (arith, is))
+no_size faults.OutOfMemory = λ is. absurd (omega (arith, is))

@@ -50,6 +50,7 @@ receiver_that_waits limits wide codec rate payload_type = record {
   hold_back = limits.hold_back;
   start = limits.start;
   limit = 4096;
+  max_unit = 1048576;
   max_wait = limits.max_wait;
   ssrc = 0;
   tick_rate = 1000;
@@ -94,7 +95,7 @@ pub record IsFeedback (f : SessionFeedback) : Type 0 where
   pub has_longest_wait : f.has_longest_wait ≡ true
   pub has_report_interval : f.has_report_interval ≡ true
 
--- the stated numbers of streams, packets and milliseconds; nothing is requested, and units of video are marked
+-- the stated numbers of streams, packets, bytes and milliseconds; nothing is requested, and units of video are marked
 pub record IsSessionFor (purpose : ℕ) (s : SessionSettings) : Type 0 where
   pub audio : s.audio ≡ audio_limits purpose
   pub video : s.video ≡ session_video_limits purpose
@@ -102,6 +103,7 @@ pub record IsSessionFor (purpose : ℕ) (s : SessionSettings) : Type 0 where
   pub bye_wait : s.bye_wait ≡ 200
   pub probation : s.probation ≡ 2
   pub limit : s.limit ≡ 4096
+  pub max_unit : s.max_unit ≡ 1048576
   pub max_streams : s.max_streams ≡ 64
   pub tick_rate : s.tick_rate ≡ 1000
   pub from_keyframe : s.from_keyframe ≡ 1

@@ -15,7 +15,7 @@ use Rattle.codec_payload_session.specs.declared.formats.SsrcPair.{SsrcPair as Pa
 use Rattle.codec_payload_stream.specs.declared.receiver.RedSettings.{RedSettings}
 use Rattle.codec_payload_c.specs.Ids.{ids_given}
 use Rattle.codec_payload_c.specs.Inspect.{given_if}
-use Rattle.codec_payload_c.specs.StreamReceivers.{from_keyframe_numbered, wait_limits_given}
+use Rattle.codec_payload_c.specs.StreamReceivers.{bound_given, from_keyframe_numbered, wait_limits_given}
 use Rattle.codec_payload_c.specs.declared.session_settings.SessionFeedback.{SessionFeedback}
 use Rattle.codec_payload_c.specs.declared.session_settings.SessionFormat.{SessionFormat}
 use Rattle.codec_payload_c.specs.declared.session_settings.SessionSettings.{SessionSettings}
@@ -91,6 +91,7 @@ pub record HasPlainSettings (s : SessionSettings) (t : Settings) : Type 0 where
   pub video : t.video ≡ wait_limits_given s.video
   pub from_keyframe : t.from_keyframe ≡ from_keyframe_numbered s.from_keyframe
   pub limit : t.limit ≡ s.limit
+  pub max_unit : t.max_unit ≡ bound_given s.max_unit
   pub max_streams : t.max_streams ≡ s.max_streams
   pub probation : t.probation ≡ s.probation
   pub idle_timeout : t.idle_timeout ≡ s.idle_timeout

@@ -91,6 +91,8 @@ abbrev pub TellsEvent : Event → CEvent → Type 0
 TellsEvent (events.Begun ssrc payload_type) e = e ≡ event_with 0 ssrc payload_type no_unit
 TellsEvent (events.Unit ssrc payload_type time decodable keyframe (Ok u)) e = TellsUnitOf ssrc payload_type (TellsJudgedBy time decodable keyframe u) e
 TellsEvent (events.Unit ssrc payload_type time decodable keyframe (Err fault)) e = e ≡ event_with 1 ssrc payload_type no_unit
+TellsEvent (events.TooLarge ssrc payload_type unit) e =
+    e ≡ record { kind = 2; ssrc = ssrc; status = 66; why = 0; bytes = 0; payload_type = payload_type; unit = no_unit }
 TellsEvent (events.Refused ssrc payload_type fault) e =
     e ≡ record { kind = 2; ssrc = ssrc; status = fault_number fault; why = 0; bytes = 0; payload_type = payload_type; unit = no_unit }
 TellsEvent (events.Feedback ssrc payload_type packet) e =
@@ -105,6 +107,7 @@ abbrev pub is_no_memory : Event → Bool
 is_no_memory (events.Begun ssrc payload_type) = false
 is_no_memory (events.Unit ssrc payload_type time decodable keyframe (Ok u)) = false
 is_no_memory (events.Unit ssrc payload_type time decodable keyframe (Err e)) = true
+is_no_memory (events.TooLarge ssrc payload_type unit) = false
 is_no_memory (events.Refused ssrc payload_type fault) = false
 is_no_memory (events.Feedback ssrc payload_type (Ok packet)) = false
 is_no_memory (events.Feedback ssrc payload_type (Err e)) = true
@@ -118,6 +121,7 @@ abbrev pub bytes_in : Event → List ℕ
 bytes_in (events.Begun ssrc payload_type) = []
 bytes_in (events.Unit ssrc payload_type time decodable keyframe (Ok u)) = u.bytes
 bytes_in (events.Unit ssrc payload_type time decodable keyframe (Err e)) = []
+bytes_in (events.TooLarge ssrc payload_type unit) = []
 bytes_in (events.Refused ssrc payload_type fault) = []
 bytes_in (events.Feedback ssrc payload_type packet) = bytes_sent packet
 bytes_in (events.Telephone ssrc payload_type time marker payload) = payload.items
@@ -133,6 +137,7 @@ popped_or (Err e) taken = taken
 abbrev pub latest_unit : Event → Option Release → Option Release
 latest_unit (events.Begun ssrc payload_type) taken = taken
 latest_unit (events.Unit ssrc payload_type time decodable keyframe unit) taken = popped_or unit taken
+latest_unit (events.TooLarge ssrc payload_type unit) taken = taken
 latest_unit (events.Refused ssrc payload_type fault) taken = taken
 latest_unit (events.Feedback ssrc payload_type packet) taken = taken
 latest_unit (events.Telephone ssrc payload_type time marker payload) taken = taken

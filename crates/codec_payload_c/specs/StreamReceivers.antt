@@ -9,7 +9,8 @@ use Rattle.codec_payload_jitter.specs.declared.outcome.Outcome.TheVariants as ou
 use Rattle.codec_payload_keyframes.specs.declared.unit_gate.FromKeyframe.{FromKeyframe}
 use Rattle.codec_payload_keyframes.specs.declared.unit_gate.FromKeyframe.TheVariants as modes
 use Rattle.codec_payload_stream.specs.Kinds.{retransmitted_under}
-use Rattle.codec_payload_stream.specs.Pops.{PopsGated}
+use Rattle.codec_payload_stream.specs.Bounds.{counters_with}
+use Rattle.codec_payload_stream.specs.Pops.{PopsGated, is_large}
 use Rattle.codec_payload_stream.specs.Sessions.{Finishes, ReceivesBytes, Session, restarted, session_by}
 use Rattle.codec_payload_stream.specs.declared.receiver.ReceiveError.{ReceiveError}
 use Rattle.codec_payload_stream.specs.declared.receiver.ReceiveError.TheVariants as errors
@@ -57,7 +58,7 @@ is_in_range s =
 
 -- the largest number means no bound
 abbrev pub bound_given : ℕ → Option ℕ
-bound_given frames = if frames == 2 ^ 64 - 1 then None else Some frames
+bound_given most = if most == 2 ^ 64 - 1 then None else Some most
 
 abbrev pub wait_limits_set : ReceiverSettings → WaitLimits
 wait_limits_set s = record { hold_back = bound_given s.hold_back; start = s.start; max_wait = given_if s.has_max_wait s.max_wait }
@@ -88,6 +89,7 @@ pub record AreSettings (s : ReceiverSettings) (types : List ℕ) (t : Settings) 
   pub tick_rate : t.tick_rate ≡ s.tick_rate
   pub wait_limits : t.wait_limits ≡ wait_limits_set s
   pub limit : t.limit ≡ s.limit
+  pub max_unit : t.max_unit ≡ bound_given s.max_unit
   pub forward : t.forward ≡ s.forward
   pub backward : t.backward ≡ s.backward
   pub from_keyframe : t.from_keyframe ≡ from_keyframe_numbered s.from_keyframe
@@ -139,9 +141,9 @@ pub record Takes (r : StreamReceiver) (now : ℕ) (bytes : List ℕ) (status bef
   pub waiting : s.waiting ≡ r.waiting
   pub taken : s.taken ≡ r.taken
 
--- a pop at that time
-abbrev pub PopsAt : ℕ → Session → Answer → Session → Type 0
-PopsAt now s answer t = PopsGated now s answer t
+-- a pop at that time, and whether its unit has more bytes than the settings allow
+abbrev pub PopsAt : (large : Bool) → ℕ → Session → Answer → Session → Type 0
+PopsAt large now s answer t = PopsGated now s answer t × (large ≡ is_large s.bound.most answer)
 
 -- the time of a unit without wrapping, as the receiver has it
 abbrev pub time_or : ℕ → Option ℕ → ℕ
@@ -171,10 +173,11 @@ pub record HandsOver (u : Release) (status : ℕ) (unit : CUnit) (before bytes :
 abbrev pub TellsAndTakes : ℕ → StreamReceiver → Release → CUnit → Type 0
 TellsAndTakes status s u unit = TellsJudged s.receiver u unit × (status ≡ 0 → s.taken ≡ Some u.metas)
 
--- the next unit or refused frame of a receiver; without a unit, the packets of the latest popped unit stay
+-- the next unit, refused frame or unit that is too large of a receiver; without a unit, the packets of the latest popped unit stay
 abbrev pub PopsUnit : StreamReceiver → ℕ → ℕ → (unit_before unit : CUnit) (before bytes : List ℕ) → StreamReceiver → Type 0
 PopsUnit r now status unit_before unit before bytes s =
-    AnswersPopOrRefusal (s.receiver ≡ r.receiver) (λ answer. PopsAt now r.receiver answer s.receiver) (TellsAndTakes status s) status
+    AnswersPopOrRefusal (s.receiver ≡ r.receiver) (λ answer. PopsAt false now r.receiver answer s.receiver)
+    (λ release. PopsAt true now r.receiver (Some (Ok release)) s.receiver) (TellsAndTakes status s) status
     (record { waited = r.waiting; waits = s.waiting; unit_before = unit_before; unit = unit; before = before; bytes = bytes })
     × (status ≢ 0 → s.taken ≡ r.taken) × (status ≡ 0 → unit.fault ≢ 0 → s.taken ≡ r.taken)
 
@@ -219,15 +222,16 @@ pub record TellsCounts (r : StreamReceiver) (c : ReceiverCountsInfo) : Type 0 wh
   pub late : c.late ≡ r.receiver.packets.counters.late
   pub suspect : c.suspect ≡ r.receiver.packets.counters.suspect
   pub evicted : c.evicted ≡ r.receiver.packets.counters.evicted
-  pub released : c.released ≡ r.receiver.packets.counters.released
-  pub left : c.left ≡ r.receiver.packets.counters.left
+  pub released : c.released ≡ (counters_with r.receiver.bound r.receiver.packets.counters).released
+  pub left : c.left ≡ (counters_with r.receiver.bound r.receiver.packets.counters).left
   pub incomplete : c.incomplete ≡ r.receiver.packets.counters.incomplete
   pub skipped : c.skipped ≡ r.receiver.packets.counters.skipped
-  pub refused : c.refused ≡ r.receiver.packets.counters.refused
+  pub refused : c.refused ≡ (counters_with r.receiver.bound r.receiver.packets.counters).refused
   pub restarts : c.restarts ≡ r.receiver.packets.counters.restarts
   pub retransmitted : c.retransmitted ≡ r.receiver.packets.counters.retransmitted
   pub recovered : c.recovered ≡ r.receiver.packets.counters.recovered
-  pub units : c.units ≡ r.receiver.packets.counters.units
+  pub units : c.units ≡ (counters_with r.receiver.bound r.receiver.packets.counters).units
+  pub too_large : c.too_large ≡ r.receiver.bound.units
   pub undecodable : c.undecodable ≡ r.receiver.gates.undecodable
   pub held : c.held ≡ length r.receiver.packets.buffer.held
   pub waiting : c.waiting ≡ is_some r.waiting

@@ -20,6 +20,9 @@ const FILE: u32 = 2;
 /// The default for the largest number of packets that a stream holds.
 const LIMIT: usize = 4_096;
 
+/// The default for the largest number of bytes of a unit: 1 MiB.
+const MAX_UNIT: usize = 1_048_576;
+
 /// Ticks of milliseconds, in a second.
 const MILLISECONDS: u32 = 1_000;
 
@@ -148,6 +151,7 @@ fn receiver_that_waits(
         hold_back: limits.hold_back,
         start: limits.start,
         limit: LIMIT,
+        max_unit: MAX_UNIT,
         max_wait: limits.max_wait,
         ssrc: 0,
         tick_rate: MILLISECONDS,
@@ -221,6 +225,7 @@ pub extern "C" fn cpay_session_settings_init(settings: &mut SessionSettings, pur
         bye_wait: 200,
         probation: 2,
         limit: LIMIT,
+        max_unit: MAX_UNIT,
         max_streams: 64,
         tick_rate: MILLISECONDS,
         from_keyframe: MARK,

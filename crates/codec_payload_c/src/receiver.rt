@@ -39,6 +39,8 @@ pub struct ReceiverSettings {
     pub start: usize,
     /// The largest number of held packets, 1 to 65,536.
     pub limit: usize,
+    /// The largest number of bytes of a unit. `usize::MAX`: no bound.
+    pub max_unit: usize,
     /// The longest time that a complete frame waits behind a gap, in ticks of your clock.
     pub max_wait: u64,
     pub ssrc: u32,
@@ -113,7 +115,7 @@ pub struct ReceiverCountsInfo {
     pub incomplete: u64,
     /// Discarded packets of complete frames that were skipped for their picture ids.
     pub skipped: u64,
-    /// Discarded packets of frames that the depacketizer refused.
+    /// Discarded packets of frames that the depacketizer refused, and of units that were too large.
     pub refused: u64,
     pub restarts: u64,
     pub retransmitted: u64,
@@ -121,6 +123,8 @@ pub struct ReceiverCountsInfo {
     pub units: u64,
     /// Units of video that a decoder cannot show.
     pub undecodable: u64,
+    /// Units with more bytes than the settings allow.
+    pub too_large: u64,
     /// The number of held packets.
     pub held: usize,
     pub ssrc: u32,
@@ -194,15 +198,11 @@ pub(crate) fn from_keyframe_of(number: u8) -> Option<FromKeyframe>
     }
 }
 
-/// Returns the bound by count, if there is one.
-fn bound_of(hold_back: usize) -> Option<usize>
-    ensures { result ≡ bound_given hold_back }
+/// Returns the bound, if there is one.
+pub(crate) fn bound_of(most: usize) -> Option<usize>
+    ensures { result ≡ bound_given most }
 {
-    if hold_back == usize::MAX {
-        None
-    } else {
-        Some(hold_back)
-    }
+    if most == usize::MAX { None } else { Some(most) }
 }
 
 /// Converts the wait limits of C.
@@ -256,6 +256,7 @@ fn settings_of(
             has_max_wait: settings.has_max_wait,
         }),
         limit: settings.limit,
+        max_unit: bound_of(settings.max_unit),
         forward: settings.forward,
         backward: settings.backward,
         from_keyframe,
@@ -343,6 +344,7 @@ pub(crate) fn counts_by(receiver: &Receiver) -> ReceiverCountsInfo
         recovered: packets.recovered,
         units: packets.units,
         undecodable: counters.undecodable,
+        too_large: counters.too_large,
         held: receiver.held(),
         ssrc: ssrc.unwrap_or(0),
         has_ssrc: ssrc.is_some(),

@@ -9,7 +9,7 @@ use codec_payload_handle::extension_values::ExtensionValues;
 use codec_payload_handle::handle::Handle;
 use codec_payload_handle::object::{Object, StreamReceiver};
 use codec_payload_handle::status;
-use codec_payload_handle::unit::{Unit, refused_unit};
+use codec_payload_handle::unit::{Unit, refused_unit, too_large_unit};
 use codec_payload_stream::pops::Popped;
 use codec_payload_stream::receiver::Receiver;
 use std::alloc::Global;
@@ -42,8 +42,8 @@ fn hand_over(stream: &mut StreamReceiver, alloc: Global, unit: &mut Unit, bytes:
 }
 
 /// Writes the next unit to the output buffer: the unit that waits for a larger output buffer, or the next one from the
-/// receiver. A refused frame is described by its fault.
-#[tactic(auto, using(crate::proofs::RefusalLemmas::some_number, crate::proofs::RefusalLemmas::other_number))]
+/// receiver. A refused frame is described by its fault, and so is a unit that is too large.
+#[tactic(auto, using(crate::proofs::RefusalLemmas::some_number, crate::proofs::RefusalLemmas::other_number, crate::proofs::RefusalLemmas::no_size))]
 fn pop(
     stream: &mut StreamReceiver,
     alloc: Global,
@@ -66,11 +66,17 @@ fn pop(
             *unit = refused_unit(&fault);
             status::OK
         }
+        Some(Ok(Popped::TooLarge(()))) => {
+            stream.waiting.clear(alloc);
+            *unit = too_large_unit();
+            status::OK
+        }
         Some(Ok(Popped::Unit(()))) => hand_over(stream, alloc, unit, bytes),
     }
 }
 
-/// Writes the next unit to the output buffer, or describes the next refused frame, if one is due at that time.
+/// Writes the next unit to the output buffer, or describes the next refused frame or unit that is too
+/// large, if one is due at that time.
 #[unsafe(no_mangle)]
 pub extern "C" fn cpay_receiver_pop(
     alloc: Global,

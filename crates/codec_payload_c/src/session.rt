@@ -45,11 +45,11 @@ pub struct Arrival {
 #[repr(C)]
 #[derive(Drop)]
 pub struct Event {
-    /// 0: a stream begins; 1: a unit; 2: a refused frame; 3: the end of a stream; 4: an RTCP packet to send; 6: a packet of
-    /// telephone events.
+    /// 0: a stream begins; 1: a unit; 2: a refused frame or a unit that is too large; 3: the end of a stream; 4: an RTCP packet
+    /// to send; 6: a packet of telephone events.
     pub kind: u32,
     pub ssrc: u32,
-    /// For a refused frame: the number of its error, 1 to 16.
+    /// For a refused frame: the number of its error, 1 to 16; for a unit that is too large 66.
     pub status: u32,
     /// For the end of a stream. 0: a BYE; 1: the idle timeout; 2: a call; 3: a change of format.
     pub why: u32,
@@ -187,6 +187,16 @@ fn refused_event(ssrc: u32, payload_type: u8, fault: &PacketError) -> Event
     }
 }
 
+/// Returns the event of a unit that is too large.
+fn too_large_event(ssrc: u32, payload_type: u8) -> Event
+    ensures { result ≡ record (event_with 2 ssrc payload_type no_unit) { status = 66 } }
+{
+    Event {
+        status: status::UNIT_TOO_LARGE,
+        ..event_without_unit(2, ssrc, payload_type)
+    }
+}
+
 /// Returns the event of an RTCP packet to send, which has these bytes.
 fn packet_event(kind: u32, ssrc: u32, payload_type: u8, packet: &[u8]) -> Event
     ensures { result ≡ record (event_with kind ssrc payload_type no_unit) { bytes = length packet.now } }
@@ -217,6 +227,11 @@ fn event_of(event: &SessionEvent) -> Event
             }
             Err(_) => event_without_unit(1, *ssrc, *payload_type),
         },
+        SessionEvent::TooLarge {
+            ssrc,
+            payload_type,
+            ..
+        } => too_large_event(*ssrc, *payload_type),
         SessionEvent::Refused {
             ssrc,
             payload_type,

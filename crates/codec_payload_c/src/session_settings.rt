@@ -5,7 +5,7 @@ ghost use Rattle.std.specs.List.{list_all};
 ghost use Rattle.codec_payload_c.specs.SessionFormats.{HasPlainSettings, IsNewSession, MatchFeedback, RefusesSession, format_given, format_in_range, is_in_range, no_media_given, pair_given, red_given, session_in_range, telephone_given};
 
 use crate::extension::{ExtensionIds, ids_of};
-use crate::receiver::{WaitLimits, from_keyframe_of, waiting_for};
+use crate::receiver::{WaitLimits, bound_of, from_keyframe_of, waiting_for};
 use codec_payload_core::wire::{CodecSpec, Frequency};
 use codec_payload_handle::object::PortSession;
 use codec_payload_handle::settings::{Spec, codec_of};
@@ -109,6 +109,8 @@ pub struct SessionSettings {
     pub probation: u64,
     /// The largest number of packets that a stream holds, 1 to 65,536.
     pub limit: usize,
+    /// The largest number of bytes of a unit. `usize::MAX`: no bound.
+    pub max_unit: usize,
     /// The largest number of streams, above 0.
     pub max_streams: usize,
     /// Ticks per second of your clock, above 0.
@@ -312,6 +314,7 @@ fn settings_of(alloc: Global, settings: &SessionSettings) -> Option<Settings>
         video: waiting_for(settings.video),
         from_keyframe,
         limit: settings.limit,
+        max_unit: bound_of(settings.max_unit),
         max_streams: settings.max_streams,
         probation: settings.probation,
         idle_timeout: settings.idle_timeout,

@@ -5,7 +5,7 @@ use Rattle.codec_payload_core.specs.Release.{Release}
 use Rattle.codec_payload_core.specs.declared.error.PacketError.{PacketError}
 use Rattle.codec_payload_core.specs.declared.error.PacketError.TheVariants as faults
 use Rattle.codec_payload_handle.specs.Bytes.{filled}
-use Rattle.codec_payload_handle.specs.Units.{refused_unit}
+use Rattle.codec_payload_handle.specs.Units.{refused_unit, too_large_unit}
 use Rattle.codec_payload_handle.specs.declared.unit.Unit.{Unit as CUnit}
 
 -- the answer of a pop
@@ -76,6 +76,15 @@ pub record GivesRefusal (Popped : Answer → Type 0) (h : Handing) : Type 0 wher
   pub none_waits : h.waits ≡ None
   pub untouched : h.bytes ≡ h.before
 
+-- the pop of a receiver gave a unit that is too large: that is the description, and there are no bytes
+pub record GivesTooLarge (TooLarge : Release → Type 0) (h : Handing) : Type 0 where
+  pub none_waited : h.waited ≡ None
+  pub release : Release
+  pub pops : TooLarge release
+  pub tells : h.unit ≡ too_large_unit
+  pub none_waits : h.waits ≡ None
+  pub untouched : h.bytes ≡ h.before
+
 -- memory ran out for a pop of a receiver
 pub record GivesNoMemory (Popped : Answer → Type 0) (status : ℕ) (h : Handing) : Type 0 where
   pub none_waited : h.waited ≡ None
@@ -83,10 +92,11 @@ pub record GivesNoMemory (Popped : Answer → Type 0) (status : ℕ) (h : Handin
   pub pops : Popped (Some (Err faults.OutOfMemory))
   pub none_waits : h.waits ≡ None
 
--- the next unit or refused frame of a receiver, by the status and the fault of the description
-pub record AnswersPopOrRefusal (Stays : Type 0) (Popped : Answer → Type 0) (Told : Release → CUnit → Type 0) (status : ℕ) (h : Handing) : Type 0 where
+-- the next unit, refused frame or unit that is too large of a receiver, by the status and the fault of the description
+pub record AnswersPopOrRefusal (Stays : Type 0) (Popped : Answer → Type 0) (TooLarge : Release → Type 0) (Told : Release → CUnit → Type 0) (status : ℕ) (h : Handing) : Type 0 where
   pub ok : status ≡ 0 → h.unit.fault ≡ 0 → Gives Stays Popped Told h
-  pub refused : status ≡ 0 → h.unit.fault ≢ 0 → GivesRefusal Popped h
+  pub refused : status ≡ 0 → h.unit.fault ≢ 0 → h.unit.fault ≢ 66 → GivesRefusal Popped h
+  pub too_large : status ≡ 0 → h.unit.fault ≡ 66 → GivesTooLarge TooLarge h
   pub too_small : status ≡ 33 → Keeps Stays Popped Told h
   pub none : status ≡ 32 → GivesNone Popped h
   pub no_memory : status ≢ 0 → status ≢ 32 → status ≢ 33 → GivesNoMemory Popped status h

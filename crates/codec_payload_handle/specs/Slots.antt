@@ -1,19 +1,31 @@
 -- A unit in memory that is used again.
-use Rattle.std.specs.Prelude.{◌≡◌, ℕ, Bool, nat_le, Option, Some, None, Result, Ok, Err, List, length, ⊤}
+use Rattle.std.specs.Prelude.{◌≡◌, ℕ, Bool, true, false, nat_le, Option, Some, None, Result, Ok, Err, List, length, ⊤}
+use Rattle.std.specs.declared.alloc.AllocError.{AllocError}
 use Rattle.codec_payload_core.specs.Release.{Release}
 use Rattle.codec_payload_core.specs.declared.buffer.RtpMeta.{RtpMeta}
 use Rattle.codec_payload_core.specs.declared.error.PacketError.{PacketError}
+use Rattle.codec_payload_core.specs.declared.error.PacketError.TheVariants as faults
 use Rattle.codec_payload_handle.specs.Bytes.{filled}
 use Rattle.codec_payload_handle.specs.Popping.{Answer}
 use Rattle.codec_payload_handle.specs.Units.{TellsUnit, TellsValues}
 use Rattle.codec_payload_handle.specs.declared.extension_values.ExtensionValues.{ExtensionValues as CValues}
 use Rattle.codec_payload_handle.specs.declared.unit.Unit.{Unit as CUnit}
+use Rattle.codec_payload_stream.specs.declared.pops.Popped.{Popped as Pop}
+use Rattle.codec_payload_stream.specs.declared.pops.Popped.TheVariants as popped
 
 -- `Popped`: a pop gave this answer. Its unit, if there is one, is in the slot afterwards; otherwise the slot has none
 abbrev pub PopsTo : (Popped : Answer → Type 0) → Option (Result ⊤ PacketError) → Option Release → Type 0
 PopsTo Popped None slot = Popped None × (slot ≡ None)
 PopsTo Popped (Some (Err fault)) slot = Popped (Some (Err fault)) × (slot ≡ None)
 PopsTo Popped (Some (Ok _)) slot = (u : Release) × (slot ≡ Some u) × Popped (Some (Ok u))
+
+-- `Popped`: a pop of a receiver gave this answer, and whether its unit is too large. Any other unit is in the slot afterwards
+abbrev pub PopsFrom : (Popped : (large : Bool) → Answer → Type 0) → Option (Result (Pop ⊤) AllocError) → Option Release → Type 0
+PopsFrom Popped None slot = Popped false None × (slot ≡ None)
+PopsFrom Popped (Some (Err e)) slot = Popped false (Some (Err faults.OutOfMemory)) × (slot ≡ None)
+PopsFrom Popped (Some (Ok (popped.Refused fault))) slot = Popped false (Some (Err fault)) × (slot ≡ None)
+PopsFrom Popped (Some (Ok (popped.Unit _))) slot = (u : Release) × (slot ≡ Some u) × Popped false (Some (Ok u))
+PopsFrom Popped (Some (Ok (popped.TooLarge _))) slot = (u : Release) × (slot ≡ None) × Popped true (Some (Ok u))
 
 -- the unit is described, and its bytes are at the front of the output buffer, if that has room for them
 pub record IsWrittenTo (u : Release) (has_room : Bool) (unit : CUnit) (before bytes : List ℕ) : Type 0 where

@@ -34,6 +34,10 @@ no_unit = record {
 abbrev pub refused_unit : PacketError → CUnit
 refused_unit fault = record no_unit { fault = fault_number fault }
 
+-- a unit that is too large: that it is, and nothing else
+abbrev pub too_large_unit : CUnit
+too_large_unit = record no_unit { fault = 66 }
+
 -- the description of a unit without a receiver
 pub record TellsUnit (u : Release) (unit : CUnit) : Type 0 where
   pub first : (m : RtpMeta) × IsFirst u.metas m × (unit.first ≡ m.seq_no.0)

@@ -1,9 +1,9 @@
 //! A popped unit in memory that the next pop uses again.
 
-ghost use Rattle.std.specs.Prelude.{◌≡◌, IsSome, None, is_some, option_map};
+ghost use Rattle.std.specs.Prelude.{◌≡◌, ◌×◌, IsSome, None, is_some, option_map};
 ghost use Rattle.codec_payload_core.specs.Steps.{Pops};
-ghost use Rattle.codec_payload_stream.specs.Pops.{NamesFault, PopsGated, answer_of};
-ghost use Rattle.codec_payload_handle.specs.Slots.{IsWritten, PopsTo, TellsValuesOf};
+ghost use Rattle.codec_payload_stream.specs.Pops.{NamesFault, PopsGated, is_large};
+ghost use Rattle.codec_payload_handle.specs.Slots.{IsWritten, PopsFrom, PopsTo, TellsValuesOf};
 
 use crate::bytes::fill;
 use crate::extension_values::{ExtensionValues, values_of};
@@ -84,20 +84,25 @@ impl UnitSlot {
         }
     }
 
-    /// Pops the next unit of a receiver of datagrams into the slot, which had none. A refused frame leaves it without one.
+    /// Pops the next unit of a receiver of datagrams into the slot, which had none. A refused frame or a unit that is too large
+    /// leaves it without one.
     #[inline(always)]
     pub fn pop_receiver(
         &mut self,
         receiver: &mut Receiver,
         now: Ticks,
     ) -> Option<Result<Popped<()>, AllocError>>
-        ensures pops { PopsTo (λ answer. PopsGated now.0 receiver.old answer receiver.new) (answer_of result) self.new }
+        ensures pops { PopsFrom (λ large answer. PopsGated now.0 receiver.old answer receiver.new × (large ≡ is_large receiver.old.bound.most answer)) result self.new }
         ensures refused { NamesFault result }
     {
         match receiver.pop_unit(now, &mut self.unit) {
             Some(Ok(Popped::Unit(()))) => {
                 self.is_some = true;
                 Some(Ok(Popped::Unit(())))
+            }
+            Some(Ok(Popped::TooLarge(()))) => {
+                self.is_some = false;
+                Some(Ok(Popped::TooLarge(())))
             }
             Some(Ok(Popped::Refused(fault))) => {
                 self.is_some = false;

@@ -109,3 +109,6 @@ pub const RTCP_PLI_LENGTH: u32 = 64;
 
 /// A FIR has no entries, or ends inside one.
 pub const RTCP_FIR_LENGTH: u32 = 65;
+
+/// A unit has more bytes than the settings allow.
+pub const UNIT_TOO_LARGE: u32 = 66;

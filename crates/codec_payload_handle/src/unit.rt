@@ -3,10 +3,11 @@
 ghost use Rattle.std.specs.Prelude.{◌≡◌, ◌<◌, length};
 ghost use Rattle.codec_payload_core.specs.Release.{IsFirst, IsLast, IsReceivedFirst};
 ghost use Rattle.codec_payload_core.specs.Steps.{released_into};
-ghost use Rattle.codec_payload_handle.specs.Units.{TellsUnit, TellsValues, no_unit, refused_unit};
+ghost use Rattle.codec_payload_handle.specs.Units.{TellsUnit, TellsValues, no_unit, refused_unit, too_large_unit};
 
 use crate::extension_values::{ExtensionValues, values_between};
 use crate::extra::{Extra, nothing, tell_extra};
+use crate::status;
 use codec_payload_core::buffer::{Depacketized, PoppedUnit, RtpMeta, UnitInfo};
 use codec_payload_core::error::PacketError;
 
@@ -34,7 +35,8 @@ pub struct Unit {
     pub keyframe: bool,
     /// The codec-specific data of its payloads.
     pub extra: Extra,
-    /// 0 for a unit. Of a receiver: the number of the fault of a refused frame; then all other fields are 0 or false.
+    /// 0 for a unit. Of a receiver: the number of the fault of a refused frame, or 66 for a unit that is too large; then all
+    /// other fields are 0 or false.
     pub fault: u32,
 }
 
@@ -111,6 +113,16 @@ pub fn refused_unit(fault: &PacketError) -> Unit
 {
     Unit {
         fault: u32::from(fault.number()),
+        ..no_unit()
+    }
+}
+
+/// Returns the description of a unit that is too large.
+pub fn too_large_unit() -> Unit
+    ensures { result ≡ too_large_unit }
+{
+    Unit {
+        fault: status::UNIT_TOO_LARGE,
         ..no_unit()
     }
 }

@@ -342,6 +342,7 @@ kept_taken : (step : Step) (t : StreamState) (rest : List StreamState) (ended : 
     → ((ended_after step t ended + taken_in (kept_after step t rest)) % 2 ^ 64 ≡ (ended + t.taken + taken_in rest) % 2 ^ 64) × (length (kept_after step t rest) ≤ 1 + length rest)
 kept_taken steps.Begun t rest ended = (omega arith, omega arith)
 kept_taken (steps.Unit unit) t rest ended = (omega arith, omega arith)
+kept_taken (steps.TooLarge unit) t rest ended = (omega arith, omega arith)
 kept_taken (steps.Refused fault) t rest ended = (omega arith, omega arith)
 kept_taken (steps.Feedback packet) t rest ended = (omega arith, omega arith)
 kept_taken (steps.Ended why) t rest ended = (omega arith, omega arith)

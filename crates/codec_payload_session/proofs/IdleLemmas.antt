@@ -9,8 +9,8 @@ use Rattle.codec_payload_base.specs.declared.wire.Ticks.{Ticks}
 use Rattle.codec_payload_buffer.specs.Release.{Release}
 use Rattle.codec_payload_feedback.specs.Feedback.{Requests, deadline_of as deadline_of_requests, has_any, keyframe_is_due, numbers_due}
 use Rattle.codec_payload_jitter.specs.Receiving.{Receiving, deadline_of}
-use Rattle.codec_payload_stream.specs.Pops.{DropsUnits, PopsGated, PopsOnce, answer_of, gates_after, has_left, none_dropped, one_more, without_unit}
-use Rattle.codec_payload_stream.specs.Sessions.{Session as Receiver, time_with}
+use Rattle.codec_payload_stream.specs.Pops.{DropsUnits, PopsGated, PopsOnce, answer_of, bound_if, gates_if, has_left, is_large, none_dropped, one_more, time_if, without_unit}
+use Rattle.codec_payload_stream.specs.Sessions.{Session as Receiver}
 use Rattle.codec_payload_stream.specs.declared.pops.Popped.{Popped}
 use Rattle.codec_payload_stream.specs.declared.pops.Popped.TheVariants as popped
 use Rattle.codec_payload_session.specs.Arrivals.{Port}
@@ -44,7 +44,7 @@ once_same now r t answer nothing pops =
     let same = pops_same now r.packets pops.0 answer nothing pops.1 in (
       same.0,
       pops.2
-          ∙ (ap (λ (a : Option (Result Release PacketError)). record r { packets = pops.0; time = time_with r.time a; gates = gates_after r.gates (has_left r.packets pops.0) a }) same.0
+          ∙ (ap (λ (a : Option (Result Release PacketError)). record r { packets = pops.0; time = time_if (is_large r.bound.most a) r.time a; gates = gates_if (is_large r.bound.most a) r.gates (has_left r.packets pops.0) a; bound = bound_if (is_large r.bound.most a) r.bound a }) same.0
           ∙ (ap (λ (x : Receiving). record r { packets = x; gates = without_unit r.gates (has_left r.packets x) }) same.1
           ∙ ap (λ (b : Bool). record r { gates = without_unit r.gates (not b) }) (same_number r.packets.counters.left))),
     )
@@ -104,6 +104,7 @@ no_request now later last r a b asks after before = λ packet c again. by_heard 
 abbrev IsQuietStep : Step → Type 0
 IsQuietStep steps.Begun = ⊥
 IsQuietStep (steps.Unit unit) = ⊥
+IsQuietStep (steps.TooLarge unit) = ⊥
 IsQuietStep (steps.Refused fault) = ⊥
 IsQuietStep (steps.Feedback (Ok packet)) = ⊥
 IsQuietStep (steps.Feedback (Err e)) = Unit {0}
@@ -195,6 +196,7 @@ record Asked (now : ℕ) (idle : ℕ) (s t : StreamState) : Type 0 where
 
 some_step : (told : Result (Popped Release) AllocError) → steps.Nothing ≡ step_with told → ⊥
 some_step (Ok (popped.Unit unit)) is = absurd (cc)
+some_step (Ok (popped.TooLarge unit)) is = absurd (cc)
 some_step (Ok (popped.Refused fault)) is = absurd (cc)
 some_step (Err e) is = absurd (cc)
 
@@ -293,6 +295,7 @@ asked_again now later idle s t it told known same after few before =
 
 some_answer : (told : Result (Popped Release) AllocError) → answer_of (Some told) ≡ None → ⊥
 some_answer (Ok (popped.Unit unit)) is = absurd (cc)
+some_answer (Ok (popped.TooLarge unit)) is = absurd (cc)
 some_answer (Ok (popped.Refused fault)) is = absurd (cc)
 some_answer (Err e) is = absurd (cc)
 
@@ -363,6 +366,7 @@ one_quiet now later idle (s ∷ ss) (f ∷ fs) rest t u step are same after few 
 no_event : (s : StreamState) (step : Step) → IsQuietStep step → IsNoEvent (event_of s step)
 no_event s steps.Begun quiet = absurd quiet
 no_event s (steps.Unit unit) quiet = absurd quiet
+no_event s (steps.TooLarge unit) quiet = absurd quiet
 no_event s (steps.Refused fault) quiet = absurd quiet
 no_event s (steps.Feedback (Ok packet)) quiet = absurd quiet
 no_event s (steps.Feedback (Err e)) quiet = tt

@@ -76,6 +76,7 @@ quiet_next now idle xs quiet i d t within are steps = rw add-one (quiet_on now i
 pub nothing_is : (step : Step) → is_nothing step ≡ true → step ≡ steps.Nothing
 nothing_is steps.Begun is = absurd (cc)
 nothing_is (steps.Unit unit) is = absurd (cc)
+nothing_is (steps.TooLarge unit) is = absurd (cc)
 nothing_is (steps.Refused fault) is = absurd (cc)
 nothing_is (steps.Feedback packet) is = absurd (cc)
 nothing_is (steps.Ended why) is = absurd (cc)
@@ -155,6 +156,19 @@ tells_by now idle p front quiet rest s t (steps.Unit unit) there are went tells 
   tells = refl;
   left = refl;
 }
+tells_by now idle p front quiet rest s t (steps.TooLarge unit) there are went tells = record {
+  front = front;
+  quiet = quiet;
+  stream = s;
+  stepped = t;
+  rest = rest;
+  step = steps.TooLarge unit;
+  there = there;
+  are_quiet = are;
+  steps = went;
+  tells = refl;
+  left = refl;
+}
 tells_by now idle p front quiet rest s t (steps.Refused fault) there are went tells = record {
   front = front;
   quiet = quiet;
@@ -201,6 +215,7 @@ left_by : (p : Port) (quiet rest : List StreamState) (t : StreamState) (step : S
     → after_step step place (record p { streams = quiet ++ t ∷ rest }) ≡ record p { streams = quiet ++ kept_after step t rest; ended = ended_after step t p.ended }
 left_by p quiet rest t steps.Begun place is = refl
 left_by p quiet rest t (steps.Unit unit) place is = refl
+left_by p quiet rest t (steps.TooLarge unit) place is = refl
 left_by p quiet rest t (steps.Refused fault) place is = refl
 left_by p quiet rest t (steps.Feedback packet) place is = refl
 left_by p quiet rest t (steps.Ended why) place is = removed_at p quiet rest t place is

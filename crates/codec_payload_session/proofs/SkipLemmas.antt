@@ -88,7 +88,7 @@ quiet_steps now idle s awake quiet =
     ap (λ (g : Stage). end_by now.0 idle s.last g) quiet.plays ∙ ap (λ (b : Bool). if b then Some endings.Timeout else None) awake in
     let rests : RestsBy s.stage now.0 s steps.Nothing s =
     subst (λ (g : Stage). RestsBy g now.0 s steps.Nothing s) (sym quiet.plays) (asks_by s.feedback now.0 s refl quiet.asks) in
-    let pops : Pops now s steps.Nothing s = record { told = None; receiver = s.receiver; pops = nothing_popped now.0 s.receiver quiet.pops; refused = tt; follows = rests } in
+    let pops : Pops now s steps.Nothing s = record { told = None; receiver = s.receiver; pops = nothing_popped now.0 s.receiver quiet.pops; refused = tt; large = refl; follows = rests } in
     let plays : Plays now idle s steps.Nothing s = (s, subst (λ (o : Option Ending). Drains o s s) (sym lasts) refl, pops) in
     subst (λ (g : Stage). StepsBy (is_probation g) s.told now idle s steps.Nothing s) (sym quiet.plays)
     (subst (λ (b : Bool). StepsBy false b now idle s steps.Nothing s) (sym quiet.is_told) plays)

@@ -134,6 +134,7 @@ pub record HasSettings (s : SessionSettings) (ssrc : ℕ) (f : Format) (r : Sett
   pub wait_limits : r.wait_limits ≡ limits_for s (is_video f.spec.codec)
   pub from_keyframe : r.from_keyframe ≡ s.from_keyframe
   pub limit : r.limit ≡ s.limit
+  pub max_unit : r.max_unit ≡ s.max_unit
   pub forward : r.forward ≡ forward_for (is_video f.spec.codec)
   pub backward : r.backward ≡ backward_for (is_video f.spec.codec)
 
@@ -141,7 +142,8 @@ pub record HasSettings (s : SessionSettings) (ssrc : ℕ) (f : Format) (r : Sett
 abbrev pub live_nack : NackSettings
 live_nack = record { first_wait = 10; retry = 100; shortest_retry = 20; longest_retry = 400; tries = 6; capacity = 1024 }
 
--- the settings of a new session for live streams: no formats, and the stated numbers of streams, packets and milliseconds
+-- the settings of a new session for live streams: no formats, and the stated numbers of streams, packets, bytes and
+-- milliseconds
 pub record IsLive (s : SessionSettings) : Type 0 where
   pub formats : s.formats.items ≡ []
   pub no_media : s.no_media.items ≡ []
@@ -152,6 +154,7 @@ pub record IsLive (s : SessionSettings) : Type 0 where
   pub video : s.video ≡ waits_for 2 200
   pub from_keyframe : s.from_keyframe ≡ gates.Mark
   pub limit : s.limit ≡ 4096
+  pub max_unit : s.max_unit ≡ Some 1048576
   pub max_streams : s.max_streams ≡ 64
   pub probation : s.probation ≡ 2
   pub idle_timeout : s.idle_timeout ≡ 30000

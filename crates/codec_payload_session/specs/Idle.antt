@@ -25,6 +25,7 @@ abbrev pub IsNoEvent : Option Event → Type 0
 IsNoEvent None = Unit {0}
 IsNoEvent (Some (events.Begun ssrc payload_type)) = ⊥
 IsNoEvent (Some (events.Unit ssrc payload_type rtp_time decodable keyframe unit)) = ⊥
+IsNoEvent (Some (events.TooLarge ssrc payload_type unit)) = ⊥
 IsNoEvent (Some (events.Refused ssrc payload_type fault)) = ⊥
 IsNoEvent (Some (events.Feedback ssrc payload_type (Ok packet))) = ⊥
 IsNoEvent (Some (events.Feedback ssrc payload_type (Err e))) = Unit {0}

@@ -9,7 +9,8 @@ use Rattle.codec_payload_jitter.specs.Receiving.{deadline_of, next}
 use Rattle.codec_payload_jitter.specs.declared.outcome.Outcome.{Outcome}
 use Rattle.codec_payload_jitter.specs.declared.waiting.WaitLimits.{WaitLimits}
 use Rattle.codec_payload_jitter.specs.declared.outcome.Outcome.TheVariants as outcomes
-use Rattle.codec_payload_stream.specs.Pops.{NamesFault, PopsGated, answer_of}
+use Rattle.codec_payload_stream.specs.Bounds.{counters_with}
+use Rattle.codec_payload_stream.specs.Pops.{NamesFault, PopsGated, answer_of, is_large, is_too_large}
 use Rattle.codec_payload_stream.specs.Sessions.{Ends, ReceivesBytes, Session as Receiver, session_by}
 use Rattle.codec_payload_stream.specs.declared.pops.Popped.{Popped}
 use Rattle.codec_payload_stream.specs.declared.pops.Popped.TheVariants as popped
@@ -208,9 +209,10 @@ RestsBy stages.Playing now s answer t = RequestsBy s.feedback now s answer t
 RestsBy (stages.Leaving why at) now s answer t = (answer ≡ steps.Nothing) × (t ≡ s)
 RestsBy (stages.Draining why) now s answer t = (answer ≡ steps.Ended why) × (t ≡ s)
 
--- a unit, or memory ran out for it, or a refused frame
+-- a unit, or memory ran out for it, or a unit above the bound, or a refused frame
 abbrev pub step_with : Result (Popped Release) AllocError → Step
 step_with (Ok (popped.Unit unit)) = steps.Unit (Ok unit)
+step_with (Ok (popped.TooLarge unit)) = steps.TooLarge unit
 step_with (Ok (popped.Refused fault)) = steps.Refused fault
 step_with (Err e) = steps.Unit (Err e)
 
@@ -224,6 +226,7 @@ pub record Pops (now : Ticks) (s : StreamState) (answer : Step) (t : StreamState
   pub receiver : Receiver
   pub pops : PopsGated now.0 s.receiver (answer_of told) receiver
   pub refused : NamesFault told
+  pub large : is_too_large told ≡ is_large s.receiver.bound.most (answer_of told)
   pub follows : Follows told now.0 (record s { receiver = receiver }) answer t
 
 -- an announced stream ends first, if its time has come
@@ -287,7 +290,8 @@ pub record HasCounters (r : Receiver) (c : Counters) : Type 0 where
   pub malformed : c.malformed ≡ r.arrived.malformed
   pub other_streams : c.other_streams ≡ r.arrived.other_streams
   pub undecided : c.undecided ≡ length r.choice.candidates
-  pub packets : c.packets ≡ r.packets.counters
+  pub packets : c.packets ≡ counters_with r.bound r.packets.counters
+  pub too_large : c.too_large ≡ r.bound.units
   pub undecodable : c.undecodable ≡ r.gates.undecodable
 
 -- the stream, as a caller sees it

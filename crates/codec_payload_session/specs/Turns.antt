@@ -20,6 +20,7 @@ AreQuiet now idle (s ∷ ss) (t ∷ ts) = Steps now idle s steps.Nothing t × Ar
 abbrev pub is_nothing : Step → Bool
 is_nothing steps.Begun = false
 is_nothing (steps.Unit unit) = false
+is_nothing (steps.TooLarge unit) = false
 is_nothing (steps.Refused fault) = false
 is_nothing (steps.Feedback packet) = false
 is_nothing (steps.Ended why) = false
@@ -49,6 +50,7 @@ StepsFirst now idle ss (Some turn) ts = FirstSteps now idle ss turn ts
 abbrev pub event_of : StreamState → Step → Option Event
 event_of s steps.Begun = Some (events.Begun s.ssrc s.format.payload_type)
 event_of s (steps.Unit unit) = Some (events.Unit s.ssrc s.format.payload_type s.receiver.time s.receiver.gates.gate.shows s.receiver.gates.is_keyframe unit)
+event_of s (steps.TooLarge unit) = Some (events.TooLarge s.ssrc s.format.payload_type unit)
 event_of s (steps.Refused fault) = Some (events.Refused s.ssrc s.format.payload_type fault)
 event_of s (steps.Feedback packet) = Some (events.Feedback s.ssrc s.format.payload_type packet)
 event_of s (steps.Ended why) = Some (events.Ended s.ssrc s.format.payload_type why)
@@ -58,6 +60,7 @@ event_of s steps.Nothing = None
 abbrev pub kept_after : Step → StreamState → List StreamState → List StreamState
 kept_after steps.Begun s rest = s ∷ rest
 kept_after (steps.Unit unit) s rest = s ∷ rest
+kept_after (steps.TooLarge unit) s rest = s ∷ rest
 kept_after (steps.Refused fault) s rest = s ∷ rest
 kept_after (steps.Feedback packet) s rest = s ∷ rest
 kept_after (steps.Ended why) s rest = rest
@@ -66,6 +69,7 @@ kept_after steps.Nothing s rest = s ∷ rest
 abbrev pub ended_after : Step → StreamState → ℕ → ℕ
 ended_after steps.Begun s ended = ended
 ended_after (steps.Unit unit) s ended = ended
+ended_after (steps.TooLarge unit) s ended = ended
 ended_after (steps.Refused fault) s ended = ended
 ended_after (steps.Feedback packet) s ended = ended
 ended_after (steps.Ended why) s ended = sum_wrapped ended s.taken
@@ -79,6 +83,7 @@ told_by (Some s) step = event_of s step
 abbrev pub after_step : Step → ℕ → Port → Port
 after_step steps.Begun place p = p
 after_step (steps.Unit unit) place p = p
+after_step (steps.TooLarge unit) place p = p
 after_step (steps.Refused fault) place p = p
 after_step (steps.Feedback packet) place p = p
 after_step (steps.Ended why) place p = removed place p

@@ -2,7 +2,7 @@
 
 ghost use Rattle.std.specs.Prelude.{◌≡◌, false};
 ghost use Rattle.codec_payload_codec.specs.Depacketizers.{depacketizer_state_of};
-ghost use Rattle.codec_payload_stream.specs.Pops.{NamesFault, PopsGated, answer_of};
+ghost use Rattle.codec_payload_stream.specs.Pops.{NamesFault, PopsGated, answer_of, is_large, is_too_large};
 ghost use Rattle.codec_payload_stream.specs.Reports.{report_of, reported};
 ghost use Rattle.codec_payload_stream.specs.Sessions.{Ends, ReceivesBytes, is_none_of, session_by};
 
@@ -73,6 +73,7 @@ impl NamedReceiver {
     pub(crate) fn pop(&mut self, now: Ticks) -> Option<Result<Popped, AllocError>>
         ensures pops { PopsGated now.0 self.old (answer_of result) self.new }
         ensures refused { NamesFault result }
+        ensures large { is_too_large result ≡ is_large self.old.bound.most (answer_of result) }
     {
         self.receiver.pop(now)
     }

@@ -127,6 +127,8 @@ pub(crate) enum Step {
     Begun,
     /// A unit. If memory ran out for it, the frame is kept.
     Unit(Result<Depacketized, AllocError>),
+    /// A unit above the bound of the settings.
+    TooLarge(Depacketized),
     /// A frame that the depacketizer refused.
     Refused(PacketError),
     /// A packet of RTCP to send. If memory ran out, its requests stay due.
@@ -566,6 +568,7 @@ fn step_with(popped: Result<Popped, AllocError>) -> Step
 {
     match popped {
         Ok(Popped::Unit(unit)) => Step::Unit(Ok(unit)),
+        Ok(Popped::TooLarge(unit)) => Step::TooLarge(unit),
         Ok(Popped::Refused(fault)) => Step::Refused(fault),
         Err(e) => Step::Unit(Err(e)),
     }

@@ -86,6 +86,7 @@ pub one_append : (es fs : List Event) (a b c : Bool) → AreOfOne a es b → Are
 one_append [] fs a b c got more = subst (λ (x : Bool). AreOfOne x fs c) got more
 one_append (events.Begun s p ∷ es) fs a b c got more = (got.0, one_append es fs true b c got.1 more)
 one_append (events.Unit s p time decodable keyframe unit ∷ es) fs a b c got more = (got.0, one_append es fs true b c got.1 more)
+one_append (events.TooLarge s p unit ∷ es) fs a b c got more = (got.0, one_append es fs true b c got.1 more)
 one_append (events.Refused s p fault ∷ es) fs a b c got more = (got.0, one_append es fs true b c got.1 more)
 one_append (events.Feedback s p packet ∷ es) fs a b c got more = (got.0, one_append es fs true b c got.1 more)
 one_append (events.Ended s p why ∷ es) fs a b c got more = absurd got
@@ -96,6 +97,7 @@ pub order_append : (es fs : List Event) (a b c : Bool) → AreInOrder a es b →
 order_append [] fs a b c got more = subst (λ (x : Bool). AreInOrder x fs c) got more
 order_append (events.Begun s p ∷ es) fs a b c got more = (got.0, order_append es fs true b c got.1 more)
 order_append (events.Unit s p time decodable keyframe unit ∷ es) fs a b c got more = (got.0, order_append es fs true b c got.1 more)
+order_append (events.TooLarge s p unit ∷ es) fs a b c got more = (got.0, order_append es fs true b c got.1 more)
 order_append (events.Refused s p fault ∷ es) fs a b c got more = (got.0, order_append es fs true b c got.1 more)
 order_append (events.Feedback s p packet ∷ es) fs a b c got more = (got.0, order_append es fs true b c got.1 more)
 order_append (events.Ended s p why ∷ es) fs a b c got more = (got.0, order_append es fs false b c got.1 more)
@@ -106,6 +108,7 @@ pub one_in_order : (es : List Event) (a b : Bool) → AreOfOne a es b → AreInO
 one_in_order [] a b got = got
 one_in_order (events.Begun s p ∷ es) a b got = (got.0, one_in_order es true b got.1)
 one_in_order (events.Unit s p time decodable keyframe unit ∷ es) a b got = (got.0, one_in_order es true b got.1)
+one_in_order (events.TooLarge s p unit ∷ es) a b got = (got.0, one_in_order es true b got.1)
 one_in_order (events.Refused s p fault ∷ es) a b got = (got.0, one_in_order es true b got.1)
 one_in_order (events.Feedback s p packet ∷ es) a b got = (got.0, one_in_order es true b got.1)
 one_in_order (events.Ended s p why ∷ es) a b got = absurd got

@@ -318,6 +318,14 @@ answer_told now (Ok (popped.Unit unit)) y =
       own = λ s p other. (ap (λ (b : Bool). one_event b event) other, ap (λ (b : Bool). one_call b (pops now (Some (Ok (popped.Unit unit))))) other);
       kind = inl (subst (λ (b : Bool). AreOfOne true (one_event b event) true) (sym same) (refl, refl), λ rest. refl);
     }
+answer_told now (Ok (popped.TooLarge unit)) y =
+    let same : is_same y.ssrc y.format.payload_type y.ssrc y.format.payload_type ≡ true = same_is y.ssrc y.format.payload_type in
+    let event : Event = events.TooLarge y.ssrc y.format.payload_type unit in
+    record {
+      shows = ap (λ (b : Bool). one_call b (pops now (Some (Ok (popped.TooLarge unit))))) (sym same);
+      own = λ s p other. (ap (λ (b : Bool). one_event b event) other, ap (λ (b : Bool). one_call b (pops now (Some (Ok (popped.TooLarge unit))))) other);
+      kind = inl (subst (λ (b : Bool). AreOfOne true (one_event b event) true) (sym same) (refl, refl), λ rest. refl);
+    }
 answer_told now (Ok (popped.Refused fault)) y =
     let same : is_same y.ssrc y.format.payload_type y.ssrc y.format.payload_type ≡ true = same_is y.ssrc y.format.payload_type in
     let event : Event = events.Refused y.ssrc y.format.payload_type fault in
@@ -396,7 +404,7 @@ plays_stepped now idle x step y plays told got =
       ssrc_is = ssrc_is;
       format = format;
       part = d.part ++ own;
-      alone = runs_append d.part own x.receiver got.0.receiver y.receiver d.alone (got.2.receiver, (got.2.pops, got.2.refused), f.receiver);
+      alone = runs_append d.part own x.receiver got.0.receiver y.receiver d.alone (got.2.receiver, (got.2.pops, got.2.refused, got.2.large), f.receiver);
       made = made_append (calls.Poll now) d.part own d.made (refl, tt);
       one_pop = omega (arith, pops_append d.part own, d.no_pop);
       shows = shown_append d.part own ∙ (ap (λ (cs : List ReceiverCall). cs ++ shown own) d.hidden ∙ tells.shows);

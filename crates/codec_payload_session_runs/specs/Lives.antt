@@ -7,7 +7,7 @@ use Rattle.codec_payload_jitter.specs.declared.outcome.Outcome.{Outcome}
 use Rattle.codec_payload_jitter.specs.declared.waiting.WaitLimits.{WaitLimits}
 use Rattle.codec_payload_rtp.specs.RtpPackets.{Packet}
 use Rattle.codec_payload_rtp.specs.RtpReading.{rtp_at}
-use Rattle.codec_payload_stream.specs.Pops.{NamesFault, PopsGated, answer_of}
+use Rattle.codec_payload_stream.specs.Pops.{NamesFault, PopsGated, answer_of, is_large, is_too_large}
 use Rattle.codec_payload_stream.specs.Reports.{reported}
 use Rattle.codec_payload_stream.specs.Sessions.{Ends, ReceivesBytes, Session as Receiver}
 use Rattle.codec_payload_stream.specs.declared.pops.Popped.{Popped}
@@ -44,7 +44,7 @@ pub data ReceiverCall : Type 0 where
 
 abbrev pub DoesAlone : ReceiverCall → Receiver → Receiver → Type 0
 DoesAlone (receives now bytes answer) r q = ReceivesBytes now bytes r answer q
-DoesAlone (pops now answer) r q = PopsGated now.0 r (answer_of answer) q × NamesFault answer
+DoesAlone (pops now answer) r q = PopsGated now.0 r (answer_of answer) q × NamesFault answer × (is_too_large answer ≡ is_large r.bound.most (answer_of answer))
 DoesAlone finishes r q = Ends r q
 DoesAlone (waits limits) r q = q ≡ record r { packets = record r.packets { wait_limits = limits } }
 DoesAlone (pairs retransmission) r q = q ≡ record r { stream = record r.stream { retransmission = retransmission } }
@@ -89,6 +89,7 @@ abbrev pub released_by : (ssrc payload_type : ℕ) → Ticks → Option Event �
 released_by ssrc payload_type now None = []
 released_by ssrc payload_type now (Some (events.Begun s p)) = []
 released_by ssrc payload_type now (Some (events.Unit s p time decodable keyframe unit)) = one_call (is_same ssrc payload_type s p) (pops now (Some (unit_or_memory unit)))
+released_by ssrc payload_type now (Some (events.TooLarge s p unit)) = one_call (is_same ssrc payload_type s p) (pops now (Some (Ok (popped.TooLarge unit))))
 released_by ssrc payload_type now (Some (events.Refused s p fault)) = one_call (is_same ssrc payload_type s p) (pops now (Some (Ok (popped.Refused fault))))
 released_by ssrc payload_type now (Some (events.Feedback s p packet)) = []
 released_by ssrc payload_type now (Some (events.Telephone s p time marker payload)) = []
@@ -233,6 +234,7 @@ abbrev pub events_by : (ssrc payload_type : ℕ) → Option Event → List Event
 events_by ssrc payload_type None = []
 events_by ssrc payload_type (Some (events.Begun s p)) = one_event (is_same ssrc payload_type s p) (events.Begun s p)
 events_by ssrc payload_type (Some (events.Unit s p time decodable keyframe unit)) = one_event (is_same ssrc payload_type s p) (events.Unit s p time decodable keyframe unit)
+events_by ssrc payload_type (Some (events.TooLarge s p unit)) = one_event (is_same ssrc payload_type s p) (events.TooLarge s p unit)
 events_by ssrc payload_type (Some (events.Refused s p fault)) = one_event (is_same ssrc payload_type s p) (events.Refused s p fault)
 events_by ssrc payload_type (Some (events.Feedback s p packet)) = one_event (is_same ssrc payload_type s p) (events.Feedback s p packet)
 events_by ssrc payload_type (Some (events.Telephone s p time marker payload)) = []
@@ -257,6 +259,7 @@ abbrev pub AreInOrder : Bool → List Event → Bool → Type 0
 AreInOrder told [] after = after ≡ told
 AreInOrder told (events.Begun s p ∷ es) after = (told ≡ false) × AreInOrder true es after
 AreInOrder told (events.Unit s p time decodable keyframe unit ∷ es) after = (told ≡ true) × AreInOrder true es after
+AreInOrder told (events.TooLarge s p unit ∷ es) after = (told ≡ true) × AreInOrder true es after
 AreInOrder told (events.Refused s p fault ∷ es) after = (told ≡ true) × AreInOrder true es after
 AreInOrder told (events.Feedback s p packet ∷ es) after = (told ≡ true) × AreInOrder true es after
 AreInOrder told (events.Ended s p why ∷ es) after = (told ≡ true) × AreInOrder false es after
@@ -268,6 +271,7 @@ abbrev pub AreOfOne : Bool → List Event → Bool → Type 0
 AreOfOne told [] after = after ≡ told
 AreOfOne told (events.Begun s p ∷ es) after = (told ≡ false) × AreOfOne true es after
 AreOfOne told (events.Unit s p time decodable keyframe unit ∷ es) after = (told ≡ true) × AreOfOne true es after
+AreOfOne told (events.TooLarge s p unit ∷ es) after = (told ≡ true) × AreOfOne true es after
 AreOfOne told (events.Refused s p fault ∷ es) after = (told ≡ true) × AreOfOne true es after
 AreOfOne told (events.Feedback s p packet ∷ es) after = (told ≡ true) × AreOfOne true es after
 AreOfOne told (events.Ended s p why ∷ es) after = ⊥

@@ -7,9 +7,9 @@ use Rattle.codec_payload_jitter.specs.declared.outcome.Outcome.{Outcome}
 use Rattle.codec_payload_keyframes.specs.Keyframes.{Event, ShowsLast, WantsKeyframe, after_loss, after_skip, after_unit, gate_after, is_key_unit, is_video, lost, new_gate, released, shows_unit, skipped}
 use Rattle.codec_payload_keyframes.specs.UnitGates.{Gating, is_passed, is_shown}
 use Rattle.codec_payload_keyframes.proofs.GateLemmas.{gates_agree, units_follow_keyframes}
-use Rattle.codec_payload_stream.specs.KeyframeRuns.{DatagramsLeaveTheGate, DropsFollowKeyframes, GateRun, PopsFollowKeyframes, begins, fault_events, others, pop_events, pops, restarts}
+use Rattle.codec_payload_stream.specs.KeyframeRuns.{DatagramsLeaveTheGate, DropsFollowKeyframes, GateRun, PopsFollowKeyframes, answer_events, begins, fault_events, others, pop_events, pops, restarts}
 use Rattle.codec_payload_stream.specs.Kinds.{Datagram}
-use Rattle.codec_payload_stream.specs.Pops.{Answer, after_fault, gates_after, has_left, is_memory}
+use Rattle.codec_payload_stream.specs.Pops.{Answer, after_fault, gates_after, gates_if, has_left, is_large, is_memory}
 use Rattle.codec_payload_stream.specs.Sessions.{Finishes, HearsIf, Heard, Keeps, ReceivesBy, ReceivesBytes, Session, SettlesOn, first_waiting, opened_if}
 use Rattle.codec_payload_stream.specs.declared.choice.Candidate.{Candidate}
 use Rattle.codec_payload_stream.specs.declared.choice.Verdict.{Verdict}
@@ -24,20 +24,25 @@ after_fault_is codec g true true before is = ap after_skip is
 after_fault_is codec g true false before is = is
 after_fault_is codec g false left before is = ap after_loss is
 
+after_answer : (codec : Codec) (g : Gating) (left : Bool) (answer : Answer) (before : List Event) → g.gate ≡ gate_after codec before
+    → (gates_after g left answer).gate ≡ gate_after codec (answer_events g left answer before)
+after_answer codec g true None before is = ap after_skip is
+after_answer codec g false None before is = is
+after_answer codec g left (Some (Err fault)) before is = after_fault_is codec g (is_memory fault) left before is
+after_answer codec g left (Some (Ok unit)) before is = ap (λ k. after_unit k (is_key_unit g.gate unit.bytes) unit.contiguous) is
+
 -- the gate after a pop
-after_pop : (codec : Codec) (g : Gating) (left : Bool) (answer : Answer) (before : List Event) → g.gate ≡ gate_after codec before
-    → (gates_after g left answer).gate ≡ gate_after codec (pop_events g left answer before)
-after_pop codec g true None before is = ap after_skip is
-after_pop codec g false None before is = is
-after_pop codec g left (Some (Err fault)) before is = after_fault_is codec g (is_memory fault) left before is
-after_pop codec g left (Some (Ok unit)) before is = ap (λ k. after_unit k (is_key_unit g.gate unit.bytes) unit.contiguous) is
+after_pop : (codec : Codec) (large : Bool) (g : Gating) (left : Bool) (answer : Answer) (before : List Event) → g.gate ≡ gate_after codec before
+    → (gates_if large g left answer).gate ≡ gate_after codec (pop_events large g left answer before)
+after_pop codec true g left answer before is = ap after_loss is
+after_pop codec false g left answer before is = after_answer codec g left answer before is
 
 -- the gate of a run is the gate of its events
 gate_of_run : (codec : Codec) (s t : Session) (events : List Event) → s.gates.gate ≡ new_gate codec → GateRun s events t → t.gates.gate ≡ gate_after codec events
 gate_of_run codec s t events new begins = new
 gate_of_run codec s t events new (pops {mid = mid} {before = before} now answer run once is) =
     ap (λ (x : Session). x.gates.gate) once.2
-    ∙ after_pop codec mid.gates (has_left mid.packets once.0) answer before (gate_of_run codec s mid before new run)
+    ∙ after_pop codec (is_large mid.bound.most answer) mid.gates (has_left mid.packets once.0) answer before (gate_of_run codec s mid before new run)
     ∙ ap (gate_after codec) (sym is)
 gate_of_run codec s t events new (restarts {mid = mid} {before = before} ssrc named run same is) =
     ap (λ (x : Session). x.gates.gate) is ∙ ap (λ (k : Gating). after_skip k.gate) same ∙ ap after_skip (gate_of_run codec s mid before new run)

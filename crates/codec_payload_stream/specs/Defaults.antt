@@ -1,5 +1,5 @@
 -- Settings by purpose: the fields that they set, and the defaults.
-use Rattle.std.specs.Prelude.{◌≡◌, ℕ, Bool, true, false, [], None}
+use Rattle.std.specs.Prelude.{◌≡◌, ℕ, Bool, true, false, [], Some, None}
 use Rattle.codec_payload_base.specs.declared.wire.Codec.{Codec}
 use Rattle.codec_payload_jitter.specs.declared.waiting.WaitLimits.{WaitLimits}
 use Rattle.codec_payload_keyframes.specs.Keyframes.{is_video}
@@ -28,7 +28,8 @@ abbrev pub windows_of : Codec → Windows
 windows_of codec = windows_for (is_video codec)
 
 -- the stream has this payload type, clock rate, wait limits and windows. There is no SSRC, no payload type without media, no
--- RED and no retransmission. The caller's clock has ticks of milliseconds. Units of video are marked
+-- RED and no retransmission. The caller's clock has ticks of milliseconds. Units of video are marked, and a unit has at most
+-- 1 MiB
 pub record HasDefaults (payload_type rate : ℕ) (limits : WaitLimits) (windows : Windows) (s : Settings) : Type 0 where
   pub payload_type_is : s.payload_type ≡ payload_type
   pub no_media : s.no_media.items ≡ []
@@ -43,3 +44,4 @@ pub record HasDefaults (payload_type rate : ℕ) (limits : WaitLimits) (windows 
   pub forward : s.forward ≡ windows.forward
   pub backward : s.backward ≡ windows.backward
   pub from_keyframe : s.from_keyframe ≡ modes.Mark
+  pub max_unit : s.max_unit ≡ Some 1048576

@@ -7,7 +7,7 @@ use Rattle.codec_payload_buffer.specs.Release.{Release}
 use Rattle.codec_payload_jitter.specs.declared.outcome.Outcome.{Outcome}
 use Rattle.codec_payload_keyframes.specs.Keyframes.{Event, ShowsLast, WantsKeyframe, is_key_unit, is_video, lost, new_gate, released, skipped}
 use Rattle.codec_payload_keyframes.specs.UnitGates.{Gating, is_passed}
-use Rattle.codec_payload_stream.specs.Pops.{Answer, PopsOnce, has_left, is_memory}
+use Rattle.codec_payload_stream.specs.Pops.{Answer, PopsOnce, has_left, is_large, is_memory}
 use Rattle.codec_payload_stream.specs.Sessions.{Finishes, ReceivesBytes, Session, restarted}
 use Rattle.codec_payload_stream.specs.declared.receiver.ReceiveError.{ReceiveError}
 
@@ -21,16 +21,21 @@ fault_events true has_left before = events_with has_left before
 fault_events false has_left before = lost ∷ before
 
 -- the event of a pop of the jitter buffer, and the events before it
-abbrev pub pop_events : Gating → Bool → Answer → List Event → List Event
-pop_events g has_left None before = events_with has_left before
-pop_events g has_left (Some (Err fault)) before = fault_events (is_memory fault) has_left before
-pop_events g has_left (Some (Ok unit)) before = released (is_key_unit g.gate unit.bytes) unit.contiguous ∷ before
+abbrev pub answer_events : Gating → Bool → Answer → List Event → List Event
+answer_events g has_left None before = events_with has_left before
+answer_events g has_left (Some (Err fault)) before = fault_events (is_memory fault) has_left before
+answer_events g has_left (Some (Ok unit)) before = released (is_key_unit g.gate unit.bytes) unit.contiguous ∷ before
+
+-- a unit above the bound is lost
+abbrev pub pop_events : (large : Bool) → Gating → Bool → Answer → List Event → List Event
+pop_events true g has_left answer before = lost ∷ before
+pop_events false g has_left answer before = answer_events g has_left answer before
 
 -- a run of a receiver, and its events, the latest first: pops, announced restarts, and calls that leave the gate unchanged
 pub data GateRun (s : Session) : List Event → Session → Type 0 where
   begins : GateRun s [] s
   pops : {mid t : Session} {before events : List Event} (now : ℕ) (answer : Answer) → GateRun s before mid → (once : PopsOnce now mid answer t)
-      → events ≡ pop_events mid.gates (has_left mid.packets once.0) answer before → GateRun s events t
+      → events ≡ pop_events (is_large mid.bound.most answer) mid.gates (has_left mid.packets once.0) answer before → GateRun s events t
   restarts : {mid t : Session} {before : List Event} (ssrc : Option ℕ) (named : Session) → GateRun s before mid → named.gates ≡ mid.gates → t ≡ restarted ssrc named
       → GateRun s (skipped ∷ before) t
   others : {mid t : Session} {before : List Event} → GateRun s before mid → t.gates ≡ mid.gates → GateRun s before t

@@ -26,7 +26,9 @@ use Rattle.codec_payload_stream.specs.Choice.{Choosing, IsCandidate, is_silent, 
 use Rattle.codec_payload_stream.specs.Kinds.{Kinds, Carrier, Datagram, RtcpPacket, Malformed, OfOthers, WithoutMedia, WithMedia, InRed, Again, AgainInRed, AgainEmpty, block_header, datagram_at, header_for, original_header}
 use Rattle.codec_payload_stream.specs.SeenTimes.{Seen, has_block, is_seen, none_seen, seen_with}
 use Rattle.codec_payload_stream.specs.Reports.{Reception, no_reception, observed, reception_anew}
+use Rattle.codec_payload_stream.specs.Bounds.{new_bound}
 use Rattle.codec_payload_stream.specs.declared.blocks.BlockCopy.{BlockCopy}
+use Rattle.codec_payload_stream.specs.declared.bound.UnitBound.{UnitBound}
 use Rattle.codec_payload_stream.specs.declared.choice.Candidate.{Candidate}
 use Rattle.codec_payload_stream.specs.declared.choice.Origin.{Origin}
 use Rattle.codec_payload_stream.specs.declared.choice.Verdict.{Verdict}
@@ -46,7 +48,8 @@ use Rattle.codec_payload_stream.specs.declared.receiver.SettingsError.TheVariant
 
 -- a receiver, as contracts see it: the settings of the stream; the SSRC that the settings name; the SSRC of the stream, if it
 -- is known; the jitter buffer; the counters of datagrams before it; the RTP time of the latest unit; the statistics of the
--- sender; the state of the choice; the RTP times of the latest packets and blocks; which units a decoder can show
+-- sender; the state of the choice; the RTP times of the latest packets and blocks; which units a decoder can show; how many bytes
+-- a unit may have
 pub record Session : Type 0 where
   pub stream : Kinds
   pub named : Option ℕ
@@ -58,6 +61,7 @@ pub record Session : Type 0 where
   pub choice : Choosing
   pub seen : Seen
   pub gates : Gating
+  pub bound : UnitBound
 
 -- Every datagram is accounted for
 
@@ -470,6 +474,7 @@ session_with s depacketizer red numbering = record {
   choice = no_choice (2 * s.tick_rate);
   seen = none_seen;
   gates = new_gating (video_codec (kind_of_depacketizer depacketizer)) s.from_keyframe;
+  bound = new_bound s.max_unit;
 }
 
 abbrev pub session_within : Settings → DepacketizerState → Option RedStream → Result Numbering WindowError → Result Session SettingsError

@@ -1,8 +1,7 @@
 //! What the keyframe gate of a receiver learns from each pop.
 
-ghost use Rattle.std.specs.Prelude.{◌≡◌, ℕ, List};
-ghost use Rattle.codec_payload_buffer.specs.Steps.{popped_into, popped_to};
-ghost use Rattle.codec_payload_buffer.specs.declared.buffer.unit.RtpMeta.{RtpMeta};
+ghost use Rattle.std.specs.Prelude.{◌≡◌};
+ghost use Rattle.codec_payload_buffer.specs.Steps.{popped_to};
 ghost use Rattle.codec_payload_codec.specs.Depacketizers.{depacketizer_state_of, kind_of_depacketizer};
 ghost use Rattle.codec_payload_keyframes.specs.UnitGates.{new_gating};
 ghost use Rattle.codec_payload_stream.specs.Pops.{gates_after, is_passed_on, without_unit};
@@ -10,7 +9,7 @@ ghost use Rattle.codec_payload_stream.specs.Sessions.{video_codec};
 
 use codec_payload_base::error::PacketError;
 use codec_payload_base::wire::Codec;
-use codec_payload_buffer::buffer::{Depacketized, PoppedUnit, UnitInfo};
+use codec_payload_buffer::buffer::{Depacketized, PoppedUnit};
 use codec_payload_codec::codec::CodecDepacketizer;
 use codec_payload_keyframes::unit_gate::{FromKeyframe, UnitGate};
 
@@ -41,24 +40,6 @@ pub(crate) fn follow(
 {
     match answer {
         Some(Ok(unit)) => return gates.release(&unit.bytes, unit.contiguous),
-        Some(Err(PacketError::OutOfMemory)) | None => follow_none(gates, has_left),
-        Some(Err(_)) => gates.lose(),
-    }
-    true
-}
-
-/// The same for a pop into the caller's memory, whose unit is in `bytes`.
-pub(crate) fn follow_into(
-    gates: &mut UnitGate,
-    answer: &Option<Result<UnitInfo, PacketError>>,
-    bytes: &[u8],
-    has_left: bool,
-) -> bool
-    ensures after { (metas : List RtpMeta) → gates.new ≡ gates_after gates.old has_left (popped_into answer.now bytes.now metas) }
-    ensures passed { (metas : List RtpMeta) → result ≡ is_passed_on gates.old (popped_into answer.now bytes.now metas) }
-{
-    match answer {
-        Some(Ok(unit)) => return gates.release(bytes, unit.contiguous),
         Some(Err(PacketError::OutOfMemory)) | None => follow_none(gates, has_left),
         Some(Err(_)) => gates.lose(),
     }

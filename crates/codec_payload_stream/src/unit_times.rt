@@ -1,26 +1,16 @@
 //! The RTP times of released units.
 
-ghost use Rattle.std.specs.Prelude.{◌≡◌, ℕ, List};
-ghost use Rattle.codec_payload_buffer.specs.Steps.{popped_into, popped_to};
-ghost use Rattle.codec_payload_buffer.specs.declared.buffer.unit.RtpMeta.{RtpMeta};
+ghost use Rattle.std.specs.Prelude.{◌≡◌};
+ghost use Rattle.codec_payload_buffer.specs.Steps.{popped_to};
 ghost use Rattle.codec_payload_stream.specs.Sessions.{time_with};
 
 use codec_payload_base::error::PacketError;
-use codec_payload_buffer::buffer::{Depacketized, PoppedUnit, UnitInfo};
+use codec_payload_buffer::buffer::{Depacketized, PoppedUnit};
 use codec_payload_rtp::times::RtpTimes;
 
 /// Extends the RTP time of a released unit.
 pub(crate) fn extend_with(times: &mut RtpTimes, answer: &Option<Result<Depacketized, PacketError>>)
     ensures { times.new ≡ time_with times.old answer.now }
-{
-    if let Some(Ok(unit)) = answer {
-        times.extend((unit.time.numer() % (1 << 32)) as u32);
-    }
-}
-
-/// Does the same for a unit that was released into memory from the caller.
-pub(crate) fn extend_into(times: &mut RtpTimes, answer: &Option<Result<UnitInfo, PacketError>>)
-    ensures { (bytes : List ℕ) (metas : List RtpMeta) → times.new ≡ time_with times.old (popped_into answer.now bytes metas) }
 {
     if let Some(Ok(unit)) = answer {
         times.extend((unit.time.numer() % (1 << 32)) as u32);

@@ -436,7 +436,7 @@ pops_as again stream now answer s t listening not_memory gated =
         none_noted = ap (λ (x : Receiving). x.no_media_numbers) packets ∙ (turn.no_media_numbers ∙ listening.none_noted);
         of_codec = ap (λ (x : Receiving). is_built_in_depacketizer x.buffer.depacketizer) packets ∙ turn.of_codec;
         no_block_seen = subst HasNoBlock (sym (ap (λ (x : Session). x.seen) popped.2)) listening.no_block_seen;
-        drops_none = ap (λ (x : Session). x.gates.drops) popped.2 ∙ (drops_stay s.gates _ answer ∙ listening.drops_none);
+        drops_none = ap (λ (x : Session). x.gates.drops) popped.2 ∙ (drops_stay _ s.gates _ answer ∙ listening.drops_none);
         heard = subst (λ (x : Session). AreHeard again x.stream.retransmission) (sym popped.2) listening.heard;
       };
       kinds = ap (λ (x : Session). x.stream) popped.2;

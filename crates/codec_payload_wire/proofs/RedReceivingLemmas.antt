@@ -596,7 +596,7 @@ module _ (l : RedSide) where
           kinds_are = ap (λ (x : Session). x.stream) popped.2 ∙ tuned.kinds_are;
           named = ap (λ (x : Session). x.named) popped.2 ∙ tuned.named;
           ssrc = ap (λ (x : Session). x.ssrc) popped.2 ∙ tuned.ssrc;
-          drops_none = ap (λ (x : Session). x.gates.drops) popped.2 ∙ (drops_stay s.gates _ answer ∙ tuned.drops_none);
+          drops_none = ap (λ (x : Session). x.gates.drops) popped.2 ∙ (drops_stay _ s.gates _ answer ∙ tuned.drops_none);
           steady = record {
             rate = ap (λ (x : Receiving). x.rate) packets_is ∙ (turn.rate ∙ tuned.steady.rate);
             running = ap (λ (x : Receiving). x.is_restarting) packets_is ∙ (turn.is_restarting ∙ tuned.steady.running);

@@ -55,6 +55,7 @@ opus_settings no_media = record {
   forward = 3000;
   backward = 1000;
   from_keyframe = modes.Mark;
+  max_unit = None;
 }
 
 abbrev pub opus_receiver : Vec ℕ → Session

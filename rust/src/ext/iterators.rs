@@ -93,8 +93,8 @@ impl<B: Depacketizer> JitterBuffer<B> {
     }
 }
 
-/// The units of a stream that are due: pops until `None`. Refused frames are skipped; [`StreamUnits::refused`] counts them. An
-/// `Err` is out of memory alone, and then the iterator has ended: the frame stays, and another iterator tries it again.
+/// The units of a stream that are due: pops until `None`. Refused frames and units that are too large are skipped;
+/// [`StreamUnits::refused`] counts them. An `Err` is out of memory alone, and then the iterator has ended: the frame stays, and another iterator tries it again.
 #[derive(Debug)]
 #[must_use = "units are popped as the iterator is used"]
 pub struct StreamUnits<'a, B = NoBox> {
@@ -105,7 +105,7 @@ pub struct StreamUnits<'a, B = NoBox> {
 }
 
 impl<B> StreamUnits<'_, B> {
-    /// Returns how many refused frames the iterator skipped so far.
+    /// Returns how many refused frames and units that are too large the iterator skipped so far.
     pub fn refused(&self) -> u64 {
         self.refused
     }
@@ -118,7 +118,7 @@ impl<B: Depacketizer> Iterator for StreamUnits<'_, B> {
         while !self.has_ended {
             match self.receiver.pop(self.now) {
                 Some(Ok(Popped::Unit(unit))) => return Some(Ok(unit)),
-                Some(Ok(Popped::Refused(_))) => self.refused += 1,
+                Some(Ok(Popped::Refused(_) | Popped::TooLarge(_))) => self.refused += 1,
                 Some(Err(fault)) => {
                     self.has_ended = true;
                     return Some(Err(fault));
@@ -133,7 +133,8 @@ impl<B: Depacketizer> Iterator for StreamUnits<'_, B> {
 impl<B: Depacketizer> FusedIterator for StreamUnits<'_, B> {}
 
 impl<B: Depacketizer> Receiver<B> {
-    /// Pops all units that are due at that time, and skips refused frames. See [`Receiver::pop`], which reports these too.
+    /// Pops all units that are due at that time, and skips refused frames and units that are too large. See
+    /// [`Receiver::pop`], which reports these too.
     pub fn units(&mut self, now: Ticks) -> StreamUnits<'_, B> {
         StreamUnits {
             receiver: self,

@@ -6,23 +6,47 @@ use crate::jitter::Outcome;
 use crate::memory::AllocError;
 use crate::stream::{Popped, ReceiveError, Receiver};
 use crate::wire::Ticks;
+use core::error::Error;
+use core::fmt;
+
+/// Why a frame of a stream has no unit to show. The stream continues after it.
+#[derive(Clone, Copy, Debug, PartialEq, Eq)]
+#[non_exhaustive]
+pub enum LostFrame {
+    /// The depacketizer refused it; see [`Popped::Refused`].
+    Refused(PacketError),
+    /// It has more bytes than the settings allow; see [`Popped::TooLarge`].
+    TooLarge,
+}
+
+impl fmt::Display for LostFrame {
+    fn fmt(&self, f: &mut fmt::Formatter<'_>) -> fmt::Result {
+        match self {
+            LostFrame::Refused(fault) => write!(f, "frame refused: {fault}"),
+            LostFrame::TooLarge => f.write_str("unit larger than the settings allow"),
+        }
+    }
+}
+
+impl Error for LostFrame {}
 
 impl<U> Popped<U> {
-    /// Returns the unit, or `None` for a refused frame.
+    /// Returns the unit, or `None` for a refused frame or a unit that is too large.
     #[must_use]
     pub fn unit(self) -> Option<U> {
         self.into_result().ok()
     }
 
-    /// Returns the unit, or the fault of the refused frame.
+    /// Returns the unit, or why there is none.
     ///
     /// # Errors
     ///
-    /// The frame was refused: the fault is that of [`Popped::Refused`].
-    pub fn into_result(self) -> Result<U, PacketError> {
+    /// The frame was refused, or the unit is too large, which is dropped here.
+    pub fn into_result(self) -> Result<U, LostFrame> {
         match self {
             Popped::Unit(unit) => Ok(unit),
-            Popped::Refused(fault) => Err(fault),
+            Popped::TooLarge(_) => Err(LostFrame::TooLarge),
+            Popped::Refused(fault) => Err(LostFrame::Refused(fault)),
         }
     }
 }

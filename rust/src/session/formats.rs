@@ -20,6 +20,9 @@ const MAX_STREAMS: usize = 64;
 /// The default for the largest number of packets that a stream holds.
 const LIMIT: usize = 4_096;
 
+/// The default for the largest number of bytes of a unit: 1 MiB.
+const MAX_UNIT: usize = 1_048_576;
+
 /// A payload format of a port, as `a=rtpmap` and `a=fmtp` of a session description name it.
 #[derive(Clone, Copy, Debug, PartialEq, Eq)]
 pub struct Format {
@@ -110,6 +113,11 @@ pub struct SessionSettings {
     pub from_keyframe: FromKeyframe,
     /// The largest number of packets that a stream holds, 1 to 65,536.
     pub limit: usize,
+    /// The largest number of bytes of a unit. A larger unit is an event of its own ([`Event::TooLarge`]), and counts as a refused
+    /// frame. So a peer cannot choose how large a buffer of yours must be. `None`: no bound.
+    ///
+    /// [`Event::TooLarge`]: crate::session::sessions::Event::TooLarge
+    pub max_unit: Option<usize>,
     /// The largest number of streams.
     pub max_streams: usize,
     /// The number of accepted datagrams after which a new stream is announced: a stray packet announces nothing. Duplicates,
@@ -159,9 +167,9 @@ impl FeedbackSettings {
 
 impl SessionSettings {
     /// Returns settings without formats, for live streams and a clock in milliseconds. Frames of audio wait for at most 100 ms,
-    /// and frames of video for at most 200 ms. A session has at most 64 streams of 4,096 packets. A stream is announced with
-    /// its second datagram, ends after 30 s without a datagram, and takes packets for 200 ms after its BYE. Nothing is
-    /// requested. Does not allocate.
+    /// and frames of video for at most 200 ms. A session has at most 64 streams of 4,096 packets, and a unit at most
+    /// 1,048,576 bytes. A stream is announced with its second datagram, ends after 30 s without a datagram, and takes packets
+    /// for 200 ms after its BYE. Nothing is requested. Does not allocate.
     pub fn live() -> SessionSettings {
         SessionSettings {
             formats: Vec::new(),
@@ -173,6 +181,7 @@ impl SessionSettings {
             video: WaitLimits::live_video_with_nack(),
             from_keyframe: FromKeyframe::Mark,
             limit: LIMIT,
+            max_unit: Some(MAX_UNIT),
             max_streams: MAX_STREAMS,
             probation: PROBATION,
             idle_timeout: 30_000,
@@ -234,6 +243,7 @@ impl SessionSettings {
         settings.wait_limits = self.limits(format);
         settings.from_keyframe = self.from_keyframe;
         settings.limit = self.limit;
+        settings.max_unit = self.max_unit;
         Ok(settings)
     }
 }

@@ -69,6 +69,14 @@ pub enum Event {
         keyframe: bool,
         unit: Result<Depacketized, AllocError>,
     },
+    /// A unit of a stream with more bytes than `max_unit` of the settings. It counts as a refused frame: its packets count as
+    /// `left`, for video the units after it follow a loss, and the stream continues. Any peer can send such a unit, so do not
+    /// end a program for it.
+    TooLarge {
+        ssrc: u32,
+        payload_type: u8,
+        unit: Depacketized,
+    },
     /// A frame of a stream that the depacketizer refused, since its payloads are malformed. The frame was dropped, its packets
     /// count as `left`, and the stream continues. Any peer can send such a frame, so do not end a program for it. `fault` is
     /// never [`PacketError::OutOfMemory`].

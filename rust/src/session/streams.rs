@@ -237,6 +237,11 @@ impl Streams {
                     unit,
                 })
             }
+            Step::TooLarge(unit) => Some(Event::TooLarge {
+                ssrc,
+                payload_type,
+                unit,
+            }),
             Step::Refused(fault) => Some(Event::Refused {
                 ssrc,
                 payload_type,

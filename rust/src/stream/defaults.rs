@@ -14,6 +14,9 @@ use alloc::vec::Vec;
 /// The largest number of packets that a receiver with default settings holds.
 const LIMIT: usize = 4_096;
 
+/// The largest number of bytes of a unit that a receiver with default settings releases: 1 MiB.
+const MAX_UNIT: usize = 1_048_576;
+
 /// Windows for packets of 20 ms or more: the backward window holds at least 5 s, the forward window more than twice as many
 /// packets.
 const AUDIO: Windows = Windows {
@@ -49,7 +52,7 @@ impl ReceiverSettings {
     ///
     /// - `ssrc` is `None`: two packets choose the stream.
     /// - There is no RED, no retransmission, no payload type without media, and no id of a header extension.
-    /// - `limit` is 4,096 packets.
+    /// - `limit` is 4,096 packets, and `max_unit` 1,048,576 bytes.
     /// - Your clock has ticks of milliseconds.
     /// - Units of video are marked as decodable or not.
     ///
@@ -121,6 +124,7 @@ impl ReceiverSettings {
             forward: windows.forward,
             backward: windows.backward,
             from_keyframe: FromKeyframe::Mark,
+            max_unit: Some(MAX_UNIT),
         }
     }
 }

@@ -2,7 +2,7 @@
 
 //! What the keyframe gate of a receiver learns from each pop.
 
-use crate::buffer::{Depacketized, PoppedUnit, UnitInfo};
+use crate::buffer::{Depacketized, PoppedUnit};
 use crate::codec::CodecDepacketizer;
 use crate::error::PacketError;
 use crate::keyframes::unit_gate::{FromKeyframe, UnitGate};
@@ -30,21 +30,6 @@ pub(crate) fn follow(
 ) -> bool {
     match answer {
         Some(Ok(unit)) => return gates.release(&unit.bytes, unit.contiguous),
-        Some(Err(PacketError::OutOfMemory)) | None => follow_none(gates, has_left),
-        Some(Err(_)) => gates.lose(),
-    }
-    true
-}
-
-/// The same for a pop into the caller's memory, whose unit is in `bytes`.
-pub(crate) fn follow_into(
-    gates: &mut UnitGate,
-    answer: &Option<Result<UnitInfo, PacketError>>,
-    bytes: &[u8],
-    has_left: bool,
-) -> bool {
-    match answer {
-        Some(Ok(unit)) => return gates.release(bytes, unit.contiguous),
         Some(Err(PacketError::OutOfMemory)) | None => follow_none(gates, has_left),
         Some(Err(_)) => gates.lose(),
     }

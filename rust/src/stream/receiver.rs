@@ -20,6 +20,7 @@ use crate::rtp::packet::RtpError;
 use crate::rtp::times::RtpTimes;
 use crate::rtp::values::ExtensionIds;
 use crate::stream::answers::is_out_of_memory;
+use crate::stream::bound::UnitBound;
 use crate::stream::checks::{packets_at_once, red_of, retransmission_fits};
 use crate::stream::choice::{Choice, Origin, Verdict};
 use crate::stream::datagram::{Datagram, RedStream, StreamKinds};
@@ -85,6 +86,11 @@ pub struct ReceiverSettings {
     /// What happens to units of video that a decoder cannot show: units after a gap, until a keyframe. All constructors set
     /// [`FromKeyframe::Mark`]. Units of audio are always released.
     pub from_keyframe: FromKeyframe,
+    /// The largest number of bytes of a unit. A larger unit is an answer of its own ([`Popped::TooLarge`]), and counts as a
+    /// refused frame. `None`: no bound. All constructors set 1,048,576.
+    ///
+    /// [`Popped::TooLarge`]: crate::stream::pops::Popped::TooLarge
+    pub max_unit: Option<usize>,
 }
 
 /// The setting that is out of range.
@@ -185,8 +191,11 @@ pub struct Counters {
     pub other_streams: u64,
     /// Packets that wait for the choice of the stream: at most 4.
     pub undecided: u64,
-    /// Outcomes of the stream's packets, and of recovered packets.
+    /// Outcomes of the stream's packets, and of recovered packets. Units above `max_unit` of the settings are no units here:
+    /// their packets count as `left` and as `refused`.
     pub packets: PacketCounters,
+    /// Units above `max_unit` of the settings.
+    pub too_large: u64,
     /// Units of video that a decoder cannot show. They were released, or dropped if the settings say [`FromKeyframe::Drop`].
     /// Both count as units in `packets`.
     pub undecodable: u64,
@@ -222,6 +231,8 @@ pub struct Receiver<B = NoBox> {
     seen: LazySeenTimes,
     /// Which units a decoder can show.
     gates: UnitGate,
+    /// How many bytes a unit may have.
+    bound: UnitBound,
 }
 
 impl<B: Depacketizer> Receiver<B> {
@@ -287,6 +298,7 @@ impl<B: Depacketizer> Receiver<B> {
             choice,
             seen: LazySeenTimes::none(),
             gates,
+            bound: UnitBound::new(settings.max_unit),
         }
     }
 
@@ -409,7 +421,7 @@ impl<B: Depacketizer> Receiver<B> {
 
     /// Returns whether a decoder can show the latest popped unit: it is a keyframe, or it follows a decodable unit without a
     /// gap. True for audio, and with [`FromKeyframe::Off`]. False for video before the first unit, and after a refused
-    /// frame.
+    /// frame or a unit above `max_unit`.
     pub fn unit_is_decodable(&self) -> bool {
         self.gates.is_decodable()
     }
@@ -424,7 +436,7 @@ impl<B: Depacketizer> Receiver<B> {
     /// from one of these events until a pop releases a keyframe:
     ///
     /// - A pop found a unit that a decoder cannot show.
-    /// - A pop refused a frame.
+    /// - A pop refused a frame, or its unit was above `max_unit` of the settings.
     /// - A pop returned no unit and discarded packets, for example because the picture ids of the sender jumped back.
     /// - You called [`Receiver::restart`].
     ///
@@ -548,7 +560,8 @@ impl<B: Depacketizer> Receiver<B> {
             malformed: self.arrived.malformed,
             other_streams: self.arrived.other_streams,
             undecided,
-            packets: self.packets.counters(),
+            packets: self.bound.counters_with(self.packets.counters()),
+            too_large: self.bound.units(),
             undecodable: self.gates.undecodable(),
         }
     }

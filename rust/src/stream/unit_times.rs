@@ -2,7 +2,7 @@
 
 //! The RTP times of released units.
 
-use crate::buffer::{Depacketized, PoppedUnit, UnitInfo};
+use crate::buffer::{Depacketized, PoppedUnit};
 use crate::error::PacketError;
 use crate::rtp::times::RtpTimes;
 
@@ -11,13 +11,6 @@ pub(crate) fn extend_with(
     times: &mut RtpTimes,
     answer: &Option<Result<Depacketized, PacketError>>,
 ) {
-    if let Some(Ok(unit)) = answer {
-        times.extend((unit.time.numer() % (1 << 32)) as u32);
-    }
-}
-
-/// Does the same for a unit that was released into memory from the caller.
-pub(crate) fn extend_into(times: &mut RtpTimes, answer: &Option<Result<UnitInfo, PacketError>>) {
     if let Some(Ok(unit)) = answer {
         times.extend((unit.time.numer() % (1 << 32)) as u32);
     }

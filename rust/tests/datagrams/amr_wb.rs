@@ -44,6 +44,7 @@ fn receiver_of() -> Result<Receiver<NoBox>, Fail> {
         forward: 3_000,
         backward: 1_000,
         from_keyframe: FromKeyframe::Mark,
+        max_unit: None,
     };
     Ok(Receiver::new(depack, settings).map_err(|_| "settings out of range")?)
 }

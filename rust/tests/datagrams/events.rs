@@ -111,6 +111,7 @@ pub fn receiver_for(
         forward: 3_000,
         backward: 1_000,
         from_keyframe: FromKeyframe::Mark,
+        max_unit: None,
     };
     Ok(Receiver::new(depack, settings).map_err(|_| "settings out of range")?)
 }

@@ -2,7 +2,7 @@
 
 use crate::Fail;
 use crate::events::{Event, STARTS_LATER, WAITS, WAITS_LONGER, packet, receiver_of, take, told_of};
-use codec_payload::buffer::RtpMeta;
+use codec_payload::PoppedUnit;
 use codec_payload::codec::NoBox;
 use codec_payload::jitter::jitter_buffer::WaitLimits;
 use codec_payload::stream::pops::Popped;
@@ -209,17 +209,17 @@ fn rows() -> Result<(), Fail> {
 fn assert_next(
     receiver: &mut Receiver<NoBox>,
     number: u16,
-    bytes: &mut Vec<u8>,
-    metas: &mut Vec<RtpMeta>,
+    unit: &mut PoppedUnit,
 ) -> Result<(), Fail> {
-    let Some(Ok(Popped::Unit(info))) = receiver.pop_into(Ticks(0), bytes, metas) else {
+    let Some(Ok(Popped::Unit(()))) = receiver.pop_unit(Ticks(0), unit) else {
         return Err("no unit".into());
     };
-    assert_eq!(info.time.numer(), u64::from(number), "the time of the unit");
-    assert_eq!(bytes.len(), 1, "bytes");
-    assert_eq!(bytes[0], (number % 256) as u8, "the unit");
-    assert_eq!(metas.len(), 1, "packets");
-    assert_eq!(metas[0].header.sequence_number, number, "what is known");
+    assert_eq!(unit.time.numer(), u64::from(number), "the time of the unit");
+    assert_eq!(unit.bytes.len(), 1, "bytes");
+    assert_eq!(unit.bytes[0], (number % 256) as u8, "the unit");
+    assert_eq!(unit.packets(), 1, "packets");
+    let header = unit.meta(0).header;
+    assert_eq!(header.sequence_number, number, "what is known");
     assert_eq!(
         receiver.unit_time(),
         Some((1 << 32) + u64::from(number)),
@@ -231,18 +231,16 @@ fn assert_next(
 #[test]
 fn units_into_the_same_memory() -> Result<(), Fail> {
     let mut receiver = receiver_of(WAITS, 64)?;
-    let mut bytes = vec![1, 2, 3];
-    let mut metas = Vec::new();
+    let mut unit = PoppedUnit::new();
+    unit.bytes = vec![1, 2, 3];
     for number in [10, 12, 11] {
         let letter = take(&mut receiver, 0, &packet(96, number, 7, number as u8));
         assert_eq!(letter, 'h', "a packet that is held");
     }
-    assert_next(&mut receiver, 10, &mut bytes, &mut metas)?;
-    assert_next(&mut receiver, 11, &mut bytes, &mut metas)?;
-    assert_next(&mut receiver, 12, &mut bytes, &mut metas)?;
-    let none = receiver
-        .pop_into(Ticks(0), &mut bytes, &mut metas)
-        .is_none();
+    assert_next(&mut receiver, 10, &mut unit)?;
+    assert_next(&mut receiver, 11, &mut unit)?;
+    assert_next(&mut receiver, 12, &mut unit)?;
+    let none = receiver.pop_unit(Ticks(0), &mut unit).is_none();
     assert!(none, "no more units");
     let counters = receiver.counters().packets;
     assert_eq!(counters.units, 3, "units");

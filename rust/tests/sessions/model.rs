@@ -435,7 +435,13 @@ fn line(event: Event) -> String {
             unit,
             ..
         } => {
-            let unit: Result<_, PacketError> = Ok(unit.expect("there is memory").bytes);
+            let unit: Result<_, LostFrame> = Ok(unit.expect("there is memory").bytes);
+            format!("{:?} {unit:?}", (ssrc, payload_type))
+        }
+        Event::TooLarge {
+            ssrc, payload_type, ..
+        } => {
+            let unit: Result<Vec<u8>, _> = Err(LostFrame::TooLarge);
             format!("{:?} {unit:?}", (ssrc, payload_type))
         }
         Event::Refused {
@@ -443,7 +449,7 @@ fn line(event: Event) -> String {
             payload_type,
             fault,
         } => {
-            let unit: Result<Vec<u8>, _> = Err(fault);
+            let unit: Result<Vec<u8>, _> = Err(LostFrame::Refused(fault));
             format!("{:?} {unit:?}", (ssrc, payload_type))
         }
         Event::Ended {

@@ -3,7 +3,7 @@
 
 use crate::Fail;
 use crate::sides::{receiver_settings, sample_of, sender_settings};
-use codec_payload::buffer::Depacketized;
+use codec_payload::buffer::{Depacketized, PoppedUnit};
 use codec_payload::codec::{
     CodecDepacketizer, CodecExtra, CodecPacketizer, Depacketizer, Packetizer,
 };
@@ -202,10 +202,10 @@ fn receiver_asks_a_custom_depacketizer() -> Result<(), Fail> {
             .as_deref(),
         Some(UNITS[0])
     );
-    let (mut bytes, mut metas) = (Vec::new(), Vec::new());
-    let info = receiver.pop_into(Ticks(0), &mut bytes, &mut metas);
-    assert!(matches!(info, Some(Ok(Popped::Unit(_)))));
-    assert_eq!(bytes, UNITS[1]);
+    let mut unit = PoppedUnit::new();
+    let popped = receiver.pop_unit(Ticks(0), &mut unit);
+    assert!(matches!(popped, Some(Ok(Popped::Unit(())))));
+    assert_eq!(unit.bytes, UNITS[1]);
     assert_eq!(*read.borrow(), PAYLOADS);
     Ok(())
 }

@@ -45,6 +45,7 @@ pub fn receiver_settings(wait_limits: WaitLimits) -> Result<ReceiverSettings, Fa
         forward: 3_000,
         backward: 1_000,
         from_keyframe: FromKeyframe::Mark,
+        max_unit: None,
     })
 }
 

@@ -180,6 +180,12 @@ fn told(event: Event) -> ([u64; 12], Vec<u8>, Option<String>) {
             ]);
             return (it, unit.bytes, None);
         }
+        Event::TooLarge {
+            ssrc, payload_type, ..
+        } => {
+            stream(2, ssrc, payload_type);
+            return (it, Vec::new(), Some("TooLarge".into()));
+        }
         Event::Refused {
             ssrc,
             payload_type,

@@ -6,7 +6,7 @@ ghost use Rattle.codec_payload_buffer.specs.Steps.{HasPacketsIn, HasTaken, poppe
 ghost use Rattle.codec_payload_codec.specs.Depacketizers.{is_built_in_depacketizer};
 ghost use Rattle.codec_payload_jitter.specs.Receiving.{is_pressed, settled};
 ghost use Rattle.codec_payload_stream.specs.OwnSessions.{OwnPopsGated, OwnPopsOnce};
-ghost use Rattle.codec_payload_stream.specs.Pops.{NamesFault, PopsGated, PopsOnce, answer_of, is_passed_on};
+ghost use Rattle.codec_payload_stream.specs.Pops.{NamesFault, PopsGated, PopsOnce, answer_of, is_answered, is_large, is_too_large};
 
 use super::Receiver;
 use crate::gated::follow_to;
@@ -19,8 +19,8 @@ use codec_payload_codec::codec::Depacketizer;
 use std::alloc::AllocError;
 
 impl<B: Depacketizer> Receiver<B> {
-    /// Does the same as [`Receiver::pop`], and writes the unit to memory that can be used again. See
-    /// [`codec_payload_jitter::jitter::JitterBuffer::pop_unit`].
+    /// Does the same as [`Receiver::pop`], and writes the unit to memory that can be used again, also a unit that is too large.
+    /// See [`codec_payload_jitter::jitter::JitterBuffer::pop_unit`].
     #[inline(always)]
     pub fn pop_unit(
         &mut self,
@@ -30,6 +30,8 @@ impl<B: Depacketizer> Receiver<B> {
         ensures pops { PopsGated now.0 self.old (popped_to (answer_of result) unit.new) self.new }
         // A refused frame has a fault of its own: out of memory is an error.
         ensures refused { NamesFault result }
+        // A unit is too large exactly if it has more bytes than the settings allow.
+        ensures large { is_too_large result ≡ is_large self.old.bound.most (popped_to (answer_of result) unit.new) }
         // A unit has packets.
         ensures some { HasPacketsIn (answer_of result) unit.new }
         // Each answer except `None` and out of memory leaves fewer packets, so a loop of pops ends.
@@ -39,16 +41,19 @@ impl<B: Depacketizer> Receiver<B> {
         // A custom depacketizer is asked once for each payload of the unit.
         ensures own { is_built_in_depacketizer self.old.packets.buffer.depacketizer ≡ false → OwnPopsGated B.state B.depacketize_step now.0 self.old (popped_to (answer_of result) unit.new) }
     {
-        sorted(self.pop_unit_gated(now, unit))
+        let answer = self.pop_unit_gated(now, unit);
+        let large = self.bound.is_large_in(&answer, unit);
+        sorted(answer, large)
     }
 
-    /// Does the same, with out of memory as one of the faults.
+    /// Does the same, with out of memory as one of the faults, and a unit above the bound as a unit.
     fn pop_unit_gated(
         &mut self,
         now: Ticks,
         unit: &mut PoppedUnit,
     ) -> Option<Result<(), PacketError>>
         ensures pops { PopsGated now.0 self.old (popped_to result unit.new) self.new }
+        ensures most { self.new.bound.most ≡ self.old.bound.most }
         // A unit has packets.
         ensures some { HasPacketsIn result unit.new }
         // Each answer except `None` and out of memory leaves fewer packets, so a loop of pops ends.
@@ -74,7 +79,7 @@ impl<B: Depacketizer> Receiver<B> {
         unit: &mut PoppedUnit,
     ) -> (Option<Result<(), PacketError>>, bool)
         ensures pops { PopsOnce now.0 self.old (popped_to result.0 unit.new) self.new }
-        ensures passed { result.1 ≡ is_passed_on self.old.gates (popped_to result.0 unit.new) }
+        ensures passed { result.1 ≡ is_answered self.old (popped_to result.0 unit.new) }
         ensures some { HasPacketsIn result.0 unit.new }
         ensures drained { is_pressed (settled self.old.packets) now.0 ≡ true → result.0 ≡ Option.None → length (frames self.new.packets.buffer.held) ≤ 0 }
         ensures fewer { HasTaken (popped_to result.0 unit.new) self.old.packets.buffer self.new.packets.buffer }
@@ -82,6 +87,10 @@ impl<B: Depacketizer> Receiver<B> {
     {
         let left = self.packets.counters().left;
         let answer = self.packets.pop_unit(now, unit);
+        if self.bound.note_in(&answer, unit) {
+            self.gates.lose();
+            return (answer, true);
+        }
         extend_to(&mut self.times, &answer, unit);
         let has_left = self.packets.counters().left != left;
         let is_passed = follow_to(&mut self.gates, &answer, unit, has_left);

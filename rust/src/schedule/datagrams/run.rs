@@ -36,7 +36,8 @@ pub struct DatagramRun {
     pub sends: Vec<SentSample>,
     /// The result for the datagram of each `Deliver` step that names one, in order.
     pub receipts: Vec<Result<Outcome, ReceiveError>>,
-    /// The answer of each `Pop` step, in order: a unit, or the fault of a refused frame.
+    /// The answer of each `Pop` step, in order: a unit, also one that is too large for the receiver, or the fault of a refused
+    /// frame.
     pub pops: Vec<Option<Result<Depacketized, PacketError>>>,
 }
 
@@ -196,6 +197,7 @@ fn pop_at<D: Depacketizer>(
 ) -> Result<Option<Result<Depacketized, PacketError>>, PacketError> {
     match receiver.pop(now) {
         Some(Ok(Popped::Unit(unit))) => Ok(Some(Ok(unit))),
+        Some(Ok(Popped::TooLarge(unit))) => Ok(Some(Ok(unit))),
         Some(Ok(Popped::Refused(fault))) => Ok(Some(Err(fault))),
         Some(Err(_)) => Err(PacketError::OutOfMemory),
         None => Ok(None),

@@ -3,19 +3,18 @@
 //! Pops of a receiver.
 
 use super::Receiver;
-use crate::buffer::{Depacketized, RtpMeta, UnitInfo};
+use crate::buffer::Depacketized;
 use crate::codec::Depacketizer;
 use crate::error::PacketError;
 use crate::memory::AllocError;
-use crate::stream::gated::{follow, follow_into};
-use crate::stream::pops::{Popped, sorted, sorted_fault};
-use crate::stream::unit_times::{extend_into, extend_with};
+use crate::stream::gated::follow;
+use crate::stream::pops::{Popped, sorted};
+use crate::stream::unit_times::extend_with;
 use crate::wire::Ticks;
-use alloc::vec::Vec;
 
 impl<B: Depacketizer> Receiver<B> {
-    /// Returns what comes next, if it is due at time `now`: a unit, or the fault of a frame that the depacketizer refused. See
-    /// [`crate::jitter::jitter_buffer::JitterBuffer::pop`].
+    /// Returns what comes next, if it is due at time `now`: a unit, a unit above `max_unit` of the settings, or the fault of a
+    /// frame that the depacketizer refused. See [`crate::jitter::jitter_buffer::JitterBuffer::pop`].
     ///
     /// For video, [`Receiver::unit_is_decodable`] then says whether a decoder can show the unit. With [`FromKeyframe::Drop`]
     /// the pop drops units that a decoder cannot show, and continues with the next unit.
@@ -26,10 +25,12 @@ impl<B: Depacketizer> Receiver<B> {
     ///
     /// Out of memory: the frame stays, and the next pop tries it again.
     pub fn pop(&mut self, now: Ticks) -> Option<Result<Popped, AllocError>> {
-        sorted(self.pop_gated(now))
+        let answer = self.pop_gated(now);
+        let large = self.bound.is_large(&answer);
+        sorted(answer, large)
     }
 
-    /// Returns the same, with out of memory as one of the faults.
+    /// Returns the same, with out of memory as one of the faults, and a unit above the bound as a unit.
     fn pop_gated(&mut self, now: Ticks) -> Option<Result<Depacketized, PacketError>> {
         loop {
             let (answer, is_passed) = self.pop_once(now);
@@ -43,54 +44,13 @@ impl<B: Depacketizer> Receiver<B> {
     fn pop_once(&mut self, now: Ticks) -> (Option<Result<Depacketized, PacketError>>, bool) {
         let left = self.packets.counters().left;
         let answer = self.packets.pop(now);
+        if self.bound.note(&answer) {
+            self.gates.lose();
+            return (answer, true);
+        }
         extend_with(&mut self.times, &answer);
         let has_left = self.packets.counters().left != left;
         let is_passed = follow(&mut self.gates, &answer, has_left);
-        (answer, is_passed)
-    }
-
-    /// Does the same as [`Receiver::pop`], and writes to the caller's memory, which can be reused. See
-    /// [`crate::jitter::jitter_buffer::JitterBuffer::pop_into`].
-    pub fn pop_into(
-        &mut self,
-        now: Ticks,
-        bytes: &mut Vec<u8>,
-        metas: &mut Vec<RtpMeta>,
-    ) -> Option<Result<Popped<UnitInfo>, AllocError>> {
-        match self.pop_gated_into(now, bytes, metas) {
-            Some(Ok(info)) => Some(Ok(Popped::Unit(info))),
-            Some(Err(fault)) => Some(sorted_fault(fault)),
-            None => None,
-        }
-    }
-
-    /// Does the same, with out of memory as one of the faults.
-    fn pop_gated_into(
-        &mut self,
-        now: Ticks,
-        bytes: &mut Vec<u8>,
-        metas: &mut Vec<RtpMeta>,
-    ) -> Option<Result<UnitInfo, PacketError>> {
-        loop {
-            let (answer, is_passed) = self.pop_once_into(now, bytes, metas);
-            if is_passed {
-                return answer;
-            }
-        }
-    }
-
-    /// Pops the jitter buffer once into this memory, and returns whether the answer is passed on.
-    fn pop_once_into(
-        &mut self,
-        now: Ticks,
-        bytes: &mut Vec<u8>,
-        metas: &mut Vec<RtpMeta>,
-    ) -> (Option<Result<UnitInfo, PacketError>>, bool) {
-        let left = self.packets.counters().left;
-        let answer = self.packets.pop_into(now, bytes, metas);
-        extend_into(&mut self.times, &answer);
-        let has_left = self.packets.counters().left != left;
-        let is_passed = follow_into(&mut self.gates, &answer, bytes, has_left);
         (answer, is_passed)
     }
 }

@@ -13,18 +13,20 @@ use crate::stream::unit_times::extend_to;
 use crate::wire::Ticks;
 
 impl<B: Depacketizer> Receiver<B> {
-    /// Does the same as [`Receiver::pop`], and writes the unit to memory that can be used again. See
-    /// [`crate::jitter::jitter_buffer::JitterBuffer::pop_unit`].
+    /// Does the same as [`Receiver::pop`], and writes the unit to memory that can be used again, also a unit that is too large.
+    /// See [`crate::jitter::jitter_buffer::JitterBuffer::pop_unit`].
     #[inline(always)]
     pub fn pop_unit(
         &mut self,
         now: Ticks,
         unit: &mut PoppedUnit,
     ) -> Option<Result<Popped<()>, AllocError>> {
-        sorted(self.pop_unit_gated(now, unit))
+        let answer = self.pop_unit_gated(now, unit);
+        let large = self.bound.is_large_in(&answer, unit);
+        sorted(answer, large)
     }
 
-    /// Does the same, with out of memory as one of the faults.
+    /// Does the same, with out of memory as one of the faults, and a unit above the bound as a unit.
     fn pop_unit_gated(
         &mut self,
         now: Ticks,
@@ -47,6 +49,10 @@ impl<B: Depacketizer> Receiver<B> {
     ) -> (Option<Result<(), PacketError>>, bool) {
         let left = self.packets.counters().left;
         let answer = self.packets.pop_unit(now, unit);
+        if self.bound.note_in(&answer, unit) {
+            self.gates.lose();
+            return (answer, true);
+        }
         extend_to(&mut self.times, &answer, unit);
         let has_left = self.packets.counters().left != left;
         let is_passed = follow_to(&mut self.gates, &answer, unit, has_left);

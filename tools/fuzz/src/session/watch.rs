@@ -204,7 +204,10 @@ impl Watch {
                 assert!(last.is_none_or(|last| last < range.start().0));
                 *last = Some(range.end().0);
             }
-            Event::Refused {
+            Event::TooLarge {
+                ssrc, payload_type, ..
+            }
+            | Event::Refused {
                 ssrc, payload_type, ..
             } => assert!(self.announced.contains_key(&(ssrc, payload_type))),
             Event::Telephone { payload_type, .. } => {

@@ -3,8 +3,8 @@
 //!   session WAY KIND STREAMS COUNT
 //!
 //! - WAY: `bare` is one receiver for each stream, of which the one that got the datagram is popped until it has no unit. `unit`
-//!   is the same by `pop_unit`, `into` by `pop_into`. `once` is one `pop_into` after each datagram. `poll` is a session that is polled until it has no event. `deadline` also asks for the next
-//!   deadline then. `receive` is a session that is not polled.
+//!   is the same by `pop_unit`. `once` is one `pop_unit` after each datagram. `poll` is a session that is polled until it has no
+//!   event. `deadline` also asks for the next deadline then. `receive` is a session that is not polled.
 //! - KIND: `audio` is Opus, 120 bytes a packet. `video` is VP8, three packets of 1,000 bytes a frame. `requests` is the same
 //!   video, and the session requests what it misses; nothing is lost. After two packets of audio of each stream, `goodbyes` are
 //!   datagrams of 300 BYEs that name nobody, and `strays` are packets of ever new SSRCs, each of which takes the place of the
@@ -15,7 +15,7 @@
 
 use codec_payload::session::{Event, FeedbackSettings, Format, Session, SessionSettings};
 use codec_payload::stream::{Popped, Receiver, ReceiverSettings};
-use codec_payload::{Codec, CodecDepacketizer, CodecSpec, Frequency, PoppedUnit, RtpMeta, Ticks};
+use codec_payload::{Codec, CodecDepacketizer, CodecSpec, Frequency, PoppedUnit, Ticks};
 
 const VP8: u8 = 96;
 const OPUS: u8 = 111;
@@ -106,8 +106,6 @@ struct Load {
     session: Session,
     receivers: Vec<Receiver>,
     unit: PoppedUnit,
-    bytes: Vec<u8>,
-    metas: Vec<RtpMeta>,
     units: u64,
 }
 
@@ -121,19 +119,11 @@ impl Load {
             }
             return;
         }
-        if way == "unit" {
+        if way == "unit" || way == "once" {
             let receiver = &mut self.receivers[place];
             receiver.receive(now, datagram).unwrap();
             while let Some(popped) = receiver.pop_unit(now, &mut self.unit) {
                 self.units += u64::from(matches!(popped, Ok(Popped::Unit(()))));
-            }
-            return;
-        }
-        if way == "into" || way == "once" {
-            let receiver = &mut self.receivers[place];
-            receiver.receive(now, datagram).unwrap();
-            while let Some(answer) = receiver.pop_into(now, &mut self.bytes, &mut self.metas) {
-                self.units += u64::from(answer.is_ok());
                 if way == "once" {
                     break;
                 }
@@ -166,8 +156,6 @@ fn main() {
             .map(|ssrc| receiver(is_video(kind), ssrc))
             .collect(),
         unit: PoppedUnit::new(),
-        bytes: Vec::new(),
-        metas: Vec::new(),
         units: 0,
     };
     let mut datagram = Vec::new();

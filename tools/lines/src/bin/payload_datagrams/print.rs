@@ -30,6 +30,7 @@ pub fn popped_line(popped: Option<Result<Popped, AllocError>>, time: Option<u64>
         None => "none".into(),
         Some(Err(_)) => format!("fault {}", PacketError::OutOfMemory.number()),
         Some(Ok(Popped::Refused(fault))) => format!("fault {}", fault.number()),
+        Some(Ok(Popped::TooLarge(unit))) => format!("too large {}", unit.bytes.len()),
         Some(Ok(Popped::Unit(unit))) => {
             let numbers = unit.seq_range();
             let (first, last) = (numbers.start().0, numbers.end().0);

@@ -55,6 +55,7 @@ impl Draft {
                 forward: 3_000,
                 backward: 1_000,
                 from_keyframe: FromKeyframe::Mark,
+                max_unit: None,
             },
         }
     }

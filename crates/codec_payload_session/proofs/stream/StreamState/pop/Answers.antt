@@ -24,7 +24,7 @@ pub returns-in-Some : goal.returns-in-Some
 returns-in-Some c =
     let t : StreamState = record (seen c.self.inside) { receiver = c.pop.new.self } in
     subst (λ (s : StreamState). Pops c.args.now s c.step_with.result t) c.self.view_is
-    (record { told = Some c.in-Some.popped; receiver = c.pop.new.self; pops = c.in-Some.ensures.pops; refused = c.in-Some.ensures.refused; follows = (c.step_with.ensures, refl) })
+    (record { told = Some c.in-Some.popped; receiver = c.pop.new.self; pops = c.in-Some.ensures.pops; refused = c.in-Some.ensures.refused; large = c.in-Some.ensures.large; follows = (c.step_with.ensures, refl) })
 
 pub returns-then-held : goal.returns-then-held
 returns-then-held c =
@@ -32,9 +32,9 @@ returns-then-held c =
     let t : StreamState = seen c.self-in-None.inside in
     let rests : RestsBy s.stage c.args.now.0 s c.rest-step.result t = subst (λ (x : StreamState). RestsBy s.stage c.args.now.0 s c.rest-step.result x) (sym c.self-in-None.view_is) c.rest-step.ensures in
     subst (λ (x : StreamState). Pops c.args.now x c.rest-step.result t) c.self.view_is
-    (record { told = None; receiver = c.pop.new.self; pops = c.in-None.ensures.pops; refused = tt; follows = rests })
+    (record { told = None; receiver = c.pop.new.self; pops = c.in-None.ensures.pops; refused = tt; large = refl; follows = rests })
 
 pub returns-else-is_nothing : goal.returns-else-is_nothing
 returns-else-is_nothing c =
     subst (λ (x : StreamState). Pops c.args.now x c.rest-step.result c.rest-step.new.self) c.self.view_is
-    (record { told = None; receiver = c.pop.new.self; pops = c.in-None.ensures.pops; refused = tt; follows = c.rest-step.ensures })
+    (record { told = None; receiver = c.pop.new.self; pops = c.in-None.ensures.pops; refused = tt; large = refl; follows = c.rest-step.ensures })

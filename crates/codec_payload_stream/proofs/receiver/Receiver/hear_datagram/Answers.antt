@@ -28,6 +28,7 @@ returns-clause-heard g c =
       choice = c.self.inside.choice;
       seen = c.self.inside.seen;
       gates = c.self.inside.gates;
+      bound = c.self.inside.bound;
     } in
     let d : Datagram = datagram_of c.args.datagram.now in
     let after = c.take.new.packets in

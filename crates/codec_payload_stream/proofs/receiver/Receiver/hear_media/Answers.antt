@@ -26,6 +26,7 @@ returns-clause-heard g c =
       choice = c.self.inside.choice;
       seen = c.self.inside.seen;
       gates = c.self.inside.gates;
+      bound = c.self.inside.bound;
     } in
     let d : Datagram = WithMedia (packet_of c.args.packet.now) in
     let after = c.take_media.new.packets in

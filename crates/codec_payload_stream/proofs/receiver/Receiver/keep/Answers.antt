@@ -17,6 +17,7 @@ returns-then-left g c =
       choice = c.self.inside.choice;
       seen = c.self.inside.seen;
       gates = c.self.inside.gates;
+      bound = c.self.inside.bound;
     } in
     let ok = c.in-Ok.ensures.ok in
     let ssrc : ℕ = c.args.origin.ssrc in (
@@ -43,6 +44,7 @@ returns-else-left g c =
       choice = c.self.inside.choice;
       seen = c.self.inside.seen;
       gates = c.self.inside.gates;
+      bound = c.self.inside.bound;
     } in
     let ok = c.in-Ok.ensures.ok in
     let ssrc : ℕ = c.args.origin.ssrc in (

@@ -3,7 +3,7 @@ use Rattle.codec_payload_jitter.specs.Receiving.{is_pressed, settled}
 use Rattle.codec_payload_stream.specs.Pops.{none_dropped}
 use Rattle.codec_payload_stream.specs.Sessions.{Session}
 use Rattle.codec_payload_stream.proofs.OwnLemmas.{drops_stays}
-use Rattle.codec_payload_stream.proofs.PopLemmas.{no_more, none_are_dropped, one_more_dropped, taken_within}
+use Rattle.codec_payload_stream.proofs.PopLemmas.{dropped_most, no_more, none_are_dropped, once_most, one_more_dropped, taken_within}
 use Rattle.codec_payload_stream.proofs.receiver.Receiver.pop_gated.Goals as goal
 
 pub loop-now-init : goal.loop-now-init
@@ -17,7 +17,7 @@ returns-then-is_passed-clause-drained g c = λ keeps pressed none.
 pub loop-now-preserved-else-is_passed : goal.loop-now-preserved-else-is_passed
 loop-now-preserved-else-is_passed g c = (
   one_more_dropped c.args.now.0 c.args.self.now c.loop-now.self c.pop_once-answer.new.self c.pop_once-answer.result.0 c.loop-now.invariant.0 c.pop_once-answer.ensures.pops (sym c.pop_once-answer.ensures.passed ∙ c.if-is_passed.false),
-  no_more c.loop-now.self.gates c.pop_once-answer.result.0 c.loop-now.self.packets.buffer c.pop_once-answer.new.self.packets.buffer (length c.args.self.now.packets.buffer.held) c.pop_once-answer.ensures.fewer
+  no_more c.loop-now.self c.pop_once-answer.result.0 c.loop-now.self.packets.buffer c.pop_once-answer.new.self.packets.buffer (length c.args.self.now.packets.buffer.held) c.pop_once-answer.ensures.fewer
       (sym c.pop_once-answer.ensures.passed ∙ c.if-is_passed.false) c.loop-now.invariant.1,
 )
 
@@ -30,3 +30,7 @@ returns-then-is_passed-clause-own g c = λ other. (
   c.loop-now.invariant.0,
   c.pop_once-answer.ensures.own (drops_stays c.args.now.0 c.args.self.now c.loop-now.self c.loop-now.invariant.0 ∙ other),
 )
+
+pub returns-then-is_passed-clause-most : goal.returns-then-is_passed-clause-most
+returns-then-is_passed-clause-most g c =
+    once_most c.args.now.0 c.loop-now.self c.pop_once-answer.result.0 c.pop_once-answer.new.self c.pop_once-answer.ensures.pops ∙ dropped_most c.args.now.0 c.args.self.now c.loop-now.self c.loop-now.invariant.0

@@ -6,5 +6,5 @@ use Rattle.codec_payload_stream.proofs.receiver.Receiver.pop_unit.Goals as goal
 
 pub returns-clause-own : goal.returns-clause-own
 returns-clause-own g c = λ other.
-    subst (λ (a : Option (Result Unit PacketError)). OwnPopsGated g.B.Depacketizer.state g.B.Depacketizer.depacketize_step c.args.now.0 c.args.self.now (popped_to a c.pop_unit_gated.new.unit))
-    (sym c.sorted.ensures.same) (c.pop_unit_gated.ensures.own other)
+    subst (λ (a : Option (Result Unit PacketError)). OwnPopsGated g.B.Depacketizer.state g.B.Depacketizer.depacketize_step c.args.now.0 c.args.self.now (popped_to a c.pop_unit_gated-answer.new.unit))
+    (sym c.sorted.ensures.same) (c.pop_unit_gated-answer.ensures.own other)

@@ -4,7 +4,7 @@ use Rattle.codec_payload_jitter.specs.Receiving.{is_pressed, settled}
 use Rattle.codec_payload_stream.specs.Pops.{none_dropped}
 use Rattle.codec_payload_stream.specs.Sessions.{Session}
 use Rattle.codec_payload_stream.proofs.OwnLemmas.{drops_stays}
-use Rattle.codec_payload_stream.proofs.PopLemmas.{no_more, none_are_dropped, one_more_dropped, taken_within}
+use Rattle.codec_payload_stream.proofs.PopLemmas.{dropped_most, no_more, none_are_dropped, once_most, one_more_dropped, taken_within}
 use Rattle.codec_payload_stream.proofs.receiver.Receiver.pop_unit_gated.Goals as goal
 
 pub loop-now-init : goal.loop-now-init
@@ -18,7 +18,7 @@ returns-then-is_passed-clause-drained g c = λ keeps pressed none.
 pub loop-now-preserved : goal.loop-now-preserved
 loop-now-preserved g c = (
   one_more_dropped c.args.now.0 c.args.self.now c.loop-now.self c.pop_unit_once-is_passed.new.self (popped_to c.pop_unit_once-is_passed.result.0 c.pop_unit_once-is_passed.new.unit) c.loop-now.invariant.0 c.pop_unit_once-is_passed.ensures.pops (sym c.pop_unit_once-is_passed.ensures.passed ∙ c.if-is_passed.false),
-  no_more c.loop-now.self.gates (popped_to c.pop_unit_once-is_passed.result.0 c.pop_unit_once-is_passed.new.unit) c.loop-now.self.packets.buffer c.pop_unit_once-is_passed.new.self.packets.buffer (length c.args.self.now.packets.buffer.held) c.pop_unit_once-is_passed.ensures.fewer
+  no_more c.loop-now.self (popped_to c.pop_unit_once-is_passed.result.0 c.pop_unit_once-is_passed.new.unit) c.loop-now.self.packets.buffer c.pop_unit_once-is_passed.new.self.packets.buffer (length c.args.self.now.packets.buffer.held) c.pop_unit_once-is_passed.ensures.fewer
       (sym c.pop_unit_once-is_passed.ensures.passed ∙ c.if-is_passed.false) c.loop-now.invariant.1,
 )
 
@@ -31,3 +31,7 @@ returns-then-is_passed-clause-own g c = λ other. (
   c.loop-now.invariant.0,
   c.pop_unit_once-is_passed.ensures.own (drops_stays c.args.now.0 c.args.self.now c.loop-now.self c.loop-now.invariant.0 ∙ other),
 )
+
+pub returns-then-is_passed-clause-most : goal.returns-then-is_passed-clause-most
+returns-then-is_passed-clause-most g c =
+    once_most c.args.now.0 c.loop-now.self (popped_to c.pop_unit_once-is_passed.result.0 c.pop_unit_once-is_passed.new.unit) c.pop_unit_once-is_passed.new.self c.pop_unit_once-is_passed.ensures.pops ∙ dropped_most c.args.now.0 c.args.self.now c.loop-now.self c.loop-now.invariant.0
