@@ -11,6 +11,8 @@ mod datagram;
 mod defaults;
 mod gated;
 #[doc(hidden)]
+pub mod parsed;
+#[doc(hidden)]
 pub mod pops;
 #[doc(hidden)]
 pub mod receiver;
@@ -21,6 +23,9 @@ mod storing;
 mod unit_times;
 #[doc(hidden)]
 pub mod windows;
+
+#[doc(inline)]
+pub use parsed::ParsedDatagram;
 
 #[doc(inline)]
 pub use pops::Popped;
