@@ -5,6 +5,7 @@
 
 mod answers;
 mod blocks;
+mod brought;
 mod checks;
 mod choice;
 mod datagram;

@@ -11,7 +11,7 @@ use std::marker::Model;
 /// A datagram, and what its bytes say. It borrows the bytes, and allocates nothing.
 ///
 /// Several receivers and your own code can ask it, and the header of the packet is read once.
-#[derive(Clone, Copy, Debug)]
+#[derive(Debug, Drop)]
 pub struct ParsedDatagram<'a> {
     bytes: &'a [u8],
     is_rtcp: bool,
@@ -19,16 +19,14 @@ pub struct ParsedDatagram<'a> {
 }
 
 impl<'a> Model for ParsedDatagram<'a> {
-    ghost use Rattle.std.specs.Prelude.{◌≡◌, List, ℕ};
-    ghost use Rattle.codec_payload_rtp.specs.RtpPackets.{is_rtcp};
-    ghost use Rattle.codec_payload_rtp.specs.RtpReading.{rtp_at, told};
-    ghost use Rattle.codec_payload_rtp.specs.RtpValues.{packet_of};
+    ghost use Rattle.std.specs.Prelude.{List, ℕ};
+    ghost use Rattle.codec_payload_stream.specs.Parsed.{IsRead};
 
     ghost Value = { List ℕ };
 
     ghost view = { λ d. d.bytes.now };
 
-    ghost invariant = { λ d. (d.is_rtcp ≡ is_rtcp d.bytes.now) × (told packet_of d.packet ≡ rtp_at d.bytes.now) };
+    ghost invariant = { λ d. IsRead d.is_rtcp d.packet d.bytes.now };
 }
 
 impl<'a> ParsedDatagram<'a> {
