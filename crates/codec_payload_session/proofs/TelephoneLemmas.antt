@@ -66,27 +66,6 @@ stay_few taken None q r got few = subst (λ (x : Queue). length x.waiting ≤ 32
 stay_few false (Some p) q r got few = subst (λ (x : Queue). length x.waiting ≤ 32) (sym got) few
 stay_few true (Some p) q r got few = few_by (has_room q) p q r refl got few
 
--- ---- which datagrams are packets of telephone events
-
-second_is : (marker : Bool) (n : ℕ) → n < 128 → (bit_if marker 128 + n) % 128 ≡ n
-second_is true n small = omega arith
-second_is false n small = omega arith
-
-is_named : (s : SessionSettings) (bytes : List ℕ) (p : Packet) → IsRtp bytes p → names_telephone s bytes ≡ is_among p.header.payload_type s.telephone_events.items
-is_named s bytes p is =
-    subst (λ (l : List ℕ). names_telephone s l ≡ is_among p.header.payload_type s.telephone_events.items) (sym is.is)
-    (ap (λ (n : ℕ). is_among n s.telephone_events.items) (second_is p.header.marker p.header.payload_type is.fits.payload_type))
-
-not_named_by : (s : SessionSettings) (bytes : List ℕ) (r : Result Packet RtpError) → AreBytes bytes → rtp_at bytes ≡ r → names_telephone s bytes ≡ false → telephone_of s r ≡ None
-not_named_by s bytes (Ok p) are is else_named =
-    let other : is_among p.header.payload_type s.telephone_events.items ≡ false = sym (is_named s bytes p (rtp_takes bytes p are is)) ∙ else_named in
-    rw other refl
-not_named_by s bytes (Err e) are is else_named = refl
-
--- a datagram whose second byte has another payload type is none
-pub not_named : (s : SessionSettings) (bytes : List ℕ) → AreBytes bytes → names_telephone s bytes ≡ false → telephone_of s (rtp_at bytes) ≡ None
-not_named s bytes are else_named = not_named_by s bytes (rtp_at bytes) are refl else_named
-
 -- ---- polls
 
 first_by : (ws : List TelephonePacket) (now : Ticks) (s : Session) (event : Event) (r : Queue) → GivesFrom ws s.telephone (Some event) r
