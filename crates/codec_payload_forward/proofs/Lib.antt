@@ -1,3 +1,4 @@
+pub mod IdLemmas
 pub mod MapLemmas
 pub mod NumberLemmas
 pub mod NumberRunLemmas

@@ -11,6 +11,7 @@ ghost use Rattle.codec_payload_forward.specs.Times.{time_as};
 
 use crate::renumbering::{Placed, Renumbering};
 use crate::times::Retiming;
+use crate::vp8_ids::Vp8Ids;
 use codec_payload_base::wire::Codec;
 use codec_payload_rtp::rtp::{PacketHeader, RtpPacket};
 use codec_payload_vp8::vp8::detect_vp8_keyframe;
@@ -71,8 +72,8 @@ pub enum Forwarded {
 /// Name a source by [`Forwarder::want`], and pass each packet that arrived to [`Forwarder::write`], before SRTP encrypts it.
 /// The forwarder goes over to the wanted source at its next keyframe. Until then it forwards the source before. Each written packet
 /// has the payload, the marker and the padding of the packet received. It has the viewer's SSRC and payload type, and the number and
-/// time of the maps [`Renumbering`] and [`Retiming`]. It has no CSRCs and no header extension, since ids of extensions differ
-/// between connections.
+/// time of the maps [`Renumbering`] and [`Retiming`]. In a VP8 payload, PictureID and TL0PICIDX are those of the map [`Vp8Ids`], and
+/// all other bits stay. The packet has no CSRCs and no header extension, since ids of extensions differ between connections.
 #[derive(Debug, Drop)]
 pub struct Forwarder {
     settings: ForwardSettings,
