@@ -5,9 +5,7 @@ ghost use Rattle.codec_payload_base.specs.Extended.{nearest};
 ghost use Rattle.codec_payload_rtp.specs.RtpPackets.{packet_bytes};
 ghost use Rattle.codec_payload_rtp.specs.RtpReading.{rtp_at};
 ghost use Rattle.codec_payload_rtp.specs.RtpValues.{packet_of};
-ghost use Rattle.codec_payload_forward.specs.Forwarding.{IsNumberOf, Forwards, Repeats, after_begin, after_next, after_written, begins, codec_fits, forward_by, is_source, sent_packet, ticks_between, time_for, written_when};
-ghost use Rattle.codec_payload_forward.specs.Numbers.{after_packet};
-ghost use Rattle.codec_payload_forward.specs.Times.{time_as};
+ghost use Rattle.codec_payload_forward.specs.Forwarding.{IsNumberOf, IsWritten, Forwards, Repeats, after_written, begins, codec_fits, forward_by, ids_after, ids_switched, is_source, next_packet, packet_under, sent_packet, ticks_between, time_for};
 
 use crate::renumbering::{Placed, Renumbering};
 use crate::times::Retiming;
@@ -83,8 +81,12 @@ pub struct Forwarder {
     wanted: Option<u32>,
     numbers: Renumbering,
     times: Retiming,
+    /// For VP8.
+    ids: Vp8Ids,
     /// When the packet with the highest number was written.
     written_at: Option<u64>,
+    /// Memory for the payload of a packet of VP8.
+    payload: Vec<u8>,
 }
 
 impl Model for Forwarder {
@@ -93,7 +95,7 @@ impl Model for Forwarder {
 
     ghost Value = { Forward };
 
-    ghost view = { λ f. record { settings = f.settings; source = f.source; wanted = f.wanted; numbers = f.numbers; times = f.times; written_at = f.written_at } };
+    ghost view = { λ f. record { settings = f.settings; source = f.source; wanted = f.wanted; numbers = f.numbers; times = f.times; ids = f.ids; written_at = f.written_at } };
 
     ghost invariant = { λ f. f.settings.payload_type < 128 };
 }
@@ -155,25 +157,55 @@ fn ticks_between(last: Option<u64>, now: u64) -> u32
     }
 }
 
-/// Writes a packet of a source as a packet of the viewer's stream, and replaces what `out` has.
-fn write_as(
-    settings: ForwardSettings,
+/// Returns the map of ids after a packet with this payload was sent.
+fn ids_after(codec: Codec, ids: Vp8Ids, payload: &[u8]) -> Vp8Ids
+    ensures { result ≡ ids_after codec payload.now ids }
+{
+    let mut ids = ids;
+    match codec {
+        Codec::Vp8 => {
+            ids.record(payload);
+            ids
+        }
+        _ => ids,
+    }
+}
+
+/// Returns the map of ids after a switch to a source whose first payload this is.
+fn ids_switched(codec: Codec, ids: Vp8Ids, payload: &[u8]) -> Vp8Ids
+    ensures { result ≡ ids_switched codec payload.now ids }
+{
+    match codec {
+        Codec::Vp8 => ids.switched(payload),
+        _ => ids,
+    }
+}
+
+/// The number and the time that a packet is sent with.
+#[derive(Clone, Copy, Debug)]
+struct Place {
     number: u16,
     time: u32,
+}
+
+/// Writes a packet under this number and time, and replaces what `out` has.
+fn write_under(
+    settings: ForwardSettings,
+    place: Place,
     packet: &RtpPacket<'_>,
     out: &mut Vec<u8>,
 ) -> Result<(), AllocError>
     requires { settings.payload_type < 128 }
-    ensures ok { OnOk result (out.new.items ≡ packet_bytes (sent_packet settings number time (packet_of packet.now))) }
-    ensures reads { OnOk result (rtp_at out.new.items ≡ Ok (sent_packet settings number time (packet_of packet.now))) }
+    ensures ok { OnOk result (out.new.items ≡ packet_bytes (packet_under settings place.number place.time (packet_of packet.now))) }
+    ensures reads { OnOk result (rtp_at out.new.items ≡ Ok (packet_under settings place.number place.time (packet_of packet.now))) }
     ensures err { OnErr result (out.new.items ≡ []) }
 {
     out.clear();
     let header = PacketHeader {
         marker: packet.header.marker,
         payload_type: settings.payload_type,
-        sequence_number: number,
-        timestamp: time,
+        sequence_number: place.number,
+        timestamp: place.time,
         ssrc: settings.ssrc,
         csrcs: &[],
         extension: None,
@@ -204,7 +236,9 @@ impl Forwarder {
             wanted: None,
             numbers: Renumbering::new(alloc, 0, settings.first_number.wrapping_sub(1)),
             times: Retiming::new(0, settings.first_time),
+            ids: Vp8Ids::default(),
             written_at: None,
+            payload: Vec::new(alloc),
         })
     }
 
@@ -248,7 +282,7 @@ impl Forwarder {
     /// - AV1: the first packet of a coded video sequence: N is set, and Z is clear (RTP payload format for AV1, section 4.4).
     /// - Other codecs: any packet.
     ///
-    /// It copies the payload once. Once `out` has grown to the largest packet, it does not allocate.
+    /// It copies the payload once, a payload of VP8 three times. Once `out` has grown to the largest packet, it does not allocate.
     ///
     /// # Errors
     ///
@@ -291,9 +325,8 @@ impl Forwarder {
         let number = extended(self.numbers.highest(), packet.header.sequence_number);
         match self.numbers.placed(number) {
             Placed::Sent(sent) => {
-                let time = self.times.sent_as(packet.header.timestamp);
-                write_as(self.settings, sent, time, packet, out)?;
-                self.record(now, number, packet.header.timestamp);
+                self.write_again_as(sent, packet, out)?;
+                self.record(now, number, packet);
                 Ok(Forwarded::Written)
             }
             Placed::LeftOut => Ok(Forwarded::LeftOut),
@@ -302,14 +335,58 @@ impl Forwarder {
     }
 
     /// Records that a packet was written.
-    fn record(&mut self, now: u64, number: u64, time: u32)
-        ensures { self.new ≡ after_written now number time self.old }
+    fn record(&mut self, now: u64, number: u64, packet: &RtpPacket<'_>)
+        ensures { self.new ≡ after_written now number (packet_of packet.now) self.old }
     {
         if number > self.numbers.highest() {
             self.written_at = Some(now);
+            self.ids = ids_after(self.settings.codec, self.ids, packet.payload);
         }
         self.numbers.record(number);
-        self.times.record(time);
+        self.times.record(packet.header.timestamp);
+    }
+
+    /// Writes a packet with these ids, under this number and time.
+    fn write_as(
+        &mut self,
+        ids: Vp8Ids,
+        place: Place,
+        packet: &RtpPacket<'_>,
+        out: &mut Vec<u8>,
+    ) -> Result<(), AllocError>
+        requires empty { out.old.items ≡ [] }
+        ensures ok { OnOk result (IsWritten (sent_packet self.old.settings ids place.number place.time (packet_of packet.now)) out.new.items) }
+        ensures same { self.new ≡ self.old }
+        ensures err { OnErr result (out.new.items ≡ []) }
+    {
+        match self.settings.codec {
+            Codec::Vp8 => {
+                ids.rewrite(packet.payload, &mut self.payload)?;
+                let rewritten = RtpPacket {
+                    header: packet.header,
+                    payload: &self.payload,
+                    padding: packet.padding,
+                };
+                write_under(self.settings, place, &rewritten, out)
+            }
+            _ => write_under(self.settings, place, packet, out),
+        }
+    }
+
+    /// Writes a packet of the source that is forwarded, under this number.
+    fn write_again_as(
+        &mut self,
+        number: u16,
+        packet: &RtpPacket<'_>,
+        out: &mut Vec<u8>,
+    ) -> Result<(), AllocError>
+        requires empty { out.old.items ≡ [] }
+        ensures ok { OnOk result (IsWritten (next_packet self.old number (packet_of packet.now)) out.new.items) }
+        ensures same { self.new ≡ self.old }
+        ensures err { OnErr result (out.new.items ≡ []) }
+    {
+        let time = self.times.sent_as(packet.header.timestamp);
+        self.write_as(self.ids, Place { number, time }, packet, out)
     }
 
     /// Goes over to the source of a packet, and writes the packet.
@@ -319,6 +396,7 @@ impl Forwarder {
         packet: &RtpPacket<'_>,
         out: &mut Vec<u8>,
     ) -> Result<Forwarded, AllocError>
+        requires empty { out.old.items ≡ [] }
         requires other { is_source self.old.source packet.now.header.ssrc ≡ false }
         requires wanted { IsTrue (is_source self.old.wanted packet.now.header.ssrc) }
         requires begins { IsTrue (begins self.old.settings.codec packet.now.payload.now) }
@@ -329,7 +407,9 @@ impl Forwarder {
         let ticks = ticks_between(self.written_at, now);
         let number = self.numbers.next_number();
         let time = self.times.next_time(ticks);
-        write_as(self.settings, number, time, packet, out)?;
+        let ids = ids_switched(self.settings.codec, self.ids, packet.payload);
+        self.write_as(ids, Place { number, time }, packet, out)?;
+        self.ids = ids;
         self.numbers
             .switch(65_536 + u64::from(header.sequence_number));
         self.times.switch(header.timestamp, ticks);
@@ -355,8 +435,13 @@ impl Forwarder {
     /// # Errors
     ///
     /// Memory ran out: `out` is empty.
-    pub fn write_again(&self, packet: &RtpPacket<'_>, out: &mut Vec<u8>) -> Result<bool, AllocError>
-        ensures ok { IfOk result (λ written. Repeats (packet_of packet.now) self.now written out.new.items) }
+    pub fn write_again(
+        &mut self,
+        packet: &RtpPacket<'_>,
+        out: &mut Vec<u8>,
+    ) -> Result<bool, AllocError>
+        ensures ok { IfOk result (λ written. Repeats (packet_of packet.now) self.old written out.new.items) }
+        ensures same { self.new ≡ self.old }
         ensures err { OnErr result (out.new.items ≡ []) }
     {
         out.clear();
@@ -369,8 +454,7 @@ impl Forwarder {
         }
         match self.numbers.placed(number) {
             Placed::Sent(sent) => {
-                let time = self.times.sent_as(packet.header.timestamp);
-                write_as(self.settings, sent, time, packet, out)?;
+                self.write_again_as(sent, packet, out)?;
                 Ok(true)
             }
             _ => Ok(false),

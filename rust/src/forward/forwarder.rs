@@ -4,6 +4,7 @@
 
 use crate::forward::renumbering::{Placed, Renumbering};
 use crate::forward::times::Retiming;
+use crate::forward::vp8_ids::Vp8Ids;
 use crate::memory::AllocError;
 use crate::rtp::packet::{PacketHeader, RtpPacket};
 use crate::vp8::detect_vp8_keyframe;
@@ -76,8 +77,8 @@ pub enum Forwarded {
 /// Name a source by [`Forwarder::want`], and pass each packet that arrived to [`Forwarder::write`], before SRTP encrypts it.
 /// The forwarder goes over to the wanted source at its next keyframe. Until then it forwards the source before. Each written packet
 /// has the payload, the marker and the padding of the packet received. It has the viewer's SSRC and payload type, and the number and
-/// time of the maps [`Renumbering`] and [`Retiming`]. It has no CSRCs and no header extension, since ids of extensions differ
-/// between connections.
+/// time of the maps [`Renumbering`] and [`Retiming`]. In a VP8 payload, PictureID and TL0PICIDX are those of the map [`Vp8Ids`], and
+/// all other bits stay. The packet has no CSRCs and no header extension, since ids of extensions differ between connections.
 #[derive(Debug)]
 pub struct Forwarder {
     settings: ForwardSettings,
@@ -87,8 +88,12 @@ pub struct Forwarder {
     wanted: Option<u32>,
     numbers: Renumbering,
     times: Retiming,
+    /// For VP8.
+    ids: Vp8Ids,
     /// When the packet with the highest number was written.
     written_at: Option<u64>,
+    /// Memory for the payload of a packet of VP8.
+    payload: Vec<u8>,
 }
 
 /// Returns whether the library finds the keyframes of a codec, or needs none.
@@ -138,11 +143,37 @@ fn ticks_between(last: Option<u64>, now: u64) -> u32 {
     }
 }
 
-/// Writes a packet of a source as a packet of the viewer's stream, and replaces what `out` has.
-fn write_as(
-    settings: ForwardSettings,
+/// Returns the map of ids after a packet with this payload was sent.
+fn ids_after(codec: Codec, ids: Vp8Ids, payload: &[u8]) -> Vp8Ids {
+    let mut ids = ids;
+    match codec {
+        Codec::Vp8 => {
+            ids.record(payload);
+            ids
+        }
+        _ => ids,
+    }
+}
+
+/// Returns the map of ids after a switch to a source whose first payload this is.
+fn ids_switched(codec: Codec, ids: Vp8Ids, payload: &[u8]) -> Vp8Ids {
+    match codec {
+        Codec::Vp8 => ids.switched(payload),
+        _ => ids,
+    }
+}
+
+/// The number and the time that a packet is sent with.
+#[derive(Clone, Copy, Debug)]
+struct Place {
     number: u16,
     time: u32,
+}
+
+/// Writes a packet under this number and time, and replaces what `out` has.
+fn write_under(
+    settings: ForwardSettings,
+    place: Place,
     packet: &RtpPacket<'_>,
     out: &mut Vec<u8>,
 ) -> Result<(), AllocError> {
@@ -150,8 +181,8 @@ fn write_as(
     let header = PacketHeader {
         marker: packet.header.marker,
         payload_type: settings.payload_type,
-        sequence_number: number,
-        timestamp: time,
+        sequence_number: place.number,
+        timestamp: place.time,
         ssrc: settings.ssrc,
         csrcs: &[],
         extension: None,
@@ -180,7 +211,9 @@ impl Forwarder {
             wanted: None,
             numbers: Renumbering::new(0, settings.first_number.wrapping_sub(1)),
             times: Retiming::new(0, settings.first_time),
+            ids: Vp8Ids::default(),
             written_at: None,
+            payload: Vec::new(),
         })
     }
 
@@ -216,7 +249,7 @@ impl Forwarder {
     /// - AV1: the first packet of a coded video sequence: N is set, and Z is clear (RTP payload format for AV1, section 4.4).
     /// - Other codecs: any packet.
     ///
-    /// It copies the payload once. Once `out` has grown to the largest packet, it does not allocate.
+    /// It copies the payload once, a payload of VP8 three times. Once `out` has grown to the largest packet, it does not allocate.
     ///
     /// # Errors
     ///
@@ -251,9 +284,8 @@ impl Forwarder {
         let number = extended(self.numbers.highest(), packet.header.sequence_number);
         match self.numbers.placed(number) {
             Placed::Sent(sent) => {
-                let time = self.times.sent_as(packet.header.timestamp);
-                write_as(self.settings, sent, time, packet, out)?;
-                self.record(now, number, packet.header.timestamp);
+                self.write_again_as(sent, packet, out)?;
+                self.record(now, number, packet);
                 Ok(Forwarded::Written)
             }
             Placed::LeftOut => Ok(Forwarded::LeftOut),
@@ -262,12 +294,46 @@ impl Forwarder {
     }
 
     /// Records that a packet was written.
-    fn record(&mut self, now: u64, number: u64, time: u32) {
+    fn record(&mut self, now: u64, number: u64, packet: &RtpPacket<'_>) {
         if number > self.numbers.highest() {
             self.written_at = Some(now);
+            self.ids = ids_after(self.settings.codec, self.ids, packet.payload);
         }
         self.numbers.record(number);
-        self.times.record(time);
+        self.times.record(packet.header.timestamp);
+    }
+
+    /// Writes a packet with these ids, under this number and time.
+    fn write_as(
+        &mut self,
+        ids: Vp8Ids,
+        place: Place,
+        packet: &RtpPacket<'_>,
+        out: &mut Vec<u8>,
+    ) -> Result<(), AllocError> {
+        match self.settings.codec {
+            Codec::Vp8 => {
+                ids.rewrite(packet.payload, &mut self.payload)?;
+                let rewritten = RtpPacket {
+                    header: packet.header,
+                    payload: &self.payload,
+                    padding: packet.padding,
+                };
+                write_under(self.settings, place, &rewritten, out)
+            }
+            _ => write_under(self.settings, place, packet, out),
+        }
+    }
+
+    /// Writes a packet of the source that is forwarded, under this number.
+    fn write_again_as(
+        &mut self,
+        number: u16,
+        packet: &RtpPacket<'_>,
+        out: &mut Vec<u8>,
+    ) -> Result<(), AllocError> {
+        let time = self.times.sent_as(packet.header.timestamp);
+        self.write_as(self.ids, Place { number, time }, packet, out)
     }
 
     /// Goes over to the source of a packet, and writes the packet.
@@ -281,7 +347,9 @@ impl Forwarder {
         let ticks = ticks_between(self.written_at, now);
         let number = self.numbers.next_number();
         let time = self.times.next_time(ticks);
-        write_as(self.settings, number, time, packet, out)?;
+        let ids = ids_switched(self.settings.codec, self.ids, packet.payload);
+        self.write_as(ids, Place { number, time }, packet, out)?;
+        self.ids = ids;
         self.numbers
             .switch(65_536 + u64::from(header.sequence_number));
         self.times.switch(header.timestamp, ticks);
@@ -305,7 +373,7 @@ impl Forwarder {
     ///
     /// Memory ran out: `out` is empty.
     pub fn write_again(
-        &self,
+        &mut self,
         packet: &RtpPacket<'_>,
         out: &mut Vec<u8>,
     ) -> Result<bool, AllocError> {
@@ -319,8 +387,7 @@ impl Forwarder {
         }
         match self.numbers.placed(number) {
             Placed::Sent(sent) => {
-                let time = self.times.sent_as(packet.header.timestamp);
-                write_as(self.settings, sent, time, packet, out)?;
+                self.write_again_as(sent, packet, out)?;
                 Ok(true)
             }
             _ => Ok(false),
