@@ -1,9 +1,13 @@
 -- What a forwarder does with a packet.
-use Rattle.std.specs.Prelude.{◌≡◌, ℕ, ◌+◌, ◌-◌, ◌%◌, ◌≤◌, ◌==◌, ◌&&◌, max, min, nat_lt, not, if◌then◌else◌, Bool, true, false, List, [], ◌∷◌, Option, Some, None, Result, Ok, Err}
+use Rattle.std.specs.Prelude.{◌≡◌, ℕ, ◌+◌, ◌-◌, ◌%◌, ◌≤◌, ◌==◌, ◌&&◌, max, min, nat_lt, not, if◌then◌else◌, Bool, true, false, List, [], ◌∷◌, ◌++◌, Option, Some, None, Result, Ok, Err}
+use Rattle.std.specs.Int.{w16, to_be_bytes}
 use Rattle.codec_payload_base.specs.Extended.{nearest}
 use Rattle.codec_payload_base.specs.Flags.{has_bit}
 use Rattle.codec_payload_base.specs.declared.wire.Codec.{Codec}
 use Rattle.codec_payload_base.specs.declared.wire.Codec.TheVariants as codecs
+use Rattle.codec_payload_history.specs.Histories.{first_of}
+use Rattle.codec_payload_history.specs.Packets.{stream_fits}
+use Rattle.codec_payload_history.specs.declared.retransmission.RetransmissionStream.{RetransmissionStream}
 use Rattle.codec_payload_rtp.specs.RtpPackets.{Packet, packet_bytes}
 use Rattle.codec_payload_rtp.specs.RtpReading.{rtp_at}
 use Rattle.codec_payload_vp8.specs.Vp8Keyframe.{is_keyframe}
@@ -20,8 +24,8 @@ use Rattle.codec_payload_forward.specs.declared.vp8_ids.Vp8Ids.{Vp8Ids}
 use Rattle.codec_payload_forward.specs.Vp8Numbers.{after_picture, first_ids, payload_as, switched_ids}
 use Rattle.codec_payload_forward.specs.Times.{after_time, begun_times, switched_times, time_as}
 
--- a forwarder: its settings; the source that is forwarded, and the one to go over to; the maps of numbers, times and VP8's ids; and when
--- the packet with the highest number was written
+-- a forwarder: its settings; the source that is forwarded, and the one to go over to; the maps of numbers, times and VP8's ids; the
+-- number of the next retransmission; and when the packet with the highest number was written
 pub record Forward : Type 0 where
   pub settings : ForwardSettings
   pub source : Option ℕ
@@ -29,6 +33,7 @@ pub record Forward : Type 0 where
   pub numbers : Numbers
   pub times : Retiming
   pub ids : Vp8Ids
+  pub next : ℕ
   pub written_at : Option ℕ
 
 abbrev pub codec_fits : Codec → Bool
@@ -41,8 +46,9 @@ codec_fits codec = true
 abbrev pub forward_by : ForwardSettings → Result Forward ForwardError
 forward_by s =
     if nat_lt 127 s.payload_type then Err errors.PayloadType
+    else if not (stream_fits s.retransmissions) then Err errors.RetransmissionType
     else if not (codec_fits s.codec) then Err errors.Codec
-    else Ok (record { settings = s; source = None; wanted = None; numbers = begun 0 ((s.first_number + 65535) % 65536); times = begun_times 0 s.first_time; ids = first_ids; written_at = None })
+    else Ok (record { settings = s; source = None; wanted = None; numbers = begun 0 ((s.first_number + 65535) % 65536); times = begun_times 0 s.first_time; ids = first_ids; next = first_of s.retransmissions; written_at = None })
 
 abbrev pub is_source : Option ℕ → ℕ → Bool
 is_source None ssrc = false
@@ -169,13 +175,30 @@ Forwards now p f answers.LeftOut bytes t = (is_source f.source p.header.ssrc ≡
 abbrev pub IsNumberOf : Forward → (number n low : ℕ) → Type 0
 IsNumberOf f number n low = HasNumber f.numbers number n × (low ≡ n % 65536)
 
--- a packet of the source that has a number, not above the highest one, is written as it was sent
-abbrev pub Repeats : Packet → Forward → Bool → List ℕ → Type 0
-Repeats p f true bytes =
+-- a packet as a retransmission (RFC 4588, section 4): under the SSRC, the payload type and the next number of the stream, with its own
+-- number in front of the payload, without padding
+abbrev pub wrapped : RetransmissionStream → ℕ → Packet → Packet
+wrapped stream next p = record {
+  header = record p.header { payload_type = stream.payload_type; sequence_number = next; ssrc = stream.ssrc };
+  payload = to_be_bytes w16 p.header.sequence_number ++ p.payload;
+  padding = 0;
+}
+
+-- a packet that was sent is written again: as it was, or as a retransmission
+abbrev pub IsResentBy : Option RetransmissionStream → Packet → Forward → List ℕ → Forward → Type 0
+IsResentBy None p f bytes t = IsWritten p bytes × (t ≡ f)
+IsResentBy (Some stream) p f bytes t = (rtp_at bytes ≡ Ok (wrapped stream f.next p)) × (t ≡ record f { next = (f.next + 1) % 65536 })
+
+abbrev pub IsResent : Packet → Forward → List ℕ → Forward → Type 0
+IsResent p f bytes t = IsResentBy f.settings.retransmissions p f bytes t
+
+-- a packet of the source that has a number, not above the highest one, is written again; nothing is done with any other packet
+abbrev pub Repeats : Packet → Forward → Bool → List ℕ → Forward → Type 0
+Repeats p f true bytes t =
     (is_source f.source p.header.ssrc ≡ true) × (number_in f p ≤ f.numbers.highest)
-    × ((sent : ℕ) × (placed f.numbers (number_in f p) true ≡ places.Sent sent) × IsWritten (next_packet f sent p) bytes)
-Repeats p f false bytes =
-    (bytes ≡ [])
+    × ((sent : ℕ) × (placed f.numbers (number_in f p) true ≡ places.Sent sent) × IsResent (next_packet f sent p) f bytes t)
+Repeats p f false bytes t =
+    (bytes ≡ []) × (t ≡ f)
     × ((sent : ℕ) → is_source f.source p.header.ssrc ≡ true → number_in f p ≤ f.numbers.highest → placed f.numbers (number_in f p) true ≡ places.Sent sent → ⊥)
 
 -- the time of the viewer's stream for a time of the source

@@ -1,16 +1,20 @@
 //! One stream of a viewer: packets of one source after another, under the viewer's SSRC, payload type, numbers and times.
 
-ghost use Rattle.std.specs.Prelude.{◌≡◌, ◌<◌, ℕ, [], Some, None, Ok, true, false, IfOk, IfSome, IfNone, IsTrue, OnOk, OnErr};
+ghost use Rattle.std.specs.Prelude.{◌≡◌, ◌<◌, ◌++◌, ℕ, [], Some, None, Ok, true, false, IfOk, IfSome, IfNone, IsTrue, OnOk, OnErr};
+ghost use Rattle.std.specs.Int.{w16, to_be_bytes};
 ghost use Rattle.codec_payload_base.specs.Extended.{nearest};
-ghost use Rattle.codec_payload_rtp.specs.RtpPackets.{packet_bytes};
+ghost use Rattle.codec_payload_history.specs.Histories.{first_of};
+ghost use Rattle.codec_payload_history.specs.Packets.{stream_fits};
+ghost use Rattle.codec_payload_rtp.specs.RtpPackets.{header_fits, packet_bytes};
 ghost use Rattle.codec_payload_rtp.specs.RtpReading.{rtp_at};
-ghost use Rattle.codec_payload_rtp.specs.RtpValues.{packet_of};
-ghost use Rattle.codec_payload_forward.specs.Forwarding.{IsNumberOf, IsWritten, Forwards, Repeats, after_written, begins, codec_fits, forward_by, ids_after, ids_switched, is_source, next_packet, packet_under, sent_packet, ticks_between, time_for};
+ghost use Rattle.codec_payload_rtp.specs.RtpValues.{header_of, packet_of};
+ghost use Rattle.codec_payload_forward.specs.Forwarding.{IsNumberOf, IsResent, IsWritten, Forwards, Repeats, after_written, begins, codec_fits, forward_by, ids_after, ids_switched, is_source, next_packet, packet_under, sent_packet, ticks_between, time_for, wrapped};
 
 use crate::renumbering::{Placed, Renumbering};
 use crate::times::Retiming;
 use crate::vp8_ids::Vp8Ids;
 use codec_payload_base::wire::Codec;
+use codec_payload_history::retransmission::RetransmissionStream;
 use codec_payload_rtp::rtp::{PacketHeader, RtpPacket};
 use codec_payload_vp8::vp8::detect_vp8_keyframe;
 use codec_payload_vp9::vp9::detect_vp9_keyframe;
@@ -34,6 +38,8 @@ pub struct ForwardSettings {
     pub first_number: u16,
     /// The RTP time of its first packet.
     pub first_time: u32,
+    /// The viewer's stream of retransmissions (RFC 4588). `None`: a packet is resent as it was.
+    pub retransmissions: Option<RetransmissionStream>,
 }
 
 /// Which setting is out of range.
@@ -42,6 +48,9 @@ pub enum ForwardError {
     /// The payload type is above 127.
     #[error("payload type of the viewer's stream exceeds 127")]
     PayloadType,
+    /// The payload type of retransmissions is above 127.
+    #[error("payload type of the viewer's retransmissions exceeds 127")]
+    RetransmissionType,
     /// The codec is H.264, H.265 or H.266, whose keyframes the library does not find.
     #[error("codec of the viewer's stream is not supported")]
     Codec,
@@ -83,6 +92,8 @@ pub struct Forwarder {
     times: Retiming,
     /// For VP8.
     ids: Vp8Ids,
+    /// The number of the next retransmission.
+    next: u16,
     /// When the packet with the highest number was written.
     written_at: Option<u64>,
     /// Memory for the payload of a packet of VP8.
@@ -90,14 +101,35 @@ pub struct Forwarder {
 }
 
 impl Model for Forwarder {
-    ghost use Rattle.std.specs.Prelude.{◌<◌};
+    ghost use Rattle.std.specs.Prelude.{◌<◌, IsTrue};
+    ghost use Rattle.codec_payload_history.specs.Packets.{stream_fits};
     ghost use Rattle.codec_payload_forward.specs.Forwarding.{Forward};
 
     ghost Value = { Forward };
 
-    ghost view = { λ f. record { settings = f.settings; source = f.source; wanted = f.wanted; numbers = f.numbers; times = f.times; ids = f.ids; written_at = f.written_at } };
+    ghost view = { λ f. record { settings = f.settings; source = f.source; wanted = f.wanted; numbers = f.numbers; times = f.times; ids = f.ids; next = f.next; written_at = f.written_at } };
 
-    ghost invariant = { λ f. f.settings.payload_type < 128 };
+    ghost invariant = { λ f. (f.settings.payload_type < 128) × IsTrue (stream_fits f.settings.retransmissions) };
+}
+
+/// Returns whether the payload type of retransmissions is in range.
+fn stream_fits(stream: Option<RetransmissionStream>) -> bool
+    ensures { result ≡ stream_fits stream }
+{
+    match stream {
+        None => true,
+        Some(stream) => stream.payload_type < 128,
+    }
+}
+
+/// Returns the number of the first retransmission.
+fn first_of(stream: Option<RetransmissionStream>) -> u16
+    ensures { result ≡ first_of stream }
+{
+    match stream {
+        None => 0,
+        Some(stream) => stream.first_number,
+    }
 }
 
 /// Returns whether the library finds the keyframes of a codec, or needs none.
@@ -218,6 +250,22 @@ fn write_under(
     sent.write(out)
 }
 
+/// Writes a packet with this header, and with a number in front of its payload (RFC 4588, section 4). `out` is empty before.
+fn write_behind_number(
+    header: PacketHeader<'_>,
+    number: u16,
+    payload: &[u8],
+    out: &mut Vec<u8>,
+) -> Result<(), AllocError>
+    requires fits { IsTrue (header_fits (header_of header)) }
+    requires empty { out.old.items ≡ [] }
+    ensures { OnOk result (rtp_at out.new.items ≡ Ok (record { header = header_of header.entry; payload = to_be_bytes w16 number ++ payload.now; padding = 0 })) }
+{
+    header.write(out)?;
+    out.extend_from_slice(&number.to_be_bytes())?;
+    out.extend_from_slice(payload)
+}
+
 impl Forwarder {
     /// Returns a forwarder that wants no source yet. Does not allocate. If several settings are out of range, the error is the
     /// first in the order of [`ForwardError`].
@@ -226,6 +274,9 @@ impl Forwarder {
     {
         if settings.payload_type > 127 {
             return Err(ForwardError::PayloadType);
+        }
+        if !stream_fits(settings.retransmissions) {
+            return Err(ForwardError::RetransmissionType);
         }
         if !codec_fits(settings.codec) {
             return Err(ForwardError::Codec);
@@ -237,6 +288,7 @@ impl Forwarder {
             numbers: Renumbering::new(alloc, 0, settings.first_number.wrapping_sub(1)),
             times: Retiming::new(0, settings.first_time),
             ids: Vp8Ids::default(),
+            next: first_of(settings.retransmissions),
             written_at: None,
             payload: Vec::new(alloc),
         })
@@ -429,20 +481,23 @@ impl Forwarder {
         Some((number % 65_536) as u16)
     }
 
-    /// Writes a packet of the source again, as it was sent: under the same number, with the same time. Replaces what `out` has.
+    /// Writes a packet of the source again, for a viewer that requested it, and replaces what `out` has. The packet has the number
+    /// and the time that it was sent with. If the settings name a stream of retransmissions, it is wrapped (RFC 4588, section 4): it
+    /// has the SSRC, the payload type and the next number of that stream, no padding, and its own number in front of the payload.
     /// `false`: the packet is of another source, has no number, or is above the highest number; then `out` is empty.
+    ///
+    /// Each call writes the packet. Your side limits how often the same number is resent.
     ///
     /// # Errors
     ///
-    /// Memory ran out: `out` is empty.
+    /// Memory ran out: the forwarder is unchanged, and `out` is empty.
     pub fn write_again(
         &mut self,
         packet: &RtpPacket<'_>,
         out: &mut Vec<u8>,
     ) -> Result<bool, AllocError>
-        ensures ok { IfOk result (λ written. Repeats (packet_of packet.now) self.old written out.new.items) }
-        ensures same { self.new ≡ self.old }
-        ensures err { OnErr result (out.new.items ≡ []) }
+        ensures ok { IfOk result (λ written. Repeats (packet_of packet.now) self.old written out.new.items self.new) }
+        ensures err { OnErr result ((self.new ≡ self.old) × (out.new.items ≡ [])) }
     {
         out.clear();
         if !is_source(self.source, packet.header.ssrc) {
@@ -454,10 +509,66 @@ impl Forwarder {
         }
         match self.numbers.placed(number) {
             Placed::Sent(sent) => {
-                self.write_again_as(sent, packet, out)?;
+                self.resend(sent, packet, out)?;
                 Ok(true)
             }
             _ => Ok(false),
+        }
+    }
+
+    /// Writes the packet that was sent under this number again.
+    fn resend(
+        &mut self,
+        number: u16,
+        packet: &RtpPacket<'_>,
+        out: &mut Vec<u8>,
+    ) -> Result<(), AllocError>
+        requires empty { out.old.items ≡ [] }
+        ensures ok { OnOk result (IsResent (next_packet self.old number (packet_of packet.now)) self.old out.new.items self.new) }
+        ensures err { OnErr result ((self.new ≡ self.old) × (out.new.items ≡ [])) }
+    {
+        match self.settings.retransmissions {
+            None => self.write_again_as(number, packet, out),
+            Some(stream) => {
+                let answer = self.wrap(stream, number, packet, out);
+                if answer.is_err() {
+                    out.clear();
+                    return answer;
+                }
+                self.next = self.next.wrapping_add(1);
+                Ok(())
+            }
+        }
+    }
+
+    /// Writes a packet as a retransmission.
+    fn wrap(
+        &mut self,
+        stream: RetransmissionStream,
+        number: u16,
+        packet: &RtpPacket<'_>,
+        out: &mut Vec<u8>,
+    ) -> Result<(), AllocError>
+        requires empty { out.old.items ≡ [] }
+        requires fits { stream.payload_type < 128 }
+        ensures ok { OnOk result (rtp_at out.new.items ≡ Ok (wrapped stream self.old.next (next_packet self.old number (packet_of packet.now)))) }
+        ensures same { self.new ≡ self.old }
+    {
+        let header = PacketHeader {
+            marker: packet.header.marker,
+            payload_type: stream.payload_type,
+            sequence_number: self.next,
+            timestamp: self.times.sent_as(packet.header.timestamp),
+            ssrc: stream.ssrc,
+            csrcs: &[],
+            extension: None,
+        };
+        match self.settings.codec {
+            Codec::Vp8 => {
+                self.ids.rewrite(packet.payload, &mut self.payload)?;
+                write_behind_number(header, number, &self.payload, out)
+            }
+            _ => write_behind_number(header, number, packet.payload, out),
         }
     }
 

@@ -5,7 +5,8 @@
 use crate::forward::renumbering::{Placed, Renumbering};
 use crate::forward::times::Retiming;
 use crate::forward::vp8_ids::Vp8Ids;
-use crate::memory::AllocError;
+use crate::history::retransmission::RetransmissionStream;
+use crate::memory::{AllocError, TryVec};
 use crate::rtp::packet::{PacketHeader, RtpPacket};
 use crate::vp8::detect_vp8_keyframe;
 use crate::vp9::detect_vp9_keyframe;
@@ -29,6 +30,8 @@ pub struct ForwardSettings {
     pub first_number: u16,
     /// The RTP time of its first packet.
     pub first_time: u32,
+    /// The viewer's stream of retransmissions (RFC 4588). `None`: a packet is resent as it was.
+    pub retransmissions: Option<RetransmissionStream>,
 }
 
 /// Which setting is out of range.
@@ -37,6 +40,8 @@ pub struct ForwardSettings {
 pub enum ForwardError {
     /// The payload type is above 127.
     PayloadType,
+    /// The payload type of retransmissions is above 127.
+    RetransmissionType,
     /// The codec is H.264, H.265 or H.266, whose keyframes the library does not find.
     Codec,
 }
@@ -46,6 +51,9 @@ impl fmt::Display for ForwardError {
         match self {
             ForwardError::PayloadType => {
                 f.write_str("payload type of the viewer's stream exceeds 127")
+            }
+            ForwardError::RetransmissionType => {
+                f.write_str("payload type of the viewer's retransmissions exceeds 127")
             }
             ForwardError::Codec => f.write_str("codec of the viewer's stream is not supported"),
         }
@@ -90,10 +98,28 @@ pub struct Forwarder {
     times: Retiming,
     /// For VP8.
     ids: Vp8Ids,
+    /// The number of the next retransmission.
+    next: u16,
     /// When the packet with the highest number was written.
     written_at: Option<u64>,
     /// Memory for the payload of a packet of VP8.
     payload: Vec<u8>,
+}
+
+/// Returns whether the payload type of retransmissions is in range.
+fn stream_fits(stream: Option<RetransmissionStream>) -> bool {
+    match stream {
+        None => true,
+        Some(stream) => stream.payload_type < 128,
+    }
+}
+
+/// Returns the number of the first retransmission.
+fn first_of(stream: Option<RetransmissionStream>) -> u16 {
+    match stream {
+        None => 0,
+        Some(stream) => stream.first_number,
+    }
 }
 
 /// Returns whether the library finds the keyframes of a codec, or needs none.
@@ -195,12 +221,27 @@ fn write_under(
     sent.write(out)
 }
 
+/// Writes a packet with this header, and with a number in front of its payload (RFC 4588, section 4). `out` is empty before.
+fn write_behind_number(
+    header: PacketHeader<'_>,
+    number: u16,
+    payload: &[u8],
+    out: &mut Vec<u8>,
+) -> Result<(), AllocError> {
+    header.write(out)?;
+    out.try_extend(&number.to_be_bytes())?;
+    out.try_extend(payload)
+}
+
 impl Forwarder {
     /// Returns a forwarder that wants no source yet. Does not allocate. If several settings are out of range, the error is the
     /// first in the order of [`ForwardError`].
     pub fn new(settings: ForwardSettings) -> Result<Forwarder, ForwardError> {
         if settings.payload_type > 127 {
             return Err(ForwardError::PayloadType);
+        }
+        if !stream_fits(settings.retransmissions) {
+            return Err(ForwardError::RetransmissionType);
         }
         if !codec_fits(settings.codec) {
             return Err(ForwardError::Codec);
@@ -212,6 +253,7 @@ impl Forwarder {
             numbers: Renumbering::new(0, settings.first_number.wrapping_sub(1)),
             times: Retiming::new(0, settings.first_time),
             ids: Vp8Ids::default(),
+            next: first_of(settings.retransmissions),
             written_at: None,
             payload: Vec::new(),
         })
@@ -366,12 +408,16 @@ impl Forwarder {
         Some((number % 65_536) as u16)
     }
 
-    /// Writes a packet of the source again, as it was sent: under the same number, with the same time. Replaces what `out` has.
+    /// Writes a packet of the source again, for a viewer that requested it, and replaces what `out` has. The packet has the number
+    /// and the time that it was sent with. If the settings name a stream of retransmissions, it is wrapped (RFC 4588, section 4): it
+    /// has the SSRC, the payload type and the next number of that stream, no padding, and its own number in front of the payload.
     /// `false`: the packet is of another source, has no number, or is above the highest number; then `out` is empty.
+    ///
+    /// Each call writes the packet. Your side limits how often the same number is resent.
     ///
     /// # Errors
     ///
-    /// Memory ran out: `out` is empty.
+    /// Memory ran out: the forwarder is unchanged, and `out` is empty.
     pub fn write_again(
         &mut self,
         packet: &RtpPacket<'_>,
@@ -387,10 +433,57 @@ impl Forwarder {
         }
         match self.numbers.placed(number) {
             Placed::Sent(sent) => {
-                self.write_again_as(sent, packet, out)?;
+                self.resend(sent, packet, out)?;
                 Ok(true)
             }
             _ => Ok(false),
+        }
+    }
+
+    /// Writes the packet that was sent under this number again.
+    fn resend(
+        &mut self,
+        number: u16,
+        packet: &RtpPacket<'_>,
+        out: &mut Vec<u8>,
+    ) -> Result<(), AllocError> {
+        match self.settings.retransmissions {
+            None => self.write_again_as(number, packet, out),
+            Some(stream) => {
+                let answer = self.wrap(stream, number, packet, out);
+                if answer.is_err() {
+                    out.clear();
+                    return answer;
+                }
+                self.next = self.next.wrapping_add(1);
+                Ok(())
+            }
+        }
+    }
+
+    /// Writes a packet as a retransmission.
+    fn wrap(
+        &mut self,
+        stream: RetransmissionStream,
+        number: u16,
+        packet: &RtpPacket<'_>,
+        out: &mut Vec<u8>,
+    ) -> Result<(), AllocError> {
+        let header = PacketHeader {
+            marker: packet.header.marker,
+            payload_type: stream.payload_type,
+            sequence_number: self.next,
+            timestamp: self.times.sent_as(packet.header.timestamp),
+            ssrc: stream.ssrc,
+            csrcs: &[],
+            extension: None,
+        };
+        match self.settings.codec {
+            Codec::Vp8 => {
+                self.ids.rewrite(packet.payload, &mut self.payload)?;
+                write_behind_number(header, number, &self.payload, out)
+            }
+            _ => write_behind_number(header, number, packet.payload, out),
         }
     }
 
