@@ -19,7 +19,7 @@ use Rattle.codec_payload_forward.specs.declared.forwarder.Forwarded.{Forwarded}
 use Rattle.codec_payload_forward.specs.declared.forwarder.Forwarded.TheVariants as answers
 use Rattle.codec_payload_forward.specs.declared.renumbering.Placed.TheVariants as places
 use Rattle.codec_payload_forward.specs.declared.times.Retiming.{Retiming}
-use Rattle.codec_payload_forward.specs.Numbers.{HasNumber, Numbers, after_packet, begun, next_number, placed}
+use Rattle.codec_payload_forward.specs.Numbers.{HasNumber, Numbers, after_packet, begun, next_number, placed, sent_as}
 use Rattle.codec_payload_forward.specs.declared.vp8_ids.Vp8Ids.{Vp8Ids}
 use Rattle.codec_payload_forward.specs.Vp8Numbers.{after_picture, first_ids, payload_as, switched_ids}
 use Rattle.codec_payload_forward.specs.Times.{after_time, begun_times, switched_times, time_as}
@@ -204,3 +204,11 @@ Repeats p f false bytes t =
 -- the time of the viewer's stream for a time of the source
 abbrev pub time_for : Forward → (ssrc time : ℕ) → Option ℕ
 time_for f ssrc time = if is_source f.source ssrc then Some (time_as f.times time) else None
+
+-- ---- over several calls
+
+-- what is written for a packet under its number stays the same while other packets are written
+abbrev pub RepeatsWhatWasSent : Type 0
+RepeatsWhatWasSent =
+    (f : Forward) (now m n sent : ℕ) (p q : Packet)
+    → (sent_as (after_written now m q f).numbers n ≡ sent_as f.numbers n) × (next_packet (after_written now m q f) sent p ≡ next_packet f sent p)
