@@ -2,13 +2,12 @@
 use Rattle.std.proofs.Common.{◌≡◌, refl, ap, ℕ, ◌+◌, ◌%◌, List, Bool, true, false, ltb, Result, Ok, Err}
 use Rattle.codec_payload_base.specs.declared.wire.Codec.{Codec}
 use Rattle.codec_payload_base.specs.declared.wire.Codec.TheVariants as codecs
-use Rattle.codec_payload_rtp.specs.RtpPackets.{Packet}
 use Rattle.codec_payload_vp8.specs.Vp8Descriptor.{Descriptor, parsed}
 use Rattle.codec_payload_vp8.specs.declared.vp8.descriptor.Vp8DescriptorError.{Vp8DescriptorError}
 use Rattle.codec_payload_forward.specs.declared.vp8_ids.Vp8Ids.{Vp8Ids}
-use Rattle.codec_payload_forward.specs.Forwarding.{Forward, RepeatsWhatWasSent, after_written, ids_after, ids_when, next_packet, packet_under, payload_for}
+use Rattle.codec_payload_forward.specs.Forwarding.{RepeatsWhatWasSent, ids_after, ids_when, packet_under, payload_for}
 use Rattle.codec_payload_forward.specs.Numbers.{Numbers, after_packet, is_too_old, sent_as}
-use Rattle.codec_payload_forward.specs.Vp8Numbers.{after_described, after_picture, payload_as}
+use Rattle.codec_payload_forward.specs.Vp8Numbers.{after_described, payload_as}
 
 -- Numbers
 

@@ -185,7 +185,7 @@ fn ticks_between(last: Option<u64>, now: u64) -> u32
 {
     match last {
         None => 0,
-        Some(last) => now.saturating_sub(last).max(1).min(MAX_TICKS) as u32,
+        Some(last) => now.saturating_sub(last).clamp(1, MAX_TICKS) as u32,
     }
 }
 
