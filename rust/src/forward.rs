@@ -9,6 +9,8 @@ pub mod forwarder;
 pub mod renumbering;
 #[doc(hidden)]
 pub mod times;
+#[doc(hidden)]
+pub mod vp8_ids;
 
 #[doc(inline)]
 pub use forwarder::{ForwardError, ForwardSettings, Forwarded, Forwarder};
@@ -18,3 +20,6 @@ pub use renumbering::{MAX_LEFT_OUT, Placed, Renumbering};
 
 #[doc(inline)]
 pub use times::Retiming;
+
+#[doc(inline)]
+pub use vp8_ids::Vp8Ids;

@@ -22,6 +22,7 @@ fn settings(codec: Codec) -> ForwardSettings {
         payload_type: 101,
         first_number: 65_530,
         first_time: u32::MAX - 5_000,
+        retransmissions: None,
     }
 }
 

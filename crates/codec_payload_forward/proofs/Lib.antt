@@ -1,4 +1,6 @@
+pub mod IdLemmas
 pub mod MapLemmas
 pub mod NumberLemmas
 pub mod NumberRunLemmas
+pub mod RepeatLemmas
 pub mod TimeLemmas

@@ -1,9 +1,13 @@
 -- What a forwarder does with a packet.
-use Rattle.std.specs.Prelude.{◌≡◌, ℕ, ◌+◌, ◌-◌, ◌%◌, ◌≤◌, ◌==◌, ◌&&◌, max, min, nat_lt, not, if◌then◌else◌, Bool, true, false, List, [], ◌∷◌, Option, Some, None, Result, Ok, Err}
+use Rattle.std.specs.Prelude.{◌≡◌, ℕ, ◌+◌, ◌-◌, ◌%◌, ◌≤◌, ◌==◌, ◌&&◌, max, min, nat_lt, not, if◌then◌else◌, Bool, true, false, List, [], ◌∷◌, ◌++◌, Option, Some, None, Result, Ok, Err}
+use Rattle.std.specs.Int.{w16, to_be_bytes}
 use Rattle.codec_payload_base.specs.Extended.{nearest}
 use Rattle.codec_payload_base.specs.Flags.{has_bit}
 use Rattle.codec_payload_base.specs.declared.wire.Codec.{Codec}
 use Rattle.codec_payload_base.specs.declared.wire.Codec.TheVariants as codecs
+use Rattle.codec_payload_history.specs.Histories.{first_of}
+use Rattle.codec_payload_history.specs.Packets.{stream_fits}
+use Rattle.codec_payload_history.specs.declared.retransmission.RetransmissionStream.{RetransmissionStream}
 use Rattle.codec_payload_rtp.specs.RtpPackets.{Packet, packet_bytes}
 use Rattle.codec_payload_rtp.specs.RtpReading.{rtp_at}
 use Rattle.codec_payload_vp8.specs.Vp8Keyframe.{is_keyframe}
@@ -15,17 +19,21 @@ use Rattle.codec_payload_forward.specs.declared.forwarder.Forwarded.{Forwarded}
 use Rattle.codec_payload_forward.specs.declared.forwarder.Forwarded.TheVariants as answers
 use Rattle.codec_payload_forward.specs.declared.renumbering.Placed.TheVariants as places
 use Rattle.codec_payload_forward.specs.declared.times.Retiming.{Retiming}
-use Rattle.codec_payload_forward.specs.Numbers.{HasNumber, Numbers, after_packet, begun, next_number, placed}
+use Rattle.codec_payload_forward.specs.Numbers.{HasNumber, Numbers, after_packet, begun, next_number, placed, sent_as}
+use Rattle.codec_payload_forward.specs.declared.vp8_ids.Vp8Ids.{Vp8Ids}
+use Rattle.codec_payload_forward.specs.Vp8Numbers.{after_picture, first_ids, payload_as, switched_ids}
 use Rattle.codec_payload_forward.specs.Times.{after_time, begun_times, switched_times, time_as}
 
--- a forwarder: its settings; the source that is forwarded, and the one to go over to; the maps of numbers and times; and when the
--- packet with the highest number was written
+-- a forwarder: its settings; the source that is forwarded, and the one to go over to; the maps of numbers, times and VP8's ids; the
+-- number of the next retransmission; and when the packet with the highest number was written
 pub record Forward : Type 0 where
   pub settings : ForwardSettings
   pub source : Option ℕ
   pub wanted : Option ℕ
   pub numbers : Numbers
   pub times : Retiming
+  pub ids : Vp8Ids
+  pub next : ℕ
   pub written_at : Option ℕ
 
 abbrev pub codec_fits : Codec → Bool
@@ -38,8 +46,9 @@ codec_fits codec = true
 abbrev pub forward_by : ForwardSettings → Result Forward ForwardError
 forward_by s =
     if nat_lt 127 s.payload_type then Err errors.PayloadType
+    else if not (stream_fits s.retransmissions) then Err errors.RetransmissionType
     else if not (codec_fits s.codec) then Err errors.Codec
-    else Ok (record { settings = s; source = None; wanted = None; numbers = begun 0 ((s.first_number + 65535) % 65536); times = begun_times 0 s.first_time; written_at = None })
+    else Ok (record { settings = s; source = None; wanted = None; numbers = begun 0 ((s.first_number + 65535) % 65536); times = begun_times 0 s.first_time; ids = first_ids; next = first_of s.retransmissions; written_at = None })
 
 abbrev pub is_source : Option ℕ → ℕ → Bool
 is_source None ssrc = false
@@ -65,13 +74,22 @@ begins codec payload = true
 
 -- ---- what is written
 
+-- the payload of VP8 with the ids of the viewer's stream; other payloads as they are
+abbrev pub payload_for : Codec → Vp8Ids → List ℕ → List ℕ
+payload_for codecs.Vp8 ids payload = payload_as ids payload
+payload_for codec ids payload = payload
+
 -- the packet received, with the viewer's SSRC and payload type, this number and this time, without CSRCs and extension
-abbrev pub sent_packet : ForwardSettings → (number time : ℕ) → Packet → Packet
-sent_packet s number time p = record {
+abbrev pub packet_under : ForwardSettings → (number time : ℕ) → Packet → Packet
+packet_under s number time p = record {
   header = record { marker = p.header.marker; payload_type = s.payload_type; sequence_number = number; timestamp = time; ssrc = s.ssrc; csrcs = []; extension = None };
   payload = p.payload;
   padding = p.padding;
 }
+
+-- the same, with the payload for the viewer
+abbrev pub sent_packet : ForwardSettings → Vp8Ids → (number time : ℕ) → Packet → Packet
+sent_packet s ids number time p = packet_under s number time (record p { payload = payload_for s.codec ids p.payload })
 
 -- the number of a packet of the source, extended
 abbrev pub number_in : Forward → Packet → ℕ
@@ -84,32 +102,47 @@ ticks_between (Some last) now = min (max (now - last) 1) 2147483647
 
 -- the packet of the source that is forwarded, as it is sent
 abbrev pub next_packet : Forward → ℕ → Packet → Packet
-next_packet f sent p = sent_packet f.settings sent (time_as f.times p.header.timestamp) p
+next_packet f sent p = sent_packet f.settings f.ids sent (time_as f.times p.header.timestamp) p
 
--- the first packet of another source: the number goes on by one, the time by the ticks that passed
+-- the map of ids after a packet, and after a switch
+abbrev pub ids_after : Codec → List ℕ → Vp8Ids → Vp8Ids
+ids_after codecs.Vp8 payload ids = after_picture payload ids
+ids_after codec payload ids = ids
+
+abbrev pub ids_switched : Codec → List ℕ → Vp8Ids → Vp8Ids
+ids_switched codecs.Vp8 payload ids = switched_ids payload ids
+ids_switched codec payload ids = ids
+
+-- the first packet of another source: the number and the ids go on by one, the time by the ticks that passed
 abbrev pub first_packet : ℕ → Forward → Packet → Packet
-first_packet now f p = sent_packet f.settings (next_number f.numbers) ((f.times.highest + ticks_between f.written_at now) % 4294967296) p
+first_packet now f p = sent_packet f.settings (ids_switched f.settings.codec p.payload f.ids) (next_number f.numbers) ((f.times.highest + ticks_between f.written_at now) % 4294967296) p
 
 -- ---- the forwarder after it
 
 abbrev pub written_when : Bool → ℕ → Option ℕ → Option ℕ
 written_when ahead now last = if ahead then Some now else last
 
-abbrev pub after_written : (now number time : ℕ) → Forward → Forward
-after_written now number time f = record f {
+abbrev pub ids_when : Bool → Codec → List ℕ → Vp8Ids → Vp8Ids
+ids_when ahead codec payload ids = if ahead then ids_after codec payload ids else ids
+
+-- a packet was written under its number
+abbrev pub after_written : (now number : ℕ) → Packet → Forward → Forward
+after_written now number p f = record f {
   numbers = after_packet number true f.numbers;
-  times = after_time time f.times;
+  times = after_time p.header.timestamp f.times;
+  ids = ids_when (nat_lt f.numbers.highest number) f.settings.codec p.payload f.ids;
   written_at = written_when (nat_lt f.numbers.highest number) now f.written_at;
 }
 
 abbrev pub after_next : ℕ → Packet → Forward → Forward
-after_next now p f = after_written now (number_in f p) p.header.timestamp f
+after_next now p f = after_written now (number_in f p) p f
 
 abbrev pub after_begin : ℕ → Packet → Forward → Forward
 after_begin now p f = record f {
   source = Some p.header.ssrc;
   numbers = begun (65536 + p.header.sequence_number) (next_number f.numbers);
   times = switched_times p.header.timestamp (ticks_between f.written_at now) f.times;
+  ids = ids_switched f.settings.codec p.payload f.ids;
   written_at = Some now;
 }
 
@@ -142,15 +175,40 @@ Forwards now p f answers.LeftOut bytes t = (is_source f.source p.header.ssrc ≡
 abbrev pub IsNumberOf : Forward → (number n low : ℕ) → Type 0
 IsNumberOf f number n low = HasNumber f.numbers number n × (low ≡ n % 65536)
 
--- a packet of the source that has a number, not above the highest one, is written as it was sent
-abbrev pub Repeats : Packet → Forward → Bool → List ℕ → Type 0
-Repeats p f true bytes =
+-- a packet as a retransmission (RFC 4588, section 4): under the SSRC, the payload type and the next number of the stream, with its own
+-- number in front of the payload, without padding
+abbrev pub wrapped : RetransmissionStream → ℕ → Packet → Packet
+wrapped stream next p = record {
+  header = record p.header { payload_type = stream.payload_type; sequence_number = next; ssrc = stream.ssrc };
+  payload = to_be_bytes w16 p.header.sequence_number ++ p.payload;
+  padding = 0;
+}
+
+-- a packet that was sent is written again: as it was, or as a retransmission
+abbrev pub IsResentBy : Option RetransmissionStream → Packet → Forward → List ℕ → Forward → Type 0
+IsResentBy None p f bytes t = IsWritten p bytes × (t ≡ f)
+IsResentBy (Some stream) p f bytes t = (rtp_at bytes ≡ Ok (wrapped stream f.next p)) × (t ≡ record f { next = (f.next + 1) % 65536 })
+
+abbrev pub IsResent : Packet → Forward → List ℕ → Forward → Type 0
+IsResent p f bytes t = IsResentBy f.settings.retransmissions p f bytes t
+
+-- a packet of the source that has a number, not above the highest one, is written again; nothing is done with any other packet
+abbrev pub Repeats : Packet → Forward → Bool → List ℕ → Forward → Type 0
+Repeats p f true bytes t =
     (is_source f.source p.header.ssrc ≡ true) × (number_in f p ≤ f.numbers.highest)
-    × ((sent : ℕ) × (placed f.numbers (number_in f p) true ≡ places.Sent sent) × IsWritten (next_packet f sent p) bytes)
-Repeats p f false bytes =
-    (bytes ≡ [])
+    × ((sent : ℕ) × (placed f.numbers (number_in f p) true ≡ places.Sent sent) × IsResent (next_packet f sent p) f bytes t)
+Repeats p f false bytes t =
+    (bytes ≡ []) × (t ≡ f)
     × ((sent : ℕ) → is_source f.source p.header.ssrc ≡ true → number_in f p ≤ f.numbers.highest → placed f.numbers (number_in f p) true ≡ places.Sent sent → ⊥)
 
 -- the time of the viewer's stream for a time of the source
 abbrev pub time_for : Forward → (ssrc time : ℕ) → Option ℕ
 time_for f ssrc time = if is_source f.source ssrc then Some (time_as f.times time) else None
+
+-- ---- over several calls
+
+-- what is written for a packet under its number stays the same while other packets are written
+abbrev pub RepeatsWhatWasSent : Type 0
+RepeatsWhatWasSent =
+    (f : Forward) (now m n sent : ℕ) (p q : Packet)
+    → (sent_as (after_written now m q f).numbers n ≡ sent_as f.numbers n) × (next_packet (after_written now m q f) sent p ≡ next_packet f sent p)

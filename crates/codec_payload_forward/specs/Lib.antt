@@ -2,3 +2,4 @@ pub mod Forwarding
 pub mod NumberRuns
 pub mod Numbers
 pub mod Times
+pub mod Vp8Numbers

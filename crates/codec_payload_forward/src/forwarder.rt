@@ -1,17 +1,20 @@
 //! One stream of a viewer: packets of one source after another, under the viewer's SSRC, payload type, numbers and times.
 
-ghost use Rattle.std.specs.Prelude.{◌≡◌, ◌<◌, ℕ, [], Some, None, Ok, true, false, IfOk, IfSome, IfNone, IsTrue, OnOk, OnErr};
+ghost use Rattle.std.specs.Prelude.{◌≡◌, ◌<◌, ◌++◌, ℕ, [], Some, None, Ok, true, false, IfOk, IfSome, IfNone, IsTrue, OnOk, OnErr};
+ghost use Rattle.std.specs.Int.{w16, to_be_bytes};
 ghost use Rattle.codec_payload_base.specs.Extended.{nearest};
-ghost use Rattle.codec_payload_rtp.specs.RtpPackets.{packet_bytes};
+ghost use Rattle.codec_payload_history.specs.Histories.{first_of};
+ghost use Rattle.codec_payload_history.specs.Packets.{stream_fits};
+ghost use Rattle.codec_payload_rtp.specs.RtpPackets.{header_fits, packet_bytes};
 ghost use Rattle.codec_payload_rtp.specs.RtpReading.{rtp_at};
-ghost use Rattle.codec_payload_rtp.specs.RtpValues.{packet_of};
-ghost use Rattle.codec_payload_forward.specs.Forwarding.{IsNumberOf, Forwards, Repeats, after_begin, after_next, after_written, begins, codec_fits, forward_by, is_source, sent_packet, ticks_between, time_for, written_when};
-ghost use Rattle.codec_payload_forward.specs.Numbers.{after_packet};
-ghost use Rattle.codec_payload_forward.specs.Times.{time_as};
+ghost use Rattle.codec_payload_rtp.specs.RtpValues.{header_of, packet_of};
+ghost use Rattle.codec_payload_forward.specs.Forwarding.{IsNumberOf, IsResent, IsWritten, Forwards, Repeats, after_written, begins, codec_fits, forward_by, ids_after, ids_switched, is_source, next_packet, packet_under, sent_packet, ticks_between, time_for, wrapped};
 
 use crate::renumbering::{Placed, Renumbering};
 use crate::times::Retiming;
+use crate::vp8_ids::Vp8Ids;
 use codec_payload_base::wire::Codec;
+use codec_payload_history::retransmission::RetransmissionStream;
 use codec_payload_rtp::rtp::{PacketHeader, RtpPacket};
 use codec_payload_vp8::vp8::detect_vp8_keyframe;
 use codec_payload_vp9::vp9::detect_vp9_keyframe;
@@ -35,6 +38,8 @@ pub struct ForwardSettings {
     pub first_number: u16,
     /// The RTP time of its first packet.
     pub first_time: u32,
+    /// The viewer's stream of retransmissions (RFC 4588). `None`: a packet is resent as it was.
+    pub retransmissions: Option<RetransmissionStream>,
 }
 
 /// Which setting is out of range.
@@ -43,6 +48,9 @@ pub enum ForwardError {
     /// The payload type is above 127.
     #[error("payload type of the viewer's stream exceeds 127")]
     PayloadType,
+    /// The payload type of retransmissions is above 127.
+    #[error("payload type of the viewer's retransmissions exceeds 127")]
+    RetransmissionType,
     /// The codec is H.264, H.265 or H.266, whose keyframes the library does not find.
     #[error("codec of the viewer's stream is not supported")]
     Codec,
@@ -71,8 +79,8 @@ pub enum Forwarded {
 /// Name a source by [`Forwarder::want`], and pass each packet that arrived to [`Forwarder::write`], before SRTP encrypts it.
 /// The forwarder goes over to the wanted source at its next keyframe. Until then it forwards the source before. Each written packet
 /// has the payload, the marker and the padding of the packet received. It has the viewer's SSRC and payload type, and the number and
-/// time of the maps [`Renumbering`] and [`Retiming`]. It has no CSRCs and no header extension, since ids of extensions differ
-/// between connections.
+/// time of the maps [`Renumbering`] and [`Retiming`]. In a VP8 payload, PictureID and TL0PICIDX are those of the map [`Vp8Ids`], and
+/// all other bits stay. The packet has no CSRCs and no header extension, since ids of extensions differ between connections.
 #[derive(Debug, Drop)]
 pub struct Forwarder {
     settings: ForwardSettings,
@@ -82,19 +90,46 @@ pub struct Forwarder {
     wanted: Option<u32>,
     numbers: Renumbering,
     times: Retiming,
+    /// For VP8.
+    ids: Vp8Ids,
+    /// The number of the next retransmission.
+    next: u16,
     /// When the packet with the highest number was written.
     written_at: Option<u64>,
+    /// Memory for the payload of a packet of VP8.
+    payload: Vec<u8>,
 }
 
 impl Model for Forwarder {
-    ghost use Rattle.std.specs.Prelude.{◌<◌};
+    ghost use Rattle.std.specs.Prelude.{◌<◌, IsTrue};
+    ghost use Rattle.codec_payload_history.specs.Packets.{stream_fits};
     ghost use Rattle.codec_payload_forward.specs.Forwarding.{Forward};
 
     ghost Value = { Forward };
 
-    ghost view = { λ f. record { settings = f.settings; source = f.source; wanted = f.wanted; numbers = f.numbers; times = f.times; written_at = f.written_at } };
+    ghost view = { λ f. record { settings = f.settings; source = f.source; wanted = f.wanted; numbers = f.numbers; times = f.times; ids = f.ids; next = f.next; written_at = f.written_at } };
 
-    ghost invariant = { λ f. f.settings.payload_type < 128 };
+    ghost invariant = { λ f. (f.settings.payload_type < 128) × IsTrue (stream_fits f.settings.retransmissions) };
+}
+
+/// Returns whether the payload type of retransmissions is in range.
+fn stream_fits(stream: Option<RetransmissionStream>) -> bool
+    ensures { result ≡ stream_fits stream }
+{
+    match stream {
+        None => true,
+        Some(stream) => stream.payload_type < 128,
+    }
+}
+
+/// Returns the number of the first retransmission.
+fn first_of(stream: Option<RetransmissionStream>) -> u16
+    ensures { result ≡ first_of stream }
+{
+    match stream {
+        None => 0,
+        Some(stream) => stream.first_number,
+    }
 }
 
 /// Returns whether the library finds the keyframes of a codec, or needs none.
@@ -150,29 +185,59 @@ fn ticks_between(last: Option<u64>, now: u64) -> u32
 {
     match last {
         None => 0,
-        Some(last) => now.saturating_sub(last).max(1).min(MAX_TICKS) as u32,
+        Some(last) => now.saturating_sub(last).clamp(1, MAX_TICKS) as u32,
     }
 }
 
-/// Writes a packet of a source as a packet of the viewer's stream, and replaces what `out` has.
-fn write_as(
-    settings: ForwardSettings,
+/// Returns the map of ids after a packet with this payload was sent.
+fn ids_after(codec: Codec, ids: Vp8Ids, payload: &[u8]) -> Vp8Ids
+    ensures { result ≡ ids_after codec payload.now ids }
+{
+    let mut ids = ids;
+    match codec {
+        Codec::Vp8 => {
+            ids.record(payload);
+            ids
+        }
+        _ => ids,
+    }
+}
+
+/// Returns the map of ids after a switch to a source whose first payload this is.
+fn ids_switched(codec: Codec, ids: Vp8Ids, payload: &[u8]) -> Vp8Ids
+    ensures { result ≡ ids_switched codec payload.now ids }
+{
+    match codec {
+        Codec::Vp8 => ids.switched(payload),
+        _ => ids,
+    }
+}
+
+/// The number and the time that a packet is sent with.
+#[derive(Clone, Copy, Debug)]
+struct Place {
     number: u16,
     time: u32,
+}
+
+/// Writes a packet under this number and time, and replaces what `out` has.
+fn write_under(
+    settings: ForwardSettings,
+    place: Place,
     packet: &RtpPacket<'_>,
     out: &mut Vec<u8>,
 ) -> Result<(), AllocError>
     requires { settings.payload_type < 128 }
-    ensures ok { OnOk result (out.new.items ≡ packet_bytes (sent_packet settings number time (packet_of packet.now))) }
-    ensures reads { OnOk result (rtp_at out.new.items ≡ Ok (sent_packet settings number time (packet_of packet.now))) }
+    ensures ok { OnOk result (out.new.items ≡ packet_bytes (packet_under settings place.number place.time (packet_of packet.now))) }
+    ensures reads { OnOk result (rtp_at out.new.items ≡ Ok (packet_under settings place.number place.time (packet_of packet.now))) }
     ensures err { OnErr result (out.new.items ≡ []) }
 {
     out.clear();
     let header = PacketHeader {
         marker: packet.header.marker,
         payload_type: settings.payload_type,
-        sequence_number: number,
-        timestamp: time,
+        sequence_number: place.number,
+        timestamp: place.time,
         ssrc: settings.ssrc,
         csrcs: &[],
         extension: None,
@@ -185,6 +250,22 @@ fn write_as(
     sent.write(out)
 }
 
+/// Writes a packet with this header, and with a number in front of its payload (RFC 4588, section 4). `out` is empty before.
+fn write_behind_number(
+    header: PacketHeader<'_>,
+    number: u16,
+    payload: &[u8],
+    out: &mut Vec<u8>,
+) -> Result<(), AllocError>
+    requires fits { IsTrue (header_fits (header_of header)) }
+    requires empty { out.old.items ≡ [] }
+    ensures { OnOk result (rtp_at out.new.items ≡ Ok (record { header = header_of header.entry; payload = to_be_bytes w16 number ++ payload.now; padding = 0 })) }
+{
+    header.write(out)?;
+    out.extend_from_slice(&number.to_be_bytes())?;
+    out.extend_from_slice(payload)
+}
+
 impl Forwarder {
     /// Returns a forwarder that wants no source yet. Does not allocate. If several settings are out of range, the error is the
     /// first in the order of [`ForwardError`].
@@ -193,6 +274,9 @@ impl Forwarder {
     {
         if settings.payload_type > 127 {
             return Err(ForwardError::PayloadType);
+        }
+        if !stream_fits(settings.retransmissions) {
+            return Err(ForwardError::RetransmissionType);
         }
         if !codec_fits(settings.codec) {
             return Err(ForwardError::Codec);
@@ -203,7 +287,10 @@ impl Forwarder {
             wanted: None,
             numbers: Renumbering::new(alloc, 0, settings.first_number.wrapping_sub(1)),
             times: Retiming::new(0, settings.first_time),
+            ids: Vp8Ids::default(),
+            next: first_of(settings.retransmissions),
             written_at: None,
+            payload: Vec::new(alloc),
         })
     }
 
@@ -247,7 +334,7 @@ impl Forwarder {
     /// - AV1: the first packet of a coded video sequence: N is set, and Z is clear (RTP payload format for AV1, section 4.4).
     /// - Other codecs: any packet.
     ///
-    /// It copies the payload once. Once `out` has grown to the largest packet, it does not allocate.
+    /// It copies the payload once, a payload of VP8 three times. Once `out` has grown to the largest packet, it does not allocate.
     ///
     /// # Errors
     ///
@@ -290,9 +377,8 @@ impl Forwarder {
         let number = extended(self.numbers.highest(), packet.header.sequence_number);
         match self.numbers.placed(number) {
             Placed::Sent(sent) => {
-                let time = self.times.sent_as(packet.header.timestamp);
-                write_as(self.settings, sent, time, packet, out)?;
-                self.record(now, number, packet.header.timestamp);
+                self.write_again_as(sent, packet, out)?;
+                self.record(now, number, packet);
                 Ok(Forwarded::Written)
             }
             Placed::LeftOut => Ok(Forwarded::LeftOut),
@@ -301,14 +387,58 @@ impl Forwarder {
     }
 
     /// Records that a packet was written.
-    fn record(&mut self, now: u64, number: u64, time: u32)
-        ensures { self.new ≡ after_written now number time self.old }
+    fn record(&mut self, now: u64, number: u64, packet: &RtpPacket<'_>)
+        ensures { self.new ≡ after_written now number (packet_of packet.now) self.old }
     {
         if number > self.numbers.highest() {
             self.written_at = Some(now);
+            self.ids = ids_after(self.settings.codec, self.ids, packet.payload);
         }
         self.numbers.record(number);
-        self.times.record(time);
+        self.times.record(packet.header.timestamp);
+    }
+
+    /// Writes a packet with these ids, under this number and time.
+    fn write_as(
+        &mut self,
+        ids: Vp8Ids,
+        place: Place,
+        packet: &RtpPacket<'_>,
+        out: &mut Vec<u8>,
+    ) -> Result<(), AllocError>
+        requires empty { out.old.items ≡ [] }
+        ensures ok { OnOk result (IsWritten (sent_packet self.old.settings ids place.number place.time (packet_of packet.now)) out.new.items) }
+        ensures same { self.new ≡ self.old }
+        ensures err { OnErr result (out.new.items ≡ []) }
+    {
+        match self.settings.codec {
+            Codec::Vp8 => {
+                ids.rewrite(packet.payload, &mut self.payload)?;
+                let rewritten = RtpPacket {
+                    header: packet.header,
+                    payload: &self.payload,
+                    padding: packet.padding,
+                };
+                write_under(self.settings, place, &rewritten, out)
+            }
+            _ => write_under(self.settings, place, packet, out),
+        }
+    }
+
+    /// Writes a packet of the source that is forwarded, under this number.
+    fn write_again_as(
+        &mut self,
+        number: u16,
+        packet: &RtpPacket<'_>,
+        out: &mut Vec<u8>,
+    ) -> Result<(), AllocError>
+        requires empty { out.old.items ≡ [] }
+        ensures ok { OnOk result (IsWritten (next_packet self.old number (packet_of packet.now)) out.new.items) }
+        ensures same { self.new ≡ self.old }
+        ensures err { OnErr result (out.new.items ≡ []) }
+    {
+        let time = self.times.sent_as(packet.header.timestamp);
+        self.write_as(self.ids, Place { number, time }, packet, out)
     }
 
     /// Goes over to the source of a packet, and writes the packet.
@@ -318,6 +448,7 @@ impl Forwarder {
         packet: &RtpPacket<'_>,
         out: &mut Vec<u8>,
     ) -> Result<Forwarded, AllocError>
+        requires empty { out.old.items ≡ [] }
         requires other { is_source self.old.source packet.now.header.ssrc ≡ false }
         requires wanted { IsTrue (is_source self.old.wanted packet.now.header.ssrc) }
         requires begins { IsTrue (begins self.old.settings.codec packet.now.payload.now) }
@@ -328,7 +459,9 @@ impl Forwarder {
         let ticks = ticks_between(self.written_at, now);
         let number = self.numbers.next_number();
         let time = self.times.next_time(ticks);
-        write_as(self.settings, number, time, packet, out)?;
+        let ids = ids_switched(self.settings.codec, self.ids, packet.payload);
+        self.write_as(ids, Place { number, time }, packet, out)?;
+        self.ids = ids;
         self.numbers
             .switch(65_536 + u64::from(header.sequence_number));
         self.times.switch(header.timestamp, ticks);
@@ -348,15 +481,23 @@ impl Forwarder {
         Some((number % 65_536) as u16)
     }
 
-    /// Writes a packet of the source again, as it was sent: under the same number, with the same time. Replaces what `out` has.
+    /// Writes a packet of the source again, for a viewer that requested it, and replaces what `out` has. The packet has the number
+    /// and the time that it was sent with. If the settings name a stream of retransmissions, it is wrapped (RFC 4588, section 4): it
+    /// has the SSRC, the payload type and the next number of that stream, no padding, and its own number in front of the payload.
     /// `false`: the packet is of another source, has no number, or is above the highest number; then `out` is empty.
+    ///
+    /// Each call writes the packet. Your side limits how often the same number is resent.
     ///
     /// # Errors
     ///
-    /// Memory ran out: `out` is empty.
-    pub fn write_again(&self, packet: &RtpPacket<'_>, out: &mut Vec<u8>) -> Result<bool, AllocError>
-        ensures ok { IfOk result (λ written. Repeats (packet_of packet.now) self.now written out.new.items) }
-        ensures err { OnErr result (out.new.items ≡ []) }
+    /// Memory ran out: the forwarder is unchanged, and `out` is empty.
+    pub fn write_again(
+        &mut self,
+        packet: &RtpPacket<'_>,
+        out: &mut Vec<u8>,
+    ) -> Result<bool, AllocError>
+        ensures ok { IfOk result (λ written. Repeats (packet_of packet.now) self.old written out.new.items self.new) }
+        ensures err { OnErr result ((self.new ≡ self.old) × (out.new.items ≡ [])) }
     {
         out.clear();
         if !is_source(self.source, packet.header.ssrc) {
@@ -368,11 +509,66 @@ impl Forwarder {
         }
         match self.numbers.placed(number) {
             Placed::Sent(sent) => {
-                let time = self.times.sent_as(packet.header.timestamp);
-                write_as(self.settings, sent, time, packet, out)?;
+                self.resend(sent, packet, out)?;
                 Ok(true)
             }
             _ => Ok(false),
+        }
+    }
+
+    /// Writes the packet that was sent under this number again.
+    fn resend(
+        &mut self,
+        number: u16,
+        packet: &RtpPacket<'_>,
+        out: &mut Vec<u8>,
+    ) -> Result<(), AllocError>
+        requires empty { out.old.items ≡ [] }
+        ensures ok { OnOk result (IsResent (next_packet self.old number (packet_of packet.now)) self.old out.new.items self.new) }
+        ensures err { OnErr result ((self.new ≡ self.old) × (out.new.items ≡ [])) }
+    {
+        match self.settings.retransmissions {
+            None => self.write_again_as(number, packet, out),
+            Some(stream) => {
+                let answer = self.wrap(stream, number, packet, out);
+                if answer.is_err() {
+                    out.clear();
+                    return answer;
+                }
+                self.next = self.next.wrapping_add(1);
+                Ok(())
+            }
+        }
+    }
+
+    /// Writes a packet as a retransmission.
+    fn wrap(
+        &mut self,
+        stream: RetransmissionStream,
+        number: u16,
+        packet: &RtpPacket<'_>,
+        out: &mut Vec<u8>,
+    ) -> Result<(), AllocError>
+        requires empty { out.old.items ≡ [] }
+        requires fits { stream.payload_type < 128 }
+        ensures ok { OnOk result (rtp_at out.new.items ≡ Ok (wrapped stream self.old.next (next_packet self.old number (packet_of packet.now)))) }
+        ensures same { self.new ≡ self.old }
+    {
+        let header = PacketHeader {
+            marker: packet.header.marker,
+            payload_type: stream.payload_type,
+            sequence_number: self.next,
+            timestamp: self.times.sent_as(packet.header.timestamp),
+            ssrc: stream.ssrc,
+            csrcs: &[],
+            extension: None,
+        };
+        match self.settings.codec {
+            Codec::Vp8 => {
+                self.ids.rewrite(packet.payload, &mut self.payload)?;
+                write_behind_number(header, number, &self.payload, out)
+            }
+            _ => write_behind_number(header, number, packet.payload, out),
         }
     }
 

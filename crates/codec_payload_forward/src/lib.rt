@@ -6,3 +6,4 @@ pub mod forwarder;
 pub mod renumbering;
 pub mod theorems;
 pub mod times;
+pub mod vp8_ids;

@@ -1,5 +1,6 @@
-//! Theorems about the numbers and times of a viewer's stream. These functions exist for what they prove; they do nothing.
+//! Theorems about the numbers, times and packets of a viewer's stream. These functions exist for what they prove; they do nothing.
 
+ghost use Rattle.codec_payload_forward.specs.Forwarding.{RepeatsWhatWasSent};
 ghost use Rattle.codec_payload_forward.specs.NumberRuns.{KeepsGaps, KeepsNumbers, Renumbers, SendsGiven, SwitchesNext};
 ghost use Rattle.codec_payload_forward.specs.Times.{NeverGoesBack, Retimes};
 
@@ -35,4 +36,10 @@ pub fn retimes()
 /// Proves that the time goes on by the given ticks at a switch, from the highest time that was sent, and never goes back.
 pub fn never_goes_back()
     ensures { NeverGoesBack }
+{}
+
+/// Proves that a packet is written again as it was sent: its number, its time and its payload stay the same while other packets are
+/// written.
+pub fn repeats_what_was_sent()
+    ensures { RepeatsWhatWasSent }
 {}
