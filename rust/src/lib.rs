@@ -50,6 +50,7 @@
 //! | [`requests`] | when to request missing packets by NACK, and keyframes |
 //! | [`feedback`] | the requests of one stream as RTCP packets: NACK and PLI |
 //! | [`congestion`] | when packets arrived, as congestion control needs it: transport-wide feedback, and REMB |
+//! | [`transport`] | the sending side of that: the numbers and times of sent packets, and what feedback reports about them |
 //! | [`waiting`] | a limit of waiting that follows how late missing packets arrive |
 //! | [`media`] | what frames say: keyframe, size, duration; OBUs, superframes, `av1C`, the Opus header |
 //! | [`red`], [`vp8`], [`vp9`], [`av1`], [`amr_wb`], [`tele`], [`plain`] | one format each |
@@ -143,6 +144,7 @@ pub mod sender;
 pub mod session;
 pub mod stream;
 pub mod tele;
+pub mod transport;
 pub mod vp8;
 pub mod vp9;
 pub mod waiting;
