@@ -51,6 +51,7 @@
 //! | [`feedback`] | the requests of one stream as RTCP packets: NACK and PLI |
 //! | [`congestion`] | when packets arrived, as congestion control needs it: transport-wide feedback, and REMB |
 //! | [`transport`] | the sending side of that: the numbers and times of sent packets, and what feedback reports about them |
+//! | [`ccfb`] | congestion control feedback of RFC 8888 |
 //! | [`waiting`] | a limit of waiting that follows how late missing packets arrive |
 //! | [`media`] | what frames say: keyframe, size, duration; OBUs, superframes, `av1C`, the Opus header |
 //! | [`red`], [`vp8`], [`vp9`], [`av1`], [`amr_wb`], [`tele`], [`plain`] | one format each |
@@ -113,6 +114,7 @@ pub mod av1;
 #[doc(hidden)]
 pub mod bits;
 pub mod buffer;
+pub mod ccfb;
 pub mod codec;
 pub mod congestion;
 #[doc(hidden)]
