@@ -108,6 +108,8 @@ pub mod bits;
 #[doc(hidden)]
 pub mod buffer;
 #[doc(hidden)]
+pub mod ccfb;
+#[doc(hidden)]
 pub mod codec;
 #[doc(hidden)]
 pub mod congestion;
@@ -162,6 +164,8 @@ pub mod session;
 pub mod stream;
 #[doc(hidden)]
 pub mod tele;
+#[doc(hidden)]
+pub mod transport;
 #[doc(hidden)]
 pub mod vp8;
 #[doc(hidden)]

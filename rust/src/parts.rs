@@ -16,6 +16,8 @@
 //! | [`requests`] | when to request missing packets by NACK, and keyframes |
 //! | [`feedback`] | the requests of one stream as RTCP packets: NACK and PLI |
 //! | [`congestion`] | when packets arrived, as congestion control needs it: transport-wide feedback, and REMB |
+//! | [`transport`] | the sending side of that: the numbers and times of sent packets, and what feedback reports about them |
+//! | [`ccfb`] | congestion control feedback of RFC 8888 |
 //! | [`waiting`] | a limit of waiting that follows how late missing packets arrive |
 //! | [`media`] | what frames say: keyframe, size, duration; OBUs, superframes, `av1C`, the Opus header |
 //! | [`codec`], [`interface`], [`buffer`], [`error`] | the payload layer: packetizers, depacketizers, what they say of a packet, the buffer, and their faults |
@@ -27,9 +29,9 @@
 
 #[doc(inline)]
 pub use crate::{
-    amr_wb, av1, buffer, codec, congestion, error, feedback, forward, history, interface, jitter,
-    keyframes, media, memory, payload, payloads, plain, red, red_writer, requests, rtcp, rtp,
-    sender, session, stream, tele, vp8, vp9, waiting, wire,
+    amr_wb, av1, buffer, ccfb, codec, congestion, error, feedback, forward, history, interface,
+    jitter, keyframes, media, memory, payload, payloads, plain, red, red_writer, requests, rtcp,
+    rtp, sender, session, stream, tele, transport, vp8, vp9, waiting, wire,
 };
 
 /// Iterators over what a receiver, a buffer or a packetizer returns, and the faults of conversions.

@@ -1,0 +1,2 @@
+mod CcfbLemmas
+mod CcfbRoundTrip

@@ -1,0 +1,4 @@
+pub mod Ccfb
+pub mod CcfbLog
+pub mod CcfbReading
+pub mod CcfbWriting

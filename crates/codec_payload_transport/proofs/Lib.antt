@@ -1,0 +1,2 @@
+mod SentLemmas
+mod NumberingLemmas
