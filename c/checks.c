@@ -94,7 +94,7 @@ static void texts(void) {
         {63, "the RTCP NACK has a wrong length"},
         {64, "the RTCP PLI has a wrong length"},
         {65, "the RTCP FIR has a wrong length"},
-        {74, "the unit is larger than the settings allow"},
+        {76, "the unit is larger than the settings allow"},
         {67, "unknown status"},
     };
     for (size_t i = 0; i < sizeof rows / sizeof *rows; i++)

@@ -46,7 +46,7 @@ other_number faults.ErrAmrWbCorruptedPacket refused = λ is. absurd (omega (arit
 other_number faults.OutOfMemory refused = absurd (cc)
 
 -- nor is it the number of a unit that is too large
-pub no_size : (fault : PacketError) → fault_number fault ≢ 74
+pub no_size : (fault : PacketError) → fault_number fault ≢ 76
 no_size faults.ErrShortPacket = λ is. absurd (omega (arith, is))
 no_size faults.ErrPayloadTooLarge = λ is. absurd (omega (arith, is))
 no_size faults.ErrTooManySpatialLayers = λ is. absurd (omega (arith, is))

@@ -92,7 +92,7 @@ TellsEvent (events.Begun ssrc payload_type) e = e ≡ event_with 0 ssrc payload_
 TellsEvent (events.Unit ssrc payload_type time decodable keyframe (Ok u)) e = TellsUnitOf ssrc payload_type (TellsJudgedBy time decodable keyframe u) e
 TellsEvent (events.Unit ssrc payload_type time decodable keyframe (Err fault)) e = e ≡ event_with 1 ssrc payload_type no_unit
 TellsEvent (events.TooLarge ssrc payload_type unit) e =
-    e ≡ record { kind = 2; ssrc = ssrc; status = 74; why = 0; bytes = 0; payload_type = payload_type; unit = no_unit }
+    e ≡ record { kind = 2; ssrc = ssrc; status = 76; why = 0; bytes = 0; payload_type = payload_type; unit = no_unit }
 TellsEvent (events.Refused ssrc payload_type fault) e =
     e ≡ record { kind = 2; ssrc = ssrc; status = fault_number fault; why = 0; bytes = 0; payload_type = payload_type; unit = no_unit }
 TellsEvent (events.Feedback ssrc payload_type packet) e =

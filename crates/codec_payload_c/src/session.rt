@@ -49,7 +49,7 @@ pub struct Event {
     /// to send; 6: a packet of telephone events.
     pub kind: u32,
     pub ssrc: u32,
-    /// For a refused frame: the number of its error, 1 to 16; for a unit that is too large 74.
+    /// For a refused frame: the number of its error, 1 to 16; for a unit that is too large 76.
     pub status: u32,
     /// For the end of a stream. 0: a BYE; 1: the idle timeout; 2: a call; 3: a change of format.
     pub why: u32,
@@ -189,7 +189,7 @@ fn refused_event(ssrc: u32, payload_type: u8, fault: &PacketError) -> Event
 
 /// Returns the event of a unit that is too large.
 fn too_large_event(ssrc: u32, payload_type: u8) -> Event
-    ensures { result ≡ record (event_with 2 ssrc payload_type no_unit) { status = 74 } }
+    ensures { result ≡ record (event_with 2 ssrc payload_type no_unit) { status = 76 } }
 {
     Event {
         status: status::UNIT_TOO_LARGE,

@@ -95,8 +95,8 @@ pub record GivesNoMemory (Popped : Answer → Type 0) (status : ℕ) (h : Handin
 -- the next unit, refused frame or unit that is too large of a receiver, by the status and the fault of the description
 pub record AnswersPopOrRefusal (Stays : Type 0) (Popped : Answer → Type 0) (TooLarge : Release → Type 0) (Told : Release → CUnit → Type 0) (status : ℕ) (h : Handing) : Type 0 where
   pub ok : status ≡ 0 → h.unit.fault ≡ 0 → Gives Stays Popped Told h
-  pub refused : status ≡ 0 → h.unit.fault ≢ 0 → h.unit.fault ≢ 74 → GivesRefusal Popped h
-  pub too_large : status ≡ 0 → h.unit.fault ≡ 74 → GivesTooLarge TooLarge h
+  pub refused : status ≡ 0 → h.unit.fault ≢ 0 → h.unit.fault ≢ 76 → GivesRefusal Popped h
+  pub too_large : status ≡ 0 → h.unit.fault ≡ 76 → GivesTooLarge TooLarge h
   pub too_small : status ≡ 33 → Keeps Stays Popped Told h
   pub none : status ≡ 32 → GivesNone Popped h
   pub no_memory : status ≢ 0 → status ≢ 32 → status ≢ 33 → GivesNoMemory Popped status h

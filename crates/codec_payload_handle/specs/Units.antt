@@ -36,7 +36,7 @@ refused_unit fault = record no_unit { fault = fault_number fault }
 
 -- a unit that is too large: that it is, and nothing else
 abbrev pub too_large_unit : CUnit
-too_large_unit = record no_unit { fault = 74 }
+too_large_unit = record no_unit { fault = 76 }
 
 -- the description of a unit without a receiver
 pub record TellsUnit (u : Release) (unit : CUnit) : Type 0 where

@@ -35,7 +35,7 @@ pub struct Unit {
     pub keyframe: bool,
     /// The codec-specific data of its payloads.
     pub extra: Extra,
-    /// 0 for a unit. Of a receiver: the number of the fault of a refused frame, or 74 for a unit that is too large; then all
+    /// 0 for a unit. Of a receiver: the number of the fault of a refused frame, or 76 for a unit that is too large; then all
     /// other fields are 0 or false.
     pub fault: u32,
 }
