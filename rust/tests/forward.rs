@@ -1,7 +1,7 @@
 //! A forwarder between two senders and a viewer's receiver, with losses, repetitions and reordering on both hops.
 
 use codec_payload::forward::*;
-use codec_payload::history::{History, HistorySettings, Resent};
+use codec_payload::history::{History, HistorySettings, Resent, RetransmissionStream};
 use codec_payload::rtp::RtpPacket;
 use codec_payload::sender::{Sample, Sender, SenderSettings};
 use codec_payload::stream::{Receiver, ReceiverSettings};
@@ -367,5 +367,95 @@ fn a_viewer_gets_whole_frames() -> Outcome {
     println!("{frames} frames, {switches} switches");
     assert_eq!(switches, 10);
     assert!(frames >= 560, "{frames} frames");
+    Ok(())
+}
+
+/// The packet of a VP8 payload with a PictureID of 15 bits and TL0PICIDX, TID 1 (RFC 7741, section 4.2).
+fn vp8(id: u16, tl0: u8, frame: &[u8]) -> Vec<u8> {
+    let [high, low] = id.to_be_bytes();
+    let mut payload = vec![0x90, 0xe0, 0x80 | high, low, tl0, 0x40];
+    payload.extend(frame);
+    payload
+}
+
+#[test]
+fn ids_of_vp8_go_on() -> Outcome {
+    let mut forwarder = Forwarder::new(settings(Codec::Vp8))?;
+    let mut out = Vec::new();
+    let mut write = |ssrc: u32, number: u16, payload: &[u8]| -> Result<Vec<u8>, Box<dyn Error>> {
+        if forwarder.source() != Some(ssrc) {
+            forwarder.want(ssrc);
+        }
+        let datagram = packet(number, 0, ssrc, payload);
+        forwarder.write(0, &RtpPacket::parse(&datagram)?, &mut out)?;
+        Ok(out.get(12..).unwrap_or_default().to_vec())
+    };
+    // The first picture gets 0 and 0, whatever it had.
+    assert_eq!(write(1, 10, &vp8(500, 77, &[0, 9]))?, vp8(0, 0, &[0, 9]));
+    // Offsets stay, with gaps and late packets.
+    assert_eq!(write(1, 13, &vp8(503, 79, &[1, 9]))?, vp8(3, 2, &[1, 9]));
+    assert_eq!(write(1, 11, &vp8(501, 77, &[1, 9]))?, vp8(1, 0, &[1, 9]));
+    // Another source goes on by one from the highest, and wraps.
+    assert_eq!(
+        write(2, 99, &vp8(32_767, 255, &[0, 9]))?,
+        vp8(4, 3, &[0, 9])
+    );
+    assert_eq!(write(2, 100, &vp8(0, 0, &[1, 9]))?, vp8(5, 4, &[1, 9]));
+    // A PictureID of 7 bits keeps its width; a payload without ids stays as it is.
+    let short = [0x90, 0x80, 126, 0, 9];
+    assert_eq!(write(3, 5, &short)?, [0x90, 0x80, 6, 0, 9]);
+    assert_eq!(
+        write(3, 6, &[0x90, 0x80, 127, 1, 9])?,
+        [0x90, 0x80, 7, 1, 9]
+    );
+    assert_eq!(write(3, 7, &[0x90, 0x80, 0, 1, 9])?, [0x90, 0x80, 8, 1, 9]);
+    assert_eq!(write(4, 1, &[0x10, 0, 9])?, [0x10, 0, 9]);
+    Ok(())
+}
+
+#[test]
+fn retransmissions_are_wrapped() -> Outcome {
+    let stream = RetransmissionStream {
+        ssrc: 0x8888,
+        payload_type: 102,
+        first_number: u16::MAX,
+    };
+    let wrong = RetransmissionStream {
+        payload_type: 128,
+        ..stream
+    };
+    let with = |stream| ForwardSettings {
+        retransmissions: Some(stream),
+        ..settings(Codec::Vp8)
+    };
+    assert_eq!(
+        Forwarder::new(with(wrong)).err(),
+        Some(ForwardError::RetransmissionType)
+    );
+    let mut forwarder = Forwarder::new(with(stream))?;
+    let mut out = Vec::new();
+    assert_eq!(forwarder.source_of(65_529), None);
+    forwarder.want(1);
+    let first = packet(10, 7, 1, &vp8(500, 77, &[0, 9]));
+    let other = packet(11, 7, 1, &vp8(501, 77, &[1, 9]));
+    for datagram in [&first, &other] {
+        forwarder.write(0, &RtpPacket::parse(datagram)?, &mut out)?;
+    }
+    for number in [u16::MAX, 0] {
+        assert_eq!(forwarder.source_of(65_530), Some(10));
+        assert!(forwarder.write_again(&RtpPacket::parse(&first)?, &mut out)?);
+        let mut sent = vec![0x80, 0x80 | 102];
+        sent.extend(number.to_be_bytes());
+        sent.extend((u32::MAX - 5_000).to_be_bytes());
+        sent.extend(0x8888_u32.to_be_bytes());
+        sent.extend(65_530_u16.to_be_bytes());
+        sent.extend(vp8(0, 0, &[0, 9]));
+        assert_eq!(out, sent);
+    }
+    // Above the highest number, and of another source.
+    for datagram in [packet(12, 7, 1, &[0]), packet(10, 7, 2, &[0])] {
+        assert!(!forwarder.write_again(&RtpPacket::parse(&datagram)?, &mut out)?);
+        assert!(out.is_empty());
+    }
     Ok(())
 }

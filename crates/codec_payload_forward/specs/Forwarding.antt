@@ -1,5 +1,5 @@
 -- What a forwarder does with a packet.
-use Rattle.std.specs.Prelude.{◌≡◌, ℕ, ◌+◌, ◌-◌, ◌%◌, ◌≤◌, ◌==◌, ◌&&◌, max, min, nat_lt, not, if◌then◌else◌, Bool, true, false, List, [], ◌∷◌, ◌++◌, Option, Some, None, Result, Ok, Err}
+use Rattle.std.specs.Prelude.{◌≡◌, ℕ, ◌+◌, ◌-◌, ◌%◌, ◌≤◌, ◌==◌, ◌&&◌, max, min, nat_lt, not, if◌then◌else◌, Bool, true, false, List, [], ◌∷◌, ◌++◌, Option, Some, None, is_some, Result, Ok, Err}
 use Rattle.std.specs.Int.{w16, to_be_bytes}
 use Rattle.codec_payload_base.specs.Extended.{nearest}
 use Rattle.codec_payload_base.specs.Flags.{has_bit}
@@ -173,7 +173,7 @@ Forwards now p f answers.LeftOut bytes t = (is_source f.source p.header.ssrc ≡
 
 -- the source's packet with that number is sent under that number of the viewer's stream
 abbrev pub IsNumberOf : Forward → (number n low : ℕ) → Type 0
-IsNumberOf f number n low = HasNumber f.numbers number n × (low ≡ n % 65536)
+IsNumberOf f number n low = (is_some f.source ≡ true) × HasNumber f.numbers number n × (low ≡ n % 65536)
 
 -- a packet as a retransmission (RFC 4588, section 4): under the SSRC, the payload type and the next number of the stream, with its own
 -- number in front of the payload, without padding

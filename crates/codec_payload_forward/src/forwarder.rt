@@ -477,6 +477,9 @@ impl Forwarder {
         ensures some { IfSome result (λ low. (n : ℕ) × IsNumberOf self.now number n low) }
         ensures none { IfNone result ((n low : ℕ) → IsNumberOf self.now number n low → ⊥) }
     {
+        if self.source.is_none() {
+            return None;
+        }
         let number = self.numbers.source_of(number)?;
         Some((number % 65_536) as u16)
     }

@@ -404,6 +404,9 @@ impl Forwarder {
     /// viewer requests the number. Take it from a store of the source's packets, and pass it to [`Forwarder::write_again`]. `None`:
     /// there is no such packet, or it is too old.
     pub fn source_of(&self, number: u16) -> Option<u16> {
+        if self.source.is_none() {
+            return None;
+        }
         let number = self.numbers.source_of(number)?;
         Some((number % 65_536) as u16)
     }
