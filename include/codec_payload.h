@@ -25,8 +25,8 @@
  *
  * STATUSES. A call returns a status; a few return a bool or a number. 0 is success, 1 to 17 are errors of payloads and of
  * memory, 32 to 41 are the library's own, 42 to 65 say why a datagram is not accepted, 66 to 73 why feedback is not read, and
- * 74 and 75 why a datagram gets no number. The enum below names them. If a call fails, its output buffer and its other output
- * arguments are unchanged. Exception: with CPAY_TOO_SMALL it writes the required size, and the other outputs except the bytes,
+ * 74 and 75 why a datagram gets no number; 76 is a unit above the bound. The enum below names them. If a call fails, its output
+ * buffer and its other output arguments are unchanged. Exception: with CPAY_TOO_SMALL it writes the required size, and the other outputs except the bytes,
  * unless its comment says otherwise.
  *
  * HANDLES. A packetizer, a depacketizer, a buffer, a RED sender, a sender, a history, a receiver, an adaptive wait, a
