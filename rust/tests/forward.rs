@@ -278,6 +278,7 @@ fn a_viewer_gets_whole_frames() -> Outcome {
     let (mut frames, mut switches, mut before) = (0, 0, None);
     for number in 0..600_u32 {
         let now = Ticks(u64::from(33 * number));
+        let clock = 2_970 * u64::from(number);
         if number % 60 == 0 {
             forwarder.want(1 + number / 60 % 2);
         }
@@ -318,7 +319,7 @@ fn a_viewer_gets_whole_frames() -> Outcome {
             let packet = RtpPacket::parse(datagram)?;
             let store = &mut stores[packet.header.ssrc as usize - 1];
             store.keep(datagram)?;
-            match forwarder.write(2_970 * u64::from(number), &packet, &mut out)? {
+            match forwarder.write(clock, &packet, &mut out)? {
                 Forwarded::Began => {
                     sent.push(out.clone());
                     switches += 1;
@@ -326,7 +327,7 @@ fn a_viewer_gets_whole_frames() -> Outcome {
                     for step in 1..64 {
                         let number = packet.header.sequence_number.wrapping_add(step);
                         if store.resend(Ticks(0), number, &mut kept)? == Resent::Written
-                            && forwarder.write(2_970, &RtpPacket::parse(&kept)?, &mut out)?
+                            && forwarder.write(clock, &RtpPacket::parse(&kept)?, &mut out)?
                                 == Forwarded::Written
                         {
                             sent.push(out.clone());
