@@ -278,6 +278,7 @@ fn a_viewer_gets_whole_frames() -> Outcome {
     let (mut frames, mut switches, mut before) = (0, 0, None);
     for number in 0..600_u32 {
         let now = Ticks(u64::from(33 * number));
+        let clock = 2_970 * u64::from(number);
         if number % 60 == 0 {
             forwarder.want(1 + number / 60 % 2);
         }
@@ -318,7 +319,7 @@ fn a_viewer_gets_whole_frames() -> Outcome {
             let packet = RtpPacket::parse(datagram)?;
             let store = &mut stores[packet.header.ssrc as usize - 1];
             store.keep(datagram)?;
-            match forwarder.write(2_970 * u64::from(number), &packet, &mut out)? {
+            match forwarder.write(clock, &packet, &mut out)? {
                 Forwarded::Began => {
                     sent.push(out.clone());
                     switches += 1;
@@ -326,7 +327,7 @@ fn a_viewer_gets_whole_frames() -> Outcome {
                     for step in 1..64 {
                         let number = packet.header.sequence_number.wrapping_add(step);
                         if store.resend(Ticks(0), number, &mut kept)? == Resent::Written
-                            && forwarder.write(2_970, &RtpPacket::parse(&kept)?, &mut out)?
+                            && forwarder.write(clock, &RtpPacket::parse(&kept)?, &mut out)?
                                 == Forwarded::Written
                         {
                             sent.push(out.clone());
@@ -457,5 +458,38 @@ fn retransmissions_are_wrapped() -> Outcome {
         assert!(!forwarder.write_again(&RtpPacket::parse(&datagram)?, &mut out)?);
         assert!(out.is_empty());
     }
+    Ok(())
+}
+
+#[test]
+fn left_out_packets_close_up() -> Outcome {
+    let mut forwarder = Forwarder::new(settings(Codec::Av1))?;
+    let mut out = Vec::new();
+    forwarder.want(1);
+    let mut call = |number: u16, wanted: bool| -> Result<(Forwarded, Vec<u8>), Box<dyn Error>> {
+        let datagram = packet(number, 500, 1, &[0x18, 7]);
+        let read = RtpPacket::parse(&datagram)?;
+        let answer = if wanted {
+            forwarder.write(0, &read, &mut out)?
+        } else {
+            forwarder.leave_out(&read, &mut out)?
+        };
+        Ok((answer, out.clone()))
+    };
+    let number = |out: &[u8]| u16::from_be_bytes([out[2], out[3]]);
+    assert_eq!(call(10, false)?, (Forwarded::OtherSource, vec![]));
+    assert_eq!(call(10, true)?.0, Forwarded::Began);
+    assert_eq!(call(11, false)?, (Forwarded::LeftOut, vec![]));
+    let (answer, bytes) = call(12, true)?;
+    assert_eq!((answer, number(&bytes)), (Forwarded::Written, 65_531));
+    let (answer, bytes) = call(14, true)?;
+    assert_eq!((answer, number(&bytes)), (Forwarded::Written, 65_533));
+    // 13 was lost and comes late: padding under its number. 11 comes again, and is wanted now.
+    let (answer, bytes) = call(13, false)?;
+    assert_eq!((answer, number(&bytes)), (Forwarded::Filled, 65_532));
+    assert_eq!((bytes[0], bytes.len(), bytes[12]), (0xa0, 13, 1));
+    assert_eq!(call(11, true)?, (Forwarded::LeftOut, vec![]));
+    assert_eq!(call(11, false)?, (Forwarded::LeftOut, vec![]));
+    assert_eq!(call(9, false)?, (Forwarded::TooOld, vec![]));
     Ok(())
 }

@@ -1,5 +1,5 @@
 -- What a forwarder does with a packet.
-use Rattle.std.specs.Prelude.{◌≡◌, ℕ, ◌+◌, ◌-◌, ◌%◌, ◌≤◌, ◌==◌, ◌&&◌, max, min, nat_lt, not, if◌then◌else◌, Bool, true, false, List, [], ◌∷◌, ◌++◌, Option, Some, None, is_some, Result, Ok, Err}
+use Rattle.std.specs.Prelude.{◌≡◌, ◌<◌, ◌⊎◌, ℕ, ◌+◌, ◌-◌, ◌%◌, ◌≤◌, ◌==◌, ◌&&◌, max, min, nat_lt, not, if◌then◌else◌, Bool, true, false, List, [], ◌∷◌, ◌++◌, Option, Some, None, is_some, Result, Ok, Err}
 use Rattle.std.specs.Int.{w16, to_be_bytes}
 use Rattle.codec_payload_base.specs.Extended.{nearest}
 use Rattle.codec_payload_base.specs.Flags.{has_bit}
@@ -168,6 +168,26 @@ Forwards now p f answers.NoKeyframe bytes t =
 Forwards now p f answers.OtherSource bytes t = (is_source f.source p.header.ssrc ≡ false) × (is_source f.wanted p.header.ssrc ≡ false) × IsLeft f bytes t
 Forwards now p f answers.TooOld bytes t = (is_source f.source p.header.ssrc ≡ true) × (placed f.numbers (number_in f p) true ≡ places.TooOld) × IsLeft f bytes t
 Forwards now p f answers.LeftOut bytes t = (is_source f.source p.header.ssrc ≡ true) × (placed f.numbers (number_in f p) true ≡ places.LeftOut) × IsLeft f bytes t
+Forwards now p f answers.Filled bytes t = ⊥
+
+-- a packet of padding alone, under the number and the time of a packet
+abbrev pub padding_packet : Forward → ℕ → Packet → Packet
+padding_packet f sent p = packet_under f.settings sent (time_as f.times p.header.timestamp) (record p { payload = []; padding = 1 })
+
+-- What is done with a packet that is left out: above all others it takes no number; if it comes late, its number is filled
+abbrev pub Leaves : Packet → Forward → Forwarded → List ℕ → Forward → Type 0
+Leaves p f answers.LeftOut bytes t =
+    (is_source f.source p.header.ssrc ≡ true) × (bytes ≡ [])
+    × (((placed f.numbers (number_in f p) true ≡ places.LeftOut) × (t ≡ f))
+    ⊎ ((f.numbers.highest < number_in f p) × (t ≡ record f { numbers = after_packet (number_in f p) false f.numbers })))
+Leaves p f answers.Filled bytes t =
+    (is_source f.source p.header.ssrc ≡ true) × (number_in f p ≤ f.numbers.highest)
+    × ((sent : ℕ) × (placed f.numbers (number_in f p) true ≡ places.Sent sent) × IsWritten (padding_packet f sent p) bytes) × (t ≡ f)
+Leaves p f answers.OtherSource bytes t = (is_source f.source p.header.ssrc ≡ false) × IsLeft f bytes t
+Leaves p f answers.TooOld bytes t = (is_source f.source p.header.ssrc ≡ true) × (placed f.numbers (number_in f p) true ≡ places.TooOld) × IsLeft f bytes t
+Leaves p f answers.Began bytes t = ⊥
+Leaves p f answers.Written bytes t = ⊥
+Leaves p f answers.NoKeyframe bytes t = ⊥
 
 -- ---- what was sent
 

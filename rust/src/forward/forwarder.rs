@@ -62,7 +62,7 @@ impl fmt::Display for ForwardError {
 
 impl core::error::Error for ForwardError {}
 
-/// What [`Forwarder::write`] did with a packet.
+/// What [`Forwarder::write`] or [`Forwarder::leave_out`] did with a packet.
 #[derive(Clone, Copy, Debug, PartialEq, Eq)]
 pub enum Forwarded {
     /// The packet was written, and is the first of another source. Packets of this source with higher numbers may have come before
@@ -76,8 +76,10 @@ pub enum Forwarded {
     OtherSource,
     /// The packet is older than the keyframe with which its source began, or too old to have a number.
     TooOld,
-    /// The packet was left out before, and has no number.
+    /// The packet is left out, or was left out before, and has no number. The numbers after it close up.
     LeftOut,
+    /// The packet was left out late. A packet of padding was written under its number, so that the viewer does not request it.
+    Filled,
 }
 
 /// Forwards the packets of one source after another to a viewer.
@@ -398,6 +400,56 @@ impl Forwarder {
         self.source = Some(header.ssrc);
         self.written_at = Some(now);
         Ok(Forwarded::Began)
+    }
+
+    /// Leaves a packet out that the viewer is not to get, such as one of a layer that it does not want, and replaces what `out` has.
+    /// Call it instead of [`Forwarder::write`]. A packet above all others takes no number, so the viewer does not miss it. For a
+    /// packet that comes late, `out` has a packet of padding under its number ([`Forwarded::Filled`]). With any other answer `out`
+    /// is empty.
+    ///
+    /// Ids in payloads do not close up: use it for codecs without picture ids, such as AV1 and audio. It takes 8 bytes for each
+    /// packet left out, at most 32,768 bytes.
+    ///
+    /// # Errors
+    ///
+    /// Memory ran out: the forwarder is unchanged, and `out` is empty.
+    pub fn leave_out(
+        &mut self,
+        packet: &RtpPacket<'_>,
+        out: &mut Vec<u8>,
+    ) -> Result<Forwarded, AllocError> {
+        out.clear();
+        if !is_source(self.source, packet.header.ssrc) {
+            return Ok(Forwarded::OtherSource);
+        }
+        let number = extended(self.numbers.highest(), packet.header.sequence_number);
+        match self.numbers.placed(number) {
+            Placed::Sent(sent) => self.close_up(number, sent, packet, out),
+            Placed::LeftOut => Ok(Forwarded::LeftOut),
+            Placed::TooOld | Placed::Unused(_) => Ok(Forwarded::TooOld),
+        }
+    }
+
+    /// Leaves out a packet with this number, which could be sent as `sent`.
+    fn close_up(
+        &mut self,
+        number: u64,
+        sent: u16,
+        packet: &RtpPacket<'_>,
+        out: &mut Vec<u8>,
+    ) -> Result<Forwarded, AllocError> {
+        if number > self.numbers.highest() {
+            self.numbers.place(number, false)?;
+            return Ok(Forwarded::LeftOut);
+        }
+        let time = self.times.sent_as(packet.header.timestamp);
+        let padding = RtpPacket {
+            header: packet.header,
+            payload: &[],
+            padding: 1,
+        };
+        write_under(self.settings, Place { number: sent, time }, &padding, out)?;
+        Ok(Forwarded::Filled)
     }
 
     /// Returns the number of the source's packet that was sent, or is to be sent, under this number: the packet to resend if the
