@@ -11,12 +11,11 @@
 //! - Use senders that send picture ids of 15 bits: the forwarder keeps their width.
 
 use codec_payload::forward::{ForwardSettings, Forwarded, Forwarder};
-use codec_payload::history::{History, HistorySettings, Resent};
+use codec_payload::history::Resent;
 use codec_payload::rtp::RtpPacket;
-use codec_payload::sender::{Sample, Sender, SenderSettings};
-use codec_payload::stream::{Receiver, ReceiverSettings};
 use codec_payload::{
-    Codec, CodecDepacketizer, CodecPacketizer, ExtensionValues, Frequency, MediaTime, Ticks,
+    Codec, CodecDepacketizer, CodecPacketizer, ExtensionValues, Frequency, History,
+    HistorySettings, MediaTime, Receiver, ReceiverSettings, Sample, Sender, SenderSettings, Ticks,
     Vp8Packetizer,
 };
 use std::error::Error;
