@@ -100,7 +100,7 @@ $(shared): $(out)/codec_payload.o packaging/codec_payload.map
 	    $(CFLAGS) $(LDFLAGS) $< -o $@
 
 # The tests: each is a program over the archive. `strict=-Werror` is how the repository builds them.
-programs = $(addprefix $(tests)/,example checks datagrams session history waiting packets values loopback port vectors frames oom descriptions)
+programs = $(addprefix $(tests)/,example checks datagrams session history waiting congestion packets values loopback port vectors frames oom descriptions)
 
 $(tests)/%: c/%.c $(wildcard c/*.h) $(headers) $(LIBRARY)
 	@mkdir -p $(tests)

@@ -13,6 +13,8 @@ typedef union {
     cpay_history history;
     cpay_receiver receiver;
     cpay_adaptive_wait adaptive_wait;
+    cpay_transport_reporter transport_reporter;
+    cpay_sent_packets sent_packets;
     cpay_session session;
 } any;
 

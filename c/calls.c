@@ -43,6 +43,14 @@ void cpay_adaptive_wait_free(cpay_adaptive_wait *wait) {
     if (wait) proved_cpay_free(&wait->handle);
 }
 
+void cpay_transport_reporter_free(cpay_transport_reporter *reporter) {
+    if (reporter) proved_cpay_free(&reporter->handle);
+}
+
+void cpay_sent_packets_free(cpay_sent_packets *packets) {
+    if (packets) proved_cpay_free(&packets->handle);
+}
+
 void cpay_session_free(cpay_session *session) {
     if (session) proved_cpay_free(&session->handle);
 }
@@ -329,6 +337,90 @@ cpay_status cpay_adaptive_wait_missing(cpay_adaptive_wait *wait, uint64_t now, c
 cpay_status proved_cpay_adaptive_wait_limit(cpay_handle *wait, uint64_t *limit);
 cpay_status cpay_adaptive_wait_limit(cpay_adaptive_wait *wait, uint64_t *limit) {
     return proved_cpay_adaptive_wait_limit(&wait->handle, limit);
+}
+
+void proved_cpay_transport_reporter_settings_init(cpay_transport_reporter_settings *settings, uint8_t extension_id,
+                                                  uint32_t ssrc);
+void cpay_transport_reporter_settings_init(cpay_transport_reporter_settings *settings, uint8_t extension_id, uint32_t ssrc) {
+    proved_cpay_transport_reporter_settings_init(settings, extension_id, ssrc);
+}
+
+cpay_status proved_cpay_transport_reporter_new(cpay_handle *reporter, const cpay_transport_reporter_settings *settings,
+                                               const uint8_t *cname, size_t cname_len);
+cpay_status cpay_transport_reporter_new(cpay_transport_reporter *reporter, const cpay_transport_reporter_settings *settings,
+                                        const uint8_t *cname, size_t cname_len) {
+    if (!cname && cname_len) return CPAY_INVALID;
+    return proved_cpay_transport_reporter_new(&reporter->handle, settings, cname ? cname : (const uint8_t *)nothing, cname_len);
+}
+
+cpay_status proved_cpay_transport_reporter_receive(cpay_handle *reporter, uint64_t now, const uint8_t *datagram,
+                                                   size_t datagram_len);
+cpay_status cpay_transport_reporter_receive(cpay_transport_reporter *reporter, uint64_t now, const uint8_t *datagram,
+                                            size_t datagram_len) {
+    if (!datagram && datagram_len) return CPAY_INVALID;
+    return proved_cpay_transport_reporter_receive(&reporter->handle, now, datagram ? datagram : (const uint8_t *)nothing,
+                                                  datagram_len);
+}
+
+cpay_status proved_cpay_transport_reporter_poll(cpay_handle *reporter, uint64_t now, uint8_t *bytes, size_t bytes_len,
+                                                size_t *size);
+cpay_status cpay_transport_reporter_poll(cpay_transport_reporter *reporter, uint64_t now, uint8_t *bytes, size_t bytes_len,
+                                         size_t *size) {
+    if (!bytes && bytes_len) return CPAY_INVALID;
+    return proved_cpay_transport_reporter_poll(&reporter->handle, now, bytes ? bytes : (uint8_t *)nothing, bytes_len, size);
+}
+
+cpay_status proved_cpay_transport_reporter_next_deadline(cpay_handle *reporter, uint64_t *at);
+cpay_status cpay_transport_reporter_next_deadline(cpay_transport_reporter *reporter, uint64_t *at) {
+    return proved_cpay_transport_reporter_next_deadline(&reporter->handle, at);
+}
+
+cpay_status proved_cpay_transport_reporter_restart(cpay_handle *reporter);
+cpay_status cpay_transport_reporter_restart(cpay_transport_reporter *reporter) {
+    return proved_cpay_transport_reporter_restart(&reporter->handle);
+}
+
+cpay_status proved_cpay_sent_packets_new(cpay_handle *packets, size_t limit);
+cpay_status cpay_sent_packets_new(cpay_sent_packets *packets, size_t limit) {
+    return proved_cpay_sent_packets_new(&packets->handle, limit);
+}
+
+cpay_status proved_cpay_sent_packets_assign(cpay_handle *packets, uint64_t now, uint16_t *number);
+cpay_status cpay_sent_packets_assign(cpay_sent_packets *packets, uint64_t now, uint16_t *number) {
+    return proved_cpay_sent_packets_assign(&packets->handle, now, number);
+}
+
+cpay_status proved_cpay_sent_packets_sent_at(cpay_handle *packets, uint16_t number, uint64_t *at);
+cpay_status cpay_sent_packets_sent_at(cpay_sent_packets *packets, uint16_t number, uint64_t *at) {
+    return proved_cpay_sent_packets_sent_at(&packets->handle, number, at);
+}
+
+cpay_status proved_cpay_read_transport_feedback(const uint8_t *rtcp, size_t rtcp_len, bool full, size_t index,
+                                                cpay_transport_feedback_info *info, cpay_packet_arrival *packets,
+                                                size_t packets_len);
+cpay_status cpay_read_transport_feedback(const uint8_t *rtcp, size_t rtcp_len, bool full, size_t index,
+                                         cpay_transport_feedback_info *info, cpay_packet_arrival *packets, size_t packets_len) {
+    if ((!rtcp && rtcp_len) || (!packets && packets_len)) return CPAY_INVALID;
+    return proved_cpay_read_transport_feedback(rtcp ? rtcp : (const uint8_t *)nothing, rtcp_len, full, index, info,
+                                               packets ? packets : (cpay_packet_arrival *)nothing, packets_len);
+}
+
+cpay_status proved_cpay_write_remb(uint32_t sender_ssrc, uint64_t bitrate, const uint32_t *ssrcs, size_t ssrcs_len,
+                                   uint8_t *bytes, size_t bytes_len, size_t *size);
+cpay_status cpay_write_remb(uint32_t sender_ssrc, uint64_t bitrate, const uint32_t *ssrcs, size_t ssrcs_len, uint8_t *bytes,
+                            size_t bytes_len, size_t *size) {
+    if ((!ssrcs && ssrcs_len) || (!bytes && bytes_len)) return CPAY_INVALID;
+    return proved_cpay_write_remb(sender_ssrc, bitrate, ssrcs ? ssrcs : (const uint32_t *)nothing, ssrcs_len,
+                                  bytes ? bytes : (uint8_t *)nothing, bytes_len, size);
+}
+
+cpay_status proved_cpay_read_remb(const uint8_t *rtcp, size_t rtcp_len, bool full, size_t index, uint64_t *bitrate,
+                                  uint32_t *ssrcs, size_t ssrcs_len, size_t *count);
+cpay_status cpay_read_remb(const uint8_t *rtcp, size_t rtcp_len, bool full, size_t index, uint64_t *bitrate, uint32_t *ssrcs,
+                           size_t ssrcs_len, size_t *count) {
+    if ((!rtcp && rtcp_len) || (!ssrcs && ssrcs_len)) return CPAY_INVALID;
+    return proved_cpay_read_remb(rtcp ? rtcp : (const uint8_t *)nothing, rtcp_len, full, index, bitrate,
+                                 ssrcs ? ssrcs : (uint32_t *)nothing, ssrcs_len, count);
 }
 
 void proved_cpay_session_settings_init(cpay_session_settings *settings, cpay_purpose purpose);

@@ -3,8 +3,8 @@
 #
 #   c/check.sh FOLDER COMMAND..    the programs are in FOLDER; COMMAND, if given, runs each of them
 #
-# The result of each call: checks, datagrams, session, history, waiting, values, packets. Over UDP on loopback: a stream,
-# loopback, and a port with two senders, port. The stored script of the program payload_vectors: vectors. Headers of frames,
+# The result of each call: checks, datagrams, session, history, waiting, congestion, values, packets. Over UDP on loopback: a
+# stream, loopback, and a port with two senders, port. The stored script of the program payload_vectors: vectors. Headers of frames,
 # compared with other readers, and hostile frames: frames, frames.txt.
 # Allocations less frees after each type of use, and each allocation of a session refused in turn: oom. Session descriptions in
 # c/sdp: descriptions. Each is read as NAME.txt says, which was written by hand after the RFCs; the faults are in faults.txt, and
@@ -27,7 +27,7 @@ says() {
     [ "$(sed -n "$2p" "$work/$1")" = "$3" ] || fail "c/$1.c printed something else: $(sed -n "$2p" "$work/$1")"
 }
 
-for name in example checks datagrams session history waiting packets values loopback port oom; do
+for name in example checks datagrams session history waiting congestion packets values loopback port oom; do
     "$@" "$folder/$name" >"$work/$name" || {
         cat "$work/$name" >&2
         fail "c/$name.c failed"

@@ -304,6 +304,75 @@ static int waiting(int *met) {
     return kept == before ? 0 : 5;
 }
 
+/* A packet with this transport-wide number under id 5. */
+static cpay_status numbered(cpay_transport_reporter *reporter, uint64_t now, uint8_t number) {
+    const uint8_t datagram[20] = {0x90, 96, 0, 1, 0, 0, 0, 0, 0, 0, 0, 7, 0xbe, 0xde, 0, 1, 0x51, 0, number, 0};
+    return cpay_transport_reporter_receive(reporter, now, datagram, sizeof datagram);
+}
+
+/* A reporter with a name: packets arrive, with a gap, and are reported; the feedback is read with the times of sending. REMB. */
+static int transport(int *met) {
+    long before = kept;
+    cpay_transport_reporter_settings settings;
+    cpay_transport_reporter_settings_init(&settings, 5, 1);
+    settings.has_report = true;
+    cpay_transport_reporter reporter = CPAY_INIT;
+    cpay_sent_packets sent = CPAY_INIT;
+    cpay_transport_feedback_info info = {0};
+    cpay_packet_arrival packets[8] = {{0}};
+    uint8_t bytes[64] = {0};
+    static const uint32_t ssrcs[2] = {1, 2};
+    uint64_t at = 0;
+    uint16_t number = 99;
+    size_t size = 99;
+    cpay_status status;
+    AGAIN(status, cpay_transport_reporter_new(&reporter, &settings, (const uint8_t *)"me", 2));
+    if (status) return 1;
+    AGAIN(status, cpay_sent_packets_new(&sent, 8));
+    if (status) return 2;
+    for (uint8_t i = 0; i < 8; i++) {
+        refused = false;
+        status = cpay_sent_packets_assign(&sent, i, &number);
+        if (status == CPAY_OUT_OF_MEMORY) {
+            (*met)++;
+            if (!refused || (i > 0 && number != i - 1)) return 3;
+            status = cpay_sent_packets_assign(&sent, i, &number);
+        }
+        if (status || number != i) return 4;
+        if (i == 3) continue;
+        AGAIN(status, numbered(&reporter, 64 + i, i));
+        if (status) return 5;
+    }
+    refused = false;
+    status = cpay_transport_reporter_poll(&reporter, 100, bytes, 10, &size);
+    if (status == CPAY_OUT_OF_MEMORY) {
+        (*met)++;
+        if (!refused || size != 99 || cpay_transport_reporter_next_deadline(&reporter, &at) || at) return 6;
+        status = cpay_transport_reporter_poll(&reporter, 100, bytes, 10, &size);
+    }
+    if (status != CPAY_TOO_SMALL || size != 56 || bytes[0]) return 7;
+    if (cpay_transport_reporter_poll(&reporter, 100, bytes, sizeof bytes, &size) || size != 56) return 8;
+    if (cpay_transport_reporter_poll(&reporter, 1000, bytes, sizeof bytes, &size) != CPAY_NONE) return 9;
+    AGAIN(status, cpay_read_transport_feedback(bytes, 56, true, 0, &info, packets, 8));
+    if (status || info.count != 8 || info.counter) return 10;
+    for (uint8_t i = 0; i < 8; i++) {
+        if (packets[i].number != i || packets[i].arrived != (i != 3) || packets[i].time != (i == 3 ? 0 : 256 + 4u * i)) return 11;
+        if (cpay_sent_packets_sent_at(&sent, packets[i].number, &at) || at != i) return 12;
+    }
+    size = 99;
+    refused = false;
+    status = cpay_write_remb(1, 1000, ssrcs, 2, bytes, sizeof bytes, &size);
+    if (status == CPAY_OUT_OF_MEMORY) {
+        (*met)++;
+        if (!refused || size != 99) return 13;
+        status = cpay_write_remb(1, 1000, ssrcs, 2, bytes, sizeof bytes, &size);
+    }
+    if (status || size != 28) return 14;
+    cpay_transport_reporter_free(&reporter);
+    cpay_sent_packets_free(&sent);
+    return kept == before ? 0 : 15;
+}
+
 /* A packet of Opus: its header of 12 bytes, and the payload. */
 static size_t packet(uint8_t *out, uint8_t type, uint8_t ssrc, uint8_t number, const char *payload, size_t size) {
     const uint8_t header[12] = {0x80, type, 0, number, 0, 0, 0, number, 0, 0, 0, ssrc};
@@ -543,6 +612,27 @@ static int left_in_history(void) {
     return 0;
 }
 
+/* A reporter with numbers, with a packet that waits, and with neither; and sent packets. */
+static int left_in_transport(void) {
+    for (int stage = 0; stage < 3; stage++) {
+        long before = kept;
+        any it = ANY_INIT;
+        size_t size = 0;
+        cpay_transport_reporter_settings settings;
+        cpay_transport_reporter_settings_init(&settings, 5, 1);
+        if (cpay_transport_reporter_new(&it.transport_reporter, &settings, (const uint8_t *)"me", 2)) return 1;
+        if (stage > 0 && numbered(&it.transport_reporter, 0, 1)) return 2;
+        if (stage > 1 && cpay_transport_reporter_poll(&it.transport_reporter, 0, NULL, 0, &size) != CPAY_TOO_SMALL) return 3;
+        if (!gives_back(&it, before)) return 4;
+        uint16_t number = 0;
+        if (cpay_sent_packets_new(&it.sent_packets, 4)) return 5;
+        for (int i = 0; i < 3 * stage; i++)
+            if (cpay_sent_packets_assign(&it.sent_packets, 0, &number)) return 6;
+        if (!gives_back(&it, before)) return 7;
+    }
+    return 0;
+}
+
 /* Packets of one size: once a history is full, no call allocates. */
 static int resends_allocate(void) {
     const cpay_history_settings settings = {.limit = 4};
@@ -580,6 +670,8 @@ static int too_large(void) {
     const cpay_history_settings keeps = {.limit = 512};
     cpay_adaptive_wait_settings waits;
     cpay_adaptive_wait_settings_init(&waits);
+    cpay_transport_reporter_settings reports;
+    cpay_transport_reporter_settings_init(&reports, 5, 1);
     static const uint32_t distance = 1;
     cpay_receiver_settings receives;
     cpay_receiver_settings_init(&receives, CPAY_OPUS, 48000, 111, CPAY_FOR_LIVE);
@@ -597,6 +689,8 @@ static int too_large(void) {
     TAKES(200, "history", cpay_history_new(&it.history, &keeps));
     TAKES(1320, "receiver", cpay_receiver_new(&it.receiver, &receives, NULL, 0));
     TAKES(1900, "adaptive wait", cpay_adaptive_wait_new(&it.adaptive_wait, &waits));
+    TAKES(250, "transport reporter", cpay_transport_reporter_new(&it.transport_reporter, &reports, NULL, 0));
+    TAKES(100, "list of sent packets", cpay_sent_packets_new(&it.sent_packets, 2048));
     TAKES(1200, "session", cpay_session_new(&it.session, &port, &format, 1, NULL, 0, NULL, 0));
     return bad;
 }
@@ -651,6 +745,7 @@ static int leaks(void) {
     if ((ended = left_in_red())) printf("memory left by RED: ended %d\n", ended), bad++;
     if ((ended = left_in_session())) printf("memory left by a session: ended %d\n", ended), bad++;
     if ((ended = left_in_history())) printf("memory left by a history: ended %d\n", ended), bad++;
+    if ((ended = left_in_transport())) printf("memory left by a transport: ended %d\n", ended), bad++;
     if ((ended = resends_allocate())) printf("resends in steady state: ended %d\n", ended), bad++;
     if ((ended = pops_allocate())) printf("pops in steady state: ended %d\n", ended), bad++;
     return bad + too_large();
@@ -667,6 +762,7 @@ static int session(int *met) {
     if (!ended) ended = datagrams(met);
     if (!ended) ended = history(met);
     if (!ended) ended = waiting(met);
+    if (!ended) ended = transport(met);
     if (!ended) ended = port(met);
     if (!ended) ended = ending(met);
     return ended ? ended : recovery(met);

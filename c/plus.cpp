@@ -185,6 +185,32 @@ void over_an_adaptive_wait() {
     CHECK(wait.limit(limit) == CPAY_OK && limit == 100);
 }
 
+void over_a_transport() {
+    cpay_transport_reporter_settings settings;
+    cpay_transport_reporter_settings_init(&settings, 5, 1);
+    const std::uint8_t packet[] = {0x90, 96, 0, 1, 0, 0, 0, 0, 0, 0, 0, 7, 0xbe, 0xde, 0, 1, 0x51, 0, 0, 0};
+    const std::array<std::uint8_t, 2> cname = {'m', 'e'};
+    cpay::transport_reporter reporter;
+    cpay::sent_packets sent;
+    cpay::storage found;
+    cpay_transport_feedback_info info = {};
+    cpay_packet_arrival arrivals[2] = {};
+    std::uint64_t at = 9, bitrate = 0;
+    std::uint16_t number = 9;
+    std::size_t size = 0, count = 0;
+    CHECK(reporter.poll(0, found) == CPAY_EMPTY && found.empty());
+    CHECK(reporter.make(settings, cname) == CPAY_OK && sent.make(8) == CPAY_OK && sent.assign(3, number) == CPAY_OK && number == 0);
+    CHECK(reporter.next_deadline(at) == CPAY_NONE && reporter.receive(64, packet) == CPAY_OK);
+    CHECK(reporter.next_deadline(at) == CPAY_OK && at == 0 && reporter.poll(64, found) == CPAY_OK && found.size() == 24);
+    CHECK(cpay::read_transport_feedback(found, false, 0, info, arrivals) == CPAY_OK && info.count == 1 && arrivals[0].time == 256);
+    CHECK(sent.sent_at(arrivals[0].number, at) == CPAY_OK && at == 3 && reporter.restart() == CPAY_OK);
+    const std::uint32_t ssrcs[] = {7};
+    std::array<std::uint8_t, 24> remb = {};
+    std::uint32_t sources[1] = {};
+    CHECK(cpay::write_remb(1, 1000, ssrcs, remb, size) == CPAY_OK && size == 24);
+    CHECK(cpay::read_remb(remb, false, 0, bitrate, sources, count) == CPAY_OK && bitrate == 1000 && count == 1 && sources[0] == 7);
+}
+
 void over_red() {
     const std::uint32_t distances[] = {1};
     const std::uint8_t payload[] = {1, 2, 3};
@@ -208,6 +234,7 @@ int main() {
     over_payloads();
     over_a_history();
     over_an_adaptive_wait();
+    over_a_transport();
     over_red();
     return checked();
 }

@@ -24,12 +24,12 @@
  * senders that mark each partition as a start. See docs/LIMITS.md.
  *
  * STATUSES. A call returns a status; a few return a bool or a number. 0 is success, 1 to 17 are errors of payloads and of memory,
- * 32 to 41 are the library's own, and 42 to 65 say why a datagram is not accepted. The enum below names them. If a call fails, its
+ * 32 to 41 are the library's own, 42 to 65 say why a datagram is not accepted, and 66 to 73 why feedback is not read. The enum below names them. If a call fails, its
  * output buffer and its other output arguments are unchanged. Exception: with CPAY_TOO_SMALL it writes the required size, and the
  * other outputs except the bytes, unless its comment says otherwise.
  *
- * HANDLES. A packetizer, a depacketizer, a buffer, a RED sender, a sender, a history, a receiver, an adaptive wait and a session
- * each live in a handle: a struct of that type in your own memory. Initialise it with CPAY_INIT, create the object by the call named *_new, and
+ * HANDLES. A packetizer, a depacketizer, a buffer, a RED sender, a sender, a history, a receiver, an adaptive wait, a transport
+ * reporter, the sent packets of a transport and a session each live in a handle: a struct of that type in your own memory. Initialise it with CPAY_INIT, create the object by the call named *_new, and
  * end with the call named *_free, which leaves the handle empty. You may free an empty handle. Other calls on an empty handle return
  * CPAY_EMPTY; calls on a handle of another type, as after a cast, return CPAY_OTHER_KIND. Never write into a handle. Never copy a
  * handle in use: the library cannot detect that another copy was freed. You may move it in memory if you forget the old place.
@@ -174,7 +174,15 @@ typedef enum {
     CPAY_RTCP_FEEDBACK_TOO_SHORT = 62, /**< feedback ends inside its two SSRCs */
     CPAY_RTCP_NACK_LENGTH = 63,        /**< a generic NACK names no packet, or ends inside an entry */
     CPAY_RTCP_PLI_LENGTH = 64,         /**< a PLI has bytes after its two SSRCs */
-    CPAY_RTCP_FIR_LENGTH = 65          /**< a FIR has no entries, or ends inside one */
+    CPAY_RTCP_FIR_LENGTH = 65,         /**< a FIR has no entries, or ends inside one */
+    CPAY_REMB_TOO_SHORT = 66, /**< 66 to 69 say why application layer feedback is not REMB: it has fewer than 8 bytes */
+    CPAY_REMB_OTHER = 67,     /**< its identifier is another one */
+    CPAY_REMB_TOO_LARGE = 68, /**< its bitrate has more than 64 bits */
+    CPAY_REMB_SOURCES_TOO_SHORT = 69,   /**< it ends inside its SSRCs */
+    CPAY_TRANSPORT_HEADER_TOO_SHORT = 70, /**< 70 to 73 say why transport-wide feedback is not read: it has fewer than 8 bytes */
+    CPAY_TRANSPORT_CHUNKS_TOO_SHORT = 71, /**< its chunks end before each packet has a status */
+    CPAY_TRANSPORT_RESERVED = 72,         /**< a status is 3, which is reserved */
+    CPAY_TRANSPORT_DELTAS_TOO_SHORT = 73  /**< it ends before the delta of a packet that arrived */
 } cpay_status;
 
 /** Codecs. */
@@ -240,6 +248,14 @@ typedef struct {
 
 typedef struct {
     cpay_handle handle;
+} cpay_transport_reporter;
+
+typedef struct {
+    cpay_handle handle;
+} cpay_sent_packets;
+
+typedef struct {
+    cpay_handle handle;
 } cpay_session;
 
 #define CPAY_INIT { { false, { NULL } } }
@@ -253,6 +269,8 @@ void cpay_sender_free(cpay_sender *sender);
 void cpay_history_free(cpay_history *history);
 void cpay_receiver_free(cpay_receiver *receiver);
 void cpay_adaptive_wait_free(cpay_adaptive_wait *wait);
+void cpay_transport_reporter_free(cpay_transport_reporter *reporter);
+void cpay_sent_packets_free(cpay_sent_packets *packets);
 void cpay_session_free(cpay_session *session);
 
 /** A codec with its settings. Settings of other codecs are ignored, with two exceptions: `rate` is always checked, and
@@ -889,6 +907,111 @@ CPAY_CHECKED cpay_status cpay_adaptive_wait_missing(cpay_adaptive_wait *wait, ui
  * allocate. */
 CPAY_CHECKED cpay_status cpay_adaptive_wait_limit(cpay_adaptive_wait *wait, uint64_t *limit);
 
+/* ---- Congestion control: when the packets of a transport arrived, and the largest bitrate ---- */
+
+/** How the arrivals of a transport are reported. Begin with cpay_transport_reporter_settings_init. */
+typedef struct {
+    uint64_t interval;    /**< number of ticks between two feedbacks: 50 to 250 ms suit video; 0 counts as 1 */
+    size_t size;          /**< maximum number of bytes of the control information of a feedback, which comes after 20 bytes of the
+                               packet and, with has_report, after the report and the name. At least one number is reported */
+    size_t window;        /**< how many numbers are remembered, 1 to 32768: 8 bytes each. 500 ms of packets suit */
+    uint32_t tick_rate;   /**< ticks per second of your clock, above 0. Arrivals are reported in quarters of a millisecond: whole
+                               milliseconds suffice, and a clock of microseconds is better */
+    uint32_t ssrc;        /**< SSRC of the reporter as a sender of RTCP */
+    uint8_t extension_id; /**< id of the header extension with the transport-wide number, 1 to 255: `a=extmap` with
+                               `http://www.ietf.org/id/draft-holmer-rmcat-transport-wide-cc-extensions-01` */
+    bool has_report;      /**< each packet begins with an empty receiver report and the name (RFC 3550, section 6.1); else it has
+                               reduced size (RFC 5506), which browsers accept */
+} cpay_transport_reporter_settings;
+
+/** Sets how a reporter begins, for a clock of milliseconds: a feedback of at most 1100 bytes each 100 ms about the last 2048
+ * numbers, of reduced size. Does not allocate. */
+void cpay_transport_reporter_settings_init(cpay_transport_reporter_settings *settings, uint8_t extension_id, uint32_t ssrc);
+
+/** Creates a reporter in an empty handle. It reports when each packet of a transport arrived, as the congestion control of a browser
+ * needs it (draft-holmer-rmcat-transport-wide-cc-extensions-01). It is for one transport, that is one peer: the numbers count all
+ * packets that this peer sends. `cname` is the canonical name of the reporter (RFC 3550, section 6.5.1), at most 255 bytes; without
+ * has_report it is not sent. The name is copied. Do not accept `transport-cc` in an answer unless you send this feedback: docs/RTCP.md.
+ * CPAY_INVALID: `tick_rate` or `extension_id` 0, `window` out of range, or a longer name. [m] */
+CPAY_CHECKED cpay_status cpay_transport_reporter_new(cpay_transport_reporter *reporter,
+                                                     const cpay_transport_reporter_settings *settings, const uint8_t *cname,
+                                                     size_t cname_len);
+
+/** Records that a datagram arrived at time `now`, in ticks of your clock. Pass each datagram of the transport: media, retransmissions,
+ * padding, unknown payload types, duplicates. Any bytes are accepted. A datagram that is not an RTP packet, or that has no number,
+ * changes nothing. The first time of a number counts, and a number before the window is ignored. A number that was reported as missing
+ * is reported again, with all numbers after it. CPAY_OUT_OF_MEMORY: nothing changed. [m] */
+CPAY_CHECKED cpay_status cpay_transport_reporter_receive(cpay_transport_reporter *reporter, uint64_t now,
+                                                         const uint8_t *datagram, size_t datagram_len);
+
+/** Writes the packet that is due at time `now`, a compound packet of RTCP for the peer, to the output buffer, and its size to *size:
+ * send it. Call it until CPAY_NONE, after each datagram and at each deadline: a feedback that is larger than the setting `size` is
+ * split, and its parts are due at once. CPAY_NONE: nothing is due. CPAY_TOO_SMALL: *size is written, and the packet waits for the next
+ * call. CPAY_OUT_OF_MEMORY: the feedback stays due. [m] */
+CPAY_CHECKED cpay_status cpay_transport_reporter_poll(cpay_transport_reporter *reporter, uint64_t now, uint8_t *bytes,
+                                                      size_t bytes_len, size_t *size);
+
+/** Reports when the next packet is due: `interval` after the last feedback; 0 if there was none, while parts of a feedback are left,
+ * or while a packet waits that did not fit. CPAY_NONE: everything is reported. Does not allocate. */
+CPAY_CHECKED cpay_status cpay_transport_reporter_next_deadline(cpay_transport_reporter *reporter, uint64_t *at);
+
+/** Forgets all numbers, and the packet that waits: the peer begins again. Without this call numbers behind the window are ignored until
+ * they pass the highest one. */
+CPAY_CHECKED cpay_status cpay_transport_reporter_restart(cpay_transport_reporter *reporter);
+
+/** Creates the counter of a transport on which you send in an empty handle. Its first number is 0. The times of the last `limit` packets
+ * are remembered, 1 to 32768, 8 bytes each: those of the round-trip time and of the interval between two feedbacks suit. One counter
+ * serves all streams of a transport, their retransmissions and padding. CPAY_INVALID: `limit` out of range. [m] */
+CPAY_CHECKED cpay_status cpay_sent_packets_new(cpay_sent_packets *packets, size_t limit);
+
+/** Counts the next packet of the transport, which is sent at time `now`, and writes its number: two bytes in network order in the
+ * header extension of the packet. CPAY_OUT_OF_MEMORY: nothing changed, and the number is not used. [m] */
+CPAY_CHECKED cpay_status cpay_sent_packets_assign(cpay_sent_packets *packets, uint64_t now, uint16_t *number);
+
+/** Reports when the packet with this number was sent. CPAY_NONE: it is not among the remembered packets. Does not allocate. */
+CPAY_CHECKED cpay_status cpay_sent_packets_sent_at(cpay_sent_packets *packets, uint16_t number, uint64_t *at);
+
+/** What a transport-wide feedback reports on. */
+typedef struct {
+    size_t count;         /**< how many numbers it reports on, one after another */
+    uint32_t sender_ssrc; /**< SSRC of the sender of the feedback */
+    uint32_t media_ssrc;  /**< SSRC of any stream of the transport */
+    uint16_t base;        /**< the first number */
+    uint8_t counter;      /**< the number of the feedback, modulo 256 */
+} cpay_transport_feedback_info;
+
+/** What a transport-wide feedback says about a packet. */
+typedef struct {
+    uint32_t time;   /**< when it arrived, in quarters of a millisecond of the receiver's clock, modulo 2^32; 0 if it did not */
+    uint16_t number; /**< its transport-wide number: see cpay_sent_packets_sent_at */
+    bool arrived;    /**< false: it is missing so far */
+} cpay_packet_arrival;
+
+/** Reads transport-wide feedback number `index`, from 0, of one datagram of RTCP: what it says about each packet goes to `packets`, in
+ * the order of the numbers. `full` is as for cpay_read_requests. With CPAY_OK, elements after the first `count` are unchanged.
+ * CPAY_NONE: the datagram has no feedback with this index. CPAY_TOO_SMALL: `packets` is too short; *info is written.
+ * CPAY_RTCP_HEADER_TOO_SHORT to CPAY_RTCP_FIR_LENGTH: not a compound RTCP packet. CPAY_TRANSPORT_HEADER_TOO_SHORT to
+ * CPAY_TRANSPORT_DELTAS_TOO_SHORT: the first fault of the feedback; others in the datagram may be read. Any peer can make it allocate
+ * 600 kB for the time of the call. [m] */
+CPAY_CHECKED cpay_status cpay_read_transport_feedback(const uint8_t *rtcp, size_t rtcp_len, bool full, size_t index,
+                                                      cpay_transport_feedback_info *info, cpay_packet_arrival *packets,
+                                                      size_t packets_len);
+
+/** Writes a packet of REMB to the output buffer, and its size to *size: 20 bytes, and 4 for each SSRC. It asks the sender of these
+ * streams, at most 255, to send at most this bitrate together (draft-alvestrand-rmcat-remb-03). The bitrate, in bits per second, is
+ * rounded down to 18 binary digits. The packet has no padding, and may stand anywhere in a compound packet. CPAY_TOO_SMALL: *size is
+ * written. CPAY_INVALID: more than 255 SSRCs. [m] */
+CPAY_CHECKED cpay_status cpay_write_remb(uint32_t sender_ssrc, uint64_t bitrate, const uint32_t *ssrcs, size_t ssrcs_len,
+                                         uint8_t *bytes, size_t bytes_len, size_t *size);
+
+/** Reads application layer feedback number `index`, from 0, of one datagram of RTCP, as REMB. `full` is as for cpay_read_requests. The
+ * SSRCs go to `ssrcs`, as many as fit; the rest is unchanged. *count is how many there are, at most 255. *bitrate is in bits per
+ * second. CPAY_NONE: the datagram has no such feedback with this index. CPAY_RTCP_HEADER_TOO_SHORT to CPAY_RTCP_FIR_LENGTH: not a
+ * compound RTCP packet. CPAY_REMB_TOO_SHORT to CPAY_REMB_SOURCES_TOO_SHORT: this feedback is not REMB; another one in the datagram
+ * may be. Does not allocate. */
+CPAY_CHECKED cpay_status cpay_read_remb(const uint8_t *rtcp, size_t rtcp_len, bool full, size_t index, uint64_t *bitrate,
+                                        uint32_t *ssrcs, size_t ssrcs_len, size_t *count);
+
 /* ---- A session: all datagrams of a port in, the events of its streams out ---- */
 
 /** A payload format of a port, as a=rtpmap and a=fmtp of a session description name it (RFC 8866, section 6). */
@@ -1307,6 +1430,14 @@ static inline const char *cpay_status_text(cpay_status status) {
     case CPAY_RTCP_NACK_LENGTH: return "the RTCP NACK has a wrong length";
     case CPAY_RTCP_PLI_LENGTH: return "the RTCP PLI has a wrong length";
     case CPAY_RTCP_FIR_LENGTH: return "the RTCP FIR has a wrong length";
+    case CPAY_REMB_TOO_SHORT: return "REMB is shorter than its bitrate";
+    case CPAY_REMB_OTHER: return "the feedback is not REMB";
+    case CPAY_REMB_TOO_LARGE: return "the bitrate of REMB has more than 64 bits";
+    case CPAY_REMB_SOURCES_TOO_SHORT: return "REMB ends inside its SSRCs";
+    case CPAY_TRANSPORT_HEADER_TOO_SHORT: return "the transport-wide feedback is shorter than its header";
+    case CPAY_TRANSPORT_CHUNKS_TOO_SHORT: return "the transport-wide feedback ends inside its chunks";
+    case CPAY_TRANSPORT_RESERVED: return "the transport-wide feedback has a reserved status";
+    case CPAY_TRANSPORT_DELTAS_TOO_SHORT: return "the transport-wide feedback ends inside its deltas";
     default: return "unknown status";
     }
 }

@@ -208,6 +208,58 @@ public:
     [[nodiscard]] cpay_status limit(std::uint64_t &limit) noexcept { return cpay_adaptive_wait_limit(get(), &limit); }
 };
 
+/** Datagrams of a transport in, packets that report when each of its packets arrived out. */
+class transport_reporter : public handle<cpay_transport_reporter, cpay_transport_reporter_free> {
+public:
+    [[nodiscard]] cpay_status make(const cpay_transport_reporter_settings &settings, bytes cname = {}) noexcept {
+        return cpay_transport_reporter_new(get(), &settings, cname.data(), cname.size());
+    }
+    [[nodiscard]] cpay_status receive(std::uint64_t now, bytes datagram) noexcept {
+        return cpay_transport_reporter_receive(get(), now, datagram.data(), datagram.size());
+    }
+    [[nodiscard]] cpay_status poll(std::uint64_t now, room to, std::size_t &size) noexcept {
+        return cpay_transport_reporter_poll(get(), now, to.data(), to.size(), &size);
+    }
+    /** The same into memory that grows as needed. */
+    [[nodiscard]] cpay_status poll(std::uint64_t now, storage &to) {
+        std::size_t size = 0;
+        return to.fill(size, [&](room it) { return poll(now, it, size); });
+    }
+    [[nodiscard]] cpay_status next_deadline(std::uint64_t &at) noexcept { return cpay_transport_reporter_next_deadline(get(), &at); }
+    [[nodiscard]] cpay_status restart() noexcept { return cpay_transport_reporter_restart(get()); }
+};
+
+/** The numbers and the times of the packets that are sent on a transport. */
+class sent_packets : public handle<cpay_sent_packets, cpay_sent_packets_free> {
+public:
+    [[nodiscard]] cpay_status make(std::size_t limit) noexcept { return cpay_sent_packets_new(get(), limit); }
+    [[nodiscard]] cpay_status assign(std::uint64_t now, std::uint16_t &number) noexcept {
+        return cpay_sent_packets_assign(get(), now, &number);
+    }
+    [[nodiscard]] cpay_status sent_at(std::uint16_t number, std::uint64_t &at) noexcept {
+        return cpay_sent_packets_sent_at(get(), number, &at);
+    }
+};
+
+/** What transport-wide feedback number `index` of a datagram says: see cpay_read_transport_feedback. */
+[[nodiscard]] inline cpay_status read_transport_feedback(bytes rtcp, bool full, std::size_t index,
+                                                         cpay_transport_feedback_info &info,
+                                                         view<cpay_packet_arrival> packets) noexcept {
+    return cpay_read_transport_feedback(rtcp.data(), rtcp.size(), full, index, &info, packets.data(), packets.size());
+}
+
+/** A packet of REMB: see cpay_write_remb. */
+[[nodiscard]] inline cpay_status write_remb(std::uint32_t sender_ssrc, std::uint64_t bitrate, view<const std::uint32_t> ssrcs,
+                                            room to, std::size_t &size) noexcept {
+    return cpay_write_remb(sender_ssrc, bitrate, ssrcs.data(), ssrcs.size(), to.data(), to.size(), &size);
+}
+
+/** REMB in application layer feedback number `index` of a datagram: see cpay_read_remb. */
+[[nodiscard]] inline cpay_status read_remb(bytes rtcp, bool full, std::size_t index, std::uint64_t &bitrate,
+                                           view<std::uint32_t> ssrcs, std::size_t &count) noexcept {
+    return cpay_read_remb(rtcp.data(), rtcp.size(), full, index, &bitrate, ssrcs.data(), ssrcs.size(), &count);
+}
+
 /** All datagrams of a port in, the events of its streams out. */
 class session : public handle<cpay_session, cpay_session_free> {
 public:

@@ -2,6 +2,7 @@ pub mod AdaptiveWaits
 pub mod Assemblers
 pub mod Beginnings
 pub mod Buffers
+pub mod Congestion
 pub mod Extensions
 pub mod Frames
 pub mod Histories
@@ -14,6 +15,7 @@ pub mod Reds
 pub mod Refusals
 pub mod RtpFields
 pub mod Senders
+pub mod SentTransports
 pub mod SessionFormats
 pub mod SessionPairs
 pub mod SessionReports
@@ -22,4 +24,5 @@ pub mod Sessions
 pub mod StreamReceivers
 pub mod StreamSenders
 pub mod Tele
+pub mod TransportReporters
 pub mod Vp8

@@ -130,7 +130,7 @@ fn resend(
 }
 
 /// Returns the status for bytes that are not a compound RTCP packet.
-fn rtcp_status(fault: RtcpError) -> u32
+pub(crate) fn rtcp_status(fault: RtcpError) -> u32
     ensures { result ≡ rtcp_status fault }
 {
     match fault {
@@ -154,7 +154,7 @@ fn rtcp_status(fault: RtcpError) -> u32
 }
 
 /// Returns the rule for the first packet.
-fn rule_of(full: bool) -> CompoundRule
+pub(crate) fn rule_of(full: bool) -> CompoundRule
     ensures { is_full result ≡ full }
 {
     if full {

@@ -8,9 +8,11 @@ use Rattle.codec_payload_handle.specs.declared.object.Object.TheVariants as obje
 use Rattle.codec_payload_handle.specs.declared.object.FrameReceiver.{FrameReceiver}
 use Rattle.codec_payload_handle.specs.declared.object.FrameSender.{FrameSender}
 use Rattle.codec_payload_handle.specs.declared.object.PacketHistory.{PacketHistory}
+use Rattle.codec_payload_handle.specs.declared.object.PeerReporter.{PeerReporter}
 use Rattle.codec_payload_handle.specs.declared.object.PortSession.{PortSession}
 use Rattle.codec_payload_handle.specs.declared.object.StreamReceiver.{StreamReceiver}
 use Rattle.codec_payload_handle.specs.declared.object.StreamSender.{StreamSender}
+use Rattle.codec_payload_transport.specs.Sent.{Sent}
 
 -- if the handle holds a packetizer, it holds one afterwards, after this step
 abbrev pub StaysFrameSender : (FrameSender → Type 0) → Option Object → Type 0
@@ -93,6 +95,24 @@ abbrev pub OnAdaptiveWait : Option Object → (Wait → Wait → Type 0) → Opt
 OnAdaptiveWait (Some (objects.AdaptiveWait r)) Does after = StaysAdaptiveWait (Does r.value) after
 OnAdaptiveWait _ Does after = Unit {0}
 
+-- the same for a reporter of the arrivals of a transport
+abbrev pub StaysPeerReporter : (PeerReporter → Type 0) → Option Object → Type 0
+StaysPeerReporter Done (Some (objects.PeerReporter s)) = Done s.value
+StaysPeerReporter Done _ = ⊥
+
+abbrev pub OnPeerReporter : Option Object → (PeerReporter → PeerReporter → Type 0) → Option Object → Type 0
+OnPeerReporter (Some (objects.PeerReporter r)) Does after = StaysPeerReporter (Does r.value) after
+OnPeerReporter _ Does after = Unit {0}
+
+-- the same for the packets that were sent on a transport
+abbrev pub StaysSentPackets : (Sent → Type 0) → Option Object → Type 0
+StaysSentPackets Done (Some (objects.SentPackets s)) = Done s.value
+StaysSentPackets Done _ = ⊥
+
+abbrev pub OnSentPackets : Option Object → (Sent → Sent → Type 0) → Option Object → Type 0
+OnSentPackets (Some (objects.SentPackets r)) Does after = StaysSentPackets (Does r.value) after
+OnSentPackets _ Does after = Unit {0}
+
 abbrev pub is_frame_sender : Object → Bool
 is_frame_sender (objects.FrameSender _) = true
 is_frame_sender _ = false
@@ -128,6 +148,14 @@ is_packet_history _ = false
 abbrev pub is_adaptive_wait : Object → Bool
 is_adaptive_wait (objects.AdaptiveWait _) = true
 is_adaptive_wait _ = false
+
+abbrev pub is_peer_reporter : Object → Bool
+is_peer_reporter (objects.PeerReporter _) = true
+is_peer_reporter _ = false
+
+abbrev pub is_sent_packets : Object → Bool
+is_sent_packets (objects.SentPackets _) = true
+is_sent_packets _ = false
 
 -- status 34: the handle is empty; status 35: it holds another type; the handle is unchanged
 abbrev pub Refuses : (Object → Bool) → Option Object → ℕ → Option Object → Type 0

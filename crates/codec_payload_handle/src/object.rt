@@ -7,10 +7,13 @@ use codec_payload_core::codec::{CodecDepacketizer, CodecExtra, CodecPacketizer};
 use codec_payload_core::payloads::Payloads;
 use codec_payload_core::red::RedSender;
 use codec_payload_core::wire::Frequency;
+use codec_payload_feedback::requests::FeedbackSource;
+use codec_payload_feedback::transport::TransportReporter;
 use codec_payload_history::retransmission::History;
 use codec_payload_sender::sender::Sender as DatagramSender;
 use codec_payload_session::session::{Event, Session};
 use codec_payload_stream::receiver::Receiver as DatagramReceiver;
+use codec_payload_transport::sent::SentPackets;
 
 /// A packetizer, and the packets of its latest frame.
 #[derive(Drop)]
@@ -71,6 +74,16 @@ pub struct PacketHistory {
     pub datagram: Vec<u8>,
 }
 
+/// A reporter of the arrivals of a transport, who sends its packets, and the packet that waits for a larger output buffer.
+#[derive(Drop)]
+pub struct PeerReporter {
+    pub reporter: TransportReporter,
+    pub source: FeedbackSource,
+    /// The ticks per second of the caller's clock.
+    pub tick_rate: Frequency,
+    pub waiting: Option<Vec<u8>>,
+}
+
 /// A value behind a handle. Each has its own box, so that no handle takes the memory of the largest type.
 #[derive(Drop)]
 pub enum Object {
@@ -83,4 +96,6 @@ pub enum Object {
     PortSession(Box<PortSession>),
     PacketHistory(Box<PacketHistory>),
     AdaptiveWait(Box<AdaptiveWait>),
+    PeerReporter(Box<PeerReporter>),
+    SentPackets(Box<SentPackets>),
 }

@@ -109,3 +109,27 @@ pub const RTCP_PLI_LENGTH: u32 = 64;
 
 /// A FIR has no entries, or ends inside one.
 pub const RTCP_FIR_LENGTH: u32 = 65;
+
+/// Application layer feedback has fewer than 8 bytes.
+pub const REMB_TOO_SHORT: u32 = 66;
+
+/// Application layer feedback is not REMB.
+pub const REMB_OTHER: u32 = 67;
+
+/// The bitrate of REMB has more than 64 bits.
+pub const REMB_TOO_LARGE: u32 = 68;
+
+/// REMB ends inside its SSRCs.
+pub const REMB_SOURCES_TOO_SHORT: u32 = 69;
+
+/// Transport-wide feedback has fewer than 8 bytes.
+pub const TRANSPORT_HEADER_TOO_SHORT: u32 = 70;
+
+/// Transport-wide feedback ends inside its chunks.
+pub const TRANSPORT_CHUNKS_TOO_SHORT: u32 = 71;
+
+/// A status in transport-wide feedback is reserved.
+pub const TRANSPORT_RESERVED: u32 = 72;
+
+/// Transport-wide feedback ends inside its deltas.
+pub const TRANSPORT_DELTAS_TOO_SHORT: u32 = 73;
