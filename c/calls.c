@@ -395,6 +395,15 @@ cpay_status cpay_sent_packets_sent_at(cpay_sent_packets *packets, uint16_t numbe
     return proved_cpay_sent_packets_sent_at(&packets->handle, number, at);
 }
 
+cpay_status proved_cpay_number_datagram(uint8_t extension_id, uint16_t number, const uint8_t *datagram, size_t datagram_len,
+                                        uint8_t *bytes, size_t bytes_len, size_t *size);
+cpay_status cpay_number_datagram(uint8_t extension_id, uint16_t number, const uint8_t *datagram, size_t datagram_len,
+                                 uint8_t *bytes, size_t bytes_len, size_t *size) {
+    if ((!datagram && datagram_len) || (!bytes && bytes_len)) return CPAY_INVALID;
+    return proved_cpay_number_datagram(extension_id, number, datagram ? datagram : (const uint8_t *)nothing, datagram_len,
+                                       bytes ? bytes : (uint8_t *)nothing, bytes_len, size);
+}
+
 cpay_status proved_cpay_read_transport_feedback(const uint8_t *rtcp, size_t rtcp_len, bool full, size_t index,
                                                 cpay_transport_feedback_info *info, cpay_packet_arrival *packets,
                                                 size_t packets_len);

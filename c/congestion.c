@@ -160,6 +160,27 @@ static void sent(void) {
     cpay_sent_packets_free(&packets);
 }
 
+/* A number goes into the extension in the one-byte form, after the other elements and in place of an earlier number. */
+static void numbers(void) {
+    static const uint8_t plain[13] = {0x80, 96, 0, 1, 0, 0, 0, 2, 0, 0, 0, SSRC, 9};
+    static const uint8_t wanted[21] = {0x90, 96, 0, 1, 0, 0, 0, 2, 0, 0, 0, SSRC, 0xbe, 0xde, 0, 1, 0x51, 0x12, 0x34, 0, 9};
+    static const uint8_t had[25] = {0x90, 96, 0, 1, 0, 0, 0, 2, 0, 0, 0, SSRC, 0xbe, 0xde, 0, 2, 0x51, 1, 2, 0x30, 7, 0, 0, 0, 9};
+    static const uint8_t has[25] = {0x90, 96, 0, 1, 0, 0, 0, 2, 0, 0, 0, SSRC, 0xbe, 0xde, 0, 2, 0x30, 7, 0x51, 0xff, 0xfe, 0, 0, 0, 9};
+    uint8_t bytes[32] = {0}, other[25];
+    size_t size = 99;
+    CHECK(cpay_number_datagram(ID, 0x1234, plain, 13, bytes, 20, &size) == CPAY_TOO_SMALL && size == 21 && !bytes[0]);
+    CHECK(cpay_number_datagram(ID, 0x1234, plain, 13, bytes, 21, &size) == CPAY_OK && size == 21 && !memcmp(bytes, wanted, 21));
+    CHECK(cpay_number_datagram(ID, 0xfffe, had, 25, bytes, 32, &size) == CPAY_OK && size == 25 && !memcmp(bytes, has, 25));
+    size = 99;
+    CHECK(cpay_number_datagram(ID, 1, plain, 11, bytes, 32, &size) == CPAY_RTP_HEADER_TOO_SHORT);
+    CHECK(cpay_number_datagram(0, 1, plain, 13, bytes, 32, &size) == CPAY_EXTENSION_ROOM);
+    memcpy(other, had, sizeof other);
+    other[12] = 0x12;
+    CHECK(cpay_number_datagram(ID, 1, other, 25, bytes, 32, &size) == CPAY_EXTENSION_PROFILE && size == 99);
+    CHECK(cpay_number_datagram(ID, 1, NULL, 1, bytes, 32, &size) == CPAY_INVALID && size == 99);
+    CHECK(cpay_number_datagram(ID, 1, plain, 13, NULL, 1, &size) == CPAY_INVALID && size == 99 && !memcmp(bytes, has, 25));
+}
+
 /* Two feedbacks in one datagram: a vector of the tests of pion/rtcp, number 153, which arrived 148 quarters after the reference time
  * 4,057,090 of 64 ms; and two numbers, of which the first is missing, with a delta of -1. */
 static const uint8_t TWO[52] = {0x8f, 205, 0, 5, 0, 0, 0, 1, 0, 0, 0, 2, 0, 153, 0, 1, 61, 232, 2, 23, 32, 1, 148, 1,
@@ -301,6 +322,7 @@ int main(void) {
     compound();
     settings_out_of_range();
     sent();
+    numbers();
     feedback();
     faults();
     remb();

@@ -340,10 +340,15 @@ static int transport(int *met) {
         }
         if (status || number != i) return 4;
         if (i == 3) continue;
-        AGAIN(status, numbered(&reporter, 64 + i, i));
-        if (status) return 5;
+        static const uint8_t plain[12] = {0x80, 96, 0, 1, 0, 0, 0, 0, 0, 0, 0, 7};
+        size_t length = 0;
+        AGAIN(status, cpay_number_datagram(5, number, plain, sizeof plain, bytes, sizeof bytes, &length));
+        if (status || length != 20) return 5;
+        AGAIN(status, cpay_transport_reporter_receive(&reporter, 64 + i, bytes, length));
+        if (status) return 16;
     }
     refused = false;
+    bytes[0] = 0;
     status = cpay_transport_reporter_poll(&reporter, 100, bytes, 10, &size);
     if (status == CPAY_OUT_OF_MEMORY) {
         (*met)++;

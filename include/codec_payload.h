@@ -23,16 +23,18 @@
  * After loss, a unit can lack its first bytes and still be released. This concerns AV1, VP9 with spatial layers, and VP8 from
  * senders that mark each partition as a start. See docs/LIMITS.md.
  *
- * STATUSES. A call returns a status; a few return a bool or a number. 0 is success, 1 to 17 are errors of payloads and of memory,
- * 32 to 41 are the library's own, 42 to 65 say why a datagram is not accepted, and 66 to 73 why feedback is not read. The enum below names them. If a call fails, its
- * output buffer and its other output arguments are unchanged. Exception: with CPAY_TOO_SMALL it writes the required size, and the
- * other outputs except the bytes, unless its comment says otherwise.
+ * STATUSES. A call returns a status; a few return a bool or a number. 0 is success, 1 to 17 are errors of payloads and of
+ * memory, 32 to 41 are the library's own, 42 to 65 say why a datagram is not accepted, 66 to 73 why feedback is not read, and
+ * 74 and 75 why a datagram gets no number. The enum below names them. If a call fails, its output buffer and its other output
+ * arguments are unchanged. Exception: with CPAY_TOO_SMALL it writes the required size, and the other outputs except the bytes,
+ * unless its comment says otherwise.
  *
- * HANDLES. A packetizer, a depacketizer, a buffer, a RED sender, a sender, a history, a receiver, an adaptive wait, a transport
- * reporter, the sent packets of a transport and a session each live in a handle: a struct of that type in your own memory. Initialise it with CPAY_INIT, create the object by the call named *_new, and
- * end with the call named *_free, which leaves the handle empty. You may free an empty handle. Other calls on an empty handle return
- * CPAY_EMPTY; calls on a handle of another type, as after a cast, return CPAY_OTHER_KIND. Never write into a handle. Never copy a
- * handle in use: the library cannot detect that another copy was freed. You may move it in memory if you forget the old place.
+ * HANDLES. A packetizer, a depacketizer, a buffer, a RED sender, a sender, a history, a receiver, an adaptive wait, a
+ * transport reporter, the sent packets of a transport and a session each live in a handle: a struct of that type in your own
+ * memory. Initialise it with CPAY_INIT, create the object by the call named *_new, and end with the call named *_free, which
+ * leaves the handle empty. You may free an empty handle. Other calls on an empty handle return CPAY_EMPTY; calls on a handle
+ * of another type, as after a cast, return CPAY_OTHER_KIND. Never write into a handle. Never copy a handle in use: the
+ * library cannot detect that another copy was freed. You may move it in memory if you forget the old place.
  *
  * MEMORY. The library allocates with the program's malloc and realloc and releases with free, only in calls marked [m]. These
  * functions must belong to one allocator. Each block must be aligned for the type stored in it, at most 8 bytes, as in glibc, musl,
@@ -182,7 +184,9 @@ typedef enum {
     CPAY_TRANSPORT_HEADER_TOO_SHORT = 70, /**< 70 to 73 say why transport-wide feedback is not read: it has fewer than 8 bytes */
     CPAY_TRANSPORT_CHUNKS_TOO_SHORT = 71, /**< its chunks end before each packet has a status */
     CPAY_TRANSPORT_RESERVED = 72,         /**< a status is 3, which is reserved */
-    CPAY_TRANSPORT_DELTAS_TOO_SHORT = 73  /**< it ends before the delta of a packet that arrived */
+    CPAY_TRANSPORT_DELTAS_TOO_SHORT = 73, /**< it ends before the delta of a packet that arrived */
+    CPAY_EXTENSION_PROFILE = 74, /**< a header extension has another profile than those of RFC 8285 */
+    CPAY_EXTENSION_ROOM = 75     /**< a header extension has no room for the number, or its id is 0 */
 } cpay_status;
 
 /** Codecs. */
@@ -964,12 +968,21 @@ CPAY_CHECKED cpay_status cpay_transport_reporter_restart(cpay_transport_reporter
  * serves all streams of a transport, their retransmissions and padding. CPAY_INVALID: `limit` out of range. [m] */
 CPAY_CHECKED cpay_status cpay_sent_packets_new(cpay_sent_packets *packets, size_t limit);
 
-/** Counts the next packet of the transport, which is sent at time `now`, and writes its number: two bytes in network order in the
- * header extension of the packet. CPAY_OUT_OF_MEMORY: nothing changed, and the number is not used. [m] */
+/** Counts the next packet of the transport, which is sent at time `now`, and writes its number, for cpay_number_datagram.
+ * CPAY_OUT_OF_MEMORY: nothing changed, and the number is not used. [m] */
 CPAY_CHECKED cpay_status cpay_sent_packets_assign(cpay_sent_packets *packets, uint64_t now, uint16_t *number);
 
 /** Reports when the packet with this number was sent. CPAY_NONE: it is not among the remembered packets. Does not allocate. */
 CPAY_CHECKED cpay_status cpay_sent_packets_sent_at(cpay_sent_packets *packets, uint16_t number, uint64_t *at);
+
+/** Writes a copy of a datagram with this transport-wide number in its header extension, under this id, 1 to 255, and its size to *size.
+ * Elements with other ids stay, in their order, and the number is the last one; an element with the same id is replaced. All else of
+ * the packet stays, and the bytes of padding become 0. The datagram grows by at most 8 bytes; if an id above 14 needs the two-byte
+ * form (RFC 8285), by one more for each other element. Call it before SRTP encrypts the datagram. CPAY_TOO_SMALL: *size is written.
+ * CPAY_RTP_HEADER_TOO_SHORT to CPAY_RTP_PADDING_TOO_LONG: not an RTP packet. CPAY_EXTENSION_PROFILE: its extension has no elements.
+ * CPAY_EXTENSION_ROOM: its extension would be longer than 65535 words, or the id is 0. [m] */
+CPAY_CHECKED cpay_status cpay_number_datagram(uint8_t extension_id, uint16_t number, const uint8_t *datagram, size_t datagram_len,
+                                              uint8_t *bytes, size_t bytes_len, size_t *size);
 
 /** What a transport-wide feedback reports on. */
 typedef struct {
@@ -1438,6 +1451,8 @@ static inline const char *cpay_status_text(cpay_status status) {
     case CPAY_TRANSPORT_CHUNKS_TOO_SHORT: return "the transport-wide feedback ends inside its chunks";
     case CPAY_TRANSPORT_RESERVED: return "the transport-wide feedback has a reserved status";
     case CPAY_TRANSPORT_DELTAS_TOO_SHORT: return "the transport-wide feedback ends inside its deltas";
+    case CPAY_EXTENSION_PROFILE: return "the header extension has no elements";
+    case CPAY_EXTENSION_ROOM: return "the header extension has no room for the number";
     default: return "unknown status";
     }
 }

@@ -241,6 +241,12 @@ public:
     }
 };
 
+/** A copy of a datagram with a transport-wide number: see cpay_number_datagram. */
+[[nodiscard]] inline cpay_status number_datagram(std::uint8_t extension_id, std::uint16_t number, bytes datagram, room to,
+                                                 std::size_t &size) noexcept {
+    return cpay_number_datagram(extension_id, number, datagram.data(), datagram.size(), to.data(), to.size(), &size);
+}
+
 /** What transport-wide feedback number `index` of a datagram says: see cpay_read_transport_feedback. */
 [[nodiscard]] inline cpay_status read_transport_feedback(bytes rtcp, bool full, std::size_t index,
                                                          cpay_transport_feedback_info &info,

@@ -15,7 +15,11 @@ use Rattle.codec_payload_handle.specs.Bytes.{filled}
 use Rattle.codec_payload_rtcp.specs.RtcpPackets.{Feedback}
 use Rattle.codec_payload_rtcp.specs.declared.packet.RtcpError.{RtcpError}
 use Rattle.codec_payload_transport.specs.Messages.{messages_at}
+use Rattle.codec_payload_transport.specs.Numbering.{AppendsNumbered, IsUnnumbered}
+use Rattle.codec_payload_transport.specs.declared.numbering.NumberingError.{NumberingError}
+use Rattle.codec_payload_transport.specs.declared.numbering.NumberingError.TheVariants as numbering
 use Rattle.codec_payload_c.specs.Histories.{put_first, rtcp_status}
+use Rattle.codec_payload_c.specs.RtpFields.{rtp_status}
 use Rattle.codec_payload_c.specs.TransportReporters.{Writing}
 use Rattle.codec_payload_c.specs.declared.congestion.PacketArrival.{PacketArrival}
 use Rattle.codec_payload_c.specs.declared.congestion.TransportFeedbackInfo.{TransportFeedbackInfo}
@@ -50,6 +54,21 @@ WritesRembIf false sender bitrate ssrcs status w = (status ≡ 37) × IsUnwritte
 
 abbrev pub WritesRemb : ℕ → ℕ → List ℕ → ℕ → Writing → Type 0
 WritesRemb sender bitrate ssrcs status w = WritesRembIf (nat_le (length ssrcs) 255) sender bitrate ssrcs status w
+
+-- ---- numbers
+
+-- the statuses for a datagram that gets no number
+abbrev pub numbering_status : NumberingError → ℕ
+numbering_status (numbering.Rtp fault) = rtp_status fault
+numbering_status numbering.OtherProfile = 74
+numbering_status numbering.NoRoom = 75
+numbering_status numbering.OutOfMemory = 17
+
+-- a datagram that is read as the packet with the number; or the status says why there is none, and nothing is written
+abbrev pub WritesNumbered : (id number : ℕ) → List ℕ → ℕ → Writing → Type 0
+WritesNumbered id number datagram status w =
+    ((written : List ℕ) × AppendsNumbered id number datagram [] written × PutsPacket written status w)
+    ⊎ ((error : NumberingError) × IsUnnumbered id number datagram error × (status ≡ numbering_status error) × IsUnwritten w)
 
 -- ---- one message of a compound packet
 

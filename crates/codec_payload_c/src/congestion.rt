@@ -7,9 +7,10 @@ ghost use Rattle.codec_payload_congestion.specs.Packet.{AppendsRembPacket};
 ghost use Rattle.codec_payload_congestion.specs.Remb.{remb_at};
 ghost use Rattle.codec_payload_transport.specs.Messages.{feedback_of, messages_left, type_of_kind};
 ghost use Rattle.codec_payload_c.specs.Histories.{put_first};
-ghost use Rattle.codec_payload_c.specs.Congestion.{PutsArrivals, PutsPacket, ReadsArrivals, ReadsEstimate, ReadsRemb, ReadsTransport, WritesRemb, arrival_of, arrivals_from, info_of, message_with, remb_status, ssrc_bytes, ssrcs_in, transport_status};
+ghost use Rattle.codec_payload_c.specs.Congestion.{PutsArrivals, PutsPacket, ReadsArrivals, ReadsEstimate, ReadsRemb, ReadsTransport, WritesNumbered, WritesRemb, arrival_of, arrivals_from, info_of, message_with, numbering_status, remb_status, ssrc_bytes, ssrcs_in, transport_status};
 
 use crate::history::{rtcp_status, rule_of};
+use crate::rtp::status_of;
 use codec_payload_congestion::packet::write_remb_packet;
 use codec_payload_congestion::remb::{RembFault, read_remb};
 use codec_payload_congestion::transport::{
@@ -18,6 +19,7 @@ use codec_payload_congestion::transport::{
 use codec_payload_handle::bytes::fill;
 use codec_payload_handle::status;
 use codec_payload_transport::messages::{Message, MessageKind, Messages, read_messages};
+use codec_payload_transport::numbering::{NumberingError, write_numbered};
 use std::alloc::{AllocError, Global};
 
 /// What a transport-wide feedback reports on.
@@ -285,6 +287,39 @@ pub extern "C" fn cpay_write_remb(
     match remb_packet(alloc, sender_ssrc, bitrate, ssrcs) {
         Ok(packet) => put_packet(&packet, bytes, size),
         Err(_) => status::OUT_OF_MEMORY,
+    }
+}
+
+/// Returns the status for a datagram that gets no number.
+fn numbering_status(error: NumberingError) -> u32
+    ensures { result ≡ numbering_status error }
+{
+    match error {
+        NumberingError::Rtp(fault) => status_of(fault),
+        NumberingError::OtherProfile => status::EXTENSION_PROFILE,
+        NumberingError::NoRoom => status::EXTENSION_ROOM,
+        NumberingError::OutOfMemory => status::OUT_OF_MEMORY,
+    }
+}
+
+/// Writes a copy of a datagram with this transport-wide number in its header extension.
+#[unsafe(no_mangle)]
+pub extern "C" fn cpay_number_datagram(
+    alloc: Global,
+    extension_id: u8,
+    number: u16,
+    datagram: &[u8],
+    bytes: &mut [u8],
+    size: &mut usize,
+) -> u32
+    ensures writes { WritesNumbered extension_id number datagram.now result (record { before = bytes.old; bytes = bytes.new; size_before = size.old; size = size.new }) }
+    ensures untouched { result ≢ 0 → bytes.new ≡ bytes.old }
+    ensures unchanged { result ≢ 0 → result ≢ 33 → size.new ≡ size.old }
+{
+    let mut numbered = Vec::new(alloc);
+    match write_numbered(alloc, extension_id, number, datagram, &mut numbered) {
+        Ok(()) => put_packet(&numbered, bytes, size),
+        Err(error) => numbering_status(error),
     }
 }
 

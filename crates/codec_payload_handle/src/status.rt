@@ -133,3 +133,9 @@ pub const TRANSPORT_RESERVED: u32 = 72;
 
 /// Transport-wide feedback ends inside its deltas.
 pub const TRANSPORT_DELTAS_TOO_SHORT: u32 = 73;
+
+/// A header extension has another profile than those of RFC 8285.
+pub const EXTENSION_PROFILE: u32 = 74;
+
+/// A header extension has no room for the number.
+pub const EXTENSION_ROOM: u32 = 75;
