@@ -1,18 +1,12 @@
 -- What a datagram does to the packets of telephone events that wait.
-use Rattle.std.proofs.Common.{◌≡◌, ◌≤◌, ◌<◌, ◌∙◌, ℕ, suc, ◌+◌, ◌-◌, ◌%◌, List, [], ◌∷◌, ◌++◌, take, length, length-append, Bool, true, false, Option, Some, None, Result, Ok, Err, ap, refl, subst, sym, arith, nat_lt}
+use Rattle.std.proofs.Common.{◌≡◌, ◌≤◌, ◌<◌, ◌∙◌, ℕ, ◌-◌, List, [], ◌∷◌, ◌++◌, take, length, length-append, Bool, true, false, Option, Some, None, ap, refl, subst, sym, arith}
 use Rattle.std.proofs.Math.Seq.{take-append_seam}
 use Rattle.std.proofs.lemmas.Bool.Decides.{nat_tests}
-use Rattle.codec_payload_base.specs.Flags.{AreBytes}
 use Rattle.codec_payload_base.specs.declared.wire.Ticks.{Ticks}
-use Rattle.codec_payload_rtp.specs.RtpPackets.{IsRtp, Packet, bit_if}
-use Rattle.codec_payload_rtp.specs.RtpReading.{rtp_at}
-use Rattle.codec_payload_rtp.specs.declared.rtp.RtpError.{RtpError}
-use Rattle.codec_payload_rtp.proofs.RtpGrammar.{rtp_takes}
-use Rattle.codec_payload_stream.specs.Kinds.{is_among}
+use Rattle.codec_payload_rtp.specs.RtpPackets.{Packet}
 use Rattle.codec_payload_session.specs.Polls.{Polls, PollsAfter, TurnsOrReports}
 use Rattle.codec_payload_session.specs.Ports.{Session}
-use Rattle.codec_payload_session.specs.Telephone.{Gives, GivesFrom, Notes, NotesBy, Queue, QueuesIf, WaitsLast, WaitsOrDrops, has_room, names_telephone, settled, telephone_of, without_last}
-use Rattle.codec_payload_session.specs.declared.formats.SessionSettings.{SessionSettings}
+use Rattle.codec_payload_session.specs.Telephone.{Gives, GivesFrom, Notes, NotesBy, Queue, QueuesIf, WaitsLast, WaitsOrDrops, has_room, settled, without_last}
 use Rattle.codec_payload_session.specs.declared.session.Event.{Event}
 use Rattle.codec_payload_session.specs.declared.telephone.Noted.{Noted}
 use Rattle.codec_payload_session.specs.declared.telephone.Noted.TheVariants as noteds
