@@ -1,6 +1,6 @@
 //! A popped unit in memory that the next pop uses again.
 
-ghost use Rattle.std.specs.Prelude.{◌≡◌, ◌×◌, IsSome, None, is_some, option_map};
+ghost use Rattle.std.specs.Prelude.{◌≡◌, IsSome, None, is_some, option_map};
 ghost use Rattle.codec_payload_core.specs.Steps.{Pops};
 ghost use Rattle.codec_payload_stream.specs.Pops.{NamesFault, PopsGated, is_large};
 ghost use Rattle.codec_payload_handle.specs.Slots.{IsWritten, PopsFrom, PopsTo, TellsValuesOf};
