@@ -5,11 +5,14 @@
 
 mod answers;
 mod blocks;
+mod brought;
 mod checks;
 mod choice;
 mod datagram;
 mod defaults;
 mod gated;
+#[doc(hidden)]
+pub mod parsed;
 #[doc(hidden)]
 pub mod pops;
 #[doc(hidden)]
@@ -21,6 +24,9 @@ mod storing;
 mod unit_times;
 #[doc(hidden)]
 pub mod windows;
+
+#[doc(inline)]
+pub use parsed::ParsedDatagram;
 
 #[doc(inline)]
 pub use pops::Popped;

@@ -3,18 +3,19 @@
 ghost use Rattle.std.specs.Prelude.{◌≡◌, IfOk, map, false};
 ghost use Rattle.std.specs.Option.{option_map};
 ghost use Rattle.codec_payload_red.specs.RedBlocks.{block_of, blocks_of};
+ghost use Rattle.codec_payload_red.specs.RedRecovery.{packet_of as recovered_of};
 ghost use Rattle.std.specs.List.{filter_map};
 ghost use Rattle.codec_payload_codec.specs.Depacketizers.{is_built_in_depacketizer};
 ghost use Rattle.codec_payload_jitter.specs.OwnReceiving.{OwnStores};
-ghost use Rattle.codec_payload_stream.specs.Kinds.{carrier_of};
+ghost use Rattle.codec_payload_stream.specs.Kinds.{block_header, carrier_of};
 ghost use Rattle.codec_payload_stream.specs.Sessions.{RecoversAll, all_carried, block_seen, carried, copied};
 
 use crate::datagram::{RedPacket, StreamKinds};
 use crate::seen_times::{SeenTime, SeenTimes};
-use codec_payload_base::wire::{RtpHeader, SeqNo, Ticks};
+use codec_payload_base::wire::{ExtensionValues, Pt, RtpHeader, SeqNo, Ticks};
 use codec_payload_codec::codec::Depacketizer;
 use codec_payload_jitter::jitter::JitterBuffer;
-use codec_payload_red::red::RedBlock;
+use codec_payload_red::red::{Recovered, RedBlock};
 use std::alloc::AllocError;
 use std::collections::VecDeque;
 
@@ -68,10 +69,24 @@ fn copy_block(
     match red.receiver.recover_block(number, header.timestamp, block) {
         Some(recovered) => {
             let payload = Vec::from_slice(stream.alloc, recovered.payload)?;
-            let header = stream.block_header(header.ssrc, &recovered);
+            let header = block_header(stream, header.ssrc, &recovered);
             Ok(Some(BlockCopy { header, payload }))
         }
         None => Ok(None),
+    }
+}
+
+/// Returns the header of a packet from a redundant block.
+fn block_header(stream: &StreamKinds, ssrc: u32, recovered: &Recovered<'_>) -> RtpHeader
+    ensures { result ≡ block_header stream.now ssrc (recovered_of recovered.now) }
+{
+    RtpHeader {
+        payload_type: Pt::new_with_value(stream.payload_type),
+        sequence_number: (recovered.seq_no.0 % 65_536) as u16,
+        timestamp: recovered.rtp_time,
+        ssrc,
+        marker: false,
+        ext_vals: ExtensionValues::default(),
     }
 }
 

@@ -8,12 +8,13 @@ ghost use Rattle.codec_payload_rtp.specs.RtpValues.{header_of, packet_of};
 ghost use Rattle.codec_payload_stream.specs.Kinds.{WithMedia, again_kind, carrier_of, carrier_with, datagram_at, datagram_of, first_kind, is_among, is_other, is_padding_only, is_sent_again, is_the_type, kind_for, media_kind, red_again_kind, red_again_of, red_kind, red_of, repeated_header, retransmitted_under, ssrc_or, under};
 ghost use Rattle.codec_payload_stream.specs.Sessions.{observed_in, ssrc_after};
 
+use crate::parsed::ParsedDatagram;
 use crate::receiver::Retransmission;
 use crate::reports::ReceptionStatistics;
 use codec_payload_base::error::PacketError;
 use codec_payload_base::wire::Ticks;
 use codec_payload_red::red::{RedBlock, RedDecoder, RedReceiver};
-use codec_payload_rtp::rtp::{PacketHeader, RtpError, RtpPacket, is_rtcp};
+use codec_payload_rtp::rtp::{PacketHeader, RtpError, RtpPacket};
 use codec_payload_rtp::values::ExtensionIds;
 use std::alloc::Global;
 use std::marker::Model;
@@ -304,17 +305,17 @@ impl StreamKinds {
     pub(crate) fn sort<'a>(
         &self,
         ssrc: Option<u32>,
-        bytes: &'a [u8],
+        datagram: &ParsedDatagram<'a>,
     ) -> Result<Datagram<'a>, PacketError>
-        ensures ok { IfOk result (λ d. datagram_of d ≡ datagram_at self.now ssrc bytes.now) }
+        ensures ok { IfOk result (λ d. datagram_of d ≡ datagram_at self.now ssrc datagram.now) }
         ensures fault { IfErr result (λ f. f ≡ OutOfMemory) }
     {
-        if is_rtcp(bytes) {
+        if datagram.is_rtcp() {
             return Ok(Datagram::Rtcp);
         }
-        match RtpPacket::parse(bytes) {
-            Ok(packet) => self.kind_of(ssrc, packet),
-            Err(fault) => Ok(Datagram::Malformed(Malformation::Rtp(fault))),
+        match datagram.packet() {
+            Ok(packet) => self.kind_of(ssrc, *packet),
+            Err(fault) => Ok(Datagram::Malformed(Malformation::Rtp(*fault))),
         }
     }
 

@@ -5,10 +5,10 @@
 use crate::codec::Depacketizer;
 use crate::jitter::jitter_buffer::JitterBuffer;
 use crate::memory::{AllocError, TryQueue, TryVec};
-use crate::red::RedBlock;
+use crate::red::{Recovered, RedBlock};
 use crate::stream::datagram::{RedPacket, StreamKinds};
 use crate::stream::seen_times::{SeenTime, SeenTimes};
-use crate::wire::{RtpHeader, SeqNo, Ticks};
+use crate::wire::{ExtensionValues, Pt, RtpHeader, SeqNo, Ticks};
 use alloc::collections::VecDeque;
 use alloc::vec::Vec;
 
@@ -56,10 +56,22 @@ fn copy_block(
     match red.receiver.recover_block(number, header.timestamp, block) {
         Some(recovered) => {
             let payload = Vec::try_from_slice(recovered.payload)?;
-            let header = stream.block_header(header.ssrc, &recovered);
+            let header = block_header(stream, header.ssrc, &recovered);
             Ok(Some(BlockCopy { header, payload }))
         }
         None => Ok(None),
+    }
+}
+
+/// Returns the header of a packet from a redundant block.
+fn block_header(stream: &StreamKinds, ssrc: u32, recovered: &Recovered<'_>) -> RtpHeader {
+    RtpHeader {
+        payload_type: Pt::new_with_value(stream.payload_type),
+        sequence_number: (recovered.seq_no.0 % 65_536) as u16,
+        timestamp: recovered.rtp_time,
+        ssrc,
+        marker: false,
+        ext_vals: ExtensionValues::default(),
     }
 }
 

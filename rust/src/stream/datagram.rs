@@ -4,8 +4,9 @@
 
 use crate::error::PacketError;
 use crate::red::{RedBlock, RedDecoder, RedReceiver};
-use crate::rtp::packet::{PacketHeader, RtpError, RtpPacket, is_rtcp};
+use crate::rtp::packet::{PacketHeader, RtpError, RtpPacket};
 use crate::rtp::values::ExtensionIds;
+use crate::stream::parsed::ParsedDatagram;
 use crate::stream::receiver::Retransmission;
 use crate::stream::reports::ReceptionStatistics;
 use crate::wire::Ticks;
@@ -246,14 +247,14 @@ impl StreamKinds {
     pub(crate) fn sort<'a>(
         &self,
         ssrc: Option<u32>,
-        bytes: &'a [u8],
+        datagram: &ParsedDatagram<'a>,
     ) -> Result<Datagram<'a>, PacketError> {
-        if is_rtcp(bytes) {
+        if datagram.is_rtcp() {
             return Ok(Datagram::Rtcp);
         }
-        match RtpPacket::parse(bytes) {
-            Ok(packet) => self.kind_of(ssrc, packet),
-            Err(fault) => Ok(Datagram::Malformed(Malformation::Rtp(fault))),
+        match datagram.packet() {
+            Ok(packet) => self.kind_of(ssrc, *packet),
+            Err(fault) => Ok(Datagram::Malformed(Malformation::Rtp(*fault))),
         }
     }
 

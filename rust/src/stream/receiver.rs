@@ -24,6 +24,7 @@ use crate::stream::checks::{packets_at_once, red_of, retransmission_fits};
 use crate::stream::choice::{Choice, Origin, Verdict};
 use crate::stream::datagram::{Datagram, RedStream, StreamKinds};
 use crate::stream::gated::gate_for;
+use crate::stream::parsed::ParsedDatagram;
 use crate::stream::reports::{ReceptionReport, ReceptionStatistics};
 use crate::stream::seen_times::LazySeenTimes;
 use crate::wire::{Frequency, Ticks};
@@ -316,8 +317,21 @@ impl<B: Depacketizer> Receiver<B> {
     /// - `BlocksOutOfMemory`: the RED packet itself was received; see [`ReceiveError::BlocksOutOfMemory`].
     /// - `Rtp`, `Red`, `Retransmission`: the datagram is counted as malformed, and the stream continues.
     pub fn receive(&mut self, now: Ticks, bytes: &[u8]) -> Result<Outcome, ReceiveError> {
-        match self.verdict(now, bytes) {
-            Ok(verdict) => self.receive_by(verdict, now, bytes),
+        self.receive_parsed(now, &ParsedDatagram::parse(bytes))
+    }
+
+    /// Does the same as [`Receiver::receive`], for a datagram that was read: its header is not read again.
+    ///
+    /// # Errors
+    ///
+    /// Those of [`Receiver::receive`].
+    pub fn receive_parsed(
+        &mut self,
+        now: Ticks,
+        datagram: &ParsedDatagram<'_>,
+    ) -> Result<Outcome, ReceiveError> {
+        match self.verdict(now, datagram) {
+            Ok(verdict) => self.receive_by(verdict, now, datagram),
             Err(_) => Err(ReceiveError::OutOfMemory),
         }
     }
@@ -327,22 +341,22 @@ impl<B: Depacketizer> Receiver<B> {
         &mut self,
         verdict: Verdict,
         now: Ticks,
-        bytes: &[u8],
+        datagram: &ParsedDatagram<'_>,
     ) -> Result<Outcome, ReceiveError> {
         match verdict {
-            Verdict::Hear => self.hear(now, bytes),
-            Verdict::Keep(origin) => self.keep(now, origin, bytes),
-            Verdict::Choose(place) => self.choose(place, now, bytes),
+            Verdict::Hear => self.hear(now, datagram),
+            Verdict::Keep(origin) => self.keep(now, origin, datagram.bytes()),
+            Verdict::Choose(place) => self.choose(place, now, datagram),
         }
     }
 
     /// Returns what to do with a datagram.
-    fn verdict(&self, now: Ticks, bytes: &[u8]) -> Result<Verdict, PacketError> {
+    fn verdict(&self, now: Ticks, datagram: &ParsedDatagram<'_>) -> Result<Verdict, PacketError> {
         if !self.is_open(now) {
             return Ok(Verdict::Hear);
         }
-        let datagram = self.stream.sort(None, bytes)?;
-        Ok(self.choice.verdict(self.ssrc, &datagram))
+        let sorted = self.stream.sort(None, datagram)?;
+        Ok(self.choice.verdict(self.ssrc, &sorted))
     }
 
     /// Returns whether another stream can be chosen.
@@ -366,14 +380,19 @@ impl<B: Depacketizer> Receiver<B> {
     }
 
     /// Chooses the stream of the packet that waits at this place, and then receives this datagram.
-    fn choose(&mut self, place: usize, now: Ticks, bytes: &[u8]) -> Result<Outcome, ReceiveError> {
+    fn choose(
+        &mut self,
+        place: usize,
+        now: Ticks,
+        datagram: &ParsedDatagram<'_>,
+    ) -> Result<Outcome, ReceiveError> {
         if self.ssrc.is_some() {
             self.go_over_to(None);
         }
         if !self.settle_on(place) {
             return Err(ReceiveError::OutOfMemory);
         }
-        self.hear_rarely(now, bytes)
+        self.hear_rarely(now, datagram)
     }
 
     /// Chooses the stream of the first waiting packet, if no SSRC was chosen so far. Returns false if memory runs out.
@@ -393,7 +412,8 @@ impl<B: Depacketizer> Receiver<B> {
             return true;
         };
         self.ssrc = Some(first.ssrc);
-        if is_out_of_memory(&self.hear_rarely(first.received, &first.bytes)) {
+        if is_out_of_memory(&self.hear_rarely(first.received, &ParsedDatagram::parse(&first.bytes)))
+        {
             self.ssrc = None;
             self.choice.candidates = waiting;
             return false;

@@ -2,21 +2,17 @@
 
 //! How the datagrams of a stream reach its jitter buffer.
 
-use crate::memory::{AllocError, TryVec};
-use alloc::vec::Vec;
-
-mod noting;
-
 use crate::buffer::PackedHeader;
 use crate::codec::Depacketizer;
-use crate::error::PacketError;
 use crate::jitter::jitter_buffer::{JitterBuffer, Outcome};
-use crate::red::Recovered;
+use crate::memory::{AllocError, TryVec};
 use crate::rtp::packet::{PacketHeader, RtpPacket};
-use crate::stream::blocks::{copy_blocks, recover_all};
-use crate::stream::datagram::{Datagram, RedPacket, SentAgain, StreamKinds};
+use crate::stream::blocks::recover_all;
+use crate::stream::brought::Brought;
+use crate::stream::datagram::{Datagram, SentAgain, StreamKinds};
 use crate::stream::seen_times::{LazySeenTimes, SeenTime, SeenTimes};
-use crate::wire::{ExtensionValues, Pt, RtpHeader, Ticks};
+use crate::wire::{Pt, RtpHeader, Ticks};
+use alloc::vec::Vec;
 
 /// The result of receiving a datagram.
 #[derive(Clone, Copy, Debug)]
@@ -24,16 +20,6 @@ pub(crate) struct Taken {
     pub(crate) outcome: Outcome,
     /// False if memory ran out for a redundant block.
     pub(crate) whole: bool,
-}
-
-impl Taken {
-    /// Returns the result for a datagram without redundant blocks to store.
-    fn whole(outcome: Outcome) -> Taken {
-        Taken {
-            outcome,
-            whole: true,
-        }
-    }
 }
 
 impl StreamKinds {
@@ -67,196 +53,128 @@ impl StreamKinds {
 
     /// Stores a packet with media in the jitter buffer.
     #[inline(always)]
-    fn push_packet<B: Depacketizer>(
+    fn push<B: Depacketizer>(
         &self,
         packets: &mut JitterBuffer<B>,
         now: Ticks,
         header: &PacketHeader<'_>,
         payload: &[u8],
-    ) -> Result<Outcome, PacketError> {
+    ) -> Result<Outcome, AllocError> {
         let payload = Vec::try_from_slice(payload)?;
-        packets.push_packed(now, self.packed_header_for(header)?, payload)
-    }
-
-    /// Stores a retransmitted packet in the jitter buffer, under its original number.
-    fn push_retransmitted<B: Depacketizer>(
-        &self,
-        packets: &mut JitterBuffer<B>,
-        now: Ticks,
-        sent: &SentAgain<'_>,
-    ) -> Result<Outcome, PacketError> {
-        let payload = Vec::try_from_slice(sent.payload)?;
-        let mut header = self.header_for(&sent.header);
-        header.sequence_number = sent.number;
-        header.ssrc = sent.ssrc;
-        packets.push_retransmitted(now, header, payload)
-    }
-
-    /// Returns whether the primary block of a packet is media of the stream.
-    fn is_own_media(&self, red: &RedPacket<'_>) -> bool {
-        red.primary.pt == self.payload_type
-    }
-
-    /// Returns whether a packet with this time and number repeats a block: a block with its time was stored under another
-    /// number.
-    #[inline(always)]
-    fn is_repeat<B: Depacketizer>(
-        &self,
-        seen: &SeenTimes,
-        packets: &JitterBuffer<B>,
-        time: u32,
-        number: u16,
-    ) -> bool {
-        self.red.is_some() && seen.has_block(time) && packets.would_store(number)
-    }
-
-    /// Stores the primary block of a packet, if it is media of the stream and repeats no block. Otherwise the packet has no
-    /// media.
-    fn push_primary<B: Depacketizer>(
-        &self,
-        packets: &mut JitterBuffer<B>,
-        seen: &SeenTimes,
-        now: Ticks,
-        red: &RedPacket<'_>,
-    ) -> Result<Outcome, PacketError> {
-        let header = &red.header;
-        let (time, number) = (header.timestamp, header.sequence_number);
-        if self.is_own_media(red) && !self.is_repeat(seen, packets, time, number) {
-            self.push_packet(packets, now, header, red.primary.payload)
-        } else {
-            packets.push_no_media(header.sequence_number)?;
-            Ok(Outcome::NoMedia)
+        match packets.push_packed(now, self.packed_header_for(header)?, payload) {
+            Ok(outcome) => Ok(outcome),
+            Err(_) => Err(AllocError),
         }
     }
 
-    /// Returns the header of a packet from a redundant block.
-    pub(crate) fn block_header(&self, ssrc: u32, recovered: &Recovered<'_>) -> RtpHeader {
-        RtpHeader {
-            payload_type: Pt::new_with_value(self.payload_type),
-            sequence_number: (recovered.seq_no.0 % 65_536) as u16,
-            timestamp: recovered.rtp_time,
-            ssrc,
-            marker: false,
-            ext_vals: ExtensionValues::default(),
-        }
-    }
-
-    /// Stores a RED packet: its primary block, and its redundant blocks unless the packet is suspect. The payloads of the
-    /// blocks are copied first.
-    fn push_red<B: Depacketizer>(
-        &self,
-        packets: &mut JitterBuffer<B>,
-        seen: &mut SeenTimes,
-        now: Ticks,
-        red: &RedPacket<'_>,
-    ) -> Result<Taken, PacketError> {
-        let copies = copy_blocks(self, red)?;
-        let outcome = self.push_primary(packets, seen, now, red)?;
-        note_packet(seen, self.is_own_media(red), outcome, red.header.timestamp);
-        if outcome == Outcome::Suspect {
-            return Ok(Taken::whole(outcome));
-        }
-        let whole = recover_all(packets, seen, now, copies);
-        Ok(Taken { outcome, whole })
-    }
-
-    /// Stores a packet with media. If it repeats a block, it counts as a packet without media.
-    #[inline(always)]
-    fn push_media<B: Depacketizer>(
-        &self,
-        packets: &mut JitterBuffer<B>,
-        seen: &SeenTimes,
-        now: Ticks,
-        packet: &RtpPacket<'_>,
-    ) -> Result<Outcome, PacketError> {
-        let header = &packet.header;
-        if self.is_repeat(seen, packets, header.timestamp, header.sequence_number) {
-            packets.push_no_media(header.sequence_number)?;
-            return Ok(Outcome::NoMedia);
-        }
-        self.push_packet(packets, now, header, packet.payload)
-    }
-
-    /// Stores a packet with media, and notes its time.
-    #[inline(always)]
-    fn push_noted<B: Depacketizer>(
-        &self,
-        packets: &mut JitterBuffer<B>,
-        seen: &mut SeenTimes,
-        now: Ticks,
-        packet: &RtpPacket<'_>,
-    ) -> Result<Outcome, PacketError> {
-        let outcome = self.push_media(packets, seen, now, packet)?;
-        note_packet(seen, self.red.is_some(), outcome, packet.header.timestamp);
-        Ok(outcome)
-    }
-
-    /// Stores a retransmitted packet, by the same rule.
+    /// Stores a retransmitted packet, whose header has the original number and SSRC.
     fn push_again<B: Depacketizer>(
         &self,
         packets: &mut JitterBuffer<B>,
-        seen: &SeenTimes,
         now: Ticks,
-        sent: &SentAgain<'_>,
-    ) -> Result<Outcome, PacketError> {
-        if self.is_repeat(seen, packets, sent.header.timestamp, sent.number) {
-            packets.push_no_media(sent.number)?;
-            return Ok(Outcome::NoMedia);
+        header: &PacketHeader<'_>,
+        payload: &[u8],
+    ) -> Result<Outcome, AllocError> {
+        let payload = Vec::try_from_slice(payload)?;
+        match packets.push_retransmitted(now, self.header_for(header), payload) {
+            Ok(outcome) => Ok(outcome),
+            Err(_) => Err(AllocError),
         }
-        self.push_retransmitted(packets, now, sent)
     }
 
-    /// Stores a retransmitted packet, and notes its time.
-    fn push_again_noted<B: Depacketizer>(
-        &self,
-        packets: &mut JitterBuffer<B>,
-        seen: &mut SeenTimes,
-        now: Ticks,
-        sent: &SentAgain<'_>,
-    ) -> Result<Outcome, PacketError> {
-        let outcome = self.push_again(packets, seen, now, sent)?;
-        note_packet(seen, self.red.is_some(), outcome, sent.header.timestamp);
-        Ok(outcome)
-    }
-
-    /// Stores the primary block of a retransmitted RED packet under the original number, by the same rule. If it is not media
-    /// of the stream, the packet has no media.
-    fn push_primary_again<B: Depacketizer>(
+    /// Stores the packet that a datagram brings, if it is media of the stream and repeats no block: no block with its time was
+    /// stored under another number. Otherwise its number has no media; that of a retransmission only if it is missing.
+    fn store_packet<B: Depacketizer>(
         &self,
         packets: &mut JitterBuffer<B>,
         seen: &SeenTimes,
         now: Ticks,
-        red: &RedPacket<'_>,
-    ) -> Result<Outcome, PacketError> {
-        if !self.is_own_media(red) {
-            return note_again(packets, red.header.sequence_number);
+        brought: &Brought<'_>,
+    ) -> Result<Outcome, AllocError> {
+        let header = &brought.header;
+        let (time, number) = (header.timestamp, header.sequence_number);
+        if !brought.is_media {
+            return note_number(packets, number, brought.is_again);
         }
-        let sent = SentAgain {
-            header: red.header,
-            number: red.header.sequence_number,
-            ssrc: red.header.ssrc,
-            payload: red.primary.payload,
+        if self.red.is_some() && seen.has_block(time) && packets.would_store(number) {
+            return note_number(packets, number, false);
+        }
+        if brought.is_again {
+            self.push_again(packets, now, header, brought.payload)
+        } else {
+            self.push(packets, now, header, brought.payload)
+        }
+    }
+
+    /// Stores what a datagram brings to a stream with RED: its packet, then the missing packets of its blocks, unless the packet
+    /// is suspect. Notes the times of all that is media.
+    #[inline(never)]
+    fn store<B: Depacketizer>(
+        &self,
+        packets: &mut JitterBuffer<B>,
+        seen: &mut LazySeenTimes,
+        now: Ticks,
+        brought: Brought<'_>,
+    ) -> Result<Taken, AllocError> {
+        let mut times = seen.take()?;
+        let Ok(outcome) = self.store_packet(packets, &times, now, &brought) else {
+            seen.put(times);
+            return Err(AllocError);
         };
-        self.push_again(packets, seen, now, &sent)
+        note_packet(
+            &mut times,
+            brought.is_media,
+            outcome,
+            brought.header.timestamp,
+        );
+        if !brought.is_again && outcome == Outcome::Suspect {
+            seen.put(times);
+            return Ok(Taken {
+                outcome,
+                whole: true,
+            });
+        }
+        let whole = recover_all(packets, &mut times, now, brought.copies);
+        seen.put(times);
+        Ok(Taken { outcome, whole })
     }
 
-    /// Stores a retransmitted RED packet: its primary block, and its redundant blocks. The payloads of the blocks are copied
-    /// first.
-    fn push_red_again<B: Depacketizer>(
+    /// Stores a packet with media. A stream without RED notes no times.
+    #[inline(always)]
+    pub(crate) fn take_media<B: Depacketizer>(
         &self,
         packets: &mut JitterBuffer<B>,
-        seen: &mut SeenTimes,
+        seen: &mut LazySeenTimes,
         now: Ticks,
-        red: &RedPacket<'_>,
-    ) -> Result<Taken, PacketError> {
-        let copies = copy_blocks(self, red)?;
-        let outcome = self.push_primary_again(packets, seen, now, red)?;
-        note_packet(seen, self.is_own_media(red), outcome, red.header.timestamp);
-        let is_whole = recover_all(packets, seen, now, copies);
-        Ok(Taken {
-            outcome,
-            whole: is_whole,
-        })
+        packet: &RtpPacket<'_>,
+    ) -> Result<Outcome, AllocError> {
+        if self.red.is_none() {
+            return self.push(packets, now, &packet.header, packet.payload);
+        }
+        let brought = Brought::alone(packet.header, packet.payload, false);
+        let taken = self.store(packets, seen, now, brought)?;
+        Ok(taken.outcome)
+    }
+
+    /// Stores a retransmitted packet, as [`StreamKinds::take_media`] stores others.
+    fn take_again<B: Depacketizer>(
+        &self,
+        packets: &mut JitterBuffer<B>,
+        seen: &mut LazySeenTimes,
+        now: Ticks,
+        sent: &SentAgain<'_>,
+    ) -> Result<Outcome, AllocError> {
+        let header = PacketHeader {
+            sequence_number: sent.number,
+            ssrc: sent.ssrc,
+            ..sent.header
+        };
+        if self.red.is_none() {
+            return self.push_again(packets, now, &header, sent.payload);
+        }
+        let brought = Brought::alone(header, sent.payload, true);
+        let taken = self.store(packets, seen, now, brought)?;
+        Ok(taken.outcome)
     }
 
     /// Stores a datagram of the stream in the jitter buffer, or counts it there.
@@ -267,52 +185,58 @@ impl StreamKinds {
         seen: &mut LazySeenTimes,
         now: Ticks,
         datagram: &Datagram<'_>,
-    ) -> Result<Taken, PacketError> {
+    ) -> Result<Taken, AllocError> {
         let outcome = match datagram {
-            Datagram::Red(red) => return self.take_red(packets, seen, now, red),
-            Datagram::RedAgain(red) => return self.take_red_again(packets, seen, now, red),
             Datagram::Rtcp | Datagram::Malformed(_) => Outcome::Rtcp,
             Datagram::OtherStream => Outcome::OtherStream,
             Datagram::NoMedia(packet) => {
-                packets.push_no_media(packet.header.sequence_number)?;
-                Outcome::NoMedia
+                note_number(packets, packet.header.sequence_number, false)?
             }
-            Datagram::Media(packet) => self.take_media(packets, seen, now, packet)?,
-            Datagram::SentAgain(sent) => self.take_again(packets, seen, now, sent)?,
             Datagram::Nothing => {
                 packets.push_nothing();
                 Outcome::NoMedia
             }
+            Datagram::Media(packet) => self.take_media(packets, seen, now, packet)?,
+            Datagram::SentAgain(sent) => self.take_again(packets, seen, now, sent)?,
+            Datagram::Red(red) => {
+                let brought = Brought::in_red(self, red, false)?;
+                return self.store(packets, seen, now, brought);
+            }
+            Datagram::RedAgain(red) => {
+                let brought = Brought::in_red(self, red, true)?;
+                return self.store(packets, seen, now, brought);
+            }
         };
-        Ok(Taken::whole(outcome))
+        Ok(Taken {
+            outcome,
+            whole: true,
+        })
     }
 }
 
-/// Notes the number of a retransmission without media, if a packet with it would be stored.
-fn note_again<B: Depacketizer>(
+/// Records that this number has no media, or counts a packet without a number: if `is_again`, and no packet with the number would
+/// be stored.
+fn note_number<B: Depacketizer>(
     packets: &mut JitterBuffer<B>,
     number: u16,
-) -> Result<Outcome, PacketError> {
-    if !packets.would_store(number) {
-        packets.push_nothing();
-        return Ok(Outcome::NoMedia);
+    is_again: bool,
+) -> Result<Outcome, AllocError> {
+    if !is_again || packets.would_store(number) {
+        return match packets.push_no_media(number) {
+            Ok(()) => Ok(Outcome::NoMedia),
+            Err(_) => Err(AllocError),
+        };
     }
-    packets.push_no_media(number)?;
+    packets.push_nothing();
     Ok(Outcome::NoMedia)
 }
 
-/// Returns whether the sender restarted.
-fn is_restart(outcome: Outcome) -> bool {
-    matches!(outcome, Outcome::Restarted(_))
-}
-
-/// Notes the time of a packet, if it has media and the stream uses RED. A restart forgets all earlier times.
-#[inline(always)]
+/// Notes the time of a packet, if it has media. A restart forgets all earlier times.
 fn note_packet(seen: &mut SeenTimes, is_media: bool, outcome: Outcome, time: u32) {
     if !is_media {
         return;
     }
-    if is_restart(outcome) {
+    if matches!(outcome, Outcome::Restarted(_)) {
         *seen = SeenTimes::none();
     }
     seen.note(SeenTime {

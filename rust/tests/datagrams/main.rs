@@ -7,6 +7,7 @@ mod elements;
 mod events;
 mod hostile;
 mod packets;
+mod parsed;
 mod receiver;
 mod sender;
 mod values;

@@ -11,31 +11,40 @@ ghost use Rattle.codec_payload_stream.specs.declared.datagram.Malformation.TheVa
 use super::{ReceiveError, Receiver, with_datagram};
 use crate::answers::answer_for;
 use crate::datagram::{Datagram, Malformation, observe, ssrc_after};
+use crate::parsed::ParsedDatagram;
 use codec_payload_base::wire::Ticks;
 use codec_payload_codec::codec::Depacketizer;
 use codec_payload_jitter::jitter::Outcome;
-use codec_payload_rtp::rtp::{RtpError, RtpPacket, is_rtcp};
+use codec_payload_rtp::rtp::{RtpError, RtpPacket};
 
 impl<B: Depacketizer> Receiver<B> {
     /// Does the same as [`Receiver::hear`] for callers that are rare.
     #[inline(never)]
-    pub(super) fn hear_rarely(&mut self, now: Ticks, bytes: &[u8]) -> Result<Outcome, ReceiveError>
-        ensures heard { Heard now (datagram_at self.old.stream self.old.ssrc bytes.now) self.old result self.new }
+    pub(super) fn hear_rarely(
+        &mut self,
+        now: Ticks,
+        datagram: &ParsedDatagram<'_>,
+    ) -> Result<Outcome, ReceiveError>
+        ensures heard { Heard now (datagram_at self.old.stream self.old.ssrc datagram.now) self.old result self.new }
         ensures own { is_built_in_depacketizer self.old.packets.buffer.depacketizer ≡ false → OwnStores B.is_head B.is_tail self.old.packets.buffer self.new.packets.buffer }
     {
-        self.hear(now, bytes)
+        self.hear(now, datagram)
     }
 
     /// Receives a datagram, by the SSRC of the stream. A packet with media is stored without a [`Datagram`], which is large.
     #[inline(always)]
-    pub(super) fn hear(&mut self, now: Ticks, bytes: &[u8]) -> Result<Outcome, ReceiveError>
-        ensures heard { Heard now (datagram_at self.old.stream self.old.ssrc bytes.now) self.old result self.new }
+    pub(super) fn hear(
+        &mut self,
+        now: Ticks,
+        datagram: &ParsedDatagram<'_>,
+    ) -> Result<Outcome, ReceiveError>
+        ensures heard { Heard now (datagram_at self.old.stream self.old.ssrc datagram.now) self.old result self.new }
         ensures own { is_built_in_depacketizer self.old.packets.buffer.depacketizer ≡ false → OwnStores B.is_head B.is_tail self.old.packets.buffer self.new.packets.buffer }
     {
-        if is_rtcp(bytes) {
+        if datagram.is_rtcp() {
             return self.hear_rtcp(now);
         }
-        match &RtpPacket::parse(bytes) {
+        match datagram.packet() {
             Ok(packet) => {
                 if self.stream.is_media(self.ssrc, packet) {
                     self.hear_media(now, packet)

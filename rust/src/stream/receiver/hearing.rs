@@ -5,9 +5,10 @@
 use super::{ReceiveError, Receiver, with_datagram};
 use crate::codec::Depacketizer;
 use crate::jitter::jitter_buffer::Outcome;
-use crate::rtp::packet::{RtpError, RtpPacket, is_rtcp};
+use crate::rtp::packet::{RtpError, RtpPacket};
 use crate::stream::answers::answer_for;
 use crate::stream::datagram::{Datagram, Malformation, observe, ssrc_after};
+use crate::stream::parsed::ParsedDatagram;
 use crate::wire::Ticks;
 
 impl<B: Depacketizer> Receiver<B> {
@@ -16,18 +17,22 @@ impl<B: Depacketizer> Receiver<B> {
     pub(super) fn hear_rarely(
         &mut self,
         now: Ticks,
-        bytes: &[u8],
+        datagram: &ParsedDatagram<'_>,
     ) -> Result<Outcome, ReceiveError> {
-        self.hear(now, bytes)
+        self.hear(now, datagram)
     }
 
     /// Receives a datagram, by the SSRC of the stream. A packet with media is stored without a [`Datagram`], which is large.
     #[inline(always)]
-    pub(super) fn hear(&mut self, now: Ticks, bytes: &[u8]) -> Result<Outcome, ReceiveError> {
-        if is_rtcp(bytes) {
+    pub(super) fn hear(
+        &mut self,
+        now: Ticks,
+        datagram: &ParsedDatagram<'_>,
+    ) -> Result<Outcome, ReceiveError> {
+        if datagram.is_rtcp() {
             return self.hear_rtcp(now);
         }
-        match &RtpPacket::parse(bytes) {
+        match datagram.packet() {
             Ok(packet) => {
                 if self.stream.is_media(self.ssrc, packet) {
                     self.hear_media(now, packet)

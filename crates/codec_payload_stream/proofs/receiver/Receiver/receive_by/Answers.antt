@@ -7,4 +7,4 @@ use Rattle.codec_payload_stream.proofs.receiver.Receiver.receive_by.Goals as goa
 pub returns-in-Keep-clause-own : goal.returns-in-Keep-clause-own
 returns-in-Keep-clause-own g c = λ other.
     stores_none _ _ c.args.self.now.packets.buffer c.keep.new.self.packets.buffer
-    (ap (λ (x : Receiving). x.buffer) (keeps_packets c.args.now c.in-Keep.origin c.args.bytes.now c.args.self.now c.keep.new.self c.keep.result c.keep.ensures))
+    (ap (λ (x : Receiving). x.buffer) (keeps_packets c.args.now c.in-Keep.origin c.bytes.result.now c.args.self.now c.keep.new.self c.keep.result c.keep.ensures))
