@@ -7,6 +7,7 @@ mod association;
 mod changes;
 #[doc(hidden)]
 pub mod checks;
+mod compound;
 #[doc(hidden)]
 pub mod formats;
 mod goodbyes;

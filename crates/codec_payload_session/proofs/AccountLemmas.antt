@@ -23,7 +23,7 @@ use Rattle.codec_payload_session.specs.Ports.{IsPort, ReportsIf, counted_if, tak
 use Rattle.codec_payload_session.specs.Reports.{noted_at, noted_in, reported_by}
 use Rattle.codec_payload_session.proofs.ChangeLemmas.{length_continued, taken_continued}
 use Rattle.codec_payload_session.specs.Changes.{continues}
-use Rattle.codec_payload_session.specs.Sorting.{sorted_at}
+use Rattle.codec_payload_session.specs.Sorting.{Sorted, sorted_at}
 use Rattle.codec_payload_stream.specs.Sessions.{Session as Receiver}
 use Rattle.codec_payload_session.specs.Requests.{Asking, heard_by, number_at, wait_by}
 use Rattle.codec_payload_session.specs.Streams.{Drains, Follows, Plays, RequestsBy, RestsBy, Steps, StepsBy, Takes, end_of, heard_unless, is_accepted, is_no_memory, is_of, is_probation, left_when, received, waiting_for, waiting_if, waiting_when, waiting_where}
@@ -34,8 +34,7 @@ use Rattle.codec_payload_session.specs.declared.session.Arrival.{Arrival}
 use Rattle.codec_payload_session.specs.declared.session.Arrival.TheVariants as arrivals
 use Rattle.codec_payload_session.specs.declared.session.ArrivalCounts.{ArrivalCounts}
 use Rattle.codec_payload_session.specs.declared.session.Event.{Event}
-use Rattle.codec_payload_session.specs.declared.sort.Sorted.{Sorted}
-use Rattle.codec_payload_session.specs.declared.sort.Sorted.TheVariants as sorted
+use Rattle.codec_payload_session.specs.Sorting as sorted
 use Rattle.codec_payload_session.specs.declared.stream.Ending.{Ending}
 use Rattle.codec_payload_session.specs.declared.stream.Stage.{Stage}
 use Rattle.codec_payload_session.specs.declared.stream.Stage.TheVariants as stages

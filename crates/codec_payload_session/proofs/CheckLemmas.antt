@@ -1,17 +1,11 @@
 -- What follows from settings without a fault: their formats can begin streams.
-use Rattle.std.proofs.Common.{◌≡◌, ◌≤◌, ◌<◌, ◌∙◌, ◌&&◌, ◌||◌, ◌==◌, ◌++◌, ◌∷◌, [], ℕ, List, Bool, true, false, not, if◌then◌else◌, Option, Some, None, Result, Ok, Err, IsOk, IsSome, IsErr, OnOk, OnErr, is_some, nat_le, nat_lt, length, take, drop, option_map, is_ok, ap, refl, sym, subst, arith, inl, inr}
+use Rattle.std.proofs.Common.{◌≡◌, ◌∙◌, ◌&&◌, ◌||◌, ◌==◌, ◌++◌, ◌∷◌, [], ℕ, List, Bool, true, false, not, if◌then◌else◌, Option, Some, None, Result, Ok, Err, IsOk, OnOk, OnErr, is_some, nat_le, nat_lt, length, option_map, is_ok, ap, refl, sym, subst, arith, inl, inr}
 use Rattle.std.proofs.lemmas.Bool.Decides.{nat_tests}
 use Rattle.std.specs.declared.alloc.AllocError.{AllocError}
 use Rattle.codec_payload_base.specs.declared.wire.Ticks.{Ticks}
 use Rattle.codec_payload_codec.specs.Depacketizers.{DepacketizerState, depacketizer_state_for}
 use Rattle.codec_payload_jitter.specs.Numbers.{Numbering, numbering_within}
 use Rattle.codec_payload_jitter.specs.declared.numbers.WindowError.{WindowError}
-use Rattle.codec_payload_rtcp.specs.RtcpPackets.{Packet as Report}
-use Rattle.codec_payload_rtcp.specs.RtcpReading.{compound_at}
-use Rattle.codec_payload_rtcp.specs.declared.packet.RtcpError.{RtcpError}
-use Rattle.codec_payload_rtp.specs.RtpPackets.{Packet, is_rtcp}
-use Rattle.codec_payload_rtp.specs.RtpReading.{rtp_at}
-use Rattle.codec_payload_rtp.specs.declared.rtp.RtpError.{RtpError}
 use Rattle.codec_payload_stream.specs.Kinds.{is_among}
 use Rattle.codec_payload_stream.specs.Sessions.{Session as Receiver, red_within, retransmission_fits, session_by, session_in, session_within}
 use Rattle.codec_payload_stream.specs.declared.datagram.RedStream.{RedStream}
@@ -24,7 +18,7 @@ use Rattle.codec_payload_session.specs.Arrivals.{Port}
 use Rattle.codec_payload_session.specs.Associations.{AddsPair, TakesInBy}
 use Rattle.codec_payload_session.specs.Checks.{at_most_127, can_begin, fault_of, feedback_fault, first_of, format_fault, format_fits, formats_fault, is_payload_type, is_named, limit_fault, listed_fault, red_fault, red_fits, red_retransmission_fault, retransmission_fault, step_fault, streams_fault, type_fault, types_fault}
 use Rattle.codec_payload_session.specs.Formats.{HasSettings, backward_for, forward_for, has_type, is_video, resends, retransmission_for, retransmission_of, role_by, role_of, stream_of}
-use Rattle.codec_payload_session.specs.Sorting.{sorted_at, sorted_by, sorted_packet, sorted_retransmission, sorted_rtcp, sorted_rtp}
+use Rattle.codec_payload_session.specs.Sorting.{Sorted, sorted_at, sorted_by, sorted_packet, sorted_retransmission, sorted_rtcp, sorted_rtp}
 use Rattle.codec_payload_session.specs.declared.checks.SessionSettingsError.{SessionSettingsError}
 use Rattle.codec_payload_session.specs.declared.checks.SessionSettingsError.TheVariants as faults
 use Rattle.codec_payload_session.specs.declared.formats.Format.{Format}
@@ -33,8 +27,7 @@ use Rattle.codec_payload_session.specs.declared.formats.Role.TheVariants as role
 use Rattle.codec_payload_session.specs.declared.formats.SessionSettings.{SessionSettings}
 use Rattle.codec_payload_session.specs.declared.formats.SsrcPair.{SsrcPair}
 use Rattle.codec_payload_session.specs.declared.session.Arrival.{Arrival}
-use Rattle.codec_payload_session.specs.declared.sort.Sorted.{Sorted}
-use Rattle.codec_payload_session.specs.declared.sort.Sorted.TheVariants as sorted
+use Rattle.codec_payload_session.specs.Sorting as sorted
 
 -- ---- no fault
 
@@ -200,22 +193,9 @@ begins_by_role s t f none is =
     role_fits [] s.formats.items s.no_media.items s.telephone_events.items t f (none_one (formats_fault [] s.formats.items) listed (none_two numbers types all)) is in
     can_by (nat_le 1 s.limit) (nat_le s.limit 65536) (format_fits f) limit fits
 
-rtp_begins : (o : Result Packet RtpError) (s : SessionSettings) (ssrc : ℕ) (f : Format) → fault_of s ≡ None → sorted_rtp s o ≡ sorted.Media ssrc f → can_begin s f ≡ true
-rtp_begins (Ok p) s ssrc f none is =
-    begins_by_role s p.header.payload_type f none (sorted_media (role_of s p.header.payload_type) s p.header.ssrc ssrc f is)
-rtp_begins (Err e) s ssrc f none is = absurd (cc)
-
-rtcp_is_no_media : (o : Result (List Report) RtcpError) (ssrc : ℕ) (f : Format) → sorted_rtcp o ≡ sorted.Media ssrc f → ⊥
-rtcp_is_no_media (Ok packets) ssrc f is = absurd (cc)
-rtcp_is_no_media (Err e) ssrc f is = absurd (cc)
-
--- a stream can begin by the format of each datagram of media
-pub media_begins : (s : SessionSettings) (bytes : List ℕ) (ssrc : ℕ) (f : Format) → fault_of s ≡ None → sorted_at s bytes ≡ sorted.Media ssrc f → can_begin s f ≡ true
-media_begins s bytes ssrc f none is = by_test (is_rtcp bytes) is
-  where
-    by_test : (b : Bool) → (if b then sorted_rtcp (compound_at false bytes) else sorted_rtp s (rtp_at bytes)) ≡ sorted.Media ssrc f → can_begin s f ≡ true
-    by_test true said = absurd (rtcp_is_no_media (compound_at false bytes) ssrc f said)
-    by_test false said = rtp_begins (rtp_at bytes) s ssrc f none said
+-- a stream can begin by the format of each packet of media
+pub packet_begins : (s : SessionSettings) (of payload_type ssrc : ℕ) (f : Format) → fault_of s ≡ None → sorted_packet s of payload_type ≡ sorted.Media ssrc f → can_begin s f ≡ true
+packet_begins s of payload_type ssrc f none is = begins_by_role s payload_type f none (sorted_media (role_of s payload_type) s of ssrc f is)
 
 -- ---- its receiver
 

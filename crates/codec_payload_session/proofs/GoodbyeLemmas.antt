@@ -1,7 +1,10 @@
 -- The streams that leave by name, one name after another.
 use Rattle.std.proofs.Common.{◌≡◌, ℕ, List, [], ◌∷◌, Bool, true, false, ◌||◌, ap, refl, arith}
 use Rattle.std.proofs.Math.Nat.{min-eq_left, min-le_right}
+use Rattle.codec_payload_base.specs.declared.wire.Ticks.{Ticks}
+use Rattle.codec_payload_rtcp.specs.RtcpPackets.{Packet}
 use Rattle.codec_payload_session.specs.Arrivals.{left_where}
+use Rattle.codec_payload_session.specs.Reports.{noted, noted_where}
 use Rattle.codec_payload_session.specs.Streams.{left_when, stage_left}
 use Rattle.codec_payload_session.specs.declared.stream.Ending.{Ending}
 use Rattle.codec_payload_session.specs.declared.stream.Stage.{Stage}
@@ -37,3 +40,13 @@ left_same A B why at (s ∷ ss) same = rw (same s.ssrc, left_same A B why at ss 
 pub left_nobody : (A : ℕ → Bool) (why : Ending) (at : ℕ) (ss : List StreamState) → ((ssrc : ℕ) → A ssrc ≡ false) → left_where A why at ss ≡ ss
 left_nobody A why at [] none = refl
 left_nobody A why at (s ∷ ss) none = rw (none s.ssrc, left_nobody A why at ss none) refl
+
+-- a stream keeps its clock as it leaves, so both orders give the same
+noted_left_one : (now : Ticks) (ps : List Packet) (b : Bool) (why : Ending) (at : ℕ) (s : StreamState) → noted now ps (left_when b why at s) ≡ left_when b why at (noted now ps s)
+noted_left_one now ps true why at s = refl
+noted_left_one now ps false why at s = refl
+
+pub noted_left : (now : Ticks) (ps : List Packet) (A : ℕ → Bool) (why : Ending) (at : ℕ) (ss : List StreamState)
+    → noted_where now ps (left_where A why at ss) ≡ left_where A why at (noted_where now ps ss)
+noted_left now ps A why at [] = refl
+noted_left now ps A why at (s ∷ ss) = rw (noted_left_one now ps (A s.ssrc) why at s, noted_left now ps A why at ss) refl

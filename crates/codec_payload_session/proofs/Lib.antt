@@ -1,5 +1,4 @@
 mod AccountLemmas
-mod AnswerLemmas
 mod AssociationLemmas
 mod CalmLemmas
 mod ChangeLemmas

@@ -1,18 +1,12 @@
 -- What a datagram does to the packets of telephone events that wait.
-use Rattle.std.proofs.Common.{◌≡◌, ◌≤◌, ◌<◌, ◌∙◌, ℕ, suc, ◌+◌, ◌-◌, ◌%◌, List, [], ◌∷◌, ◌++◌, take, length, length-append, Bool, true, false, Option, Some, None, Result, Ok, Err, ap, refl, subst, sym, arith, nat_lt}
+use Rattle.std.proofs.Common.{◌≡◌, ◌≤◌, ◌<◌, ◌∙◌, ℕ, ◌-◌, List, [], ◌∷◌, ◌++◌, take, length, length-append, Bool, true, false, Option, Some, None, ap, refl, subst, sym, arith}
 use Rattle.std.proofs.Math.Seq.{take-append_seam}
 use Rattle.std.proofs.lemmas.Bool.Decides.{nat_tests}
-use Rattle.codec_payload_base.specs.Flags.{AreBytes}
 use Rattle.codec_payload_base.specs.declared.wire.Ticks.{Ticks}
-use Rattle.codec_payload_rtp.specs.RtpPackets.{IsRtp, Packet, bit_if}
-use Rattle.codec_payload_rtp.specs.RtpReading.{rtp_at}
-use Rattle.codec_payload_rtp.specs.declared.rtp.RtpError.{RtpError}
-use Rattle.codec_payload_rtp.proofs.RtpGrammar.{rtp_takes}
-use Rattle.codec_payload_stream.specs.Kinds.{is_among}
+use Rattle.codec_payload_rtp.specs.RtpPackets.{Packet}
 use Rattle.codec_payload_session.specs.Polls.{Polls, PollsAfter, TurnsOrReports}
 use Rattle.codec_payload_session.specs.Ports.{Session}
-use Rattle.codec_payload_session.specs.Telephone.{Gives, GivesFrom, Notes, NotesBy, Queue, QueuesIf, WaitsLast, WaitsOrDrops, has_room, names_telephone, settled, telephone_of, without_last}
-use Rattle.codec_payload_session.specs.declared.formats.SessionSettings.{SessionSettings}
+use Rattle.codec_payload_session.specs.Telephone.{Gives, GivesFrom, Notes, NotesBy, Queue, QueuesIf, WaitsLast, WaitsOrDrops, has_room, settled, without_last}
 use Rattle.codec_payload_session.specs.declared.session.Event.{Event}
 use Rattle.codec_payload_session.specs.declared.telephone.Noted.{Noted}
 use Rattle.codec_payload_session.specs.declared.telephone.Noted.TheVariants as noteds
@@ -65,27 +59,6 @@ pub stay_few : (taken : Bool) (o : Option Packet) (q r : Queue) → QueuesIf tak
 stay_few taken None q r got few = subst (λ (x : Queue). length x.waiting ≤ 32) (sym got) few
 stay_few false (Some p) q r got few = subst (λ (x : Queue). length x.waiting ≤ 32) (sym got) few
 stay_few true (Some p) q r got few = few_by (has_room q) p q r refl got few
-
--- ---- which datagrams are packets of telephone events
-
-second_is : (marker : Bool) (n : ℕ) → n < 128 → (bit_if marker 128 + n) % 128 ≡ n
-second_is true n small = omega arith
-second_is false n small = omega arith
-
-is_named : (s : SessionSettings) (bytes : List ℕ) (p : Packet) → IsRtp bytes p → names_telephone s bytes ≡ is_among p.header.payload_type s.telephone_events.items
-is_named s bytes p is =
-    subst (λ (l : List ℕ). names_telephone s l ≡ is_among p.header.payload_type s.telephone_events.items) (sym is.is)
-    (ap (λ (n : ℕ). is_among n s.telephone_events.items) (second_is p.header.marker p.header.payload_type is.fits.payload_type))
-
-not_named_by : (s : SessionSettings) (bytes : List ℕ) (r : Result Packet RtpError) → AreBytes bytes → rtp_at bytes ≡ r → names_telephone s bytes ≡ false → telephone_of s r ≡ None
-not_named_by s bytes (Ok p) are is else_named =
-    let other : is_among p.header.payload_type s.telephone_events.items ≡ false = sym (is_named s bytes p (rtp_takes bytes p are is)) ∙ else_named in
-    rw other refl
-not_named_by s bytes (Err e) are is else_named = refl
-
--- a datagram whose second byte has another payload type is none
-pub not_named : (s : SessionSettings) (bytes : List ℕ) → AreBytes bytes → names_telephone s bytes ≡ false → telephone_of s (rtp_at bytes) ≡ None
-not_named s bytes are else_named = not_named_by s bytes (rtp_at bytes) are refl else_named
 
 -- ---- polls
 

@@ -17,9 +17,8 @@ use Rattle.codec_payload_session.specs.declared.formats.Format.{Format}
 use Rattle.codec_payload_session.specs.declared.formats.SessionSettings.{SessionSettings}
 use Rattle.codec_payload_session.specs.declared.session.Arrival.{Arrival}
 use Rattle.codec_payload_session.specs.declared.session.Arrival.TheVariants as arrivals
-use Rattle.codec_payload_session.specs.Sorting.{sorted_at}
-use Rattle.codec_payload_session.specs.declared.sort.Sorted.{Sorted}
-use Rattle.codec_payload_session.specs.declared.sort.Sorted.TheVariants as sorted
+use Rattle.codec_payload_session.specs.Sorting.{Sorted, sorted_at}
+use Rattle.codec_payload_session.specs.Sorting as sorted
 use Rattle.codec_payload_session.specs.declared.stream.Ending.{Ending}
 use Rattle.codec_payload_session.specs.declared.stream.Ending.TheVariants as endings
 use Rattle.codec_payload_session.specs.declared.stream.StreamState.{StreamState}

@@ -10,19 +10,40 @@ use Rattle.codec_payload_session.specs.Formats.{role_of, stream_of}
 use Rattle.codec_payload_session.specs.declared.formats.Role.{Role}
 use Rattle.codec_payload_session.specs.declared.formats.Role.TheVariants as roles
 use Rattle.codec_payload_session.specs.declared.formats.SessionSettings.{SessionSettings}
-use Rattle.codec_payload_session.specs.declared.sort.Sorted.{Sorted}
-use Rattle.codec_payload_session.specs.declared.sort.Sorted.TheVariants as sorted
+use Rattle.codec_payload_session.specs.declared.formats.Format.{Format}
+use Rattle.codec_payload_session.specs.declared.sort.SortedPacket.{SortedPacket}
+use Rattle.codec_payload_session.specs.declared.sort.SortedPacket.TheVariants as packets
+
+-- a datagram, as a session sees it: a valid compound packet of RTCP; neither RTP nor such a packet; a packet of a payload type that
+-- the settings do not name; a retransmission under an unknown SSRC; a packet for the stream with this SSRC and format, which it
+-- begins if there is none; a retransmission for the stream with this SSRC and payload type; a packet without media, under this SSRC
+pub data Sorted : Type 0 where
+  Rtcp : Sorted
+  Malformed : Sorted
+  Unknown : Sorted
+  Unassociated : Sorted
+  Media : ℕ → Format → Sorted
+  Retransmission : ℕ → ℕ → Sorted
+  NoMedia : ℕ → Sorted
+
+-- the same for an RTP packet
+abbrev pub sorted_of : SortedPacket → Sorted
+sorted_of packets.Unknown = Unknown
+sorted_of packets.Unassociated = Unassociated
+sorted_of (packets.Media ssrc f) = Media ssrc f
+sorted_of (packets.Retransmission ssrc payload_type) = Retransmission ssrc payload_type
+sorted_of (packets.NoMedia ssrc) = NoMedia ssrc
 
 -- a retransmission is for the stream of its pair
 abbrev pub sorted_retransmission : Option ℕ → ℕ → Sorted
-sorted_retransmission None payload_type = sorted.Unassociated
-sorted_retransmission (Some ssrc) payload_type = sorted.Retransmission ssrc payload_type
+sorted_retransmission None payload_type = Unassociated
+sorted_retransmission (Some ssrc) payload_type = Retransmission ssrc payload_type
 
 abbrev pub sorted_by : Role → SessionSettings → ℕ → Sorted
-sorted_by (roles.Media f) s ssrc = sorted.Media ssrc f
+sorted_by (roles.Media f) s ssrc = Media ssrc f
 sorted_by (roles.Retransmission f) s ssrc = sorted_retransmission (stream_of ssrc s.pairs.items) f.payload_type
-sorted_by roles.NoMedia s ssrc = sorted.NoMedia ssrc
-sorted_by roles.Unknown s ssrc = sorted.Unknown
+sorted_by roles.NoMedia s ssrc = NoMedia ssrc
+sorted_by roles.Unknown s ssrc = Unknown
 
 -- an RTP packet, by its SSRC and payload type
 abbrev pub sorted_packet : SessionSettings → ℕ → ℕ → Sorted
@@ -30,12 +51,12 @@ sorted_packet s ssrc payload_type = sorted_by (role_of s payload_type) s ssrc
 
 abbrev pub sorted_rtp : SessionSettings → Result Packet RtpError → Sorted
 sorted_rtp s (Ok p) = sorted_packet s p.header.ssrc p.header.payload_type
-sorted_rtp s (Err e) = sorted.Malformed
+sorted_rtp s (Err e) = Malformed
 
 -- a compound packet counts as a whole or not at all (RFC 3550, appendix A.2); it may be of reduced size (RFC 5506)
 abbrev pub sorted_rtcp : Result (List Report) RtcpError → Sorted
-sorted_rtcp (Ok packets) = sorted.Rtcp
-sorted_rtcp (Err e) = sorted.Malformed
+sorted_rtcp (Ok packets) = Rtcp
+sorted_rtcp (Err e) = Malformed
 
 -- any bytes
 abbrev pub sorted_at : SessionSettings → List ℕ → Sorted

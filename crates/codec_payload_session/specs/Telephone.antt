@@ -1,12 +1,11 @@
 -- Packets of telephone events beside audio (RFC 4733), which wait until polls return them.
-use Rattle.std.specs.Prelude.{◌≡◌, ℕ, ◌-◌, ◌%◌, ◌==◌, nat_lt, if◌then◌else◌, Bool, true, false, List, [], ◌∷◌, ◌++◌, take, length, Option, Some, None, Result, Ok, Err}
+use Rattle.std.specs.Prelude.{◌≡◌, ℕ, ◌-◌, ◌==◌, nat_lt, if◌then◌else◌, Bool, true, false, List, [], ◌∷◌, ◌++◌, take, length, Option, Some, None, Result, Ok, Err}
 use Rattle.std.specs.declared.alloc.AllocError.{AllocError}
 use Rattle.codec_payload_jitter.specs.Receiving.{next}
 use Rattle.codec_payload_jitter.specs.declared.outcome.Outcome.TheVariants as outcomes
 use Rattle.codec_payload_rtp.specs.RtpPackets.{Packet, is_rtcp}
 use Rattle.codec_payload_rtp.specs.RtpReading.{rtp_at}
 use Rattle.codec_payload_rtp.specs.declared.rtp.RtpError.{RtpError}
-use Rattle.codec_payload_stream.specs.Kinds.{is_among}
 use Rattle.codec_payload_session.specs.Formats.{is_telephone}
 use Rattle.codec_payload_session.specs.declared.formats.SessionSettings.{SessionSettings}
 use Rattle.codec_payload_session.specs.declared.session.Arrival.{Arrival}
@@ -37,11 +36,6 @@ telephone_of s (Err e) = None
 -- the packet of telephone events that the bytes are
 abbrev pub telephone_at : SessionSettings → List ℕ → Option Packet
 telephone_at s bytes = if is_rtcp bytes then None else telephone_of s (rtp_at bytes)
-
--- the second byte has the payload type, behind the marker
-abbrev pub names_telephone : SessionSettings → List ℕ → Bool
-names_telephone s (first ∷ second ∷ rest) = is_among (second % 128) s.telephone_events.items
-names_telephone s bytes = false
 
 -- a stream took the datagram as one without media
 abbrev pub is_without_media : Result Arrival AllocError → Bool

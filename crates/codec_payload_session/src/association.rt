@@ -11,7 +11,8 @@ use crate::session::Arrival;
 use crate::stream::{StreamState, is_playing};
 use crate::streams::Streams;
 use codec_payload_base::wire::Ticks;
-use codec_payload_rtp::rtp::{RtpPacket, is_rtcp};
+use codec_payload_rtp::rtp::RtpPacket;
+use codec_payload_stream::parsed::ParsedDatagram;
 use std::alloc::AllocError;
 
 /// How far the RTP time of a retransmission may be from the clock of its stream's sender, in seconds.
@@ -33,7 +34,7 @@ pub(crate) fn take_in(
     settings: &mut SessionSettings,
     streams: &mut Streams,
     now: Ticks,
-    datagram: &[u8],
+    datagram: &ParsedDatagram<'_>,
 ) -> Result<Arrival, AllocError>
     requires { fault_of settings.old ≡ Option.None }
     ensures { TakesInBy (pair_at settings.old now.0 datagram.now streams.old.streams) now datagram.now settings.old streams.old result settings.new streams.new }
@@ -72,7 +73,7 @@ fn pair_at(
     settings: &SessionSettings,
     streams: &[StreamState],
     now: Ticks,
-    datagram: &[u8],
+    datagram: &ParsedDatagram<'_>,
 ) -> Option<SsrcPair>
     ensures { result ≡ pair_at settings.now now.0 datagram.now streams.now }
 {
@@ -85,14 +86,14 @@ fn pair_at(
 }
 
 /// Returns the retransmission that the datagram is, if its SSRC is in no pair.
-fn unpaired_at(settings: &SessionSettings, datagram: &[u8]) -> Option<Unpaired>
+fn unpaired_at(settings: &SessionSettings, datagram: &ParsedDatagram<'_>) -> Option<Unpaired>
     ensures { result ≡ unpaired_at settings.now datagram.now }
 {
-    if is_rtcp(datagram) {
+    if datagram.is_rtcp() {
         return None;
     }
-    match RtpPacket::parse(datagram) {
-        Ok(packet) => unpaired_of(settings, &packet),
+    match datagram.packet() {
+        Ok(packet) => unpaired_of(settings, packet),
         Err(_) => None,
     }
 }

@@ -2,36 +2,16 @@
 
 ghost use Rattle.std.specs.Prelude.{◌≡◌};
 ghost use Rattle.codec_payload_base.specs.Answers.{Finds};
-ghost use Rattle.codec_payload_rtcp.specs.RtcpReading.{compound_at, packets_left};
 ghost use Rattle.codec_payload_rtcp.specs.RtcpValues.{packet_of};
-ghost use Rattle.codec_payload_session.specs.Arrivals.{goodbye_at, left_where, named_in, say_goodbye, says_goodbye, source_at_front};
+ghost use Rattle.codec_payload_session.specs.Arrivals.{left_where, named_in, says_goodbye, source_at_front};
 ghost use Rattle.codec_payload_session.specs.declared.stream.Ending.TheVariants as endings;
 
 use crate::stream::{Ending, StreamState};
 use crate::streams::{Who, leave};
-use codec_payload_rtcp::compound::{CompoundRule, Packets, read_compound};
 use codec_payload_rtcp::packet::RtcpPacket;
 
-/// Ends the streams that a BYE of the compound packet names, at that time. The packet is read once, whatever its streams.
-pub(crate) fn leave_by_name(streams: &mut [StreamState], compound: &[u8], at: u64)
-    ensures { streams.new ≡ left_where (goodbye_at compound.now) endings.Bye at streams.old }
-{
-    if let Ok(packets) = read_compound(CompoundRule::ReducedSize, compound) {
-        leave_by_packets(streams, packets, at);
-    }
-}
-
-/// Ends the streams that a BYE among the packets names.
-fn leave_by_packets(streams: &mut [StreamState], mut packets: Packets<'_>, at: u64)
-    ensures { streams.new ≡ left_where (λ ssrc. say_goodbye ssrc (packets_left packets.entry)) endings.Bye at streams.old }
-{
-    while let Some(packet) = packets.next() {
-        leave_by_packet(streams, &packet, at);
-    }
-}
-
 /// Ends the streams that the packet names, if it is a BYE.
-fn leave_by_packet(streams: &mut [StreamState], packet: &RtcpPacket<'_>, at: u64)
+pub(crate) fn leave_by_packet(streams: &mut [StreamState], packet: &RtcpPacket<'_>, at: u64)
     ensures { streams.new ≡ left_where (λ ssrc. says_goodbye ssrc (packet_of packet.now)) endings.Bye at streams.old }
 {
     if let RtcpPacket::Goodbye(goodbye) = packet {

@@ -5,6 +5,7 @@
 mod association;
 mod changes;
 pub mod checks;
+mod compound;
 pub mod formats;
 mod goodbyes;
 mod named;

@@ -10,6 +10,7 @@ use codec_payload_base::wire::Ticks;
 use codec_payload_codec::codec::CodecDepacketizer;
 use codec_payload_jitter::jitter::WaitLimits;
 use codec_payload_jitter::outcome::Outcome;
+use codec_payload_stream::parsed::ParsedDatagram;
 use codec_payload_stream::pops::Popped;
 use codec_payload_stream::receiver::{
     ReceiveError, Receiver, Retransmission, Settings, SettingsError,
@@ -60,12 +61,16 @@ impl NamedReceiver {
         &self.receiver
     }
 
-    /// Receives a datagram. See [`Receiver::receive`].
+    /// Receives a datagram. See [`Receiver::receive_parsed`].
     #[inline(always)]
-    pub(crate) fn receive(&mut self, now: Ticks, datagram: &[u8]) -> Result<Outcome, ReceiveError>
+    pub(crate) fn receive(
+        &mut self,
+        now: Ticks,
+        datagram: &ParsedDatagram<'_>,
+    ) -> Result<Outcome, ReceiveError>
         ensures received { ReceivesBytes now datagram.now self.old result self.new }
     {
-        self.receiver.receive(now, datagram)
+        self.receiver.receive_parsed(now, datagram)
     }
 
     /// Returns the next unit or refused frame. See [`Receiver::pop`].

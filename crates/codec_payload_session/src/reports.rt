@@ -1,14 +1,12 @@
 //! Reports of RTCP (RFC 3550, section 6.4): what the sender reports say about the clock of a stream, and the blocks that
 //! receiver reports have about its packets.
 
-ghost use Rattle.std.specs.Prelude.{◌≡◌, ◌∷◌, ◌<◌, IfSome, [], false};
-ghost use Rattle.codec_payload_rtcp.specs.RtcpReading.{compound_at, packets_left};
+ghost use Rattle.std.specs.Prelude.{◌≡◌, ◌∷◌, ◌<◌, IfSome, []};
 ghost use Rattle.codec_payload_rtcp.specs.RtcpValues.{packet_of, sender_of};
-ghost use Rattle.codec_payload_session.specs.Reports.{block_about, block_of, clock_of, clocked_if, clocked_where, delay_since, last_report, noted_in, noted_where, ntp_at, ntp_ticks, reported_by};
+ghost use Rattle.codec_payload_session.specs.Reports.{block_about, block_of, clock_of, clocked_if, clocked_where, delay_since, last_report, noted_where, ntp_at, ntp_ticks, reported_by};
 
 use crate::stream::StreamState;
 use codec_payload_base::wire::{Frequency, Ticks};
-use codec_payload_rtcp::compound::{CompoundRule, Packets, read_compound};
 use codec_payload_rtcp::items::ReportBlock;
 use codec_payload_rtcp::packet::{RtcpPacket, SenderReport};
 use codec_payload_stream::reports::ReceptionReport;
@@ -70,26 +68,8 @@ impl StreamState {
     }
 }
 
-/// Notes the sender reports of a compound packet that arrived at `now`, each for the streams of its SSRC.
-pub(crate) fn note_reports(streams: &mut [StreamState], now: Ticks, compound: &[u8])
-    ensures { streams.new ≡ noted_in now (compound_at false compound.now) streams.old }
-{
-    if let Ok(packets) = read_compound(CompoundRule::ReducedSize, compound) {
-        note_packets(streams, now, packets);
-    }
-}
-
-/// Notes the sender reports among the packets.
-fn note_packets(streams: &mut [StreamState], now: Ticks, mut packets: Packets<'_>)
-    ensures { streams.new ≡ noted_where now (packets_left packets.entry) streams.old }
-{
-    while let Some(packet) = packets.next() {
-        note_packet(streams, now, &packet);
-    }
-}
-
-/// Notes the packet if it is a sender report.
-fn note_packet(streams: &mut [StreamState], now: Ticks, packet: &RtcpPacket<'_>)
+/// Notes the packet if it is a sender report: it states the clock of the streams of its SSRC. It arrived at `now`.
+pub(crate) fn note_packet(streams: &mut [StreamState], now: Ticks, packet: &RtcpPacket<'_>)
     ensures { streams.new ≡ noted_where now (packet_of packet.now ∷ []) streams.old }
 {
     if let RtcpPacket::SenderReport(report) = packet {

@@ -1,6 +1,6 @@
 //! What a stream of a session requests: missing packets and keyframes.
 
-ghost use Rattle.std.specs.Prelude.{◌≡◌, ◌<◌, ℕ, IfOk, OnOk, Option, false, true};
+ghost use Rattle.std.specs.Prelude.{◌≡◌, ◌<◌, ℕ, IfOk, OnOk, Option};
 ghost use Rattle.codec_payload_jitter.specs.Missing.{missing_numbers};
 ghost use Rattle.codec_payload_session.specs.Quiet.{MayRest, is_calm};
 ghost use Rattle.codec_payload_session.specs.Requests.{Asks, Refreshes, after_number, feedback_by, has_requested, heard_by, is_heard, number_at, original_number, requests_due, range_for, round_trip_of, source_for, spaced, wait_by, wait_of, wait_within};
@@ -9,7 +9,7 @@ use crate::formats::{FeedbackSettings, Format};
 use codec_payload_base::wire::Ticks;
 use codec_payload_feedback::requests::{FeedbackSource, StreamRequests};
 use codec_payload_requests::nack::NackSettings;
-use codec_payload_rtp::rtp::RtpPacket;
+use codec_payload_stream::parsed::ParsedDatagram;
 use codec_payload_stream::receiver::Receiver;
 use std::alloc::{AllocError, Global};
 use std::marker::Model;
@@ -98,22 +98,6 @@ impl Feedback {
         }
     }
 
-    /// Returns whether a packet of the format may answer a request. If it may not, its number changes nothing. Reads only two
-    /// bytes of a packet whose number was not requested, if the format has no payload type of retransmissions.
-    fn may_answer(&self, format: &Format, datagram: &[u8]) -> bool
-        ensures { result ≡ false → (now : ℕ) → after_number now (number_at format.now datagram.now) self.now ≡ self.now }
-    {
-        if format.retransmission.is_some() {
-            return true;
-        }
-        match datagram {
-            [_, _, high, low, ..] => self
-                .requests
-                .has_requested(u16::from(*high) * 256 + u16::from(*low)),
-            _ => true,
-        }
-    }
-
     /// Returns how long a frame may wait, by the round trip. `None`: the wait limits stay.
     fn wait(&self) -> Option<u64>
         ensures { result ≡ wait_of self.now }
@@ -172,12 +156,15 @@ impl Feedback {
 }
 
 /// Records the number of a packet that was accepted.
-pub(crate) fn hear(feedback: &mut Option<Feedback>, format: &Format, now: Ticks, datagram: &[u8])
+pub(crate) fn hear(
+    feedback: &mut Option<Feedback>,
+    format: &Format,
+    now: Ticks,
+    datagram: &ParsedDatagram<'_>,
+)
     ensures { feedback.new ≡ heard_by now.0 (number_at format.now datagram.now) feedback.old }
 {
-    if let Some(feedback) = feedback
-        && feedback.may_answer(format, datagram)
-    {
+    if let Some(feedback) = feedback {
         feedback.hear(now, number_of(format, datagram));
     }
 }
@@ -301,10 +288,10 @@ fn collect_missing(
 
 /// Returns the number that a packet answers: that of a retransmission is its original number (RFC 4588, section 4). If
 /// retransmissions have a separate payload type, no other packet answers: it may only be late.
-fn number_of(format: &Format, datagram: &[u8]) -> Option<u16>
+fn number_of(format: &Format, datagram: &ParsedDatagram<'_>) -> Option<u16>
     ensures { result ≡ number_at format.now datagram.now }
 {
-    match RtpPacket::parse(datagram) {
+    match datagram.packet() {
         Ok(packet) if format.resends(packet.header.payload_type) => original_number(packet.payload),
         Ok(packet) if format.retransmission.is_none() => Some(packet.header.sequence_number),
         _ => None,

@@ -29,6 +29,7 @@ use codec_payload_buffer::buffer::Depacketized;
 use codec_payload_jitter::jitter::WaitLimits;
 use codec_payload_jitter::outcome::Outcome;
 use codec_payload_rtcp::items::ReportBlock;
+use codec_payload_stream::parsed::ParsedDatagram;
 use codec_payload_stream::receiver::{ReceiveError, Receiver};
 use std::alloc::{AllocError, Global};
 use std::marker::Model;
@@ -236,6 +237,17 @@ impl Session {
     /// [`StreamInfo::sender_clock`]: crate::stream::StreamInfo::sender_clock
     /// [`Ending::Changed`]: crate::stream::Ending::Changed
     pub fn receive(&mut self, now: Ticks, datagram: &[u8]) -> Result<Arrival, AllocError>
+        ensures { Associates now datagram.now self.old result self.new }
+    {
+        self.receive_parsed(now, &ParsedDatagram::parse(datagram))
+    }
+
+    /// Receives a datagram that was read. No later step reads it again.
+    fn receive_parsed(
+        &mut self,
+        now: Ticks,
+        datagram: &ParsedDatagram<'_>,
+    ) -> Result<Arrival, AllocError>
         ensures { Associates now datagram.now self.old result self.new }
     {
         let noted = self.telephone.note(&self.settings, datagram)?;

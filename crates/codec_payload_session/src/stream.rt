@@ -23,6 +23,7 @@ use codec_payload_buffer::buffer::Depacketized;
 use codec_payload_codec::codec::CodecDepacketizer;
 use codec_payload_jitter::jitter::WaitLimits;
 use codec_payload_jitter::outcome::Outcome;
+use codec_payload_stream::parsed::ParsedDatagram;
 use codec_payload_stream::pops::Popped;
 use codec_payload_stream::receiver::{Counters, ReceiveError};
 use std::alloc::{AllocError, Global};
@@ -187,7 +188,7 @@ impl StreamState {
         &mut self,
         now: Ticks,
         probation: u64,
-        datagram: &[u8],
+        datagram: &ParsedDatagram<'_>,
     ) -> Result<Outcome, ReceiveError>
         ensures { Takes now probation datagram.now self.old result self.new }
     {
@@ -201,7 +202,7 @@ impl StreamState {
     }
 
     /// Measures the round trip by an accepted datagram, if it answers a request.
-    fn hear_if(&mut self, accepted: bool, now: Ticks, datagram: &[u8])
+    fn hear_if(&mut self, accepted: bool, now: Ticks, datagram: &ParsedDatagram<'_>)
         ensures { self.new ≡ received now.0 datagram.now accepted self.old.receiver self.old }
     {
         if accepted {

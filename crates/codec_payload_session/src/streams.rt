@@ -1,15 +1,15 @@
 //! The streams of a session, in the order in which they began.
 
-ghost use Rattle.std.specs.Prelude.{◌≡◌, ◌<◌, IfOk, IfSome, OnErr, OnOk, Option, length, slice_get, true, false};
+ghost use Rattle.std.specs.Prelude.{◌≡◌, ◌<◌, IfOk, IfSome, OnErr, OnOk, Option, Result, length, slice_get, true, false};
 ghost use Rattle.std.specs.List.{position};
 ghost use Rattle.std.specs.Option.{is_some};
 ghost use Rattle.codec_payload_base.specs.Answers.{Finds};
 ghost use Rattle.codec_payload_rtcp.specs.RtcpReading.{compound_at, packets_left};
-ghost use Rattle.codec_payload_rtcp.specs.RtcpValues.{packet_of};
-ghost use Rattle.codec_payload_session.specs.Reports.{noted_at};
+ghost use Rattle.codec_payload_session.specs.Reports.{noted_where};
+ghost use Rattle.codec_payload_session.specs.Sorting.{sorted_packet, sorted_rtcp};
 ghost use Rattle.codec_payload_session.specs.Streams.{is_of, waiting_if, waiting_where};
 ghost use Rattle.codec_payload_session.specs.Turns.{StepsFirst, TakesTurn, after_step, told_by};
-ghost use Rattle.codec_payload_session.specs.Arrivals.{BeginsIf, BeginsOrFeeds, Feeds, TakesIn, added, goodbye_at, has_place, has_ssrc, includes, leaving, left_if, left_where, on_probation, removed, TakesMedia};
+ghost use Rattle.codec_payload_session.specs.Arrivals.{BeginsIf, BeginsOrFeeds, Feeds, TakesIn, TakesInAs, added, has_place, has_ssrc, includes, leaving, left_if, left_where, on_probation, removed, say_goodbye, TakesMedia};
 ghost use Rattle.codec_payload_session.specs.Ports.{ReportsIf, ReportsOn, everyone, no_port};
 ghost use Rattle.codec_payload_session.specs.declared.stream.Ending.TheVariants as endings;
 ghost use Rattle.codec_payload_session.specs.Pairs.{paired_where, with_pair};
@@ -18,17 +18,19 @@ ghost use Rattle.codec_payload_session.specs.Changes.{any_left_behind, continued
 ghost use Rattle.codec_payload_session.specs.Waking.{FeedsOne, StepsPort};
 
 use crate::changes::{any_left_behind, continues, leave_behind};
+use crate::compound::take_packets;
 use crate::formats::{Format, SessionSettings, SsrcPair};
-use crate::goodbyes::leave_by_name;
 use crate::pairs::{pair, with_pair};
-use crate::reports::note_reports;
 use crate::session::{Arrival, Event};
-use crate::sort::{Sorted, sort};
+use crate::sort::{SortedPacket, sort};
 use crate::stream::{Ending, Step, StreamState, is_no_memory, is_nothing};
 use crate::waking::{Waking, step_excepted};
 use codec_payload_base::wire::{Frequency, Ticks};
 use codec_payload_jitter::jitter::WaitLimits;
+use codec_payload_rtcp::compound::{CompoundRule, Packets, read_compound};
 use codec_payload_rtcp::items::ReportBlock;
+use codec_payload_rtp::rtp::PacketHeader;
+use codec_payload_stream::parsed::ParsedDatagram;
 use std::alloc::{AllocError, Global};
 use std::marker::Model;
 
@@ -91,31 +93,66 @@ impl Streams {
         &mut self,
         settings: &SessionSettings,
         now: Ticks,
-        datagram: &[u8],
+        datagram: &ParsedDatagram<'_>,
     ) -> Result<Arrival, AllocError>
         requires { fault_of settings.now ≡ Option.None }
         ensures { TakesIn settings.now now datagram.now self.old result self.new }
     {
-        match sort(settings, datagram) {
-            Sorted::Rtcp => {
-                self.note_reports(now, datagram);
+        if datagram.is_rtcp() {
+            return Ok(self.take_rtcp(settings, now, datagram.bytes()));
+        }
+        match datagram.packet() {
+            Ok(packet) => self.take_packet(settings, &packet.header, now, datagram),
+            Err(_) => Ok(Arrival::Malformed),
+        }
+    }
+
+    /// Receives a datagram of RTCP. It is read once.
+    fn take_rtcp(&mut self, settings: &SessionSettings, now: Ticks, datagram: &[u8]) -> Arrival
+        ensures { TakesInAs (sorted_rtcp (compound_at false datagram.now)) settings.now now datagram.now self.old (Result.Ok result) self.new }
+    {
+        match read_compound(CompoundRule::ReducedSize, datagram) {
+            Ok(packets) => {
                 let at = now.0.saturating_add(settings.bye_wait);
-                self.leave_by_name(datagram, at);
-                Ok(Arrival::Rtcp)
+                self.take_packets(now, at, packets);
+                Arrival::Rtcp
             }
-            Sorted::Malformed => Ok(Arrival::Malformed),
-            Sorted::Unknown => Ok(Arrival::Unknown),
-            Sorted::Unassociated => Ok(Arrival::Unassociated),
-            Sorted::Media(ssrc, format) => {
+            Err(_) => Arrival::Malformed,
+        }
+    }
+
+    /// Takes the packets of a compound packet: sender reports, and BYEs that end streams at `at`.
+    fn take_packets(&mut self, now: Ticks, at: u64, packets: Packets<'_>)
+        ensures { self.new ≡ record self.old { streams = left_where (λ ssrc. say_goodbye ssrc (packets_left packets.entry)) endings.Bye at (noted_where now (packets_left packets.entry) self.old.streams) } }
+    {
+        self.waking = Waking::unknown();
+        take_packets(&mut self.list, now, at, packets);
+    }
+
+    /// Receives an RTP packet with this header.
+    fn take_packet(
+        &mut self,
+        settings: &SessionSettings,
+        header: &PacketHeader<'_>,
+        now: Ticks,
+        datagram: &ParsedDatagram<'_>,
+    ) -> Result<Arrival, AllocError>
+        requires { fault_of settings.now ≡ Option.None }
+        ensures { TakesInAs (sorted_packet settings.now header.now.ssrc header.now.payload_type) settings.now now datagram.now self.old result self.new }
+    {
+        match sort(settings, header.ssrc, header.payload_type) {
+            SortedPacket::Unknown => Ok(Arrival::Unknown),
+            SortedPacket::Unassociated => Ok(Arrival::Unassociated),
+            SortedPacket::Media(ssrc, format) => {
                 self.take_media(settings, (ssrc, format), now, datagram)
             }
-            Sorted::Retransmission(ssrc, payload_type) => {
+            SortedPacket::Retransmission(ssrc, payload_type) => {
                 match place_of(&self.list, ssrc, payload_type) {
                     Some(place) => self.feed(place, settings.probation, now, datagram),
                     None => Ok(Arrival::Unassociated),
                 }
             }
-            Sorted::NoMedia(ssrc) => match place_of_ssrc(&self.list, ssrc) {
+            SortedPacket::NoMedia(ssrc) => match place_of_ssrc(&self.list, ssrc) {
                 Some(place) => self.feed(place, settings.probation, now, datagram),
                 None => Ok(Arrival::Unknown),
             },
@@ -129,7 +166,7 @@ impl Streams {
         settings: &SessionSettings,
         of: (u32, Format),
         now: Ticks,
-        datagram: &[u8],
+        datagram: &ParsedDatagram<'_>,
     ) -> Result<Arrival, AllocError>
         requires { can_begin settings.now of.1 ≡ true }
         ensures { TakesMedia settings.now of.0 of.1 now datagram.now self.old result self.new }
@@ -167,7 +204,7 @@ impl Streams {
         settings: &SessionSettings,
         of: (u32, Format),
         now: Ticks,
-        datagram: &[u8],
+        datagram: &ParsedDatagram<'_>,
     ) -> Result<Arrival, AllocError>
         requires { can_begin settings.now of.1 ≡ true }
         ensures { BeginsOrFeeds (position (is_of of.0 of.1.payload_type) self.old.streams) settings.now of.0 of.1 now datagram.now self.old result self.new }
@@ -184,7 +221,7 @@ impl Streams {
         place: usize,
         probation: u64,
         now: Ticks,
-        datagram: &[u8],
+        datagram: &ParsedDatagram<'_>,
     ) -> Result<Arrival, AllocError>
         requires { place < length self.old.streams }
         ensures { Feeds probation place now datagram.now self.old result self.new }
@@ -200,7 +237,7 @@ impl Streams {
         settings: &SessionSettings,
         of: (u32, Format),
         now: Ticks,
-        datagram: &[u8],
+        datagram: &ParsedDatagram<'_>,
     ) -> Result<Arrival, AllocError>
         requires { can_begin settings.now of.1 ≡ true }
         ensures { BeginsIf (has_place settings.now.max_streams self.old) settings.now of.0 of.1 now datagram.now self.old result self.new }
@@ -337,22 +374,6 @@ impl Streams {
         leave(&mut self.list, who, why, at);
     }
 
-    /// Ends the streams that a BYE of the compound packet names, at that time.
-    fn leave_by_name(&mut self, compound: &[u8], at: u64)
-        ensures { self.new ≡ record self.old { streams = left_where (goodbye_at compound.now) endings.Bye at self.old.streams } }
-    {
-        self.waking = Waking::unknown();
-        leave_by_name(&mut self.list, compound, at);
-    }
-
-    /// Notes the sender reports of a compound packet.
-    fn note_reports(&mut self, now: Ticks, compound: &[u8])
-        ensures { self.new ≡ record self.old { streams = noted_at now compound.now self.old.streams } }
-    {
-        self.waking = Waking::unknown();
-        note_reports(&mut self.list, now, compound);
-    }
-
     /// Replaces the wait limits of the stream with this SSRC and payload type.
     pub(crate) fn set_wait_limits(&mut self, ssrc: u32, payload_type: u8, wait_limits: WaitLimits)
         ensures { self.new ≡ record self.old { streams = waiting_where ssrc payload_type wait_limits self.old.streams } }
@@ -421,7 +442,7 @@ fn feed_one(
     stream: &mut StreamState,
     probation: u64,
     now: Ticks,
-    datagram: &[u8],
+    datagram: &ParsedDatagram<'_>,
 ) -> Result<Arrival, AllocError>
     ensures { FeedsOne probation now datagram.now stream.old result stream.new }
 {

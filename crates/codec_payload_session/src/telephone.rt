@@ -3,12 +3,13 @@
 ghost use Rattle.std.specs.Prelude.{◌≡◌, IfOk, OnErr};
 ghost use Rattle.std.specs.Option.{option_map};
 ghost use Rattle.codec_payload_rtp.specs.RtpValues.{packet_of};
-ghost use Rattle.codec_payload_session.specs.Telephone.{Gives, IsCopy, MayLackMemory, Notes, empty_queue, event_of, is_quiet, is_without_media, names_telephone, settled, telephone_at, telephone_if};
+ghost use Rattle.codec_payload_session.specs.Telephone.{Gives, IsCopy, MayLackMemory, Notes, empty_queue, event_of, is_quiet, is_without_media, settled, telephone_at, telephone_if};
 
-use crate::formats::{SessionSettings, is_among};
+use crate::formats::SessionSettings;
 use crate::session::{Arrival, Event};
 use codec_payload_jitter::outcome::Outcome;
-use codec_payload_rtp::rtp::{RtpPacket, is_rtcp};
+use codec_payload_rtp::rtp::RtpPacket;
+use codec_payload_stream::parsed::ParsedDatagram;
 use std::alloc::{AllocError, Global};
 use std::marker::Model;
 
@@ -99,7 +100,7 @@ impl TelephoneQueue {
     pub(crate) fn note(
         &mut self,
         settings: &SessionSettings,
-        datagram: &[u8],
+        datagram: &ParsedDatagram<'_>,
     ) -> Result<Noted, AllocError>
         ensures ok { IfOk result (λ noted. Notes (telephone_at settings.now datagram.now) self.old noted self.new) }
         ensures unchanged { OnErr result (self.new ≡ self.old) }
@@ -156,28 +157,15 @@ impl TelephoneQueue {
 }
 
 /// Returns the packet of telephone events that the datagram is, if it is one.
-fn packet_in<'a>(settings: &SessionSettings, datagram: &'a [u8]) -> Option<RtpPacket<'a>>
+fn packet_in<'a>(settings: &SessionSettings, datagram: &ParsedDatagram<'a>) -> Option<RtpPacket<'a>>
     ensures { option_map (λ packet. packet_of packet) result ≡ telephone_at settings.now datagram.now }
 {
-    if is_rtcp(datagram) {
+    if datagram.is_rtcp() {
         return None;
     }
-    if !names_telephone(settings, datagram) {
-        return None;
-    }
-    match RtpPacket::parse(datagram) {
-        Ok(packet) => if_telephone(settings, packet),
+    match datagram.packet() {
+        Ok(packet) => if_telephone(settings, *packet),
         Err(_) => None,
-    }
-}
-
-/// Returns whether the payload type in the second byte is in `telephone_events`: few datagrams need be read.
-fn names_telephone(settings: &SessionSettings, datagram: &[u8]) -> bool
-    ensures { result ≡ names_telephone settings.now datagram.now }
-{
-    match datagram {
-        [_, second, ..] => is_among(*second % 128, &settings.telephone_events),
-        _ => false,
     }
 }
 

@@ -3,12 +3,13 @@
 //! Retransmissions whose SSRC is in no pair (RFC 4588, section 5.3): the session has requested the packet, so it finds the stream.
 
 use crate::memory::AllocError;
-use crate::rtp::packet::{RtpPacket, is_rtcp};
+use crate::rtp::packet::RtpPacket;
 use crate::session::formats::{Role, SessionSettings, SsrcPair};
 use crate::session::requests::{has_requested, original_number};
 use crate::session::sessions::Arrival;
 use crate::session::stream::{StreamState, is_playing};
 use crate::session::streams::Streams;
+use crate::stream::parsed::ParsedDatagram;
 use crate::wire::Ticks;
 
 /// How far the RTP time of a retransmission may be from the clock of its stream's sender, in seconds.
@@ -30,7 +31,7 @@ pub(crate) fn take_in(
     settings: &mut SessionSettings,
     streams: &mut Streams,
     now: Ticks,
-    datagram: &[u8],
+    datagram: &ParsedDatagram<'_>,
 ) -> Result<Arrival, AllocError> {
     let answer = streams.take_in(settings, now, datagram);
     if !is_unassociated(&answer) {
@@ -62,7 +63,7 @@ fn pair_at(
     settings: &SessionSettings,
     streams: &[StreamState],
     now: Ticks,
-    datagram: &[u8],
+    datagram: &ParsedDatagram<'_>,
 ) -> Option<SsrcPair> {
     let packet = unpaired_at(settings, datagram)?;
     let ssrc = owner_of(streams, &settings.pairs, now, packet)?;
@@ -73,12 +74,12 @@ fn pair_at(
 }
 
 /// Returns the retransmission that the datagram is, if its SSRC is in no pair.
-fn unpaired_at(settings: &SessionSettings, datagram: &[u8]) -> Option<Unpaired> {
-    if is_rtcp(datagram) {
+fn unpaired_at(settings: &SessionSettings, datagram: &ParsedDatagram<'_>) -> Option<Unpaired> {
+    if datagram.is_rtcp() {
         return None;
     }
-    match RtpPacket::parse(datagram) {
-        Ok(packet) => unpaired_of(settings, &packet),
+    match datagram.packet() {
+        Ok(packet) => unpaired_of(settings, packet),
         Err(_) => None,
     }
 }

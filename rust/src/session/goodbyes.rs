@@ -2,27 +2,12 @@
 
 //! BYEs of RTCP (RFC 3550, section 6.6): the streams that they name leave.
 
-use crate::rtcp::compound::{CompoundRule, Packets, read_compound};
 use crate::rtcp::packet::RtcpPacket;
 use crate::session::stream::{Ending, StreamState};
 use crate::session::streams::{Who, leave};
 
-/// Ends the streams that a BYE of the compound packet names, at that time. The packet is read once, whatever its streams.
-pub(crate) fn leave_by_name(streams: &mut [StreamState], compound: &[u8], at: u64) {
-    if let Ok(packets) = read_compound(CompoundRule::ReducedSize, compound) {
-        leave_by_packets(streams, packets, at);
-    }
-}
-
-/// Ends the streams that a BYE among the packets names.
-fn leave_by_packets(streams: &mut [StreamState], mut packets: Packets<'_>, at: u64) {
-    while let Some(packet) = packets.next() {
-        leave_by_packet(streams, &packet, at);
-    }
-}
-
 /// Ends the streams that the packet names, if it is a BYE.
-fn leave_by_packet(streams: &mut [StreamState], packet: &RtcpPacket<'_>, at: u64) {
+pub(crate) fn leave_by_packet(streams: &mut [StreamState], packet: &RtcpPacket<'_>, at: u64) {
     if let RtcpPacket::Goodbye(goodbye) = packet {
         leave_each(streams, goodbye.ssrcs, at);
     }

@@ -6,6 +6,7 @@ use crate::codec::CodecDepacketizer;
 use crate::jitter::jitter_buffer::WaitLimits;
 use crate::jitter::outcome::Outcome;
 use crate::memory::AllocError;
+use crate::stream::parsed::ParsedDatagram;
 use crate::stream::pops::Popped;
 use crate::stream::receiver::{
     ReceiveError, Receiver, ReceiverSettings, Retransmission, SettingsError,
@@ -37,10 +38,14 @@ impl NamedReceiver {
         &self.receiver
     }
 
-    /// Receives a datagram. See [`Receiver::receive`].
+    /// Receives a datagram. See [`Receiver::receive_parsed`].
     #[inline(always)]
-    pub(crate) fn receive(&mut self, now: Ticks, datagram: &[u8]) -> Result<Outcome, ReceiveError> {
-        self.receiver.receive(now, datagram)
+    pub(crate) fn receive(
+        &mut self,
+        now: Ticks,
+        datagram: &ParsedDatagram<'_>,
+    ) -> Result<Outcome, ReceiveError> {
+        self.receiver.receive_parsed(now, datagram)
     }
 
     /// Returns the next unit or refused frame. See [`Receiver::pop`].

@@ -3,7 +3,6 @@
 //! Reports of RTCP (RFC 3550, section 6.4): what the sender reports say about the clock of a stream, and the blocks that
 //! receiver reports have about its packets.
 
-use crate::rtcp::compound::{CompoundRule, Packets, read_compound};
 use crate::rtcp::items::ReportBlock;
 use crate::rtcp::packet::{RtcpPacket, SenderReport};
 use crate::session::stream::StreamState;
@@ -65,22 +64,8 @@ impl StreamState {
     }
 }
 
-/// Notes the sender reports of a compound packet that arrived at `now`, each for the streams of its SSRC.
-pub(crate) fn note_reports(streams: &mut [StreamState], now: Ticks, compound: &[u8]) {
-    if let Ok(packets) = read_compound(CompoundRule::ReducedSize, compound) {
-        note_packets(streams, now, packets);
-    }
-}
-
-/// Notes the sender reports among the packets.
-fn note_packets(streams: &mut [StreamState], now: Ticks, mut packets: Packets<'_>) {
-    while let Some(packet) = packets.next() {
-        note_packet(streams, now, &packet);
-    }
-}
-
-/// Notes the packet if it is a sender report.
-fn note_packet(streams: &mut [StreamState], now: Ticks, packet: &RtcpPacket<'_>) {
+/// Notes the packet if it is a sender report: it states the clock of the streams of its SSRC. It arrived at `now`.
+pub(crate) fn note_packet(streams: &mut [StreamState], now: Ticks, packet: &RtcpPacket<'_>) {
     if let RtcpPacket::SenderReport(report) = packet {
         set_clocks(streams, report.ssrc, clock_of(now, report));
     }

@@ -5,8 +5,8 @@
 use crate::feedback::requests::{FeedbackSource, StreamRequests};
 use crate::memory::{AllocError, TryVec};
 use crate::requests::nack::NackSettings;
-use crate::rtp::packet::RtpPacket;
 use crate::session::formats::{FeedbackSettings, Format};
+use crate::stream::parsed::ParsedDatagram;
 use crate::stream::receiver::Receiver;
 use crate::wire::Ticks;
 use alloc::vec::Vec;
@@ -81,20 +81,6 @@ impl Feedback {
         }
     }
 
-    /// Returns whether a packet of the format may answer a request. If it may not, its number changes nothing. Reads only two
-    /// bytes of a packet whose number was not requested, if the format has no payload type of retransmissions.
-    fn may_answer(&self, format: &Format, datagram: &[u8]) -> bool {
-        if format.retransmission.is_some() {
-            return true;
-        }
-        match datagram {
-            [_, _, high, low, ..] => self
-                .requests
-                .has_requested(u16::from(*high) * 256 + u16::from(*low)),
-            _ => true,
-        }
-    }
-
     /// Returns how long a frame may wait, by the round trip. `None`: the wait limits stay.
     fn wait(&self) -> Option<u64> {
         match (self.waits, self.requests.round_trip()) {
@@ -148,10 +134,13 @@ impl Feedback {
 }
 
 /// Records the number of a packet that was accepted.
-pub(crate) fn hear(feedback: &mut Option<Feedback>, format: &Format, now: Ticks, datagram: &[u8]) {
-    if let Some(feedback) = feedback
-        && feedback.may_answer(format, datagram)
-    {
+pub(crate) fn hear(
+    feedback: &mut Option<Feedback>,
+    format: &Format,
+    now: Ticks,
+    datagram: &ParsedDatagram<'_>,
+) {
+    if let Some(feedback) = feedback {
         feedback.hear(now, number_of(format, datagram));
     }
 }
@@ -255,8 +244,8 @@ fn collect_missing(
 
 /// Returns the number that a packet answers: that of a retransmission is its original number (RFC 4588, section 4). If
 /// retransmissions have a separate payload type, no other packet answers: it may only be late.
-fn number_of(format: &Format, datagram: &[u8]) -> Option<u16> {
-    match RtpPacket::parse(datagram) {
+fn number_of(format: &Format, datagram: &ParsedDatagram<'_>) -> Option<u16> {
+    match datagram.packet() {
         Ok(packet) if format.resends(packet.header.payload_type) => original_number(packet.payload),
         Ok(packet) if format.retransmission.is_none() => Some(packet.header.sequence_number),
         _ => None,

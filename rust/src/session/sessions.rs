@@ -18,6 +18,7 @@ use crate::session::stream::{Ending, StreamInfo, earlier};
 use crate::session::streams::{Streams, Who, place_of};
 use crate::session::telephone::TelephoneQueue;
 use crate::session::waking::due_in;
+use crate::stream::parsed::ParsedDatagram;
 use crate::stream::receiver::{ReceiveError, Receiver};
 use crate::wire::Ticks;
 use alloc::vec::Vec;
@@ -210,6 +211,15 @@ impl Session {
     /// [`StreamInfo::sender_clock`]: crate::session::stream::StreamInfo::sender_clock
     /// [`Ending::Changed`]: crate::session::stream::Ending::Changed
     pub fn receive(&mut self, now: Ticks, datagram: &[u8]) -> Result<Arrival, AllocError> {
+        self.receive_parsed(now, &ParsedDatagram::parse(datagram))
+    }
+
+    /// Receives a datagram that was read. No later step reads it again.
+    fn receive_parsed(
+        &mut self,
+        now: Ticks,
+        datagram: &ParsedDatagram<'_>,
+    ) -> Result<Arrival, AllocError> {
         let noted = self.telephone.note(&self.settings, datagram)?;
         let answer = take_in(&mut self.settings, &mut self.streams, now, datagram);
         self.telephone.settle(noted, &answer);

@@ -13,6 +13,7 @@ use crate::session::formats::{Format, SessionSettings, SsrcPair, retransmission_
 use crate::session::named::NamedReceiver;
 use crate::session::reports::SenderClock;
 use crate::session::requests::{Feedback, hear, requests_due, rest_time, round_trip, wait_by};
+use crate::stream::parsed::ParsedDatagram;
 use crate::stream::pops::Popped;
 use crate::stream::receiver::{Counters, ReceiveError};
 use crate::wire::Ticks;
@@ -148,7 +149,7 @@ impl StreamState {
         &mut self,
         now: Ticks,
         probation: u64,
-        datagram: &[u8],
+        datagram: &ParsedDatagram<'_>,
     ) -> Result<Outcome, ReceiveError> {
         self.quiet_until = 0;
         let answer = self.receiver.receive(now, datagram);
@@ -160,7 +161,7 @@ impl StreamState {
     }
 
     /// Measures the round trip by an accepted datagram, if it answers a request.
-    fn hear_if(&mut self, accepted: bool, now: Ticks, datagram: &[u8]) {
+    fn hear_if(&mut self, accepted: bool, now: Ticks, datagram: &ParsedDatagram<'_>) {
         if accepted {
             self.quiet_until = 0;
             hear(&mut self.feedback, &self.format, now, datagram);

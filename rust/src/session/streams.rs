@@ -4,16 +4,18 @@
 
 use crate::jitter::jitter_buffer::WaitLimits;
 use crate::memory::{AllocError, TryVec};
+use crate::rtcp::compound::{CompoundRule, Packets, read_compound};
 use crate::rtcp::items::ReportBlock;
+use crate::rtp::packet::PacketHeader;
 use crate::session::changes::{any_left_behind, continues, leave_behind};
+use crate::session::compound::take_packets;
 use crate::session::formats::{Format, SessionSettings, SsrcPair};
-use crate::session::goodbyes::leave_by_name;
 use crate::session::pairs::{pair, with_pair};
-use crate::session::reports::note_reports;
 use crate::session::sessions::{Arrival, Event};
-use crate::session::sort::{Sorted, sort};
+use crate::session::sort::{SortedPacket, sort};
 use crate::session::stream::{Ending, Step, StreamState, is_no_memory, is_nothing};
 use crate::session::waking::{Waking, step_excepted};
+use crate::stream::parsed::ParsedDatagram;
 use crate::wire::{Frequency, Ticks};
 use alloc::vec::Vec;
 
@@ -60,26 +62,56 @@ impl Streams {
         &mut self,
         settings: &SessionSettings,
         now: Ticks,
-        datagram: &[u8],
+        datagram: &ParsedDatagram<'_>,
     ) -> Result<Arrival, AllocError> {
-        match sort(settings, datagram) {
-            Sorted::Rtcp => {
-                self.note_reports(now, datagram);
+        if datagram.is_rtcp() {
+            return Ok(self.take_rtcp(settings, now, datagram.bytes()));
+        }
+        match datagram.packet() {
+            Ok(packet) => self.take_packet(settings, &packet.header, now, datagram),
+            Err(_) => Ok(Arrival::Malformed),
+        }
+    }
+
+    /// Receives a datagram of RTCP. It is read once.
+    fn take_rtcp(&mut self, settings: &SessionSettings, now: Ticks, datagram: &[u8]) -> Arrival {
+        match read_compound(CompoundRule::ReducedSize, datagram) {
+            Ok(packets) => {
                 let at = now.0.saturating_add(settings.bye_wait);
-                self.leave_by_name(datagram, at);
-                Ok(Arrival::Rtcp)
+                self.take_packets(now, at, packets);
+                Arrival::Rtcp
             }
-            Sorted::Malformed => Ok(Arrival::Malformed),
-            Sorted::Unknown => Ok(Arrival::Unknown),
-            Sorted::Unassociated => Ok(Arrival::Unassociated),
-            Sorted::Media(ssrc, format) => self.take_media(settings, (ssrc, format), now, datagram),
-            Sorted::Retransmission(ssrc, payload_type) => {
+            Err(_) => Arrival::Malformed,
+        }
+    }
+
+    /// Takes the packets of a compound packet: sender reports, and BYEs that end streams at `at`.
+    fn take_packets(&mut self, now: Ticks, at: u64, packets: Packets<'_>) {
+        self.waking = Waking::unknown();
+        take_packets(&mut self.list, now, at, packets);
+    }
+
+    /// Receives an RTP packet with this header.
+    fn take_packet(
+        &mut self,
+        settings: &SessionSettings,
+        header: &PacketHeader<'_>,
+        now: Ticks,
+        datagram: &ParsedDatagram<'_>,
+    ) -> Result<Arrival, AllocError> {
+        match sort(settings, header.ssrc, header.payload_type) {
+            SortedPacket::Unknown => Ok(Arrival::Unknown),
+            SortedPacket::Unassociated => Ok(Arrival::Unassociated),
+            SortedPacket::Media(ssrc, format) => {
+                self.take_media(settings, (ssrc, format), now, datagram)
+            }
+            SortedPacket::Retransmission(ssrc, payload_type) => {
                 match place_of(&self.list, ssrc, payload_type) {
                     Some(place) => self.feed(place, settings.probation, now, datagram),
                     None => Ok(Arrival::Unassociated),
                 }
             }
-            Sorted::NoMedia(ssrc) => match place_of_ssrc(&self.list, ssrc) {
+            SortedPacket::NoMedia(ssrc) => match place_of_ssrc(&self.list, ssrc) {
                 Some(place) => self.feed(place, settings.probation, now, datagram),
                 None => Ok(Arrival::Unknown),
             },
@@ -93,7 +125,7 @@ impl Streams {
         settings: &SessionSettings,
         of: (u32, Format),
         now: Ticks,
-        datagram: &[u8],
+        datagram: &ParsedDatagram<'_>,
     ) -> Result<Arrival, AllocError> {
         let answer = self.feed_or_begin(settings, of, now, datagram);
         if answer.is_ok() {
@@ -124,7 +156,7 @@ impl Streams {
         settings: &SessionSettings,
         of: (u32, Format),
         now: Ticks,
-        datagram: &[u8],
+        datagram: &ParsedDatagram<'_>,
     ) -> Result<Arrival, AllocError> {
         match place_of(&self.list, of.0, of.1.payload_type) {
             Some(place) => self.feed(place, settings.probation, now, datagram),
@@ -138,7 +170,7 @@ impl Streams {
         place: usize,
         probation: u64,
         now: Ticks,
-        datagram: &[u8],
+        datagram: &ParsedDatagram<'_>,
     ) -> Result<Arrival, AllocError> {
         self.waking = self.waking.except(place, &self.list);
         let stream = &mut self.list[place];
@@ -151,7 +183,7 @@ impl Streams {
         settings: &SessionSettings,
         of: (u32, Format),
         now: Ticks,
-        datagram: &[u8],
+        datagram: &ParsedDatagram<'_>,
     ) -> Result<Arrival, AllocError> {
         if !self.has_place(settings.max_streams) {
             return Ok(Arrival::Refused);
@@ -265,18 +297,6 @@ impl Streams {
         leave(&mut self.list, who, why, at);
     }
 
-    /// Ends the streams that a BYE of the compound packet names, at that time.
-    fn leave_by_name(&mut self, compound: &[u8], at: u64) {
-        self.waking = Waking::unknown();
-        leave_by_name(&mut self.list, compound, at);
-    }
-
-    /// Notes the sender reports of a compound packet.
-    fn note_reports(&mut self, now: Ticks, compound: &[u8]) {
-        self.waking = Waking::unknown();
-        note_reports(&mut self.list, now, compound);
-    }
-
     /// Replaces the wait limits of the stream with this SSRC and payload type.
     pub(crate) fn set_wait_limits(&mut self, ssrc: u32, payload_type: u8, wait_limits: WaitLimits) {
         self.waking = Waking::unknown();
@@ -330,7 +350,7 @@ fn feed_one(
     stream: &mut StreamState,
     probation: u64,
     now: Ticks,
-    datagram: &[u8],
+    datagram: &ParsedDatagram<'_>,
 ) -> Result<Arrival, AllocError> {
     let (ssrc, payload_type) = (stream.ssrc, stream.format.payload_type);
     let answer = stream.take(now, probation, datagram);

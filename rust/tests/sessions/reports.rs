@@ -242,3 +242,36 @@ fn wall_clock_times_of_units() {
     };
     assert_eq!(late.ntp_at(180_000, Frequency::NINETY_KHZ), 0xffff_ffff);
 }
+
+/// A compound packet is read to its end: a report behind a BYE counts, whether of a stream that leaves or of another one.
+#[test]
+fn reports_behind_a_bye_in_one_datagram() -> Result<(), Fail> {
+    let mut session = session(1_000);
+    session.receive(Ticks(0), &opus(5, 10))?;
+    session.receive(Ticks(0), &opus(6, 10))?;
+    let mut compound = sender_report(6, 1, 0, 100);
+    compound.extend(bye(5));
+    compound.extend(sender_report(5, 2, 0, 200));
+    compound.extend(sender_report(6, 3, 0, 300));
+    assert_eq!(session.receive(Ticks(10), &compound)?, Arrival::Rtcp);
+    let times = [0, 1].map(|place| clock(&session, place).map(|clock| clock.rtp_time));
+    assert_eq!(times, [Some(200), Some(300)]);
+    let stages = [0, 1].map(|place| session.stream_at(place).unwrap().stage);
+    assert!(matches!(stages[0], Stage::Leaving(Ending::Bye, _)));
+    assert!(!matches!(stages[1], Stage::Leaving(..)));
+    Ok(())
+}
+
+/// Cut off in its last packet, the same datagram changes nothing.
+#[test]
+fn a_cut_compound_packet_states_nothing() -> Result<(), Fail> {
+    let mut session = session(1_000);
+    session.receive(Ticks(0), &opus(5, 10))?;
+    let mut compound = sender_report(5, 1, 0, 100);
+    compound.extend(bye(5));
+    compound.pop();
+    assert_eq!(session.receive(Ticks(10), &compound)?, Arrival::Malformed);
+    assert_eq!(clock(&session, 0), None);
+    assert_eq!(session.stream_at(0).unwrap().stage, Stage::Probation);
+    Ok(())
+}

@@ -8,7 +8,7 @@ use Rattle.codec_payload_session.specs.declared.session.ArrivalCounts.{ArrivalCo
 use Rattle.codec_payload_session.proofs.AssociationLemmas.{associates, takes_in_by_keeps}
 use Rattle.codec_payload_session.proofs.CheckLemmas.{takes_usable}
 use Rattle.codec_payload_session.proofs.TelephoneLemmas.{queues_settled, stay_few}
-use Rattle.codec_payload_session.proofs.session.Session.receive.Goals as goal
+use Rattle.codec_payload_session.proofs.session.Session.receive_parsed.Goals as goal
 
 pub invariant_of-self : goal.invariant_of-self
 invariant_of-self c = record {
