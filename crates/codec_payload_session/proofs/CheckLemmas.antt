@@ -1,17 +1,11 @@
 -- What follows from settings without a fault: their formats can begin streams.
-use Rattle.std.proofs.Common.{◌≡◌, ◌≤◌, ◌<◌, ◌∙◌, ◌&&◌, ◌||◌, ◌==◌, ◌++◌, ◌∷◌, [], ℕ, List, Bool, true, false, not, if◌then◌else◌, Option, Some, None, Result, Ok, Err, IsOk, IsSome, IsErr, OnOk, OnErr, is_some, nat_le, nat_lt, length, take, drop, option_map, is_ok, ap, refl, sym, subst, arith, inl, inr}
+use Rattle.std.proofs.Common.{◌≡◌, ◌∙◌, ◌&&◌, ◌||◌, ◌==◌, ◌++◌, ◌∷◌, [], ℕ, List, Bool, true, false, not, if◌then◌else◌, Option, Some, None, Result, Ok, Err, IsOk, OnOk, OnErr, is_some, nat_le, nat_lt, length, option_map, is_ok, ap, refl, sym, subst, arith, inl, inr}
 use Rattle.std.proofs.lemmas.Bool.Decides.{nat_tests}
 use Rattle.std.specs.declared.alloc.AllocError.{AllocError}
 use Rattle.codec_payload_base.specs.declared.wire.Ticks.{Ticks}
 use Rattle.codec_payload_codec.specs.Depacketizers.{DepacketizerState, depacketizer_state_for}
 use Rattle.codec_payload_jitter.specs.Numbers.{Numbering, numbering_within}
 use Rattle.codec_payload_jitter.specs.declared.numbers.WindowError.{WindowError}
-use Rattle.codec_payload_rtcp.specs.RtcpPackets.{Packet as Report}
-use Rattle.codec_payload_rtcp.specs.RtcpReading.{compound_at}
-use Rattle.codec_payload_rtcp.specs.declared.packet.RtcpError.{RtcpError}
-use Rattle.codec_payload_rtp.specs.RtpPackets.{Packet, is_rtcp}
-use Rattle.codec_payload_rtp.specs.RtpReading.{rtp_at}
-use Rattle.codec_payload_rtp.specs.declared.rtp.RtpError.{RtpError}
 use Rattle.codec_payload_stream.specs.Kinds.{is_among}
 use Rattle.codec_payload_stream.specs.Sessions.{Session as Receiver, red_within, retransmission_fits, session_by, session_in, session_within}
 use Rattle.codec_payload_stream.specs.declared.datagram.RedStream.{RedStream}

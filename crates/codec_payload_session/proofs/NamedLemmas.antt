@@ -1,8 +1,6 @@
 -- A receiver whose settings name the SSRC keeps it, so no packet ever waits for the choice of a stream.
 use Rattle.std.proofs.Common.{◌≡◌, ◌∙◌, refl, ap, sym, subst, ℕ, List, Bool, true, false, Option, Some, None, Result, Ok, Err, inl, inr}
-use Rattle.std.specs.Prelude.{◌&&◌, ◌||◌, ◌⊎◌, if◌then◌else◌, nat_le, not, slice_get}
-use Rattle.std.specs.Option.{is_some}
-use Rattle.std.specs.declared.alloc.AllocError.{AllocError}
+use Rattle.std.specs.Prelude.{◌&&◌, if◌then◌else◌, nat_le}
 use Rattle.codec_payload_base.specs.declared.error.PacketError.{PacketError}
 use Rattle.codec_payload_base.specs.declared.wire.Ticks.{Ticks}
 use Rattle.codec_payload_buffer.specs.Release.{Release}
@@ -13,7 +11,7 @@ use Rattle.codec_payload_jitter.specs.declared.numbers.WindowError.TheVariants a
 use Rattle.codec_payload_jitter.specs.declared.outcome.Outcome.{Outcome}
 use Rattle.codec_payload_stream.specs.Kinds.{AgainEmpty, AgainInRed, Again, Datagram, InRed, Malformed, OfOthers, RtcpPacket, WithMedia, WithoutMedia, datagram_at}
 use Rattle.codec_payload_stream.specs.Pops.{DropsUnits, PopsGated, PopsOnce, none_dropped, one_more}
-use Rattle.codec_payload_stream.specs.Sessions.{Ends, Finishes, Heard, ReceivesBy, ReceivesBytes, Session as Receiver, SettlesOn, first_waiting, is_none_of, red_within, retransmission_fits, session_by, session_in, session_with, session_within, ssrc_after, verdict_in}
+use Rattle.codec_payload_stream.specs.Sessions.{Heard, ReceivesBy, ReceivesBytes, Session as Receiver, is_none_of, red_within, retransmission_fits, session_by, session_in, session_with, session_within, ssrc_after, verdict_in}
 use Rattle.codec_payload_stream.specs.declared.receiver.ReceiveError.{ReceiveError}
 use Rattle.codec_payload_stream.specs.declared.receiver.ReceiveError.TheVariants as errors
 use Rattle.codec_payload_stream.specs.declared.receiver.Settings.{Settings}

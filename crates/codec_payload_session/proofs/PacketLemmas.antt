@@ -1,5 +1,5 @@
 -- Receiver reports that are written one after another, with blocks in groups.
-use Rattle.std.proofs.Common.{◌≡◌, ◌≤◌, ◌∙◌, ℕ, ◌+◌, ◌*◌, ◌%◌, List, [], ◌∷◌, ◌++◌, length, map, true, Result, Ok, Err, OnOk, ap, refl, sym, subst, arith, append_assoc, length-append}
+use Rattle.std.proofs.Common.{◌≡◌, ◌≤◌, ◌∙◌, ℕ, ◌*◌, ◌%◌, List, [], ◌∷◌, ◌++◌, length, map, true, Result, Ok, Err, OnOk, ap, refl, sym, subst, arith, append_assoc, length-append}
 use Rattle.std.proofs.lemmas.List.{append-nil, map-append}
 use Rattle.codec_payload_feedback.specs.Feedback.{AppendsAll, cname_part}
 use Rattle.codec_payload_rtcp.specs.RtcpItems.{block_bytes}

@@ -1,4 +1,4 @@
-use Rattle.std.proofs.Common.{◌≡◌, sym}
+use Rattle.std.proofs.Common.{sym}
 use Rattle.codec_payload_codec.specs.Depacketizers.{depacketizer_state_of}
 use Rattle.codec_payload_session.proofs.NamedLemmas.{begins_named}
 use Rattle.codec_payload_session.proofs.named.NamedReceiver.begin.Goals as goal

@@ -1,4 +1,4 @@
-use Rattle.std.proofs.Common.{◌≡◌, ◌∙◌, Bool, true, Result, Ok, inl, refl, subst, sym}
+use Rattle.std.proofs.Common.{◌≡◌, ◌∙◌, Bool, true, Ok, inl, refl, subst, sym}
 use Rattle.codec_payload_session.specs.Arrivals.{BeginsIf, has_place}
 use Rattle.codec_payload_session.specs.declared.session.Arrival.TheVariants as arrivals
 use Rattle.codec_payload_session.proofs.streams.Streams.begin.Goals as goal
