@@ -1,22 +1,21 @@
-//! SFU forwarding of VP8: switches between two simulcast layers, with losses on both hops, so that the viewer sees one stream. It
-//! fails unless the viewer receives whole frames without a gap, and each switch is at a keyframe:
+//! SFU forwarding of VP8: switches between two simulcast layers, and rewrites the packets so that the viewer sees one stream. It fails
+//! unless the viewer receives whole frames without a gap, and each switch is at a keyframe:
 //!
 //! ```sh
 //! cargo run --example sfu
 //! ```
 //!
-//! - `Forwarder` has the rules: it goes over to the wanted layer at its next keyframe, and moves numbers, times and VP8's ids.
-//! - `History` is the store of a layer for all its viewers: it keeps what arrived, and answers the viewers' NACKs.
-//! - Ask the sender for a keyframe when a viewer wants another layer, and when the viewer sends a PLI.
-//! - Use senders that send picture ids of 15 bits: the forwarder keeps their width.
+//! - Switch only where a keyframe of the wanted layer starts: `detect_vp8_keyframe` of the payload. Ask for one with a PLI.
+//! - After a switch, drop packets of the new layer that are older than that keyframe, and drop the other layer.
+//! - Rewrite SSRC, sequence number and timestamp in the RTP header, and the picture id in the VP8 descriptor, each by an offset that
+//!   is fixed until the next switch. Losses stay losses: a receiver sees the same gaps.
+//! - `Vp8Patch` keeps the width of a picture id: use senders that send 15 bits.
 
-use codec_payload::forward::{ForwardSettings, Forwarded, Forwarder};
-use codec_payload::history::Resent;
-use codec_payload::rtp::RtpPacket;
+use codec_payload::rtp::{PacketHeader, RtpPacket};
 use codec_payload::{
-    Codec, CodecDepacketizer, CodecPacketizer, ExtensionValues, Frequency, History,
-    HistorySettings, MediaTime, Receiver, ReceiverSettings, Sample, Sender, SenderSettings, Ticks,
-    Vp8Packetizer,
+    Codec, CodecDepacketizer, CodecPacketizer, ExtensionValues, Frequency, MediaTime, Receiver,
+    ReceiverSettings, Sample, Sender, SenderSettings, Ticks, Vp8Descriptor, Vp8Packetizer,
+    detect_vp8_keyframe,
 };
 use std::error::Error;
 
@@ -24,81 +23,102 @@ const FRAMES: u32 = 300;
 const FRAME: usize = 2_500;
 const INTERVAL: u32 = 33;
 const SWITCH_EVERY: u32 = 70;
-/// Each datagram with a number that this divides is lost, on the way in and on the way out; it comes with the next frame.
-const LOST_IN: usize = 19;
-const LOST_OUT: usize = 23;
+const VIEWER: u32 = 99;
 
-/// The SFU: a store for each layer, and a forwarder for the viewer's stream.
-struct Sfu {
-    stores: [History; 2],
-    viewer: Forwarder,
-    /// A packet from a store.
-    kept: Vec<u8>,
-    out: Vec<u8>,
+/// Values of a packet's fields, or what is added to them.
+#[derive(Clone, Copy, Default)]
+struct Fields {
+    number: u16,
+    time: u32,
+    picture_id: u16,
 }
 
-impl Sfu {
-    fn new() -> Result<Sfu, Box<dyn Error>> {
-        let store = || {
-            History::new(HistorySettings {
-                limit: 2_048,
-                interval: 0,
-                stream: None,
-            })
+#[derive(Default)]
+struct Forwarder {
+    /// The SSRC of the layer that is forwarded; 0: none yet.
+    ssrc: u32,
+    /// The layer to switch to at its next keyframe.
+    wanted: u32,
+    /// The sequence number of the keyframe at which the layer began.
+    first: u16,
+    offset: Fields,
+    last: Fields,
+}
+
+/// Whether `a` is after `b`, by 16 bits.
+fn is_after(a: u16, b: u16) -> bool {
+    a != b && a.wrapping_sub(b) < 0x8000
+}
+
+impl Forwarder {
+    fn switch(&mut self, packet: Fields) {
+        self.ssrc = self.wanted;
+        self.first = packet.number;
+        self.offset = Fields {
+            number: self.last.number.wrapping_add(1).wrapping_sub(packet.number),
+            time: self
+                .last
+                .time
+                .wrapping_add(90 * INTERVAL)
+                .wrapping_sub(packet.time),
+            picture_id: self
+                .last
+                .picture_id
+                .wrapping_add(1)
+                .wrapping_sub(packet.picture_id),
         };
-        let viewer = Forwarder::new(ForwardSettings {
-            codec: Codec::Vp8,
-            ssrc: 99,
-            payload_type: 96,
-            first_number: 501,
-            first_time: 12_345,
-            retransmissions: None,
-        })?;
-        Ok(Sfu {
-            stores: [store()?, store()?],
-            viewer,
-            kept: Vec::new(),
-            out: Vec::new(),
-        })
     }
 
-    /// Takes a datagram that arrived, and returns those for the viewer. `now` is in ticks of the RTP clock.
-    fn receive(&mut self, now: u64, datagram: &[u8]) -> Result<Vec<Vec<u8>>, Box<dyn Error>> {
+    /// The datagram for the viewer, or `None` for one that is not forwarded.
+    fn forward(&mut self, datagram: &[u8]) -> Result<Option<Vec<u8>>, Box<dyn Error>> {
         let packet = RtpPacket::parse(datagram)?;
-        let store = &mut self.stores[packet.header.ssrc as usize - 1];
-        store.keep(datagram)?;
-        let mut sent = Vec::new();
-        match self.viewer.write(now, &packet, &mut self.out)? {
-            Forwarded::Began => sent.push(self.out.clone()),
-            Forwarded::Written => return Ok(vec![self.out.clone()]),
-            _ => return Ok(sent),
-        }
-        // Packets of the new layer that came before the first one of the keyframe.
-        for step in 1..64 {
-            let number = packet.header.sequence_number.wrapping_add(step);
-            if store.resend(Ticks(now), number, &mut self.kept)? == Resent::Written {
-                let kept = RtpPacket::parse(&self.kept)?;
-                if self.viewer.write(now, &kept, &mut self.out)? == Forwarded::Written {
-                    sent.push(self.out.clone());
-                }
-            }
-        }
-        Ok(sent)
-    }
-
-    /// Answers a NACK of the viewer for one number.
-    fn resend(&mut self, now: u64, number: u16) -> Result<Option<&[u8]>, Box<dyn Error>> {
-        let (Some(source), Some(number)) = (self.viewer.source(), self.viewer.source_of(number))
-        else {
-            return Ok(None);
+        let descriptor = Vp8Descriptor::parse(packet.payload)?;
+        let Some(picture_id) = descriptor.picture_id() else {
+            return Err("no picture id".into());
         };
-        let store = &mut self.stores[source as usize - 1];
-        if store.resend(Ticks(now), number, &mut self.kept)? != Resent::Written {
+        let header = packet.header;
+        let fields = Fields {
+            number: header.sequence_number,
+            time: header.timestamp,
+            picture_id,
+        };
+        if self.wanted != self.ssrc
+            && header.ssrc == self.wanted
+            && detect_vp8_keyframe(packet.payload)
+        {
+            self.switch(fields);
+        }
+        if header.ssrc != self.ssrc || is_after(self.first, header.sequence_number) {
             return Ok(None);
         }
-        let kept = RtpPacket::parse(&self.kept)?;
-        let written = self.viewer.write_again(&kept, &mut self.out)?;
-        Ok(written.then_some(&self.out[..]))
+        let sent = Fields {
+            number: fields.number.wrapping_add(self.offset.number),
+            time: fields.time.wrapping_add(self.offset.time),
+            picture_id: picture_id.wrapping_add(self.offset.picture_id) & 0x7fff,
+        };
+        if is_after(sent.number, self.last.number) {
+            self.last = sent;
+        }
+        let mut payload = vec![0; packet.payload.len()];
+        descriptor
+            .patch()
+            .picture_id(sent.picture_id)
+            .build()?
+            .copy_to(packet.payload, &mut payload);
+        let mut out = Vec::new();
+        let header = PacketHeader {
+            sequence_number: sent.number,
+            timestamp: sent.time,
+            ssrc: VIEWER,
+            ..header
+        };
+        RtpPacket {
+            header,
+            payload: &payload,
+            padding: 0,
+        }
+        .write(&mut out)?;
+        Ok(Some(out))
     }
 }
 
@@ -151,59 +171,43 @@ impl Seen {
     }
 }
 
-/// Whether a datagram is lost, by a count of all of them.
-fn is_lost(count: &mut usize, divisor: usize) -> bool {
-    *count += 1;
-    count.is_multiple_of(divisor)
-}
-
 fn main() -> Result<(), Box<dyn Error>> {
     let mut layers = [layer(0)?, layer(1)?];
+    let depacketizer = CodecDepacketizer::try_from(Codec::Vp8)?;
     let mut viewer = Receiver::new(
-        CodecDepacketizer::try_from(Codec::Vp8)?,
+        depacketizer,
         ReceiverSettings::for_stream(96, Codec::Vp8, Frequency::NINETY_KHZ),
     )?;
-    let mut sfu = Sfu::new()?;
+    let last = Fields {
+        number: 500,
+        time: 12_345,
+        picture_id: 200,
+    };
+    let mut forwarder = Forwarder {
+        wanted: 1,
+        last,
+        ..Forwarder::default()
+    };
     let mut seen = Seen::default();
-    let (mut sent_in, mut sent_out) = (0, 0);
-    let mut late: Vec<Vec<u8>> = Vec::new();
     for number in 0..FRAMES {
-        let now = Ticks(u64::from(number * INTERVAL));
-        let clock = u64::from(90 * INTERVAL * number);
-        if number.is_multiple_of(SWITCH_EVERY) {
-            sfu.viewer.want(1 + number / SWITCH_EVERY % 2);
+        if number > 0 && number.is_multiple_of(SWITCH_EVERY) {
+            forwarder.wanted = 3 - forwarder.wanted;
         }
-        // What was lost on the way in was requested, and comes now.
-        let mut arrived = std::mem::take(&mut late);
         for (place, layer) in (0..).zip(&mut layers) {
+            let time = u64::from(90 * INTERVAL * number + 777_777 * place);
             layer.send(&Sample {
-                rtp_time: MediaTime::from_90khz(clock + 777_777 * u64::from(place)),
+                rtp_time: MediaTime::from_90khz(time),
                 bytes: &frame(number % 25 == 10 * place, place as u8),
                 start_of_talk_spurt: false,
                 ext_vals: ExtensionValues::default(),
             })?;
             for datagram in layer.datagrams() {
-                if is_lost(&mut sent_in, LOST_IN) {
-                    late.push(datagram.to_vec());
-                } else {
-                    arrived.push(datagram.to_vec());
+                if let Some(forwarded) = forwarder.forward(datagram)? {
+                    viewer.receive_any(Ticks(u64::from(number * INTERVAL)), &forwarded)?;
                 }
             }
         }
-        for datagram in &arrived {
-            for forwarded in sfu.receive(clock, datagram)? {
-                if !is_lost(&mut sent_out, LOST_OUT) {
-                    viewer.receive_any(now, &forwarded)?;
-                }
-            }
-        }
-        let missing: Vec<u64> = viewer.missing(64).collect();
-        for number in missing {
-            if let Some(resent) = sfu.resend(clock, number as u16)? {
-                viewer.receive_any(now, resent)?;
-            }
-        }
-        seen.take(&mut viewer, now)?;
+        seen.take(&mut viewer, Ticks(u64::from(number * INTERVAL)))?;
     }
     viewer.finish()?;
     seen.take(&mut viewer, Ticks(u64::from(FRAMES * INTERVAL)))?;
@@ -211,6 +215,6 @@ fn main() -> Result<(), Box<dyn Error>> {
         "{} frames, {} switches, {} gaps",
         seen.frames, seen.switches, seen.gaps
     );
-    assert!(seen.gaps == 0 && seen.frames >= FRAMES - 4 && seen.switches >= 3);
+    assert!(seen.gaps == 0 && seen.frames >= FRAMES - 2 && seen.switches >= 3);
     Ok(())
 }
