@@ -94,8 +94,18 @@ static void texts(void) {
         {63, "the RTCP NACK has a wrong length"},
         {64, "the RTCP PLI has a wrong length"},
         {65, "the RTCP FIR has a wrong length"},
+        {66, "REMB is shorter than its bitrate"},
+        {67, "the feedback is not REMB"},
+        {68, "the bitrate of REMB has more than 64 bits"},
+        {69, "REMB ends inside its SSRCs"},
+        {70, "the transport-wide feedback is shorter than its header"},
+        {71, "the transport-wide feedback ends inside its chunks"},
+        {72, "the transport-wide feedback has a reserved status"},
+        {73, "the transport-wide feedback ends inside its deltas"},
+        {74, "the header extension has no elements"},
+        {75, "the header extension has no room for the number"},
         {76, "the unit is larger than the settings allow"},
-        {67, "unknown status"},
+        {77, "unknown status"},
     };
     for (size_t i = 0; i < sizeof rows / sizeof *rows; i++)
         CHECK(strcmp(cpay_status_text((cpay_status)rows[i].status), rows[i].text) == 0);

@@ -6,7 +6,8 @@
 //! ```
 //!
 //! The clock is simulated, one millisecond a step. The network takes 20 ms. The receiver has the settings for live media and the
-//! SSRC. The caller pops until no unit is due, in each millisecond.
+//! SSRC, and no bound of units: frames of 2,000 packets are above the default. The caller pops until no unit is due, in each
+//! millisecond.
 
 use codec_payload::{
     Codec, CodecDepacketizer, CodecPacketizer, ExtensionValues, Frequency, MediaTime, Receiver,
@@ -135,6 +136,7 @@ impl Simulation {
         sends.mtu = PAYLOAD;
         let mut receives = ReceiverSettings::for_stream(96, case.stream.codec, clock_rate);
         receives.ssrc = Some(sends.ssrc);
+        receives.max_unit = None;
         Ok(Simulation {
             case,
             sender: Sender::new(packetizer, sends)?,
