@@ -316,7 +316,6 @@ def hostile_crate(folder):
                                                              "    pub(crate) buffer: DepacketizingBuffer<B>,\n")])
     changed(f"{crate}/src/buffer.rs", [("    depacketizer: CodecDepacketizer<B>,\n", "    pub(crate) depacketizer: CodecDepacketizer<B>,\n")])
     changed(f"{crate}/src/session/sessions.rs", [("pub fn receive(", "pub(crate) fn receive_plain(")], SESSION)
-    changed(f"{crate}/src/session/named.rs", [("self.receiver.receive(", "self.receiver.receive_plain(")])
     return crate
 
 
