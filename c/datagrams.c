@@ -734,7 +734,7 @@ static void refused_frame(void) {
     cpay_receiver_free(&receiver);
 }
 
-/* A unit of 11 bytes between two of 10, where 10 bytes are allowed: it is told and dropped, and the next pop goes on. */
+/* A unit of 11 bytes between two of 10, where 10 bytes are allowed: the pop reports it and drops it, and the next pop continues. */
 static void large_unit(void) {
     static const uint8_t key[] = {0x10, 0x10, 0, 0, 0x9d, 0x01, 0x2a, 0x10, 0, 0x10, 0, 5};
     cpay_spec spec = {.codec = CPAY_VP8, .rate = 90000};

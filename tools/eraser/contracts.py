@@ -13,10 +13,11 @@ MORE = {"PacketError": ["Clone", "Copy"], "Depacketized": ["Clone"], "RedundantB
         "Vp8DescriptorError": ["Copy"], "Vp8PatchError": ["Copy"]}
 
 # Enums that later versions may extend: outside of the crate a match needs an arm for the rest.
-GROWING = {"Arrival", "Codec", "CodecExtra", "Ending", "Event", "Outcome", "Request", "Stage"}
+GROWING = {"Arrival", "Codec", "CodecExtra", "Ending", "Event", "Forwarded", "Outcome", "Request", "Stage"}
 
-# Types that only the crate's own modules pass to one another.
-INNER = {"CompleteFrame", "Incoming", "KeptPacket", "Left", "NotedTime", "PackedHeader", "PackedMeta", "Placed"}
+# Types that only the crate's own modules pass to one another: crate and name.
+INNER = {("buffer", "CompleteFrame"), ("buffer", "Incoming"), ("jitter", "KeptPacket"), ("buffer", "Left"), ("jitter", "NotedTime"),
+         ("buffer", "PackedHeader"), ("buffer", "PackedMeta"), ("buffer", "Placed")}
 
 # What Rattle derives as Rust does, and `Drop`, which Rust does by itself.
 DERIVES = {"Clone", "Copy", "Debug", "Default", "PartialEq", "Eq", "PartialOrd", "Ord", "Hash", "Drop", "Error"}
@@ -118,6 +119,11 @@ def drop_attributes(f):
         i += 1
 
 
+def is_inner(f, name):
+    """Whether a type of this file is left out of the documentation."""
+    return any(name == inner and f"/codec_payload_{crate}/" in f.path for crate, inner in INNER)
+
+
 def trim_derive(f, i, k):
     """What the derive at `i`, whose bracket is at `k`, derives in Rust; returns the place to go on at."""
     t, end = f.ts[i], close(f.ts, k)
@@ -130,7 +136,7 @@ def trim_derive(f, i, k):
     names += [n for n in MORE.get(type_behind(f, end), []) if n not in names]
     if names:
         name = type_behind(f, end)
-        grows = "\n#[non_exhaustive]" if name in GROWING else "\n#[doc(hidden)]" if name in INNER else ""
+        grows = "\n#[non_exhaustive]" if name in GROWING else "\n#[doc(hidden)]" if is_inner(f, name) else ""
         f.ts[k + 2:end + 1] = tokens("(%s)]%s" % (", ".join(names), grows))[:-1]
         return close(f.ts, k)
     pre = t.pre

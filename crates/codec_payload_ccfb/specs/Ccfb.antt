@@ -76,7 +76,7 @@ report_fits r = nat_le (length r.metrics) 16384 && metrics_fit r.metrics
 abbrev pub block_size : ℕ → ℕ
 block_size count = 8 + 2 * (count + count % 2)
 
--- blocks in so many bytes
+-- blocks in the given number of bytes
 abbrev pub reports_fit : ℕ → List Report → Bool
 reports_fit room [] = true
 reports_fit room (r ∷ rs) = report_fits r && (nat_le (block_size (length r.metrics)) room && reports_fit (room - block_size (length r.metrics)) rs)

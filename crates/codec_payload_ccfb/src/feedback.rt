@@ -109,7 +109,7 @@ impl StreamReport {
     }
 }
 
-/// Returns whether blocks can be written in so many bytes.
+/// Returns whether blocks can be written in the given number of bytes.
 fn reports_fit(room: usize, reports: &[StreamReport]) -> bool
     ensures { result ≡ reports_fit room (map report_of reports.now) }
 {

@@ -20,8 +20,8 @@ switched_times time ticks m = begun_times time ((m.highest + ticks) % 4294967296
 
 -- ---- whole runs, in times that do not wrap
 
--- a call: a packet with this time of the source is sent; a switch to another source, whose first packet has this time, after so many
--- ticks
+-- a call: a packet with this time of the source is sent; a switch to another source, whose first packet has this time, after the given
+-- number of ticks
 pub data TimeCall : Type 0 where
   sends : (time : ℕ) → TimeCall
   switches : (time ticks : ℕ) → TimeCall

@@ -128,7 +128,7 @@ impl StreamReport {
     }
 }
 
-/// Returns whether blocks can be written in so many bytes.
+/// Returns whether blocks can be written in the given number of bytes.
 fn reports_fit(room: usize, reports: &[StreamReport]) -> bool {
     let mut left = room;
     for report in reports {

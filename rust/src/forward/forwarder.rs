@@ -64,6 +64,7 @@ impl core::error::Error for ForwardError {}
 
 /// What [`Forwarder::write`] or [`Forwarder::leave_out`] did with a packet.
 #[derive(Clone, Copy, Debug, PartialEq, Eq)]
+#[non_exhaustive]
 pub enum Forwarded {
     /// The packet was written, and is the first of another source. Packets of this source with higher numbers may have come before
     /// it: pass them again.

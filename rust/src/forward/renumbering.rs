@@ -13,7 +13,6 @@ const HALF: u64 = 32_768;
 
 /// What [`Renumbering::place`] answers.
 #[derive(Clone, Copy, Debug, PartialEq, Eq)]
-#[doc(hidden)]
 pub enum Placed {
     /// The packet is sent under this number.
     Sent(u16),

@@ -39,7 +39,7 @@ impl Retiming {
         self.highest = later(self.highest, self.sent_as(time));
     }
 
-    /// Returns the time that the first packet of another source is sent with, if so many ticks have passed since the highest time
+    /// Returns the time that the first packet of another source is sent with, if `ticks` have passed since the highest time
     /// that was sent.
     pub fn next_time(&self, ticks: u32) -> u32 {
         self.highest.wrapping_add(ticks)
