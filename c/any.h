@@ -11,6 +11,7 @@ typedef union {
     cpay_red_sender red_sender;
     cpay_sender sender;
     cpay_history history;
+    cpay_forwarder forwarder;
     cpay_receiver receiver;
     cpay_adaptive_wait adaptive_wait;
     cpay_transport_reporter transport_reporter;

@@ -35,6 +35,10 @@ void cpay_history_free(cpay_history *history) {
     if (history) proved_cpay_free(&history->handle);
 }
 
+void cpay_forwarder_free(cpay_forwarder *forwarder) {
+    if (forwarder) proved_cpay_free(&forwarder->handle);
+}
+
 void cpay_receiver_free(cpay_receiver *receiver) {
     if (receiver) proved_cpay_free(&receiver->handle);
 }
@@ -214,6 +218,22 @@ cpay_status cpay_history_keep(cpay_history *history, const uint8_t *datagram, si
                                     kept ? kept : &no_kept);
 }
 
+cpay_status proved_cpay_history_keep_once(cpay_handle *history, const uint8_t *datagram, size_t datagram_len,
+                                          cpay_kept_once *kept);
+cpay_status cpay_history_keep_once(cpay_history *history, const uint8_t *datagram, size_t datagram_len, cpay_kept_once *kept) {
+    if (!datagram && datagram_len) return CPAY_INVALID;
+    return proved_cpay_history_keep_once(&history->handle, datagram ? datagram : (const uint8_t *)nothing, datagram_len, kept);
+}
+
+cpay_status proved_cpay_rtx_original(uint32_t ssrc, uint8_t payload_type, const uint8_t *datagram, size_t datagram_len,
+                                     uint8_t *bytes, size_t bytes_len, size_t *size);
+cpay_status cpay_rtx_original(uint32_t ssrc, uint8_t payload_type, const uint8_t *datagram, size_t datagram_len, uint8_t *bytes,
+                              size_t bytes_len, size_t *size) {
+    if ((!datagram && datagram_len) || (!bytes && bytes_len)) return CPAY_INVALID;
+    return proved_cpay_rtx_original(ssrc, payload_type, datagram ? datagram : (const uint8_t *)nothing, datagram_len,
+                                    bytes ? bytes : (uint8_t *)nothing, bytes_len, size);
+}
+
 cpay_status proved_cpay_history_resend(cpay_handle *history, uint64_t now, uint16_t number, uint8_t *bytes, size_t bytes_len,
                                        size_t *size, cpay_resent *resent);
 cpay_status cpay_history_resend(cpay_history *history, uint64_t now, uint16_t number, uint8_t *bytes, size_t bytes_len,
@@ -230,6 +250,76 @@ cpay_status cpay_read_requests(const uint8_t *rtcp, size_t rtcp_len, uint32_t ss
     if ((!rtcp && rtcp_len) || (!numbers && numbers_len)) return CPAY_INVALID;
     return proved_cpay_read_requests(rtcp ? rtcp : (const uint8_t *)nothing, rtcp_len, ssrc, full,
                                      numbers ? numbers : (uint16_t *)nothing, numbers_len, count, wants_keyframe);
+}
+
+void proved_cpay_forwarder_settings_init(cpay_forwarder_settings *settings, cpay_codec codec, uint32_t ssrc,
+                                         uint8_t payload_type);
+void cpay_forwarder_settings_init(cpay_forwarder_settings *settings, cpay_codec codec, uint32_t ssrc, uint8_t payload_type) {
+    proved_cpay_forwarder_settings_init(settings, codec, ssrc, payload_type);
+}
+
+cpay_status proved_cpay_forwarder_new(cpay_handle *forwarder, const cpay_forwarder_settings *settings);
+cpay_status cpay_forwarder_new(cpay_forwarder *forwarder, const cpay_forwarder_settings *settings) {
+    return proved_cpay_forwarder_new(&forwarder->handle, settings);
+}
+
+cpay_status proved_cpay_forwarder_want(cpay_handle *forwarder, uint32_t ssrc);
+cpay_status cpay_forwarder_want(cpay_forwarder *forwarder, uint32_t ssrc) {
+    return proved_cpay_forwarder_want(&forwarder->handle, ssrc);
+}
+
+cpay_status proved_cpay_forwarder_mute(cpay_handle *forwarder);
+cpay_status cpay_forwarder_mute(cpay_forwarder *forwarder) {
+    return proved_cpay_forwarder_mute(&forwarder->handle);
+}
+
+cpay_status proved_cpay_forwarder_source(cpay_handle *forwarder, uint32_t *ssrc);
+cpay_status cpay_forwarder_source(cpay_forwarder *forwarder, uint32_t *ssrc) {
+    return proved_cpay_forwarder_source(&forwarder->handle, ssrc);
+}
+
+cpay_status proved_cpay_forwarder_wanted(cpay_handle *forwarder, uint32_t *ssrc);
+cpay_status cpay_forwarder_wanted(cpay_forwarder *forwarder, uint32_t *ssrc) {
+    return proved_cpay_forwarder_wanted(&forwarder->handle, ssrc);
+}
+
+cpay_status proved_cpay_forwarder_write(cpay_handle *forwarder, uint64_t now, const uint8_t *datagram, size_t datagram_len,
+                                        uint8_t *bytes, size_t bytes_len, size_t *size, cpay_forwarded *forwarded);
+cpay_status cpay_forwarder_write(cpay_forwarder *forwarder, uint64_t now, const uint8_t *datagram, size_t datagram_len,
+                                 uint8_t *bytes, size_t bytes_len, size_t *size, cpay_forwarded *forwarded) {
+    if ((!datagram && datagram_len) || (!bytes && bytes_len)) return CPAY_INVALID;
+    return proved_cpay_forwarder_write(&forwarder->handle, now, datagram ? datagram : (const uint8_t *)nothing, datagram_len,
+                                       bytes ? bytes : (uint8_t *)nothing, bytes_len, size, forwarded);
+}
+
+cpay_status proved_cpay_forwarder_leave_out(cpay_handle *forwarder, const uint8_t *datagram, size_t datagram_len,
+                                            uint8_t *bytes, size_t bytes_len, size_t *size, cpay_forwarded *forwarded);
+cpay_status cpay_forwarder_leave_out(cpay_forwarder *forwarder, const uint8_t *datagram, size_t datagram_len, uint8_t *bytes,
+                                     size_t bytes_len, size_t *size, cpay_forwarded *forwarded) {
+    if ((!datagram && datagram_len) || (!bytes && bytes_len)) return CPAY_INVALID;
+    return proved_cpay_forwarder_leave_out(&forwarder->handle, datagram ? datagram : (const uint8_t *)nothing, datagram_len,
+                                           bytes ? bytes : (uint8_t *)nothing, bytes_len, size, forwarded);
+}
+
+cpay_status proved_cpay_forwarder_resend(cpay_handle *forwarder, cpay_handle *history, uint16_t number, uint8_t *bytes,
+                                         size_t bytes_len, size_t *size, cpay_resent *resent);
+cpay_status cpay_forwarder_resend(cpay_forwarder *forwarder, cpay_history *history, uint16_t number, uint8_t *bytes,
+                                  size_t bytes_len, size_t *size, cpay_resent *resent) {
+    if (!bytes && bytes_len) return CPAY_INVALID;
+    return proved_cpay_forwarder_resend(&forwarder->handle, &history->handle, number, bytes ? bytes : (uint8_t *)nothing,
+                                        bytes_len, size, resent);
+}
+
+cpay_status proved_cpay_forwarder_counts(cpay_handle *forwarder, cpay_forwarder_counts_info *counts);
+cpay_status cpay_forwarder_counts(cpay_forwarder *forwarder, cpay_forwarder_counts_info *counts) {
+    return proved_cpay_forwarder_counts(&forwarder->handle, counts);
+}
+
+cpay_status proved_cpay_forwarder_report(cpay_handle *forwarder, uint32_t ssrc, uint32_t rtp_time,
+                                         cpay_sender_report_info *report);
+cpay_status cpay_forwarder_report(cpay_forwarder *forwarder, uint32_t ssrc, uint32_t rtp_time,
+                                  cpay_sender_report_info *report) {
+    return proved_cpay_forwarder_report(&forwarder->handle, ssrc, rtp_time, report);
 }
 
 void proved_cpay_receiver_settings_init(cpay_receiver_settings *settings, cpay_codec codec, uint32_t rate, uint8_t payload_type,

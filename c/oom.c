@@ -6,57 +6,11 @@
  * with -Wl,--wrap=malloc,--wrap=realloc,--wrap=free. */
 #include "any.h"
 #include "codec_payload.h"
+#include "refuse.h"
 
 #include <stdio.h>
 #include <stdlib.h>
 #include <string.h>
-
-static long refuse_at, asked;
-static long kept;   /* allocations less frees */
-static size_t total; /* bytes of all allocations */
-static bool refused;
-
-void *__real_malloc(size_t size);
-void *__real_realloc(void *at, size_t size);
-void __real_free(void *at);
-void *__wrap_malloc(size_t size);
-void *__wrap_realloc(void *at, size_t size);
-void __wrap_free(void *at);
-
-static bool refuses(void) {
-    if (++asked != refuse_at) return false;
-    return refused = true;
-}
-
-void *__wrap_malloc(size_t size) {
-    void *made = refuses() ? NULL : __real_malloc(size);
-    if (made) kept++, total += size;
-    return made;
-}
-
-void *__wrap_realloc(void *at, size_t size) {
-    void *made = refuses() ? NULL : __real_realloc(at, size);
-    if (made && !at) kept++;
-    return made;
-}
-
-void __wrap_free(void *at) {
-    if (at) kept--;
-    __real_free(at);
-}
-
-/* The status of a call; if it is 17, the status of the same call made again. */
-#define AGAIN(status, call) \
-    do { \
-        refused = false; \
-        (status) = (call); \
-        if (refused && (status) != CPAY_OUT_OF_MEMORY && (status) != CPAY_OK) return -1; \
-        if (!refused && (status) == CPAY_OUT_OF_MEMORY) return -2; \
-        if ((status) == CPAY_OUT_OF_MEMORY) { \
-            (*met)++; \
-            (status) = (call); \
-        } \
-    } while (0)
 
 enum { FRAMES = 4, FRAME = 300, MTU = 100 };
 
@@ -673,6 +627,8 @@ static int too_large(void) {
     cpay_session_settings_init(&port, CPAY_FOR_LIVE);
     const cpay_session_format format = {.spec = opus, .payload_type = 111};
     const cpay_history_settings keeps = {.limit = 512};
+    cpay_forwarder_settings forwards;
+    cpay_forwarder_settings_init(&forwards, CPAY_VP8, 9, 101);
     cpay_adaptive_wait_settings waits;
     cpay_adaptive_wait_settings_init(&waits);
     cpay_transport_reporter_settings reports;
@@ -692,6 +648,7 @@ static int too_large(void) {
     TAKES(150, "sender of RED", cpay_red_sender_new(&it.red_sender, 63, 111, &distance, 1));
     TAKES(1200, "sender", cpay_sender_new(&it.sender, &sends));
     TAKES(200, "history", cpay_history_new(&it.history, &keeps));
+    TAKES(400, "forwarder", cpay_forwarder_new(&it.forwarder, &forwards));
     TAKES(1350, "receiver", cpay_receiver_new(&it.receiver, &receives, NULL, 0));
     TAKES(1900, "adaptive wait", cpay_adaptive_wait_new(&it.adaptive_wait, &waits));
     TAKES(250, "transport reporter", cpay_transport_reporter_new(&it.transport_reporter, &reports, NULL, 0));

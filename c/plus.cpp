@@ -172,6 +172,39 @@ void over_a_history() {
     CHECK(kept.resend(9, numbers[1], found, resent) == CPAY_OK && resent == CPAY_RESENT_NOT_KEPT && found.empty());
 }
 
+/* A packet is kept once, forwarded to a viewer, and resent from the store. */
+void over_a_forwarder() {
+    const std::array<std::uint8_t, 13> packet{0x80, 96, 0, 5, 0, 0, 0, 0, 0, 0, 0, 7, 42};
+    const std::array<std::uint8_t, 13> sent{0x80, 101, 0, 0, 0, 0, 0, 0, 0, 0, 0, 9, 42};
+    const cpay_history_settings keeps = {8, 0, 0, 0, 0, false};
+    cpay_forwarder_settings settings;
+    cpay_forwarder_settings_init(&settings, CPAY_OPUS, 9, 101);
+    cpay::forwarder forwarder;
+    cpay::history store;
+    cpay::storage to;
+    cpay_kept_once kept{};
+    cpay_forwarded forwarded{};
+    cpay_resent resent{};
+    cpay_forwarder_counts_info counts{};
+    cpay_sender_report_info report{};
+    std::uint32_t ssrc = 0;
+    CHECK(forwarder.make(settings) == CPAY_OK && store.make(keeps) == CPAY_OK);
+    CHECK(forwarder.want(7) == CPAY_OK && forwarder.wanted(ssrc) == CPAY_OK && ssrc == 7 && forwarder.source(ssrc) == CPAY_NONE);
+    CHECK(store.keep_once(packet, kept) == CPAY_OK && kept == CPAY_KEPT_NEW);
+    CHECK(store.keep_once(packet, kept) == CPAY_OK && kept == CPAY_KEPT_KNOWN);
+    CHECK(forwarder.write(0, packet, to, forwarded) == CPAY_OK && forwarded == CPAY_FORWARDED_BEGAN);
+    CHECK(to.size() == 13 && std::equal(sent.begin(), sent.end(), to.begin()));
+    CHECK(forwarder.resend(store, 0, to, resent) == CPAY_OK && resent == CPAY_RESENT_WRITTEN && to.size() == 13);
+    CHECK(forwarder.leave_out(packet, to, forwarded) == CPAY_OK && forwarded == CPAY_FORWARDED_FILLED && to.size() == 13);
+    CHECK(forwarder.counts(counts) == CPAY_OK && counts.packets == 3 && counts.resent == 1);
+    CHECK(forwarder.report(7, 0, report) == CPAY_OK && report.ssrc == 9 && report.packets == 3);
+    CHECK(forwarder.mute() == CPAY_OK && forwarder.report(7, 0, report) == CPAY_NONE);
+    std::array<std::uint8_t, 13> original{};
+    std::size_t size = 0;
+    const std::array<std::uint8_t, 15> again{0x80, 97, 0, 1, 0, 0, 0, 0, 0, 0, 0, 8, 0, 5, 42};
+    CHECK(cpay::rtx_original(7, 96, again, original, size) == CPAY_OK && size == 13 && original == packet);
+}
+
 void over_an_adaptive_wait() {
     cpay_adaptive_wait_settings settings;
     cpay_adaptive_wait_settings_init(&settings);
@@ -233,6 +266,7 @@ int main() {
     over_a_port();
     over_payloads();
     over_a_history();
+    over_a_forwarder();
     over_an_adaptive_wait();
     over_a_transport();
     over_red();

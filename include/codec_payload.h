@@ -29,8 +29,8 @@
  * buffer and its other output arguments are unchanged. Exception: with CPAY_TOO_SMALL it writes the required size, and the other outputs except the bytes,
  * unless its comment says otherwise.
  *
- * HANDLES. A packetizer, a depacketizer, a buffer, a RED sender, a sender, a history, a receiver, an adaptive wait, a
- * transport reporter, the sent packets of a transport and a session each live in a handle: a struct of that type in your own
+ * HANDLES. A packetizer, a depacketizer, a buffer, a RED sender, a sender, a history, a forwarder, a receiver, an adaptive
+ * wait, a transport reporter, the sent packets of a transport and a session each live in a handle: a struct of that type in your own
  * memory. Initialise it with CPAY_INIT, create the object by the call named *_new, and end with the call named *_free, which
  * leaves the handle empty. You may free an empty handle. Other calls on an empty handle return CPAY_EMPTY; calls on a handle
  * of another type, as after a cast, return CPAY_OTHER_KIND. Never write into a handle. Never copy a handle in use: the
@@ -43,8 +43,8 @@
  *
  * OUTPUT BUFFERS. A call that returns bytes writes them to the front of your buffer, and their number to a `bytes` field or to
  * *size. If the buffer is too small, the call returns CPAY_TOO_SMALL, reports the required size, and nothing is lost: the packet or
- * unit waits for the next call of the same name. So a first call may pass a length of 0. (cpay_history_resend spends nothing, and
- * keeps nothing waiting.)
+ * unit waits for the next call of the same name. So a first call may pass a length of 0. (cpay_history_resend and the
+ * calls of a forwarder spend nothing, and keep nothing waiting.)
  *
  * POINTERS. NULL is allowed with a length of 0; with another length the call returns CPAY_INVALID (false, if it returns a bool).
  * All other pointers must be valid, except the argument of *_free. An argument that a call writes must not overlap any other
@@ -245,6 +245,10 @@ typedef struct {
 
 typedef struct {
     cpay_handle handle;
+} cpay_forwarder;
+
+typedef struct {
+    cpay_handle handle;
 } cpay_receiver;
 
 typedef struct {
@@ -272,6 +276,7 @@ void cpay_depacketizer_free(cpay_depacketizer *depacketizer);
 void cpay_red_sender_free(cpay_red_sender *sender);
 void cpay_sender_free(cpay_sender *sender);
 void cpay_history_free(cpay_history *history);
+void cpay_forwarder_free(cpay_forwarder *forwarder);
 void cpay_receiver_free(cpay_receiver *receiver);
 void cpay_adaptive_wait_free(cpay_adaptive_wait *wait);
 void cpay_transport_reporter_free(cpay_transport_reporter *reporter);
@@ -635,6 +640,30 @@ typedef enum {
  * allocate. [m] */
 CPAY_CHECKED cpay_status cpay_history_keep(cpay_history *history, const uint8_t *datagram, size_t datagram_len, cpay_kept *kept);
 
+/** What cpay_history_keep_once did with a datagram. */
+typedef enum {
+    CPAY_KEPT_NEW = 0,     /**< no packet had its number. The history keeps it: forward it */
+    CPAY_KEPT_KNOWN = 1,   /**< the history has a packet with its number, and keeps that one */
+    CPAY_KEPT_OUTDATED = 2 /**< its number is `limit` or more below the highest one. The history does not keep it */
+} cpay_kept_once;
+
+/** Keeps a copy of a datagram as cpay_history_keep does, unless the history has a packet with its number. *kept is what the call did.
+ * It is the call of a server, which keeps what arrived once for all viewers of a stream, and forwards each packet once: make one history
+ * for each source, with `interval` 0 and without has_rtx. The packet that was forwarded is then the one that is resent. Numbers may
+ * come in any order, and may be missing. Pass a retransmission as cpay_rtx_original writes it. CPAY_RTP_HEADER_TOO_SHORT to
+ * CPAY_RTP_PADDING_TOO_LONG: not an RTP packet. If the call fails, the history and *kept are unchanged. [m] */
+CPAY_CHECKED cpay_status cpay_history_keep_once(cpay_history *history, const uint8_t *datagram, size_t datagram_len,
+                                                cpay_kept_once *kept);
+
+/** Writes the packet that a retransmission repeats (RFC 4588, section 4), and its size to *size. It has the SSRC and the payload type
+ * that you name, 0 to 127, those of the stream; its number is that in front of the payload of the retransmission, the payload is the rest,
+ * and padding is left out. All other fields are those of the retransmission. The size is 2 bytes less than that of the retransmission
+ * without its padding. CPAY_TOO_SMALL: *size is written. CPAY_RTP_HEADER_TOO_SHORT to CPAY_RTP_PADDING_TOO_LONG: not an RTP packet.
+ * CPAY_RTX_TOO_SHORT: its payload has fewer than 2 bytes, as that of padding that probes the bandwidth. CPAY_INVALID: `payload_type`
+ * above 127. [m] */
+CPAY_CHECKED cpay_status cpay_rtx_original(uint32_t ssrc, uint8_t payload_type, const uint8_t *datagram, size_t datagram_len,
+                                           uint8_t *bytes, size_t bytes_len, size_t *size);
+
 /** What a call of cpay_history_resend did. */
 typedef enum {
     CPAY_RESENT_WRITTEN = 0,  /**< the packet is in the output buffer: send it */
@@ -661,6 +690,116 @@ CPAY_CHECKED cpay_status cpay_history_resend(cpay_history *history, uint64_t now
  * CPAY_RTCP_HEADER_TOO_SHORT to CPAY_RTCP_FIR_LENGTH: not a compound RTCP packet. Then nothing of it counts. Does not allocate. */
 CPAY_CHECKED cpay_status cpay_read_requests(const uint8_t *rtcp, size_t rtcp_len, uint32_t ssrc, bool full, uint16_t *numbers,
                                             size_t numbers_len, size_t *count, bool *wants_keyframe);
+
+/* ---- A forwarder: packets of one source after another in, the packets of one stream of a viewer out ---- */
+
+/** How a viewer's stream is sent. Begin with cpay_forwarder_settings_init. */
+typedef struct {
+    cpay_codec codec;          /**< codec of all sources. It says with which packets a viewer can begin: see cpay_forwarder_write */
+    uint32_t ssrc;             /**< SSRC of the viewer's stream */
+    uint32_t first_time;       /**< RTP time of its first packet. Choose it at random (RFC 3550, section 5.1) */
+    uint32_t rtx_ssrc;         /**< with has_rtx: SSRC of the retransmissions */
+    uint16_t first_number;     /**< sequence number of the first packet. Choose it at random */
+    uint16_t rtx_first_number; /**< with has_rtx: sequence number of the first retransmission */
+    uint8_t payload_type;      /**< payload type of the viewer's stream, 0 to 127 */
+    uint8_t rtx_payload_type;  /**< with has_rtx: payload type of the retransmissions, 0 to 127 */
+    bool has_rtx;              /**< retransmissions are a separate stream (RFC 4588). If not, a packet is resent as it was sent */
+} cpay_forwarder_settings;
+
+/** Sets how a viewer's stream begins: first number and first time are 0, and a packet is resent as it was sent. Does not allocate. */
+void cpay_forwarder_settings_init(cpay_forwarder_settings *settings, cpay_codec codec, uint32_t ssrc, uint8_t payload_type);
+
+/** Creates a forwarder in an empty handle. It wants no source yet: call cpay_forwarder_want. CPAY_INVALID: unsupported codec, or a
+ * payload type above 127. [m] */
+CPAY_CHECKED cpay_status cpay_forwarder_new(cpay_forwarder *forwarder, const cpay_forwarder_settings *settings);
+
+/** Wants the source with this SSRC: the forwarder goes over to it at its next keyframe. Request one from its sender. Until it comes, the
+ * source before is forwarded. Does not allocate. */
+CPAY_CHECKED cpay_status cpay_forwarder_want(cpay_forwarder *forwarder, uint32_t ssrc);
+
+/** Forwards nothing until a source is wanted again. Then the viewer's stream goes on with a keyframe, also of the same source. So
+ * call this, and then cpay_forwarder_want, if a sender has restarted under its SSRC. Does not allocate. */
+CPAY_CHECKED cpay_status cpay_forwarder_mute(cpay_forwarder *forwarder);
+
+/** Reports the SSRC of the source that is forwarded. CPAY_NONE: the viewer gets nothing now. Does not allocate. */
+CPAY_CHECKED cpay_status cpay_forwarder_source(cpay_forwarder *forwarder, uint32_t *ssrc);
+
+/** Reports the SSRC of the source that the forwarder goes over to, or has gone over to. CPAY_NONE: it wants none. Does not
+ * allocate. */
+CPAY_CHECKED cpay_status cpay_forwarder_wanted(cpay_forwarder *forwarder, uint32_t *ssrc);
+
+/** What cpay_forwarder_write or cpay_forwarder_leave_out did with a packet. */
+typedef enum {
+    CPAY_FORWARDED_BEGAN = 0,        /**< the packet was written: send it. It is the first of another source. Packets of this source with
+                                          higher numbers may have come before it: pass those that follow it again, from the store */
+    CPAY_FORWARDED_WRITTEN = 1,      /**< the packet was written: send it */
+    CPAY_FORWARDED_NO_KEYFRAME = 2,  /**< the packet is of the wanted source, but a viewer cannot begin with it */
+    CPAY_FORWARDED_OTHER_SOURCE = 3, /**< the packet is of a source that the viewer does not get */
+    CPAY_FORWARDED_TOO_OLD = 4,      /**< the packet is older than the keyframe with which its source began, or too old to have a number */
+    CPAY_FORWARDED_LEFT_OUT = 5,     /**< the packet is left out, or was left out before, and has no number. The numbers after it close
+                                          up */
+    CPAY_FORWARDED_FILLED = 6        /**< the packet was left out late. A packet of padding was written under its number: send it, or the
+                                          viewer requests the number */
+} cpay_forwarded;
+
+/** Writes a packet that arrived, of any source, as the viewer's stream has it, its size to *size, and what was done to *forwarded. Call
+ * it before SRTP encrypts the packet. With CPAY_FORWARDED_BEGAN and CPAY_FORWARDED_WRITTEN the packet is in the output buffer: it has the
+ * viewer's SSRC and payload type, a number and a time of the viewer's stream, and marker, payload and padding of the packet that
+ * arrived; CSRCs and header extensions are left out, and in VP8 PictureID and TL0PICIDX are those of the viewer's stream. With any other
+ * answer *size is 0, and the output buffer is unchanged. `now` is the time of your clock in ticks of the RTP clock: at a switch the time
+ * goes on by the ticks since the packet with the highest number was written, at least 1, at most 2^31 - 1. A viewer begins with:
+ * - CPAY_VP8: the first packet of a keyframe (RFC 7741, section 4.2);
+ * - CPAY_VP9: the first packet of a frame that refers to no other: P is clear, and B is set (RFC 9628, section 4.2);
+ * - CPAY_AV1: the first packet of a coded video sequence: N is set, and Z is clear;
+ * - other codecs: any packet.
+ * CPAY_TOO_SMALL: the output buffer has fewer than *size bytes: 12, the payload and the padding. So a buffer of `datagram_len` bytes
+ * is always enough. The call is refused whatever the answer would be, and nothing else has changed: call it again.
+ * CPAY_RTP_HEADER_TOO_SHORT to CPAY_RTP_PADDING_TOO_LONG: not an RTP packet. If the call fails, the forwarder is unchanged. It allocates
+ * only if a packet is larger than all before it. [m] */
+CPAY_CHECKED cpay_status cpay_forwarder_write(cpay_forwarder *forwarder, uint64_t now, const uint8_t *datagram, size_t datagram_len,
+                                              uint8_t *bytes, size_t bytes_len, size_t *size, cpay_forwarded *forwarded);
+
+/** Leaves a packet out that the viewer is not to get, such as one of a temporal layer that it does not want: call it instead of
+ * cpay_forwarder_write. A packet above all others takes no number, so the viewer does not miss it: CPAY_FORWARDED_LEFT_OUT. For a packet
+ * that comes late a packet of padding, 13 bytes, is written under its number: CPAY_FORWARDED_FILLED. With any other answer *size is 0,
+ * and the output buffer is unchanged. Before the source has begun the answer is CPAY_FORWARDED_OTHER_SOURCE. CPAY_TOO_SMALL: the output
+ * buffer has fewer than 13 bytes, which *size says; nothing else has changed. The last 4096 packets that were left out are
+ * remembered, 8 bytes each. CPAY_RTP_HEADER_TOO_SHORT to CPAY_RTP_PADDING_TOO_LONG: not an RTP packet. If the call fails, the forwarder
+ * is unchanged. [m] */
+CPAY_CHECKED cpay_status cpay_forwarder_leave_out(cpay_forwarder *forwarder, const uint8_t *datagram, size_t datagram_len,
+                                                  uint8_t *bytes, size_t bytes_len, size_t *size, cpay_forwarded *forwarded);
+
+/** Answers the viewer's request for a number (cpay_read_requests with the viewer's SSRC) from the store of the source that is
+ * forwarded: a history that has what arrived as it was (without has_rtx). *resent is CPAY_RESENT_WRITTEN: the packet is in the output
+ * buffer as it was sent under this number, or with has_rtx as a retransmission (RFC 4588, section 4), and *size is its size. Or it is
+ * CPAY_RESENT_NOT_KEPT: no packet was sent under this number, it is too old, or the store does not have it; then *size is 0, and the
+ * output buffer is unchanged. Never CPAY_RESENT_TOO_SOON: limit yourself how often a number is resent, for example once in a round
+ * trip. The history does not change. CPAY_TOO_SMALL: the packet needs *size bytes; nothing else has changed. If the call
+ * fails, the forwarder is unchanged. CPAY_EMPTY and CPAY_OTHER_KIND also tell of the history. It allocates only if a packet is larger than
+ * all before it. [m] */
+CPAY_CHECKED cpay_status cpay_forwarder_resend(cpay_forwarder *forwarder, cpay_history *history, uint16_t number, uint8_t *bytes,
+                                               size_t bytes_len, size_t *size, cpay_resent *resent);
+
+/** What a forwarder wrote, and what it did not. Each is modulo 2^64. */
+typedef struct {
+    uint64_t packets;  /**< packets under the viewer's SSRC: CPAY_FORWARDED_BEGAN, _WRITTEN and _FILLED and, without has_rtx, those that were
+                            resent */
+    uint64_t octets;   /**< payload bytes of these, without padding */
+    uint64_t switches; /**< sources that began: CPAY_FORWARDED_BEGAN */
+    uint64_t filled;   /**< packets of padding: CPAY_FORWARDED_FILLED */
+    uint64_t left_out; /**< CPAY_FORWARDED_LEFT_OUT */
+    uint64_t refused;  /**< CPAY_FORWARDED_NO_KEYFRAME, _OTHER_SOURCE and _TOO_OLD */
+    uint64_t resent;   /**< packets that were resent, under either SSRC */
+} cpay_forwarder_counts_info;
+
+/** Reports the counts. Does not allocate. */
+CPAY_CHECKED cpay_status cpay_forwarder_counts(cpay_forwarder *forwarder, cpay_forwarder_counts_info *counts);
+
+/** Reports the fields of a sender report for the viewer's stream (RFC 3550, section 6.4.1), except its NTP time: that of the source's
+ * sender report, whose SSRC and RTP time you pass (cpay_session_sender_clock). So audio and video stay together. Packets and octets are
+ * the counts, modulo 2^32. CPAY_NONE: this source is not forwarded. Does not allocate. */
+CPAY_CHECKED cpay_status cpay_forwarder_report(cpay_forwarder *forwarder, uint32_t ssrc, uint32_t rtp_time,
+                                               cpay_sender_report_info *report);
 
 /* ---- A receiver: datagrams of a socket in, whole units of one stream out in order ---- */
 

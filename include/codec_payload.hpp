@@ -141,6 +141,10 @@ public:
     [[nodiscard]] cpay_status keep(bytes datagram, cpay_kept &kept) noexcept {
         return cpay_history_keep(get(), datagram.data(), datagram.size(), &kept);
     }
+    /** Keeps each number once, and says whether the datagram is new. */
+    [[nodiscard]] cpay_status keep_once(bytes datagram, cpay_kept_once &kept) noexcept {
+        return cpay_history_keep_once(get(), datagram.data(), datagram.size(), &kept);
+    }
     [[nodiscard]] cpay_status resend(std::uint64_t now, std::uint16_t number, room to, std::size_t &size,
                                      cpay_resent &resent) noexcept {
         return cpay_history_resend(get(), now, number, to.data(), to.size(), &size, &resent);
@@ -150,6 +154,50 @@ public:
                                      cpay_resent &resent) {
         std::size_t size = 0;
         return to.fill(size, [&](room it) { return resend(now, number, it, size, resent); });
+    }
+};
+
+/** The packet that a retransmission repeats: see cpay_rtx_original. */
+[[nodiscard]] inline cpay_status rtx_original(std::uint32_t ssrc, std::uint8_t payload_type, bytes datagram, room to,
+                                              std::size_t &size) noexcept {
+    return cpay_rtx_original(ssrc, payload_type, datagram.data(), datagram.size(), to.data(), to.size(), &size);
+}
+
+/** Packets of one source after another in, the packets of one stream of a viewer out. */
+class forwarder : public handle<cpay_forwarder, cpay_forwarder_free> {
+public:
+    [[nodiscard]] cpay_status make(const cpay_forwarder_settings &settings) noexcept { return cpay_forwarder_new(get(), &settings); }
+    [[nodiscard]] cpay_status want(std::uint32_t ssrc) noexcept { return cpay_forwarder_want(get(), ssrc); }
+    [[nodiscard]] cpay_status mute() noexcept { return cpay_forwarder_mute(get()); }
+    [[nodiscard]] cpay_status source(std::uint32_t &ssrc) noexcept { return cpay_forwarder_source(get(), &ssrc); }
+    [[nodiscard]] cpay_status wanted(std::uint32_t &ssrc) noexcept { return cpay_forwarder_wanted(get(), &ssrc); }
+    [[nodiscard]] cpay_status write(std::uint64_t now, bytes datagram, room to, std::size_t &size, cpay_forwarded &forwarded) noexcept {
+        return cpay_forwarder_write(get(), now, datagram.data(), datagram.size(), to.data(), to.size(), &size, &forwarded);
+    }
+    /** The same into memory that grows as needed. It is empty if nothing was written. */
+    [[nodiscard]] cpay_status write(std::uint64_t now, bytes datagram, storage &to, cpay_forwarded &forwarded) {
+        std::size_t size = 0;
+        return to.fill(size, [&](room it) { return write(now, datagram, it, size, forwarded); });
+    }
+    [[nodiscard]] cpay_status leave_out(bytes datagram, room to, std::size_t &size, cpay_forwarded &forwarded) noexcept {
+        return cpay_forwarder_leave_out(get(), datagram.data(), datagram.size(), to.data(), to.size(), &size, &forwarded);
+    }
+    /** The same into memory that grows as needed. It has a packet with CPAY_FORWARDED_FILLED, and is empty otherwise. */
+    [[nodiscard]] cpay_status leave_out(bytes datagram, storage &to, cpay_forwarded &forwarded) {
+        std::size_t size = 0;
+        return to.fill(size, [&](room it) { return leave_out(datagram, it, size, forwarded); });
+    }
+    [[nodiscard]] cpay_status resend(history &store, std::uint16_t number, room to, std::size_t &size, cpay_resent &resent) noexcept {
+        return cpay_forwarder_resend(get(), store.get(), number, to.data(), to.size(), &size, &resent);
+    }
+    /** The same into memory that grows as needed. It has the packet with CPAY_RESENT_WRITTEN, and is empty otherwise. */
+    [[nodiscard]] cpay_status resend(history &store, std::uint16_t number, storage &to, cpay_resent &resent) {
+        std::size_t size = 0;
+        return to.fill(size, [&](room it) { return resend(store, number, it, size, resent); });
+    }
+    [[nodiscard]] cpay_status counts(cpay_forwarder_counts_info &counts) noexcept { return cpay_forwarder_counts(get(), &counts); }
+    [[nodiscard]] cpay_status report(std::uint32_t ssrc, std::uint32_t rtp_time, cpay_sender_report_info &report) noexcept {
+        return cpay_forwarder_report(get(), ssrc, rtp_time, &report);
     }
 };
 

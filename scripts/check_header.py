@@ -24,8 +24,8 @@ NUMBERS = {
 FLAT = {"*mut u8": "void *"}
 # The struct of the header for each type that a handle of the library can hold. Each has its own call to free it.
 KINDS = [
-    "cpay_packetizer", "cpay_buffer", "cpay_depacketizer", "cpay_red_sender", "cpay_sender", "cpay_history", "cpay_receiver",
-    "cpay_adaptive_wait", "cpay_transport_reporter", "cpay_sent_packets", "cpay_session",
+    "cpay_packetizer", "cpay_buffer", "cpay_depacketizer", "cpay_red_sender", "cpay_sender", "cpay_history", "cpay_forwarder",
+    "cpay_receiver", "cpay_adaptive_wait", "cpay_transport_reporter", "cpay_sent_packets", "cpay_session",
 ]
 # The enums of the header.
 ENUMS = set()
@@ -158,7 +158,10 @@ def plain(functions, structs):
     plain_functions = {"cpay_free": ("void", [("cpay_handle *", "handle")])} if frees <= functions.keys() else {}
     for name, (answer, params) in functions.items():
         if name not in {*frees, VERSION}:
-            params = [("cpay_handle *", "handle") if kind.removesuffix(" *") in KINDS else (number(kind), one) for kind, one in params]
+            params = [
+                ("cpay_handle *", one if place else "handle") if kind.removesuffix(" *") in KINDS else (number(kind), one)
+                for place, (kind, one) in enumerate(params)
+            ]
             plain_functions[name] = (number(answer), params)
     plain_structs = {name: [(number(kind), one) for kind, one in fields] for name, fields in structs.items() if name not in KINDS}
     return plain_functions, plain_structs

@@ -4,12 +4,13 @@ use Rattle.std.specs.declared.alloc.AllocError.{AllocError}
 use Rattle.codec_payload_base.specs.declared.wire.Ticks.{Ticks}
 use Rattle.codec_payload_rtcp.specs.declared.packet.RtcpError.{RtcpError}
 use Rattle.codec_payload_rtcp.specs.declared.packet.RtcpError.TheVariants as rtcp
-use Rattle.codec_payload_history.specs.Histories.{HasNot, IsAt, IsFault, Keeps, Resends, ResendsWithin, history_by, is_too_soon}
+use Rattle.codec_payload_history.specs.Histories.{HasNot, IsAt, IsFault, Keeps, KeepsOnce, Resends, ResendsWithin, history_by, is_too_soon}
 use Rattle.codec_payload_history.specs.Packets.{Sent, stream_fits}
 use Rattle.codec_payload_history.specs.declared.feedback.Request.{Request}
 use Rattle.codec_payload_history.specs.declared.feedback.Request.TheVariants as requests
 use Rattle.codec_payload_history.specs.declared.retransmission.HistorySettings.{HistorySettings as Settings}
 use Rattle.codec_payload_history.specs.declared.retransmission.Kept.TheVariants as kept
+use Rattle.codec_payload_history.specs.declared.retransmission.KeptOnce.TheVariants as once
 use Rattle.codec_payload_history.specs.declared.retransmission.KeepError.{KeepError}
 use Rattle.codec_payload_history.specs.declared.retransmission.KeepError.TheVariants as faults
 use Rattle.codec_payload_history.specs.declared.retransmission.Resent.{Resent}
@@ -54,6 +55,15 @@ abbrev pub KeepsDatagram : PacketHistory → List ℕ → (status before answer 
 KeepsDatagram r datagram status before answer s =
     ((status ≡ 0) × (answer ≡ 0) × Keeps r.history datagram kept.Stored s.history)
     ⊎ ((status ≡ 0) × (answer ≡ 1) × Keeps r.history datagram kept.TooOld s.history)
+    ⊎ ((fault : KeepError) × (status ≡ keep_status fault) × IsFault datagram fault × (answer ≡ before) × (s.history ≡ r.history))
+
+-- The same unless the number is kept. Status 0, and 0: the datagram is new, and is kept. Status 0, and 1: its number is known.
+-- Status 0, and 2: its number is too old
+abbrev pub KeepsDatagramOnce : PacketHistory → List ℕ → (status before answer : ℕ) → PacketHistory → Type 0
+KeepsDatagramOnce r datagram status before answer s =
+    ((status ≡ 0) × (answer ≡ 0) × KeepsOnce r.history datagram once.New s.history)
+    ⊎ ((status ≡ 0) × (answer ≡ 1) × KeepsOnce r.history datagram once.Known s.history)
+    ⊎ ((status ≡ 0) × (answer ≡ 2) × KeepsOnce r.history datagram once.TooOld s.history)
     ⊎ ((fault : KeepError) × (status ≡ keep_status fault) × IsFault datagram fault × (answer ≡ before) × (s.history ≡ r.history))
 
 -- ---- resending

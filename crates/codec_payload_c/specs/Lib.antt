@@ -4,11 +4,13 @@ pub mod Beginnings
 pub mod Buffers
 pub mod Congestion
 pub mod Extensions
+pub mod Forwarders
 pub mod Frames
 pub mod Histories
 pub mod Ids
 pub mod Inspect
 pub mod Media
+pub mod Originals
 pub mod RedCoding
 pub mod RedPlaces
 pub mod Reds

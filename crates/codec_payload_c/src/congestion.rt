@@ -79,7 +79,7 @@ fn remb_packet(
 }
 
 /// Writes a packet to the output buffer, if there is room for it.
-fn put_packet(packet: &[u8], bytes: &mut [u8], size: &mut usize) -> u32
+pub(crate) fn put_packet(packet: &[u8], bytes: &mut [u8], size: &mut usize) -> u32
     ensures puts { PutsPacket packet.now result (record { before = bytes.old; bytes = bytes.new; size_before = size.old; size = size.new }) }
     ensures untouched { result ≢ 0 → bytes.new ≡ bytes.old }
     ensures unchanged { result ≢ 0 → result ≢ 33 → size.new ≡ size.old }

@@ -4,7 +4,7 @@ ghost use Rattle.std.specs.Prelude.{◌≡◌, ◌≢◌, ◌+◌, ◌-◌, ◌^
 ghost use Rattle.codec_payload_history.specs.Histories.{history_by};
 ghost use Rattle.codec_payload_history.specs.Requests.{requests_at, requests_left};
 ghost use Rattle.codec_payload_rtcp.specs.Compound.{is_full};
-ghost use Rattle.codec_payload_c.specs.Histories.{IsPacketHistoryOf, KeepsDatagram, ReadsRequests, ResendsPacket, asks_keyframe, is_in_range, numbers_asked, put_first, rtcp_status, settings_set};
+ghost use Rattle.codec_payload_c.specs.Histories.{IsPacketHistoryOf, KeepsDatagram, KeepsDatagramOnce, ReadsRequests, ResendsPacket, asks_keyframe, is_in_range, numbers_asked, put_first, rtcp_status, settings_set};
 ghost use Rattle.codec_payload_handle.specs.Kinds.{Makes, OnPacketHistory, Refuses, is_packet_history};
 
 use crate::rtp::status_of;
@@ -15,7 +15,7 @@ use codec_payload_handle::object::{Object, PacketHistory};
 use codec_payload_handle::status;
 use codec_payload_history::feedback::{Request, Requests, read_requests};
 use codec_payload_history::retransmission::{
-    History, HistorySettings as Settings, KeepError, Kept, Resent, RetransmissionStream,
+    History, HistorySettings as Settings, KeepError, Kept, KeptOnce, Resent, RetransmissionStream,
 };
 use codec_payload_rtcp::compound::CompoundRule;
 use codec_payload_rtcp::packet::RtcpError;
@@ -79,6 +79,29 @@ fn keep(history: &mut PacketHistory, datagram: &[u8], kept: &mut u32) -> u32
         }
         Ok(Kept::TooOld) => {
             *kept = 1;
+            status::OK
+        }
+        Err(KeepError::Rtp(fault)) => status_of(fault),
+        Err(KeepError::OutOfMemory) => status::OUT_OF_MEMORY,
+    }
+}
+
+/// Keeps a copy of a datagram whose number is not kept yet, and writes what the history did with it.
+fn keep_once(history: &mut PacketHistory, datagram: &[u8], kept: &mut u32) -> u32
+    ensures keeps { KeepsDatagramOnce history.old datagram.now result kept.old kept.new history.new }
+    ensures unchanged { result ≢ 0 → kept.new ≡ kept.old }
+{
+    match history.history.keep_once(datagram) {
+        Ok(KeptOnce::New) => {
+            *kept = 0;
+            status::OK
+        }
+        Ok(KeptOnce::Known) => {
+            *kept = 1;
+            status::OK
+        }
+        Ok(KeptOnce::TooOld) => {
+            *kept = 2;
             status::OK
         }
         Err(KeepError::Rtp(fault)) => status_of(fault),
@@ -238,6 +261,29 @@ pub extern "C" fn cpay_history_keep(
     };
     let status = match &mut *object {
         Object::PacketHistory(history) => keep(history, datagram, kept),
+        _ => status::OTHER_KIND,
+    };
+    handle.put(object);
+    status
+}
+
+/// Keeps a copy of a datagram at its number, unless the history has a packet with this number, and writes what it did.
+#[unsafe(no_mangle)]
+pub extern "C" fn cpay_history_keep_once(
+    alloc: Global,
+    handle: &mut Handle,
+    datagram: &[u8],
+    kept: &mut u32,
+) -> u32
+    ensures keeps { OnPacketHistory handle.old.place.value (λ r s. KeepsDatagramOnce r datagram.now result kept.old kept.new s) handle.new.place.value }
+    ensures refused { Refuses is_packet_history handle.old.place.value result handle.new.place.value }
+    ensures unchanged { result ≢ 0 → kept.new ≡ kept.old }
+{
+    let Some(mut object) = handle.take(alloc) else {
+        return status::EMPTY;
+    };
+    let status = match &mut *object {
+        Object::PacketHistory(history) => keep_once(history, datagram, kept),
         _ => status::OTHER_KIND,
     };
     handle.put(object);

@@ -7,6 +7,7 @@ use Rattle.codec_payload_handle.specs.declared.object.Object.{Object}
 use Rattle.codec_payload_handle.specs.declared.object.Object.TheVariants as objects
 use Rattle.codec_payload_handle.specs.declared.object.FrameReceiver.{FrameReceiver}
 use Rattle.codec_payload_handle.specs.declared.object.FrameSender.{FrameSender}
+use Rattle.codec_payload_handle.specs.declared.object.PacketForwarder.{PacketForwarder}
 use Rattle.codec_payload_handle.specs.declared.object.PacketHistory.{PacketHistory}
 use Rattle.codec_payload_handle.specs.declared.object.PeerReporter.{PeerReporter}
 use Rattle.codec_payload_handle.specs.declared.object.PortSession.{PortSession}
@@ -86,6 +87,15 @@ abbrev pub OnPacketHistory : Option Object → (PacketHistory → PacketHistory 
 OnPacketHistory (Some (objects.PacketHistory r)) Does after = StaysPacketHistory (Does r.value) after
 OnPacketHistory _ Does after = Unit {0}
 
+-- the same for a forwarder to a viewer
+abbrev pub StaysPacketForwarder : (PacketForwarder → Type 0) → Option Object → Type 0
+StaysPacketForwarder Done (Some (objects.PacketForwarder s)) = Done s.value
+StaysPacketForwarder Done _ = ⊥
+
+abbrev pub OnPacketForwarder : Option Object → (PacketForwarder → PacketForwarder → Type 0) → Option Object → Type 0
+OnPacketForwarder (Some (objects.PacketForwarder r)) Does after = StaysPacketForwarder (Does r.value) after
+OnPacketForwarder _ Does after = Unit {0}
+
 -- the same for a limit of waiting that follows how late missing packets arrive
 abbrev pub StaysAdaptiveWait : (Wait → Type 0) → Option Object → Type 0
 StaysAdaptiveWait Done (Some (objects.AdaptiveWait s)) = Done s.value
@@ -144,6 +154,10 @@ is_port_session _ = false
 abbrev pub is_packet_history : Object → Bool
 is_packet_history (objects.PacketHistory _) = true
 is_packet_history _ = false
+
+abbrev pub is_packet_forwarder : Object → Bool
+is_packet_forwarder (objects.PacketForwarder _) = true
+is_packet_forwarder _ = false
 
 abbrev pub is_adaptive_wait : Object → Bool
 is_adaptive_wait (objects.AdaptiveWait _) = true

@@ -9,6 +9,8 @@ use codec_payload_core::red::RedSender;
 use codec_payload_core::wire::Frequency;
 use codec_payload_feedback::requests::FeedbackSource;
 use codec_payload_feedback::transport::TransportReporter;
+use codec_payload_forward::counts::ForwardCounts;
+use codec_payload_forward::forwarder::Forwarder;
 use codec_payload_history::retransmission::History;
 use codec_payload_sender::sender::Sender as DatagramSender;
 use codec_payload_session::session::{Event, Session};
@@ -74,6 +76,14 @@ pub struct PacketHistory {
     pub datagram: Vec<u8>,
 }
 
+/// A forwarder to a viewer, what it did so far, and memory for the datagram that it writes; it is reused.
+#[derive(Drop)]
+pub struct PacketForwarder {
+    pub forwarder: Forwarder,
+    pub counts: ForwardCounts,
+    pub datagram: Vec<u8>,
+}
+
 /// A reporter of the arrivals of a transport, who sends its packets, and the packet that waits for a larger output buffer.
 #[derive(Drop)]
 pub struct PeerReporter {
@@ -95,6 +105,7 @@ pub enum Object {
     StreamReceiver(Box<StreamReceiver>),
     PortSession(Box<PortSession>),
     PacketHistory(Box<PacketHistory>),
+    PacketForwarder(Box<PacketForwarder>),
     AdaptiveWait(Box<AdaptiveWait>),
     PeerReporter(Box<PeerReporter>),
     SentPackets(Box<SentPackets>),
