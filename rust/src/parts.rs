@@ -382,16 +382,19 @@ pub mod media {
 /// Out of memory as a value.
 #[doc(hidden)]
 pub mod memory {
+    #[doc(hidden)]
     pub use crate::memory::*;
 }
 
 #[doc(hidden)]
 pub mod error {
+    #[doc(hidden)]
     pub use crate::error::*;
 }
 
 #[doc(hidden)]
 pub mod interface {
+    #[doc(hidden)]
     pub use crate::interface::*;
 }
 
