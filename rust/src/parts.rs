@@ -117,9 +117,6 @@ pub mod forward {
 pub mod red_writer {
     #[doc(inline)]
     pub use crate::red_writer::{RedWriteError, RedWriter, RedWriterError};
-
-    #[doc(hidden)]
-    pub use crate::red_writer::*;
 }
 
 /// Which units of video a decoder can show, and when to request a keyframe.
@@ -264,9 +261,6 @@ pub mod av1 {
 pub mod amr_wb {
     #[doc(inline)]
     pub use crate::amr_wb::{AmrWbDepacketizer, AmrWbPacketizer};
-
-    #[doc(hidden)]
-    pub use crate::amr_wb::*;
 }
 
 /// Telephone events (RFC 4733).
@@ -306,9 +300,6 @@ pub mod payload {
 pub mod payloads {
     #[doc(inline)]
     pub use crate::payloads::{PayloadWriter, Payloads};
-
-    #[doc(hidden)]
-    pub use crate::payloads::*;
 }
 
 /// Numbers, times, headers and codecs, as RTP has them (RFC 3550, section 5.1).
