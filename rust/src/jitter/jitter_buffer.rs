@@ -266,9 +266,14 @@ impl<B: Depacketizer> JitterBuffer<B> {
         self.numbers.greatest()
     }
 
-    /// Returns whether a number is neither held nor known to carry no media.
-    pub(crate) fn is_absent(&self, number: u64) -> bool {
-        !self.buffer.holds(SeqNo(number)) && !is_noted(&self.no_media_numbers, number)
+    /// Returns how many consecutive numbers from this one on are held.
+    pub(crate) fn held_in_a_row(&self, number: u64) -> usize {
+        self.buffer.held_in_a_row(SeqNo(number))
+    }
+
+    /// Returns whether a number is known to carry no media.
+    pub(crate) fn has_no_media(&self, number: u64) -> bool {
+        is_noted(&self.no_media_numbers, number)
     }
 
     /// Returns the next unit, if one is due at time `now`. A frame is due if it directly follows the last released unit, if
