@@ -129,8 +129,8 @@ def print_receiver(features):
 
 
 def print_orders():
-    print("| order | held | copy, ns | buffer, ns | over a copy | earlier form, ns | map, ns |")
-    print("|---" * 7 + "|", flush=True)
+    print("| order | held | copy, ns | buffer, ns | over a copy | map, ns |")
+    print("|---" * 6 + "|", flush=True)
     for held, rounds in (64, 9), (4_096, 9), (65_000, 2):
         subprocess.run([f"{SPEED}/target/release/orders", str(held), str(rounds)], check=True)
     print(flush=True)

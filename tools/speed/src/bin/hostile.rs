@@ -76,9 +76,20 @@ impl Load {
 fn prepare(load: &mut Load, kind: &str, size: u32) {
     (0..2).for_each(|number| load.receive(&packet(5, number, number, true, true)));
     match kind {
-        "frames" => (2..size.max(3)).for_each(|number| load.receive(&packet(5, number, 2, number == 2, number + 1 == size.max(3)))),
-        "gap" => (3..3 + size).for_each(|number| load.receive(&packet(5, number, 2, number == 3, false))),
-        "gaps" => (1..=size).for_each(|place| load.receive(&packet(5, 1 + 2 * place, 2, place == 1, false))),
+        "frames" => (2..size.max(3)).for_each(|number| {
+            load.receive(&packet(
+                5,
+                number,
+                2,
+                number == 2,
+                number + 1 == size.max(3),
+            ))
+        }),
+        "gap" => {
+            (3..3 + size).for_each(|number| load.receive(&packet(5, number, 2, number == 3, false)))
+        }
+        "gaps" => (1..=size)
+            .for_each(|place| load.receive(&packet(5, 1 + 2 * place, 2, place == 1, false))),
         "no_media" => (1..=size).for_each(|place| load.receive(&padding(1 + 2 * place))),
         "strays" => (0..size).for_each(|place| load.receive(&packet(place << 8, 0, 0, true, true))),
         other => panic!("{other}: frames, gap, gaps, no_media or strays"),
