@@ -11,7 +11,7 @@
 //! - Use senders that send picture ids of 15 bits: the forwarder keeps their width.
 
 use codec_payload::forward::{ForwardSettings, Forwarded, Forwarder};
-use codec_payload::history::Resent;
+use codec_payload::history::{KeptOnce, Resent};
 use codec_payload::rtp::RtpPacket;
 use codec_payload::{
     Codec, CodecDepacketizer, CodecPacketizer, ExtensionValues, Frequency, History,
@@ -66,8 +66,10 @@ impl Sfu {
     fn receive(&mut self, now: u64, datagram: &[u8]) -> Result<Vec<Vec<u8>>, Box<dyn Error>> {
         let packet = RtpPacket::parse(datagram)?;
         let store = &mut self.stores[packet.header.ssrc as usize - 1];
-        store.keep(datagram)?;
         let mut sent = Vec::new();
+        if store.keep_once(datagram)? != KeptOnce::New {
+            return Ok(sent);
+        }
         match self.viewer.write(now, &packet, &mut self.out)? {
             Forwarded::Began => sent.push(self.out.clone()),
             Forwarded::Written => return Ok(vec![self.out.clone()]),
@@ -87,16 +89,14 @@ impl Sfu {
     }
 
     /// Answers a NACK of the viewer for one number.
-    fn resend(&mut self, now: u64, number: u16) -> Result<Option<&[u8]>, Box<dyn Error>> {
-        let (Some(source), Some(number)) = (self.viewer.source(), self.viewer.source_of(number))
-        else {
+    fn resend(&mut self, number: u16) -> Result<Option<&[u8]>, Box<dyn Error>> {
+        let Some(source) = self.viewer.source() else {
             return Ok(None);
         };
-        let store = &mut self.stores[source as usize - 1];
-        if store.resend(Ticks(now), number, &mut self.kept)? != Resent::Written {
+        let store = &self.stores[source as usize - 1];
+        let Some(kept) = self.viewer.requested(number, store) else {
             return Ok(None);
-        }
-        let kept = RtpPacket::parse(&self.kept)?;
+        };
         let written = self.viewer.write_again(&kept, &mut self.out)?;
         Ok(written.then_some(&self.out[..]))
     }
@@ -200,7 +200,7 @@ fn main() -> Result<(), Box<dyn Error>> {
         }
         let missing: Vec<u64> = viewer.missing(64).collect();
         for number in missing {
-            if let Some(resent) = sfu.resend(clock, number as u16)? {
+            if let Some(resent) = sfu.resend(number as u16)? {
                 viewer.receive_any(now, resent)?;
             }
         }

@@ -4,6 +4,8 @@
 //! (docs/FORWARDING.md).
 
 #[doc(hidden)]
+pub mod counts;
+#[doc(hidden)]
 pub mod forwarder;
 #[doc(hidden)]
 pub mod renumbering;
@@ -13,7 +15,10 @@ pub mod times;
 pub mod vp8_ids;
 
 #[doc(inline)]
-pub use forwarder::{ForwardError, ForwardSettings, Forwarded, Forwarder};
+pub use counts::ForwardCounts;
+
+#[doc(inline)]
+pub use forwarder::{ForwardError, ForwardSettings, Forwarded, Forwarder, forwarded_size};
 
 #[doc(inline)]
 pub use renumbering::{MAX_LEFT_OUT, Placed, Renumbering};

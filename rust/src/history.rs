@@ -6,13 +6,18 @@
 #[doc(hidden)]
 pub mod feedback;
 #[doc(hidden)]
+pub mod original;
+#[doc(hidden)]
 pub mod retransmission;
 
 #[doc(inline)]
 pub use feedback::{Request, Requests, read_requests};
 
 #[doc(inline)]
+pub use original::{OriginalError, OriginalStream};
+
+#[doc(inline)]
 pub use retransmission::{
-    History, HistoryError, HistorySettings, KeepError, Kept, MAX_HISTORY, Resent,
+    History, HistoryError, HistorySettings, KeepError, Kept, KeptOnce, MAX_HISTORY, Resent,
     RetransmissionStream,
 };

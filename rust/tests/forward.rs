@@ -1,7 +1,7 @@
 //! A forwarder between two senders and a viewer's receiver, with losses, repetitions and reordering on both hops.
 
 use codec_payload::forward::*;
-use codec_payload::history::{History, HistorySettings, Resent, RetransmissionStream};
+use codec_payload::history::{History, HistorySettings, KeptOnce, Resent, RetransmissionStream};
 use codec_payload::rtp::RtpPacket;
 use codec_payload::sender::{Sample, Sender, SenderSettings};
 use codec_payload::stream::{Receiver, ReceiverSettings};
@@ -318,7 +318,9 @@ fn a_viewer_gets_whole_frames() -> Outcome {
         for datagram in &arrived {
             let packet = RtpPacket::parse(datagram)?;
             let store = &mut stores[packet.header.ssrc as usize - 1];
-            store.keep(datagram)?;
+            if store.keep_once(datagram)? != KeptOnce::New {
+                continue;
+            }
             match forwarder.write(clock, &packet, &mut out)? {
                 Forwarded::Began => {
                     sent.push(out.clone());
@@ -346,12 +348,11 @@ fn a_viewer_gets_whole_frames() -> Outcome {
         // The viewer's requests, answered from the store.
         let missing: Vec<u64> = viewer.missing(64).collect();
         for number in missing {
-            let Some(number) = forwarder.source_of(number as u16) else {
-                continue;
-            };
             let source = forwarder.source().ok_or("no source")?;
-            if stores[source as usize - 1].resend(Ticks(0), number, &mut kept)? == Resent::Written {
-                assert!(forwarder.write_again(&RtpPacket::parse(&kept)?, &mut out)?);
+            let store = &stores[source as usize - 1];
+            if let Some(packet) = forwarder.requested(number as u16, store) {
+                assert!(forwarder.write_again(&packet, &mut out)?);
+                assert_eq!(out.len(), forwarder.size_again(&packet));
                 viewer.receive_any(now, &out)?;
             }
         }
@@ -492,4 +493,69 @@ fn left_out_packets_close_up() -> Outcome {
     assert_eq!(call(11, false)?, (Forwarded::LeftOut, vec![]));
     assert_eq!(call(9, false)?, (Forwarded::TooOld, vec![]));
     Ok(())
+}
+
+/// The packet of a store under each number of the viewer, and none for a number that was not sent, or of another source.
+#[test]
+fn requested_packets_are_found() -> Outcome {
+    let store = || {
+        History::new(HistorySettings {
+            limit: 8,
+            interval: 0,
+            stream: None,
+        })
+    };
+    let (mut store, mut other) = (store()?, store()?);
+    let mut forwarder = Forwarder::new(settings(Codec::Opus))?;
+    let mut out = Vec::new();
+    forwarder.want(1);
+    assert_eq!(forwarder.requested(65_529, &store), None);
+    // 12 is lost, and 20 removes the packets up to 12 from the store.
+    for number in [10, 11, 13, 20] {
+        let datagram = packet(number, 7, 1, &[number as u8]);
+        store.keep_once(&datagram)?;
+        other.keep_once(&packet(number, 7, 2, &[0]))?;
+        forwarder.write(0, &RtpPacket::parse(&datagram)?, &mut out)?;
+    }
+    let found = |sent: u16| {
+        let packet = forwarder.requested(sent, &store)?;
+        Some(packet.payload.to_vec())
+    };
+    assert_eq!(found(65_530 + 3), Some(vec![13]));
+    assert_eq!(found(65_530_u16.wrapping_add(10)), Some(vec![20]));
+    for sent in [65_530, 65_531, 65_532, 65_534, 65_530_u16.wrapping_add(11)] {
+        assert_eq!(found(sent), None);
+    }
+    assert_eq!(forwarder.requested(65_533, &other), None);
+    Ok(())
+}
+
+#[test]
+fn answers_are_counted() {
+    let mut counts = ForwardCounts::default();
+    for (answer, octets) in [
+        (Forwarded::Began, 100),
+        (Forwarded::Written, 20),
+        (Forwarded::Filled, 7),
+        (Forwarded::LeftOut, 7),
+        (Forwarded::NoKeyframe, 7),
+        (Forwarded::OtherSource, 7),
+        (Forwarded::TooOld, 7),
+    ] {
+        counts.count(answer, octets);
+    }
+    counts.count_resent(true, 1_000);
+    counts.count_resent(false, 3);
+    assert_eq!(
+        counts,
+        ForwardCounts {
+            packets: 4,
+            octets: 123,
+            switches: 1,
+            filled: 1,
+            left_out: 1,
+            refused: 3,
+            resent: 2,
+        }
+    );
 }

@@ -381,3 +381,65 @@ fn lost_packets_are_resent_as_they_were() -> Result<(), Fail> {
 fn lost_packets_are_resent_in_a_stream_of_their_own() -> Result<(), Fail> {
     all_frames_arrive(Some(STREAM))
 }
+
+#[test]
+fn originals_by_the_standard() -> Result<(), Fail> {
+    let stream = OriginalStream {
+        ssrc: 0x0506_0708,
+        payload_type: 96,
+    };
+    let mut out = b"what was there".to_vec();
+    stream.write(&AGAIN, &mut out)?;
+    // The packet, without its padding.
+    let mut original = PACKET[..27].to_vec();
+    original[0] &= !0x20;
+    assert_eq!(out, original);
+    let wrong = OriginalStream {
+        payload_type: 128,
+        ..stream
+    };
+    for (stream, datagram, fault) in [
+        (wrong, &AGAIN[..], OriginalError::PayloadType),
+        (stream, &AGAIN[..25], OriginalError::TooShort),
+        (stream, &AGAIN[..24], OriginalError::TooShort),
+        (
+            stream,
+            &AGAIN[..11],
+            OriginalError::Rtp(codec_payload::rtp::RtpError::HeaderTooShort),
+        ),
+    ] {
+        assert_eq!(stream.write(datagram, &mut out), Err(fault));
+        assert!(out.is_empty());
+    }
+    Ok(())
+}
+
+/// The first datagram of a number is kept, and `keep` replaces it.
+#[test]
+fn each_number_is_kept_once() -> Result<(), Fail> {
+    let mut history = history(10, 0, None);
+    let other = |number| {
+        let mut bytes = packet(number).to_vec();
+        bytes.push(1);
+        bytes
+    };
+    assert_eq!(history.packet(20), None);
+    assert_eq!(history.keep_once(&packet(20))?, KeptOnce::New);
+    assert_eq!(history.keep_once(&other(20))?, KeptOnce::Known);
+    assert_eq!(history.packet(20), Some(&packet(20)[..]));
+    assert_eq!(history.keep(&other(20))?, Kept::Stored);
+    assert_eq!(history.packet(20), Some(&other(20)[..]));
+    for number in 11..25 {
+        let known = number == 20;
+        let kept = if known { KeptOnce::Known } else { KeptOnce::New };
+        assert_eq!(history.keep_once(&packet(number))?, kept);
+    }
+    assert_eq!(history.keep_once(&packet(14))?, KeptOnce::TooOld);
+    // A packet that is known comes between two that are too old: the sender has not restarted.
+    assert_eq!(history.keep_once(&packet(60_000))?, KeptOnce::TooOld);
+    assert_eq!(history.keep_once(&packet(24))?, KeptOnce::Known);
+    assert_eq!(history.keep_once(&packet(60_001))?, KeptOnce::TooOld);
+    assert_eq!(history.keep_once(&packet(60_002))?, KeptOnce::New);
+    assert_eq!(history.packet(24), None);
+    Ok(())
+}

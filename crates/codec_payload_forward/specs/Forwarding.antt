@@ -1,12 +1,12 @@
 -- What a forwarder does with a packet.
-use Rattle.std.specs.Prelude.{◌≡◌, ◌<◌, ◌⊎◌, ℕ, ◌+◌, ◌-◌, ◌%◌, ◌≤◌, ◌==◌, ◌&&◌, max, min, nat_lt, not, if◌then◌else◌, Bool, true, false, List, [], ◌∷◌, ◌++◌, Option, Some, None, is_some, Result, Ok, Err}
+use Rattle.std.specs.Prelude.{◌≡◌, ◌<◌, ◌⊎◌, ℕ, ◌+◌, ◌-◌, ◌%◌, ◌≤◌, ◌==◌, ◌&&◌, max, min, nat_lt, not, if◌then◌else◌, Bool, true, false, List, [], ◌∷◌, ◌++◌, length, Option, Some, None, is_some, Result, Ok, Err}
 use Rattle.std.specs.Int.{w16, to_be_bytes}
 use Rattle.codec_payload_base.specs.Extended.{nearest}
 use Rattle.codec_payload_base.specs.Flags.{has_bit}
 use Rattle.codec_payload_base.specs.declared.wire.Codec.{Codec}
 use Rattle.codec_payload_base.specs.declared.wire.Codec.TheVariants as codecs
-use Rattle.codec_payload_history.specs.Histories.{first_of}
-use Rattle.codec_payload_history.specs.Packets.{stream_fits}
+use Rattle.codec_payload_history.specs.Histories.{HasNot, IsKept, first_of}
+use Rattle.codec_payload_history.specs.Packets.{Past, stream_fits}
 use Rattle.codec_payload_history.specs.declared.retransmission.RetransmissionStream.{RetransmissionStream}
 use Rattle.codec_payload_rtp.specs.RtpPackets.{Packet, packet_bytes}
 use Rattle.codec_payload_rtp.specs.RtpReading.{rtp_at}
@@ -220,6 +220,32 @@ Repeats p f true bytes t =
 Repeats p f false bytes t =
     (bytes ≡ []) × (t ≡ f)
     × ((sent : ℕ) → is_source f.source p.header.ssrc ≡ true → number_in f p ≤ f.numbers.highest → placed f.numbers (number_in f p) true ≡ places.Sent sent → ⊥)
+
+-- the packet of the source in the store that was sent, or is to be sent, under that number
+abbrev pub IsRequested : Forward → Past → ℕ → Packet → Type 0
+IsRequested f store number p =
+    (is_source f.source p.header.ssrc ≡ true)
+    × ((n low : ℕ) × IsNumberOf f number n low × ((datagram : List ℕ) × IsKept store low datagram × (rtp_at datagram ≡ Ok p)))
+
+-- The store has no packet for that number: no packet was sent under it, or the store does not have the packet, or has one of another
+-- source
+abbrev pub IsNotRequested : Forward → Past → ℕ → Type 0
+IsNotRequested f store number =
+    ((n low : ℕ) → IsNumberOf f number n low → ⊥)
+    ⊎ ((n low : ℕ) × IsNumberOf f number n low × HasNot store low)
+    ⊎ ((n low : ℕ) × IsNumberOf f number n low
+    × ((datagram : List ℕ) × (p : Packet) × IsKept store low datagram × (rtp_at datagram ≡ Ok p) × (is_source f.source p.header.ssrc ≡ false)))
+
+-- how many bytes a packet has without CSRCs and extension, and how many it has when it is written again
+abbrev pub forwarded_size : Packet → ℕ
+forwarded_size p = 12 + length p.payload + p.padding
+
+abbrev pub size_again_by : Option RetransmissionStream → Packet → ℕ
+size_again_by None p = forwarded_size p
+size_again_by (Some stream) p = 14 + length p.payload
+
+abbrev pub size_again : Forward → Packet → ℕ
+size_again f p = size_again_by f.settings.retransmissions p
 
 -- the time of the viewer's stream for a time of the source
 abbrev pub time_for : Forward → (ssrc time : ℕ) → Option ℕ

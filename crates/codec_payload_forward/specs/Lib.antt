@@ -1,3 +1,4 @@
+pub mod Counting
 pub mod Forwarding
 pub mod NumberRuns
 pub mod Numbers

@@ -1,22 +1,22 @@
 //! One stream of a viewer: packets of one source after another, under the viewer's SSRC, payload type, numbers and times.
 
-ghost use Rattle.std.specs.Prelude.{◌≡◌, ◌<◌, ◌++◌, ℕ, [], Some, None, Ok, true, false, IfOk, IfSome, IfNone, IsTrue, OnOk, OnErr};
+ghost use Rattle.std.specs.Prelude.{◌≡◌, ◌<◌, ◌≤◌, ◌+◌, ◌++◌, ℕ, [], length, Some, None, Ok, true, false, IfOk, IfSome, IfNone, IsTrue, OnOk, OnErr};
 ghost use Rattle.std.specs.Int.{w16, to_be_bytes};
 ghost use Rattle.codec_payload_base.specs.Extended.{nearest};
 ghost use Rattle.codec_payload_history.specs.Histories.{first_of};
 ghost use Rattle.codec_payload_history.specs.Packets.{stream_fits};
-ghost use Rattle.codec_payload_rtp.specs.RtpPackets.{header_fits, packet_bytes};
+ghost use Rattle.codec_payload_rtp.specs.RtpPackets.{header_bytes, header_fits, packet_bytes};
 ghost use Rattle.codec_payload_rtp.specs.RtpReading.{rtp_at};
 ghost use Rattle.codec_payload_rtp.specs.RtpValues.{header_of, packet_of};
 ghost use Rattle.codec_payload_forward.specs.declared.renumbering.Placed.TheVariants as places;
 ghost use Rattle.codec_payload_forward.specs.Numbers.{placed};
-ghost use Rattle.codec_payload_forward.specs.Forwarding.{IsNumberOf, IsResent, IsWritten, Forwards, Leaves, Repeats, after_written, begins, codec_fits, forward_by, ids_after, ids_switched, is_source, next_packet, number_in, packet_under, sent_packet, ticks_between, time_for, wrapped};
+ghost use Rattle.codec_payload_forward.specs.Forwarding.{IsNotRequested, IsNumberOf, IsRequested, IsResent, IsWritten, Forwards, Leaves, Repeats, after_written, begins, codec_fits, forward_by, ids_after, ids_switched, is_source, next_packet, number_in, packet_under, sent_packet, size_again, forwarded_size, ticks_between, time_for, wrapped};
 
 use crate::renumbering::{Placed, Renumbering};
 use crate::times::Retiming;
 use crate::vp8_ids::Vp8Ids;
 use codec_payload_base::wire::Codec;
-use codec_payload_history::retransmission::RetransmissionStream;
+use codec_payload_history::retransmission::{History, RetransmissionStream};
 use codec_payload_rtp::rtp::{PacketHeader, RtpPacket};
 use codec_payload_vp8::vp8::detect_vp8_keyframe;
 use codec_payload_vp9::vp9::detect_vp9_keyframe;
@@ -217,6 +217,15 @@ fn ids_switched(codec: Codec, ids: Vp8Ids, payload: &[u8]) -> Vp8Ids
     }
 }
 
+/// Returns the number of bytes of a packet without CSRCs and header extension: what [`Forwarder::write`] writes for it, if it writes
+/// it.
+pub fn forwarded_size(packet: &RtpPacket<'_>) -> usize
+    ensures { result ≡ forwarded_size (packet_of packet.now) }
+{
+    let padding = packet.padding;
+    12 + packet.payload.len() + usize::from(padding)
+}
+
 /// The number and the time that a packet is sent with.
 #[derive(Clone, Copy, Debug)]
 struct Place {
@@ -263,7 +272,8 @@ fn write_behind_number(
 ) -> Result<(), AllocError>
     requires fits { IsTrue (header_fits (header_of header)) }
     requires empty { out.old.items ≡ [] }
-    ensures { OnOk result (rtp_at out.new.items ≡ Ok (record { header = header_of header.entry; payload = to_be_bytes w16 number ++ payload.now; padding = 0 })) }
+    ensures reads { OnOk result (rtp_at out.new.items ≡ Ok (record { header = header_of header.entry; payload = to_be_bytes w16 number ++ payload.now; padding = 0 })) }
+    ensures size { OnOk result (length out.new.items ≡ length (header_bytes false (header_of header.entry)) + 2 + length payload.now) }
 {
     header.write(out)?;
     out.extend_from_slice(&number.to_be_bytes())?;
@@ -296,6 +306,13 @@ impl Forwarder {
             written_at: None,
             payload: Vec::new(alloc),
         })
+    }
+
+    /// Returns how the viewer's stream is sent.
+    pub fn settings(&self) -> ForwardSettings
+        ensures { result ≡ self.now.settings }
+    {
+        self.settings
     }
 
     /// Returns the SSRC of the source that is forwarded. `None`: the viewer gets nothing now.
@@ -350,6 +367,7 @@ impl Forwarder {
         out: &mut Vec<u8>,
     ) -> Result<Forwarded, AllocError>
         ensures ok { IfOk result (λ answer. Forwards now (packet_of packet.now) self.old answer out.new.items self.new) }
+        ensures size { OnOk result (length out.new.items ≤ forwarded_size (packet_of packet.now)) }
         ensures err { OnErr result ((self.new ≡ self.old) × (out.new.items ≡ [])) }
     {
         out.clear();
@@ -438,6 +456,7 @@ impl Forwarder {
     ) -> Result<(), AllocError>
         requires empty { out.old.items ≡ [] }
         ensures ok { OnOk result (IsWritten (next_packet self.old number (packet_of packet.now)) out.new.items) }
+        ensures size { OnOk result (length out.new.items ≡ forwarded_size (packet_of packet.now)) }
         ensures same { self.new ≡ self.old }
         ensures err { OnErr result (out.new.items ≡ []) }
     {
@@ -491,6 +510,7 @@ impl Forwarder {
         out: &mut Vec<u8>,
     ) -> Result<Forwarded, AllocError>
         ensures ok { IfOk result (λ answer. Leaves (packet_of packet.now) self.old answer out.new.items self.new) }
+        ensures size { OnOk result (length out.new.items ≤ 13) }
         ensures err { OnErr result ((self.new ≡ self.old) × (out.new.items ≡ [])) }
     {
         out.clear();
@@ -548,6 +568,32 @@ impl Forwarder {
         Some((number % 65_536) as u16)
     }
 
+    /// Returns the packet to resend if the viewer requests this number: that of the store which was sent, or is to be sent, under it.
+    /// Pass it to [`Forwarder::write_again`]. `store` has the packets of the source that is forwarded, as they arrived. `None`: there
+    /// is no such packet, it is too old, or the store does not have it. Does not allocate.
+    pub fn requested<'a>(&self, number: u16, store: &'a History) -> Option<RtpPacket<'a>>
+        ensures some { IfSome result (λ p. IsRequested self.now store.now number (packet_of p)) }
+        ensures none { IfNone result (IsNotRequested self.now store.now number) }
+    {
+        let number = self.source_of(number)?;
+        let datagram = store.packet(number)?;
+        let packet = RtpPacket::parse(datagram).ok()?;
+        if !is_source(self.source, packet.header.ssrc) {
+            return None;
+        }
+        Some(packet)
+    }
+
+    /// Returns the number of bytes that [`Forwarder::write_again`] writes for a packet, if it writes one.
+    pub fn size_again(&self, packet: &RtpPacket<'_>) -> usize
+        ensures { result ≡ size_again self.now (packet_of packet.now) }
+    {
+        match self.settings.retransmissions {
+            None => forwarded_size(packet),
+            Some(_) => 14 + packet.payload.len(),
+        }
+    }
+
     /// Writes a packet of the source again, for a viewer that requested it, and replaces what `out` has. The packet has the number
     /// and the time that it was sent with. If the settings name a stream of retransmissions, it is wrapped (RFC 4588, section 4): it
     /// has the SSRC, the payload type and the next number of that stream, no padding, and its own number in front of the payload.
@@ -564,6 +610,7 @@ impl Forwarder {
         out: &mut Vec<u8>,
     ) -> Result<bool, AllocError>
         ensures ok { IfOk result (λ written. Repeats (packet_of packet.now) self.old written out.new.items self.new) }
+        ensures size { IfOk result (λ written. IsTrue written → length out.new.items ≡ size_again self.old (packet_of packet.now)) }
         ensures err { OnErr result ((self.new ≡ self.old) × (out.new.items ≡ [])) }
     {
         out.clear();
@@ -592,6 +639,7 @@ impl Forwarder {
     ) -> Result<(), AllocError>
         requires empty { out.old.items ≡ [] }
         ensures ok { OnOk result (IsResent (next_packet self.old number (packet_of packet.now)) self.old out.new.items self.new) }
+        ensures size { OnOk result (length out.new.items ≡ size_again self.old (packet_of packet.now)) }
         ensures err { OnErr result ((self.new ≡ self.old) × (out.new.items ≡ [])) }
     {
         match self.settings.retransmissions {
@@ -619,6 +667,7 @@ impl Forwarder {
         requires empty { out.old.items ≡ [] }
         requires fits { stream.payload_type < 128 }
         ensures ok { OnOk result (rtp_at out.new.items ≡ Ok (wrapped stream self.old.next (next_packet self.old number (packet_of packet.now)))) }
+        ensures size { OnOk result (length out.new.items ≡ 14 + length packet.now.payload.now) }
         ensures same { self.new ≡ self.old }
     {
         let header = PacketHeader {

@@ -2,6 +2,7 @@
 //! (docs/FORWARDING.md).
 #![tactic(auto)]
 
+pub mod counts;
 pub mod forwarder;
 pub mod renumbering;
 pub mod theorems;

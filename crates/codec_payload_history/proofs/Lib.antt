@@ -1,3 +1,4 @@
 pub mod HeldLemmas
 pub mod HistoryLemmas
 pub mod RequestLemmas
+pub mod OriginalLemmas

@@ -12,6 +12,8 @@ use Rattle.codec_payload_history.specs.declared.retransmission.KeepError.{KeepEr
 use Rattle.codec_payload_history.specs.declared.retransmission.KeepError.TheVariants as faults
 use Rattle.codec_payload_history.specs.declared.retransmission.Kept.{Kept}
 use Rattle.codec_payload_history.specs.declared.retransmission.Kept.TheVariants as answers
+use Rattle.codec_payload_history.specs.declared.retransmission.KeptOnce.{KeptOnce}
+use Rattle.codec_payload_history.specs.declared.retransmission.KeptOnce.TheVariants as once
 use Rattle.codec_payload_history.specs.declared.retransmission.Place.{Place}
 use Rattle.codec_payload_history.specs.declared.retransmission.Place.TheVariants as places
 use Rattle.codec_payload_history.specs.declared.retransmission.Resent.{Resent}
@@ -109,6 +111,16 @@ pub record IsAt (h : Past) (number place : ℕ) (p : Sent) : Type 0 where
 -- no packet of the history has the number
 abbrev pub HasNot : Past → ℕ → Type 0
 HasNot h number = (place : ℕ) (p : Sent) → slice_get h.packets place ≡ Some p → number_in p.bytes ≢ Some number
+
+-- the history has that datagram, and it has that number
+abbrev pub IsKept : Past → ℕ → List ℕ → Type 0
+IsKept h number datagram = (place : ℕ) × (p : Sent) × IsAt h number place p × (datagram ≡ p.bytes)
+
+-- A datagram is kept, unless the history has one with its number
+abbrev pub KeepsOnce : Past → List ℕ → KeptOnce → Past → Type 0
+KeepsOnce h datagram once.New t = (number : ℕ) × (number_in datagram ≡ Some number) × HasNot h number × Keeps h datagram answers.Stored t
+KeepsOnce h datagram once.Known t = (number : ℕ) × (number_in datagram ≡ Some number) × ((held : List ℕ) × IsKept h number held) × (t ≡ record h { refused = None })
+KeepsOnce h datagram once.TooOld t = Keeps h datagram answers.TooOld t
 
 -- it was resent less than the interval ago
 abbrev pub is_too_soon : ℕ → Ticks → Option Ticks → Bool

@@ -1,4 +1,5 @@
 pub mod HeldNumbers
 pub mod Histories
+pub mod Originals
 pub mod Packets
 pub mod Requests

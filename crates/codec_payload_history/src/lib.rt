@@ -3,5 +3,6 @@
 #![tactic(auto)]
 
 pub mod feedback;
+pub mod original;
 pub mod retransmission;
 pub mod theorems;

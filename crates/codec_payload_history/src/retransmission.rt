@@ -1,9 +1,9 @@
 //! The last packets of a stream, kept for retransmission.
 
-ghost use Rattle.std.specs.Prelude.{◌≡◌, ◌+◌, ◌-◌, ◌%◌, ◌<◌, ◌≤◌, ◌∷◌, ◌++◌, [], ℕ, suc, length, max, min, take, slice_get, slice_set, IfOk, IfErr, IfSome, IfNone, OnOk, OnErr, IsTrue, Some, None};
+ghost use Rattle.std.specs.Prelude.{◌≡◌, ◌+◌, ◌-◌, ◌%◌, ◌<◌, ◌≤◌, ◌∷◌, ◌++◌, [], ℕ, suc, length, max, min, take, slice_get, slice_set, IfOk, IfErr, IfSome, IfNone, OnOk, OnErr, IsFalse, IsTrue, List, Some, None};
 ghost use Rattle.std.specs.VecDeque.{deque_len, deque_capacity};
 ghost use Rattle.codec_payload_rtp.specs.RtpValues.{header_of};
-ghost use Rattle.codec_payload_history.specs.Histories.{HasNot, IsAt, IsFault, IsRetransmission, Keeps, Repeats, Resends, ResendsWithin, follows, history_by, is_too_soon, kept_at, kept_by, lowered, next_after, place_for, raised, resent_at, with_bytes};
+ghost use Rattle.codec_payload_history.specs.Histories.{HasNot, IsAt, IsFault, IsKept, IsRetransmission, Keeps, KeepsOnce, Repeats, Resends, ResendsWithin, follows, history_by, is_too_soon, kept_at, kept_by, lowered, next_after, place_for, raised, resent_at, with_bytes};
 ghost use Rattle.codec_payload_history.specs.declared.retransmission.Place.TheVariants as places;
 ghost use Rattle.codec_payload_history.specs.Packets.{Sent, no_packet, number_in, packets_of, sent_of, stream_fits};
 
@@ -68,6 +68,17 @@ pub enum KeepError {
 pub enum Kept {
     /// The history keeps it at its number.
     Stored,
+    /// Its number is `limit` or more below the highest one. The history does not keep it, and keeps all that it had.
+    TooOld,
+}
+
+/// What [`History::keep_once`] did with a datagram.
+#[derive(Clone, Copy, Debug, PartialEq, Eq)]
+pub enum KeptOnce {
+    /// No packet had its number. The history keeps it.
+    New,
+    /// The history has a packet with its number, and keeps that one.
+    Known,
     /// Its number is `limit` or more below the highest one. The history does not keep it, and keeps all that it had.
     TooOld,
 }
@@ -267,6 +278,38 @@ impl History {
         }
     }
 
+    /// Keeps a copy of a datagram as [`History::keep`] does, unless the history has a packet with its number. It is the call of a
+    /// server, which keeps what arrived once for all viewers of a stream: only a datagram that is [`KeptOnce::New`] is to be
+    /// forwarded. The packet that was forwarded is then the one that is resent.
+    ///
+    /// A sender that restarts within the last `limit` numbers sends numbers that are known. If you know of the restart, begin with a
+    /// new history.
+    ///
+    /// # Errors
+    ///
+    /// The history is unchanged: the datagram is not an RTP packet, or memory ran out.
+    pub fn keep_once(&mut self, datagram: &[u8]) -> Result<KeptOnce, KeepError>
+        ensures ok { IfOk result (λ kept. KeepsOnce self.old datagram.now kept self.new) }
+        ensures err { OnErr result (self.new ≡ self.old) }
+        ensures fault { IfErr result (λ fault. IsFault datagram.now fault) }
+    {
+        match RtpPacket::parse(datagram) {
+            Err(fault) => Err(KeepError::Rtp(fault)),
+            Ok(packet) => {
+                let number = packet.header.sequence_number;
+                if self.has(number) {
+                    self.refused = None;
+                    return Ok(KeptOnce::Known);
+                }
+                match self.store(self.place_for(number), number, datagram) {
+                    Ok(Kept::Stored) => Ok(KeptOnce::New),
+                    Ok(Kept::TooOld) => Ok(KeptOnce::TooOld),
+                    Err(_) => Err(KeepError::OutOfMemory),
+                }
+            }
+        }
+    }
+
     /// Returns where a packet with that number is kept.
     fn place_for(&self, number: u16) -> Place
         ensures value { result ≡ place_for self.now number }
@@ -365,6 +408,26 @@ impl History {
             return None;
         }
         Some((place, packet))
+    }
+
+    /// Returns whether the history has the packet with that number.
+    fn has(&self, number: u16) -> bool
+        ensures there { IsTrue result → (held : List ℕ) × IsKept self.now number held }
+        ensures none { IsFalse result → HasNot self.now number }
+    {
+        match self.packet(number) {
+            Some(_) => true,
+            None => false,
+        }
+    }
+
+    /// Returns the datagram with that number as it was kept, if the history has it. It does not count as resent.
+    pub fn packet(&self, number: u16) -> Option<&[u8]>
+        ensures some { IfSome result (λ bytes. IsKept self.now number bytes.now) }
+        ensures none { IfNone result (HasNot self.now number) }
+    {
+        let (_, packet) = self.find(number)?;
+        Some(&packet.bytes)
     }
 
     /// Records that the packet at a place was resent.

@@ -5,7 +5,7 @@
 use crate::forward::renumbering::{Placed, Renumbering};
 use crate::forward::times::Retiming;
 use crate::forward::vp8_ids::Vp8Ids;
-use crate::history::retransmission::RetransmissionStream;
+use crate::history::retransmission::{History, RetransmissionStream};
 use crate::memory::{AllocError, TryVec};
 use crate::rtp::packet::{PacketHeader, RtpPacket};
 use crate::vp8::detect_vp8_keyframe;
@@ -192,6 +192,13 @@ fn ids_switched(codec: Codec, ids: Vp8Ids, payload: &[u8]) -> Vp8Ids {
     }
 }
 
+/// Returns the number of bytes of a packet without CSRCs and header extension: what [`Forwarder::write`] writes for it, if it writes
+/// it.
+pub fn forwarded_size(packet: &RtpPacket<'_>) -> usize {
+    let padding = packet.padding;
+    12 + packet.payload.len() + usize::from(padding)
+}
+
 /// The number and the time that a packet is sent with.
 #[derive(Clone, Copy, Debug)]
 struct Place {
@@ -260,6 +267,11 @@ impl Forwarder {
             written_at: None,
             payload: Vec::new(),
         })
+    }
+
+    /// Returns how the viewer's stream is sent.
+    pub fn settings(&self) -> ForwardSettings {
+        self.settings
     }
 
     /// Returns the SSRC of the source that is forwarded. `None`: the viewer gets nothing now.
@@ -462,6 +474,27 @@ impl Forwarder {
         }
         let number = self.numbers.source_of(number)?;
         Some((number % 65_536) as u16)
+    }
+
+    /// Returns the packet to resend if the viewer requests this number: that of the store which was sent, or is to be sent, under it.
+    /// Pass it to [`Forwarder::write_again`]. `store` has the packets of the source that is forwarded, as they arrived. `None`: there
+    /// is no such packet, it is too old, or the store does not have it. Does not allocate.
+    pub fn requested<'a>(&self, number: u16, store: &'a History) -> Option<RtpPacket<'a>> {
+        let number = self.source_of(number)?;
+        let datagram = store.packet(number)?;
+        let packet = RtpPacket::parse(datagram).ok()?;
+        if !is_source(self.source, packet.header.ssrc) {
+            return None;
+        }
+        Some(packet)
+    }
+
+    /// Returns the number of bytes that [`Forwarder::write_again`] writes for a packet, if it writes one.
+    pub fn size_again(&self, packet: &RtpPacket<'_>) -> usize {
+        match self.settings.retransmissions {
+            None => forwarded_size(packet),
+            Some(_) => 14 + packet.payload.len(),
+        }
     }
 
     /// Writes a packet of the source again, for a viewer that requested it, and replaces what `out` has. The packet has the number

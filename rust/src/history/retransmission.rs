@@ -94,6 +94,17 @@ pub enum Kept {
     TooOld,
 }
 
+/// What [`History::keep_once`] did with a datagram.
+#[derive(Clone, Copy, Debug, PartialEq, Eq)]
+pub enum KeptOnce {
+    /// No packet had its number. The history keeps it.
+    New,
+    /// The history has a packet with its number, and keeps that one.
+    Known,
+    /// Its number is `limit` or more below the highest one. The history does not keep it, and keeps all that it had.
+    TooOld,
+}
+
 /// The result of a request for a packet.
 #[derive(Clone, Copy, Debug, PartialEq, Eq)]
 pub enum Resent {
@@ -250,6 +261,34 @@ impl History {
         }
     }
 
+    /// Keeps a copy of a datagram as [`History::keep`] does, unless the history has a packet with its number. It is the call of a
+    /// server, which keeps what arrived once for all viewers of a stream: only a datagram that is [`KeptOnce::New`] is to be
+    /// forwarded. The packet that was forwarded is then the one that is resent.
+    ///
+    /// A sender that restarts within the last `limit` numbers sends numbers that are known. If you know of the restart, begin with a
+    /// new history.
+    ///
+    /// # Errors
+    ///
+    /// The history is unchanged: the datagram is not an RTP packet, or memory ran out.
+    pub fn keep_once(&mut self, datagram: &[u8]) -> Result<KeptOnce, KeepError> {
+        match RtpPacket::parse(datagram) {
+            Err(fault) => Err(KeepError::Rtp(fault)),
+            Ok(packet) => {
+                let number = packet.header.sequence_number;
+                if self.has(number) {
+                    self.refused = None;
+                    return Ok(KeptOnce::Known);
+                }
+                match self.store(self.place_for(number), number, datagram) {
+                    Ok(Kept::Stored) => Ok(KeptOnce::New),
+                    Ok(Kept::TooOld) => Ok(KeptOnce::TooOld),
+                    Err(_) => Err(KeepError::OutOfMemory),
+                }
+            }
+        }
+    }
+
     /// Returns where a packet with that number is kept.
     fn place_for(&self, number: u16) -> Place {
         let above = usize::from(number.wrapping_sub(self.newest));
@@ -319,6 +358,20 @@ impl History {
             return None;
         }
         Some((place, packet))
+    }
+
+    /// Returns whether the history has the packet with that number.
+    fn has(&self, number: u16) -> bool {
+        match self.packet(number) {
+            Some(_) => true,
+            None => false,
+        }
+    }
+
+    /// Returns the datagram with that number as it was kept, if the history has it. It does not count as resent.
+    pub fn packet(&self, number: u16) -> Option<&[u8]> {
+        let (_, packet) = self.find(number)?;
+        Some(&packet.bytes)
     }
 
     /// Records that the packet at a place was resent.

@@ -1,0 +1,130 @@
+-- How many bytes a packet has that is written for a viewer.
+use Rattle.std.proofs.Common.{◌≡◌, ◌∙◌, sym, ap, refl, ℕ, zero, suc, ◌+◌, ◌%◌, ◌≤◌, List, [], ◌∷◌, ◌++◌, length, replicate, Bool, true, false, Option, Some, None, Result, Ok, Err, arith}
+use Rattle.std.specs.Prelude.{IfOk, OnOk}
+use Rattle.std.proofs.lemmas.List.{length-append, length-replicate, length-set}
+use Rattle.std.specs.declared.alloc.AllocError.{AllocError}
+use Rattle.codec_payload_base.specs.declared.wire.Codec.{Codec}
+use Rattle.codec_payload_base.specs.declared.wire.Codec.TheVariants as codecs
+use Rattle.codec_payload_rtp.specs.RtpPackets.{Header, Packet, header_bytes, is_padded, packet_bytes, padding_bytes}
+use Rattle.codec_payload_vp8.specs.Vp8Patch.{Patch, patched, written}
+use Rattle.codec_payload_forward.specs.declared.forwarder.ForwardSettings.{ForwardSettings}
+use Rattle.codec_payload_forward.specs.declared.forwarder.Forwarded.{Forwarded}
+use Rattle.codec_payload_forward.specs.declared.forwarder.Forwarded.TheVariants as answers
+use Rattle.codec_payload_forward.specs.declared.vp8_ids.Vp8Ids.{Vp8Ids}
+use Rattle.codec_payload_forward.specs.Forwarding.{Forward, Forwards, IsWritten, Leaves, forwarded_size, ids_switched, packet_under, payload_for, sent_packet, ticks_between}
+use Rattle.codec_payload_forward.specs.Numbers.{next_number}
+use Rattle.codec_payload_forward.specs.Times.{time_as}
+use Rattle.codec_payload_forward.specs.Vp8Numbers.{patch_in, patched_by, payload_as}
+
+-- A patch keeps the number of bytes
+
+length_written : (place : Option (ℕ × ℕ)) (bytes : List ℕ) → length (written place bytes) ≡ length bytes
+length_written None bytes = refl
+length_written (Some place) bytes = length-set bytes place.0 place.1
+
+length_patched : (p : Patch) (bytes : List ℕ) → length (patched p bytes) ≡ length bytes
+length_patched p bytes =
+    length_written p.key_idx (written p.tl0_pic_idx (written p.picture_id_low (written p.picture_id bytes)))
+    ∙ length_written p.tl0_pic_idx (written p.picture_id_low (written p.picture_id bytes))
+    ∙ length_written p.picture_id_low (written p.picture_id bytes)
+    ∙ length_written p.picture_id bytes
+
+length_patched_by : (patch : Option Patch) (payload : List ℕ) → length (patched_by patch payload) ≡ length payload
+length_patched_by None payload = refl
+length_patched_by (Some p) payload = length_patched p payload
+
+pub length_payload : (ids : Vp8Ids) (payload : List ℕ) → length (payload_as ids payload) ≡ length payload
+length_payload ids payload = length_patched_by (patch_in ids payload) payload
+
+pub length_payload_for : (codec : Codec) (ids : Vp8Ids) (payload : List ℕ) → length (payload_for codec ids payload) ≡ length payload
+length_payload_for codecs.Vp8 ids payload = length_payload ids payload
+length_payload_for codecs.Opus ids payload = refl
+length_payload_for codecs.PCMU ids payload = refl
+length_payload_for codecs.PCMA ids payload = refl
+length_payload_for codecs.G722 ids payload = refl
+length_payload_for codecs.CN ids payload = refl
+length_payload_for codecs.AmrWb ids payload = refl
+length_payload_for codecs.H264 ids payload = refl
+length_payload_for codecs.H265 ids payload = refl
+length_payload_for codecs.H266 ids payload = refl
+length_payload_for codecs.Vp9 ids payload = refl
+length_payload_for codecs.Av1 ids payload = refl
+length_payload_for codecs.Null ids payload = refl
+length_payload_for codecs.Tele ids payload = refl
+length_payload_for codecs.Rtx ids payload = refl
+length_payload_for codecs.Red ids payload = refl
+length_payload_for codecs.Unknown ids payload = refl
+
+-- A header without CSRCs and extension has 12 bytes
+
+length_padding : (n : ℕ) → length (padding_bytes n) ≡ n
+length_padding zero = refl
+length_padding (suc n) = length-append (replicate n 0) (suc n ∷ []) ∙ omega (arith, length-replicate {A = ℕ} n 0)
+
+pub length_header : (padded marker : Bool) (payload_type number time ssrc : ℕ)
+    → length (header_bytes padded (record { marker = marker; payload_type = payload_type; sequence_number = number; timestamp = time; ssrc = ssrc; csrcs = []; extension = None })) ≡ 12
+length_header padded marker payload_type number time ssrc = refl
+
+pub length_under : (s : ForwardSettings) (number time : ℕ) (p : Packet) → length (packet_bytes (packet_under s number time p)) ≡ forwarded_size p
+length_under s number time p =
+    let header : Header = (packet_under s number time p).header in
+    let whole : length (packet_bytes (packet_under s number time p)) ≡ length (header_bytes (is_padded p) header) + length (p.payload ++ padding_bytes p.padding) =
+    length-append (header_bytes (is_padded p) header) (p.payload ++ padding_bytes p.padding) in
+    let head : length (header_bytes (is_padded p) header) ≡ 12 = length_header (is_padded p) p.header.marker s.payload_type number time s.ssrc in
+    let rest : length (p.payload ++ padding_bytes p.padding) ≡ length p.payload + length (padding_bytes p.padding) = length-append p.payload (padding_bytes p.padding) in
+    let padding : length (padding_bytes p.padding) ≡ p.padding = length_padding p.padding in
+    omega (arith, whole, head, rest, padding)
+
+pub length_sent : (s : ForwardSettings) (ids : Vp8Ids) (number time : ℕ) (p : Packet) → length (packet_bytes (sent_packet s ids number time p)) ≡ forwarded_size p
+length_sent s ids number time p =
+    let under : length (packet_bytes (sent_packet s ids number time p)) ≡ 12 + length (payload_for s.codec ids p.payload) + p.padding =
+    length_under s number time (record p { payload = payload_for s.codec ids p.payload }) in
+    let same : length (payload_for s.codec ids p.payload) ≡ length p.payload = length_payload_for s.codec ids p.payload in
+    omega (arith, under, same)
+
+-- What is written
+
+some_written : (bytes sent : List ℕ) (size : ℕ) → bytes ≡ sent → length sent ≡ size → length bytes ≤ size
+some_written bytes sent size e f =
+    let n : length bytes ≡ length sent = ap length e in
+    omega (arith, n, f)
+
+none_written : (bytes : List ℕ) (most : ℕ) → bytes ≡ [] → length bytes ≤ most
+none_written bytes most e =
+    let n : length bytes ≡ 0 = ap length e in
+    omega (arith, n)
+
+forwards_size : (now : ℕ) (p : Packet) (f : Forward) (answer : Forwarded) (bytes : List ℕ) (t : Forward) → Forwards now p f answer bytes t → length bytes ≤ forwarded_size p
+forwards_size now p f answers.Began bytes t h = some_written bytes _ (forwarded_size p) h.3.0 (length_sent f.settings (ids_switched f.settings.codec p.payload f.ids) (next_number f.numbers) ((f.times.highest + ticks_between f.written_at now) % 4294967296) p)
+forwards_size now p f answers.Written bytes t h = some_written bytes _ (forwarded_size p) h.1.2.0 (length_sent f.settings f.ids h.1.0 (time_as f.times p.header.timestamp) p)
+forwards_size now p f answers.NoKeyframe bytes t h = none_written bytes (forwarded_size p) h.3.0
+forwards_size now p f answers.OtherSource bytes t h = none_written bytes (forwarded_size p) h.2.0
+forwards_size now p f answers.TooOld bytes t h = none_written bytes (forwarded_size p) h.2.0
+forwards_size now p f answers.LeftOut bytes t h = none_written bytes (forwarded_size p) h.2.0
+forwards_size now p f answers.Filled bytes t h = absurd h
+
+leaves_size : (p : Packet) (f : Forward) (answer : Forwarded) (bytes : List ℕ) (t : Forward) → Leaves p f answer bytes t → length bytes ≤ 13
+leaves_size p f answers.LeftOut bytes t h = none_written bytes 13 h.1
+leaves_size p f answers.Filled bytes t h = some_written bytes _ 13 h.2.2.0 (length_under f.settings h.2.0 (time_as f.times p.header.timestamp) (record p { payload = []; padding = 1 }))
+leaves_size p f answers.OtherSource bytes t h = none_written bytes 13 h.1.0
+leaves_size p f answers.TooOld bytes t h = none_written bytes 13 h.2.0
+leaves_size p f answers.Began bytes t h = absurd h
+leaves_size p f answers.Written bytes t h = absurd h
+leaves_size p f answers.NoKeyframe bytes t h = absurd h
+
+pub answers_size : (r : Result Forwarded AllocError) (now : ℕ) (p : Packet) (f : Forward) (bytes : List ℕ) (t : Forward)
+    → IfOk r (λ answer. Forwards now p f answer bytes t) → OnOk r (length bytes ≤ forwarded_size p)
+answers_size (Ok answer) now p f bytes t h = forwards_size now p f answer bytes t h
+answers_size (Err e) now p f bytes t h = tt
+
+pub answers_left : (r : Result Forwarded AllocError) (p : Packet) (f : Forward) (bytes : List ℕ) (t : Forward)
+    → IfOk r (λ answer. Leaves p f answer bytes t) → OnOk r (length bytes ≤ 13)
+answers_left (Ok answer) p f bytes t h = leaves_size p f answer bytes t h
+answers_left (Err e) p f bytes t h = tt
+
+-- ---- written again
+
+pub on_written : {T : Type 0} (r : Result T AllocError) (s : ForwardSettings) (ids : Vp8Ids) (number time : ℕ) (p : Packet) (bytes : List ℕ)
+    → OnOk r (IsWritten (sent_packet s ids number time p) bytes) → OnOk r (length bytes ≡ forwarded_size p)
+on_written (Ok x) s ids number time p bytes h = ap length h.0 ∙ length_sent s ids number time p
+on_written (Err e) s ids number time p bytes h = tt
