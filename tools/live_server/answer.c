@@ -1,5 +1,5 @@
-/* The answer to an offer (RFC 9725, section 4.2): one codec of audio and one of video, ICE-lite, DTLS passive. The library reads codecs,
- * SSRCs, feedback and ids of header extensions; the other lines are read here. */
+/* The answer to an offer (RFC 9725, section 4.2): one codec of audio and one of video, ICE-lite, DTLS passive. The library reads
+ * codecs, SSRCs, feedback and ids of header extensions; the other lines are read here. */
 #include "server.h"
 
 #include <stdio.h>
@@ -17,7 +17,8 @@ typedef struct {
     size_t count;
 } description;
 
-/* The rest of the first line that begins with `name` in the section whose `m=` line has this number; 0: in front of all sections. */
+/* The rest of the first line that begins with `name` in the section whose `m=` line has this number; 0: in front of all sections.
+ */
 static bool value_of(const description *of, size_t section, const char *name, char *value, size_t room) {
     size_t number = 1, here = 0, skip = strlen(name);
     for (const char *at = of->text; *at; number++) {
@@ -45,7 +46,8 @@ const char *codec_name(cpay_codec codec) {
 }
 
 static bool is_forwarded(const cpay_sdp_format *format) {
-    bool known = format->codec == CPAY_OPUS || format->codec == CPAY_VP8 || format->codec == CPAY_VP9 || format->codec == CPAY_AV1;
+    bool known =
+        format->codec == CPAY_OPUS || format->codec == CPAY_VP8 || format->codec == CPAY_VP9 || format->codec == CPAY_AV1;
     return format->role == CPAY_SDP_MEDIA && known && format->profile == 0;
 }
 
@@ -89,7 +91,8 @@ static void write_formats(text *to, const description *offer, const cpay_sdp_med
     text_line(to, "a=rtpmap:%u %s/%s", type, codec_name(it->codec), video ? "90000" : "48000/2");
     snprintf(name, sizeof name, "a=fmtp:%u ", type);
     if (value_of(offer, media->line, name, parameters, sizeof parameters)) text_line(to, "%s%s", name, parameters);
-    if (publishes && the.feedback == FEEDBACK_TRANSPORT && media->transport_cc_id) text_line(to, "a=rtcp-fb:%u transport-cc", type);
+    if (publishes && the.feedback == FEEDBACK_TRANSPORT && media->transport_cc_id)
+        text_line(to, "a=rtcp-fb:%u transport-cc", type);
     if (!video) return;
     text_line(to, "a=rtcp-fb:%u nack", type);
     text_line(to, "a=rtcp-fb:%u nack pli", type);
@@ -168,8 +171,10 @@ static void write_section(text *to, const peer *it, const description *offer, co
     if (publishes && the.feedback == FEEDBACK_TRANSPORT && media->transport_cc_id)
         text_line(to, "a=extmap:%u " TRANSPORT_WIDE, media->transport_cc_id);
     write_formats(to, offer, media, &it->media[kind], publishes);
-    if (!publishes) write_sources(to, it, kind);
-    else if (kind == VIDEO) write_layers(to, it, media);
+    if (!publishes)
+        write_sources(to, it, kind);
+    else if (kind == VIDEO)
+        write_layers(to, it, media);
 }
 
 static void write_answer(text *to, const peer *it, const description *offer) {

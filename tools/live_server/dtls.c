@@ -126,8 +126,8 @@ static bool use_keys(srtp_t *to, const uint8_t *key, const uint8_t *salt, bool g
     return srtp_create(to, &policy) == srtp_err_status_ok;
 }
 
-/* The keys of both directions (RFC 5764, section 4.2), if the certificate is the one of the offer: otherwise anybody on the path could
- * publish. */
+/* The keys of both directions (RFC 5764, section 4.2), if the certificate is the one of the offer: otherwise anybody on the path
+ * could publish. */
 static bool finish(peer *it) {
     char found[96] = "";
     uint8_t bytes[2 * (KEY + SALT_CM)];

@@ -1,42 +1,80 @@
-#include "forward.h"
+/* The calls of forwarder_api.h in C, until the library has them: packets of one source after another become the packets of one
+ * stream of a viewer. */
+#include "forwarder_api.h"
+#include "rtcp.h"
 
 #include <stdlib.h>
 #include <string.h>
 
-#include "rtcp.h"
+enum { HEADER = 12, OSN = 2, PADDING = 1, KEPT = 2048, WINDOW = 0x4000, LARGEST = 1500 };
 
-enum { HEADER = 12, OSN = 2, PADDING = 4, WINDOW = 0x4000 };
+typedef struct {
+    cpay_forwarder_settings settings;
+    cpay_forwarder_counts_info counts;
+    uint32_t source, wanted;
+    bool begun, wants;                /* `source` and `wanted` are set */
+    uint16_t first, highest;          /* numbers of the source: with which it began, and the highest one */
+    uint16_t last_number;             /* the highest number sent */
+    uint16_t offset, offset_at[KEPT]; /* what is added to the numbers ahead of `highest`, and was added to the latest ones */
+    uint16_t source_of[KEPT];         /* which numbers of the source were sent under the latest numbers */
+    uint32_t time_offset, last_time;
+    uint64_t last_at;             /* ticks: when the packet with the highest number was written */
+    uint16_t id_highest, last_id; /* the same for the picture ids of VP8 */
+    uint16_t id_offset, id_offset_at[KEPT];
+    uint8_t tl0_offset, last_tl0; /* and for TL0PICIDX */
+} forwarder;
 
-/* ---- the store ---- */
+static forwarder *in(cpay_forwarder *handle) { return handle->handle.place.at; }
 
-struct store {
-    struct {
-        bool used;
-        uint16_t number, size;
-        uint8_t bytes[MOST_DATAGRAM];
-    } packets[KEPT]; /* by their numbers modulo KEPT */
-};
+/* ---- packets ---- */
 
-store *store_new(void) { return calloc(1, sizeof(store)); }
-
-bool store_keep(store *in, const uint8_t *datagram, size_t size) {
-    uint16_t number = (uint16_t)get(datagram + 2, 2);
-    if (size < HEADER || size > MOST_DATAGRAM - OSN) return false;
-    if (in->packets[number % KEPT].used && in->packets[number % KEPT].number == number) return false;
-    in->packets[number % KEPT].used = true;
-    in->packets[number % KEPT].number = number;
-    in->packets[number % KEPT].size = (uint16_t)size;
-    memcpy(in->packets[number % KEPT].bytes, datagram, size);
-    return true;
+cpay_status cpay_history_keep_once(cpay_history *history, const uint8_t *datagram, size_t datagram_len, cpay_kept_once *kept) {
+    size_t size = 0;
+    cpay_resent resent;
+    cpay_kept stored = CPAY_KEPT_STORED;
+    cpay_rtp_info info = {0};
+    cpay_status status = cpay_rtp_read(datagram, datagram_len, &info);
+    if (!status) status = cpay_history_resend(history, 0, info.sequence_number, NULL, 0, &size, &resent);
+    *kept = CPAY_KEPT_KNOWN;
+    if (status) return status == CPAY_TOO_SMALL ? CPAY_OK : status; /* it is there */
+    status = cpay_history_keep(history, datagram, datagram_len, &stored);
+    *kept = stored == CPAY_KEPT_STORED ? CPAY_KEPT_NEW : CPAY_KEPT_OUTDATED;
+    return status;
 }
 
-const uint8_t *store_get(const store *in, uint16_t number, size_t *size) {
-    if (!in || !in->packets[number % KEPT].used || in->packets[number % KEPT].number != number) return NULL;
-    *size = in->packets[number % KEPT].size;
-    return in->packets[number % KEPT].bytes;
+cpay_status cpay_rtx_original(uint32_t ssrc, uint8_t payload_type, const uint8_t *datagram, size_t datagram_len, uint8_t *bytes,
+                              size_t bytes_len, size_t *size) {
+    cpay_rtp_info info = {0};
+    cpay_status status = cpay_rtp_read(datagram, datagram_len, &info);
+    if (status) return status;
+    if (info.payload_len < OSN) return CPAY_RTX_TOO_SHORT;
+    *size = info.payload_at + info.payload_len - OSN;
+    if (*size > bytes_len) return CPAY_TOO_SMALL;
+    memcpy(bytes, datagram, info.payload_at);
+    memcpy(bytes + info.payload_at, datagram + info.payload_at + OSN, info.payload_len - OSN);
+    bytes[0] &= 0xdf;
+    bytes[1] = (uint8_t)((bytes[1] & 0x80) | payload_type);
+    memcpy(bytes + 2, datagram + info.payload_at, OSN);
+    put(bytes + 8, ssrc, 4);
+    return CPAY_OK;
 }
 
-void store_free(store *it) { free(it); }
+/* Whether a viewer can begin with this payload. */
+static bool starts(cpay_codec codec, const uint8_t *payload, size_t size) {
+    bool head = false;
+    if (codec != CPAY_VP8 && codec != CPAY_VP9 && codec != CPAY_AV1) return true;
+    if (codec == CPAY_AV1) return cpay_av1_is_keyframe(payload, size);
+    if (!(codec == CPAY_VP8 ? cpay_vp8_is_keyframe : cpay_vp9_is_keyframe)(payload, size)) return false;
+    return cpay_is_head(codec, payload, size, &head) == CPAY_OK && head;
+}
+
+/* What the descriptor of VP8 has. {0} of other codecs. */
+static cpay_vp8_fields_info fields_of(cpay_codec codec, const uint8_t *payload, size_t size) {
+    cpay_vp8_fields_info fields = {0};
+    bool starts_keyframe;
+    if (codec != CPAY_VP8 || cpay_vp8_fields(payload, size, &fields, &starts_keyframe)) fields = (cpay_vp8_fields_info){0};
+    return fields;
+}
 
 /* ---- numbers ---- */
 
@@ -51,9 +89,9 @@ static bool number_it(forwarder *it, uint16_t number) {
 }
 
 /* The same for picture ids of 15 bits. Whether this is a new picture. */
-static bool number_picture(forwarder *it, uint16_t id) {
-    uint16_t ahead = (uint16_t)((id - it->id_highest) & 0x7fff);
-    if (ahead == 0 || ahead >= 0x4000) return false;
+static bool number_picture(forwarder *it, const cpay_vp8_fields_info *fields) {
+    uint16_t id = fields->picture_id, ahead = (uint16_t)((id - it->id_highest) & 0x7fff);
+    if (!fields->has_picture_id || ahead == 0 || ahead >= 0x4000) return false;
     for (uint16_t n = it->id_highest; n != id;) {
         n = (uint16_t)((n + 1) & 0x7fff);
         it->id_offset_at[n % KEPT] = it->id_offset;
@@ -62,39 +100,10 @@ static bool number_picture(forwarder *it, uint16_t id) {
     return true;
 }
 
-static uint32_t rate_of(cpay_codec codec) { return codec == CPAY_OPUS ? 48000 : 90000; }
-
-/* ---- payloads ---- */
-
-/* Whether a viewer can begin with this payload. */
-static bool starts(cpay_codec codec, const uint8_t *payload, size_t size) {
-    bool head = false;
-    if (codec != CPAY_VP8 && codec != CPAY_VP9 && codec != CPAY_AV1) return true;
-    if (codec == CPAY_AV1) return cpay_av1_is_keyframe(payload, size);
-    if (!(codec == CPAY_VP8 ? cpay_vp8_is_keyframe : cpay_vp9_is_keyframe)(payload, size)) return false;
-    return cpay_is_head(codec, payload, size, &head) == CPAY_OK && head;
-}
-
-/* The temporal layer of a packet of VP8 (RFC 7741, section 4.2). */
-static int temporal_of(cpay_codec codec, const uint8_t *payload, size_t size) {
-    size_t at = 2;
-    if (codec != CPAY_VP8 || size < 4 || !(payload[0] & 0x80) || !(payload[1] & 0x20)) return 0;
-    if (payload[1] & 0x80) at += payload[2] & 0x80 ? 2 : 1;
-    if (payload[1] & 0x40) at++;
-    return at < size ? payload[at] >> 6 : 0;
-}
-
-/* What the descriptor of VP8 has. {0} of other codecs. */
-static cpay_vp8_fields_info fields_of(cpay_codec codec, const uint8_t *payload, size_t size) {
-    cpay_vp8_fields_info fields = {0};
-    bool starts_keyframe;
-    if (codec != CPAY_VP8 || cpay_vp8_fields(payload, size, &fields, &starts_keyframe)) fields = (cpay_vp8_fields_info){0};
-    return fields;
-}
-
-/* Picture id and TL0PICIDX go on across sources, and close up where layers are left out: browsers wait for pictures that are missing. */
+/* Picture id and TL0PICIDX go on across sources, and close up where layers are left out: browsers wait for pictures that are
+ * missing. */
 static void patch(forwarder *it, uint8_t *payload, size_t size, bool is_last) {
-    cpay_vp8_fields_info fields = fields_of(it->media.codec, payload, size);
+    cpay_vp8_fields_info fields = fields_of(it->settings.codec, payload, size);
     if (!fields.has_picture_id && !fields.has_tl0_pic_idx) return;
     fields.has_key_idx = false;
     uint16_t mask = fields.picture_id_bits == 7 ? 0x7f : 0x7fff;
@@ -105,116 +114,177 @@ static void patch(forwarder *it, uint8_t *payload, size_t size, bool is_last) {
     it->last_tl0 = fields.tl0_pic_idx;
 }
 
-/* ---- the forwarder ---- */
-
-void forwarder_begin(forwarder *it, const agreed *media) {
-    *it = (forwarder){.media = *media, .last_at = now_ms()};
-    secret(&it->ssrc, sizeof it->ssrc);
-    secret(&it->last_number, sizeof it->last_number);
-    secret(&it->last_time, sizeof it->last_time);
-    secret(&it->next_rtx, sizeof it->next_rtx);
-    it->rtx_ssrc = it->ssrc ^ 0x5a5a5a5a;
-    it->last_number &= 0x7fff; /* a loss near a wrap would confuse SRTP (RFC 3711, section 3.3.1) */
+static uint16_t number_of(const forwarder *it, uint16_t original) {
+    return (uint16_t)(original + it->offset_at[original % KEPT]);
 }
 
-void forwarder_want(forwarder *it, uint32_t source) {
-    it->wants = !it->begun || it->source != source;
-    it->wanted = source;
+/* The header for the viewer. Header extensions are left out: their ids are others there. */
+static void write_header(const forwarder *it, const cpay_rtp_info *info, uint8_t *out) {
+    out[0] = 0x80;
+    out[1] = (uint8_t)((info->marker ? 0x80 : 0) | it->settings.payload_type);
+    put(out + 2, number_of(it, info->sequence_number), 2);
+    put(out + 4, info->timestamp + it->time_offset, 4);
+    put(out + 8, it->settings.ssrc, 4);
 }
 
-/* This packet is the first of another source: number and picture id are one further, and the time as much as passed by the clock. */
-static void begin_source(forwarder *it, const cpay_rtp_info *info, const uint8_t *payload) {
-    cpay_vp8_fields_info fields = fields_of(it->media.codec, payload, info->payload_len);
-    uint32_t passed = (uint32_t)((now_ms() - it->last_at) * rate_of(it->media.codec) / 1000);
+static size_t write_packet(forwarder *it, const cpay_rtp_info *info, const uint8_t *datagram, bool is_last, uint8_t *out) {
+    write_header(it, info, out);
+    memcpy(out + HEADER, datagram + info->payload_at, info->payload_len);
+    patch(it, out + HEADER, info->payload_len, is_last);
+    return HEADER + info->payload_len;
+}
+
+/* ---- the calls ---- */
+
+void cpay_forwarder_settings_init(cpay_forwarder_settings *settings, cpay_codec codec, uint32_t ssrc, uint8_t payload_type) {
+    *settings = (cpay_forwarder_settings){.codec = codec, .ssrc = ssrc, .payload_type = payload_type};
+}
+
+cpay_status cpay_forwarder_new(cpay_forwarder *handle, const cpay_forwarder_settings *settings) {
+    forwarder *it = calloc(1, sizeof *it);
+    if (!it) return CPAY_OUT_OF_MEMORY;
+    it->settings = *settings;
+    it->last_number = (uint16_t)(settings->first_number - 1);
+    it->last_time = settings->first_time;
+    handle->handle = (cpay_handle){true, {it}};
+    return CPAY_OK;
+}
+
+void cpay_forwarder_free(cpay_forwarder *handle) {
+    free(in(handle));
+    handle->handle = (cpay_handle){false, {NULL}};
+}
+
+cpay_status cpay_forwarder_want(cpay_forwarder *handle, uint32_t ssrc) {
+    in(handle)->wants = !in(handle)->begun || in(handle)->source != ssrc;
+    in(handle)->wanted = ssrc;
+    return CPAY_OK;
+}
+
+cpay_status cpay_forwarder_source(cpay_forwarder *handle, uint32_t *ssrc) {
+    if (!in(handle)->begun) return CPAY_NONE;
+    *ssrc = in(handle)->source;
+    return CPAY_OK;
+}
+
+/* This packet is the first of another source: number and picture id are one further, and the time as much as passed by the clock.
+ */
+static void begin_source(forwarder *it, uint64_t now, const cpay_rtp_info *info, const cpay_vp8_fields_info *fields) {
+    uint32_t passed = it->begun ? (uint32_t)(now - it->last_at) : 0;
+    it->time_offset = it->last_time + (passed > 0 ? passed : 1) - info->timestamp;
     it->begun = true;
     it->wants = false;
     it->source = info->ssrc;
     it->first = info->sequence_number;
     it->highest = (uint16_t)(info->sequence_number - 1);
     it->offset = (uint16_t)(it->last_number + 1 - info->sequence_number);
-    it->time_offset = it->last_time + (passed > 0 ? passed : 1) - info->timestamp;
-    it->id_highest = (uint16_t)((fields.picture_id - 1) & 0x7fff);
-    it->id_offset = (uint16_t)(it->last_id + 1 - fields.picture_id);
-    it->tl0_offset = (uint8_t)(it->last_tl0 + 1 - fields.tl0_pic_idx);
+    it->id_highest = (uint16_t)((fields->picture_id - 1) & 0x7fff);
+    it->id_offset = (uint16_t)(it->last_id + 1 - fields->picture_id);
+    it->tl0_offset = (uint8_t)(it->last_tl0 + 1 - fields->tl0_pic_idx);
+    it->counts.switches++;
 }
 
-/* The header for the viewer. Header extensions are left out: their ids are others there. */
-static void write_header(const forwarder *it, const cpay_rtp_info *info, uint16_t number, uint8_t *out) {
-    out[0] = 0x80;
-    out[1] = (uint8_t)((info->marker ? 0x80 : 0) | it->media.payload_type);
-    put(out + 2, number, 2);
-    put(out + 4, info->timestamp + it->time_offset, 4);
-    put(out + 8, it->ssrc, 4);
+/* Whether a packet is of the source that is forwarded, and not from before its beginning. */
+static cpay_forwarded place(forwarder *it, const cpay_rtp_info *info) {
+    uint16_t number = info->sequence_number;
+    if (!it->begun || info->ssrc != it->source) return CPAY_FORWARDED_OTHER_SOURCE;
+    if (is_after(it->first, number)) return CPAY_FORWARDED_TOO_OLD;
+    if ((uint16_t)(number - it->first) > WINDOW) it->first = (uint16_t)(number - WINDOW / 2);
+    return CPAY_FORWARDED_WRITTEN;
 }
 
-static size_t write_packet(forwarder *it, const cpay_rtp_info *info, const uint8_t *datagram, bool is_last, uint8_t *out) {
-    uint16_t number = (uint16_t)(info->sequence_number + it->offset_at[info->sequence_number % KEPT]);
-    write_header(it, info, number, out);
-    memcpy(out + HEADER, datagram + info->payload_at, info->payload_len);
-    patch(it, out + HEADER, info->payload_len, is_last);
-    return HEADER + info->payload_len;
-}
-
-/* A packet that is left out. If it is ahead of all others it takes no number, and neither does its picture. If not, its number stays
- * unused, and padding under it keeps the viewer from requesting it. */
-static forwarded leave_out(forwarder *it, const cpay_rtp_info *info, bool ahead, bool new_picture, uint8_t *out, size_t *size) {
-    if (new_picture) it->id_offset--;
-    if (ahead) {
-        it->offset--;
-        return LEFT_OUT;
-    }
-    uint16_t number = (uint16_t)(info->sequence_number + it->offset_at[info->sequence_number % KEPT]);
-    write_header(it, info, number, out);
-    out[0] |= 0x20;
-    out[1] = it->media.payload_type;
-    put(out + HEADER, PADDING, PADDING);
-    *size = HEADER + PADDING;
-    return FILLED;
-}
-
-forwarded forwarder_write(forwarder *it, const uint8_t *datagram, size_t datagram_len, int temporal, uint8_t *out, size_t *size) {
+cpay_status cpay_forwarder_write(cpay_forwarder *handle, uint64_t now, const uint8_t *datagram, size_t datagram_len,
+                                 uint8_t *bytes, size_t bytes_len, size_t *size, cpay_forwarded *forwarded) {
+    forwarder *it = in(handle);
     cpay_rtp_info info = {0};
     bool began = false;
     *size = 0;
-    if (cpay_rtp_read(datagram, datagram_len, &info) || datagram_len > MOST_DATAGRAM) return OTHER;
-    const uint8_t *payload = datagram + info.payload_at;
-    uint16_t number = info.sequence_number;
+    if (cpay_rtp_read(datagram, datagram_len, &info) || datagram_len > bytes_len) return CPAY_TOO_SMALL;
+    cpay_vp8_fields_info fields = fields_of(it->settings.codec, datagram + info.payload_at, info.payload_len);
+    *forwarded = CPAY_FORWARDED_NO_KEYFRAME;
     if (it->wants && info.ssrc == it->wanted) {
-        if (!starts(it->media.codec, payload, info.payload_len)) return WAITS;
-        begin_source(it, &info, payload);
-        began = true;
+        began = starts(it->settings.codec, datagram + info.payload_at, info.payload_len);
+        if (!began) return CPAY_OK;
+        begin_source(it, now, &info, &fields);
     }
-    if (!it->begun || info.ssrc != it->source) return OTHER;
-    if (is_after(it->first, number)) return TOO_OLD;
-    if ((uint16_t)(number - it->first) > WINDOW) it->first = (uint16_t)(number - WINDOW / 2);
-    bool ahead = number_it(it, number);
-    cpay_vp8_fields_info fields = fields_of(it->media.codec, payload, info.payload_len);
-    bool new_picture = fields.has_picture_id && number_picture(it, fields.picture_id);
-    if (temporal_of(it->media.codec, payload, info.payload_len) > temporal) return leave_out(it, &info, ahead, new_picture, out, size);
-    *size = write_packet(it, &info, datagram, ahead, out);
-    uint16_t sent = (uint16_t)get(out + 2, 2);
-    it->source_of[sent % KEPT] = number;
-    if (ahead) {
-        it->last_number = sent;
-        it->last_time = get(out + 4, 4);
-        it->last_at = now_ms();
-    }
-    return began ? BEGAN : WRITTEN;
+    *forwarded = place(it, &info);
+    if (*forwarded != CPAY_FORWARDED_WRITTEN) return CPAY_OK;
+    bool ahead = number_it(it, info.sequence_number);
+    number_picture(it, &fields);
+    *size = write_packet(it, &info, datagram, ahead, bytes);
+    it->source_of[number_of(it, info.sequence_number) % KEPT] = info.sequence_number;
+    it->counts.packets++;
+    it->counts.octets += info.payload_len;
+    if (began) *forwarded = CPAY_FORWARDED_BEGAN;
+    if (!ahead) return CPAY_OK;
+    it->last_number = number_of(it, info.sequence_number);
+    it->last_time = get(bytes + 4, 4);
+    it->last_at = now;
+    return CPAY_OK;
 }
 
-size_t forwarder_resend(forwarder *it, const store *from, uint16_t number, uint8_t *out) {
+cpay_status cpay_forwarder_leave_out(cpay_forwarder *handle, const uint8_t *datagram, size_t datagram_len, uint8_t *bytes,
+                                     size_t bytes_len, size_t *size, cpay_forwarded *forwarded) {
+    forwarder *it = in(handle);
     cpay_rtp_info info = {0};
-    size_t datagram_len = 0;
+    *size = 0;
+    if (cpay_rtp_read(datagram, datagram_len, &info) || bytes_len < HEADER + PADDING) return CPAY_TOO_SMALL;
+    cpay_vp8_fields_info fields = fields_of(it->settings.codec, datagram + info.payload_at, info.payload_len);
+    *forwarded = place(it, &info);
+    if (*forwarded != CPAY_FORWARDED_WRITTEN) return CPAY_OK;
+    *forwarded = CPAY_FORWARDED_LEFT_OUT;
+    it->counts.left_out++;
+    bool ahead = number_it(it, info.sequence_number);
+    if (number_picture(it, &fields)) it->id_offset--; /* the ids of later pictures close up, */
+    if (ahead) it->offset--;                          /* and so do their numbers */
+    if (ahead) return CPAY_OK;
+    *forwarded = CPAY_FORWARDED_FILLED;
+    it->counts.filled++;
+    info.marker = false;
+    write_header(it, &info, bytes);
+    bytes[0] |= 0x20;
+    put(bytes + HEADER, PADDING, PADDING);
+    *size = HEADER + PADDING;
+    return CPAY_OK;
+}
+
+cpay_status cpay_forwarder_resend(cpay_forwarder *handle, cpay_history *history, uint16_t number, uint8_t *bytes,
+                                  size_t bytes_len, size_t *size, cpay_resent *resent) {
+    forwarder *it = in(handle);
+    uint8_t kept[LARGEST];
+    cpay_rtp_info info = {0};
     uint16_t original = it->source_of[number % KEPT];
-    if (!it->begun || (uint16_t)(original + it->offset_at[original % KEPT]) != number) return 0;
-    const uint8_t *datagram = store_get(from, original, &datagram_len);
-    if (!datagram || cpay_rtp_read(datagram, datagram_len, &info) || info.ssrc != it->source) return 0;
-    size_t size = write_packet(it, &info, datagram, false, out);
-    if (!it->media.has_rtx) return size;
-    memmove(out + HEADER + OSN, out + HEADER, size - HEADER);
-    put(out + HEADER, number, OSN);
-    out[1] = (uint8_t)((out[1] & 0x80) | it->media.rtx_payload_type);
-    put(out + 2, it->next_rtx++, 2);
-    put(out + 8, it->rtx_ssrc, 4);
-    return size + OSN;
+    size_t kept_len = 0;
+    *size = 0;
+    *resent = CPAY_RESENT_NOT_KEPT;
+    if (!it->begun || number_of(it, original) != number) return CPAY_OK;
+    cpay_status status = cpay_history_resend(history, 0, original, kept, sizeof kept, &kept_len, resent);
+    if (status || *resent != CPAY_RESENT_WRITTEN) return status;
+    if (kept_len + OSN > bytes_len) return CPAY_TOO_SMALL;
+    *resent = CPAY_RESENT_NOT_KEPT;
+    if (cpay_rtp_read(kept, kept_len, &info) || info.ssrc != it->source) return CPAY_OK;
+    *resent = CPAY_RESENT_WRITTEN;
+    it->counts.resent++;
+    *size = write_packet(it, &info, kept, false, bytes);
+    if (!it->settings.has_rtx) return CPAY_OK;
+    memmove(bytes + HEADER + OSN, bytes + HEADER, *size - HEADER);
+    put(bytes + HEADER, number, OSN);
+    bytes[1] = (uint8_t)((bytes[1] & 0x80) | it->settings.rtx_payload_type);
+    put(bytes + 2, it->settings.rtx_first_number++, 2);
+    put(bytes + 8, it->settings.rtx_ssrc, 4);
+    *size += OSN;
+    return CPAY_OK;
+}
+
+cpay_status cpay_forwarder_counts(cpay_forwarder *handle, cpay_forwarder_counts_info *counts) {
+    *counts = in(handle)->counts;
+    return CPAY_OK;
+}
+
+cpay_status cpay_forwarder_report(cpay_forwarder *handle, uint32_t ssrc, uint32_t rtp_time, cpay_sender_report_info *report) {
+    const forwarder *it = in(handle);
+    if (!it->begun || it->source != ssrc) return CPAY_NONE;
+    *report = (cpay_sender_report_info){it->settings.ssrc, rtp_time + it->time_offset, (uint32_t)it->counts.packets,
+                                        (uint32_t)it->counts.octets};
+    return CPAY_OK;
 }

@@ -66,7 +66,8 @@ static enum MHD_Result publish_or_watch(const request *from, bool publishes) {
     static char bytes[MOST_ANSWER];
     text to = {.at = bytes, .room = sizeof bytes};
     char location[64];
-    const char *name = from->url + 6, *fault = "", *type = MHD_lookup_connection_value(from->connection, MHD_HEADER_KIND, "Content-Type");
+    const char *name = from->url + 6, *fault = "",
+               *type = MHD_lookup_connection_value(from->connection, MHD_HEADER_KIND, "Content-Type");
     if (!is_name(name)) return say(from, MHD_HTTP_NOT_FOUND, "A name has up to 31 letters, digits, - and _.\n");
     if (!type || strncmp(type, "application/sdp", 15))
         return say(from, MHD_HTTP_UNSUPPORTED_MEDIA_TYPE, "An offer is application/sdp.\n");
@@ -89,12 +90,14 @@ static enum MHD_Result session(const request *from) {
     snprintf(id, sizeof id, "%.*s", (int)size, rest);
     peer *it = size == sizeof id - 1 ? peer_session(id) : NULL;
     if (!it) return say(from, MHD_HTTP_NOT_FOUND, "There is no such session.\n");
-    if (!strcmp(from->method, "PATCH")) return say(from, MHD_HTTP_METHOD_NOT_ALLOWED, "ICE-lite needs neither trickle nor restarts.\n");
+    if (!strcmp(from->method, "PATCH"))
+        return say(from, MHD_HTTP_METHOD_NOT_ALLOWED, "ICE-lite needs neither trickle nor restarts.\n");
     if (!strcmp(from->method, "DELETE") && !rest[size]) {
         it->ended = true;
         return say(from, MHD_HTTP_OK, "");
     }
-    if (strcmp(from->method, "PUT") || strcmp(rest + size, "/layer")) return say(from, MHD_HTTP_NOT_FOUND, "There is no such thing.\n");
+    if (strcmp(from->method, "PUT") || strcmp(rest + size, "/layer"))
+        return say(from, MHD_HTTP_NOT_FOUND, "There is no such thing.\n");
     if (!viewer_wants_layer(it, from->body)) return say(from, MHD_HTTP_CONFLICT, "There is no such layer.\n");
     return say(from, MHD_HTTP_OK, "");
 }
@@ -180,9 +183,9 @@ int http_start(void) {
     struct sockaddr_in at = {.sin_family = AF_INET, .sin_port = htons(the.http)};
     if (inet_pton(AF_INET, the.address, &at.sin_addr) != 1) give_up(the.address, "not an address of IPv4");
     server = MHD_start_daemon(MHD_USE_EPOLL, the.http, NULL, NULL, on_request, NULL, MHD_OPTION_SOCK_ADDR, (struct sockaddr *)&at,
-                              MHD_OPTION_NOTIFY_COMPLETED, on_end, NULL, MHD_OPTION_CONNECTION_TIMEOUT, (unsigned)CONNECTION_SECONDS,
-                              MHD_OPTION_CONNECTION_LIMIT, (unsigned)CONNECTIONS, MHD_OPTION_CONNECTION_MEMORY_LIMIT,
-                              (size_t)CONNECTION_BYTES, MHD_OPTION_END);
+                              MHD_OPTION_NOTIFY_COMPLETED, on_end, NULL, MHD_OPTION_CONNECTION_TIMEOUT,
+                              (unsigned)CONNECTION_SECONDS, MHD_OPTION_CONNECTION_LIMIT, (unsigned)CONNECTIONS,
+                              MHD_OPTION_CONNECTION_MEMORY_LIMIT, (size_t)CONNECTION_BYTES, MHD_OPTION_END);
     const union MHD_DaemonInfo *info = server ? MHD_get_daemon_info(server, MHD_DAEMON_INFO_EPOLL_FD) : NULL;
     if (!info) give_up("the port of the page (--http)", errno ? strerror(errno) : "cannot be used");
     return info->epoll_fd;

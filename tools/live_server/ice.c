@@ -1,5 +1,5 @@
-/* ICE-lite (RFC 8445, section 2.5): binding requests of STUN (RFC 8489) are answered if their MESSAGE-INTEGRITY is right. All others
- * are ignored. */
+/* ICE-lite (RFC 8445, section 2.5): binding requests of STUN (RFC 8489) are answered if their MESSAGE-INTEGRITY is right. All
+ * others are ignored. */
 #include "rtcp.h"
 #include "server.h"
 

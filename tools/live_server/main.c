@@ -17,7 +17,8 @@
 
 enum { TICK = 50 }; /* ms between two looks at all peers */
 
-options the = {.address = "127.0.0.1", .folder = "recordings", .page = "page.html", .http = 8080, .udp = 8081, .bitrate = 2500000};
+options the = {
+    .address = "127.0.0.1", .folder = "recordings", .page = "page.html", .http = 8080, .udp = 8081, .bitrate = 2500000};
 static volatile sig_atomic_t ended;
 
 static const char usage[] =
@@ -90,11 +91,10 @@ static void read_option(int option, const char *value) {
 
 static void read_options(int argc, char **argv) {
     static const struct option names[] = {
-        {"address", 1, 0, 'a'}, {"http", 1, 0, 'h'},     {"udp", 1, 0, 'u'},     {"candidate", 1, 0, 'c'}, {"folder", 1, 0, 'f'},
-        {"page", 1, 0, 'p'},    {"token", 1, 0, 't'},    {"loss", 1, 0, 'l'},    {"reorder", 1, 0, 'r'},   {"delay", 1, 0, 'd'},
-        {"bitrate", 1, 0, 'b'}, {"feedback", 1, 0, 'k'}, {"damage", 1, 0, 'x'},  {"help", 0, 0, 'H'},  {0, 0, 0, 0}};
-    for (int option; (option = getopt_long(argc, argv, "", names, NULL)) != -1;)
-        read_option(option, optarg);
+        {"address", 1, 0, 'a'}, {"http", 1, 0, 'h'},     {"udp", 1, 0, 'u'},    {"candidate", 1, 0, 'c'}, {"folder", 1, 0, 'f'},
+        {"page", 1, 0, 'p'},    {"token", 1, 0, 't'},    {"loss", 1, 0, 'l'},   {"reorder", 1, 0, 'r'},   {"delay", 1, 0, 'd'},
+        {"bitrate", 1, 0, 'b'}, {"feedback", 1, 0, 'k'}, {"damage", 1, 0, 'x'}, {"help", 0, 0, 'H'},      {0, 0, 0, 0}};
+    for (int option; (option = getopt_long(argc, argv, "", names, NULL)) != -1;) read_option(option, optarg);
     if (optind < argc) read_option(0, NULL);
 }
 
@@ -120,9 +120,12 @@ void take_media(const struct sockaddr_in *from, uint8_t *bytes, size_t size) {
     peer *it = peer_at(from);
     bool rtcp = cpay_is_rtcp(bytes, size);
     if (!it || !it->secure || it->ended || !srtp_open(it, bytes, &size, rtcp)) return;
-    if (the.damage > 0 && drand48() * 100 < the.damage && size > 0) bytes[(size_t)(drand48() * (double)size)] ^= (uint8_t)lrand48();
-    if (it->publisher) publisher_take(it, bytes, size);
-    else if (rtcp) viewer_take(it, bytes, size);
+    if (the.damage > 0 && drand48() * 100 < the.damage && size > 0)
+        bytes[(size_t)(drand48() * (double)size)] ^= (uint8_t)lrand48();
+    if (it->publisher)
+        publisher_take(it, bytes, size);
+    else if (rtcp)
+        viewer_take(it, bytes, size);
 }
 
 /* RFC 7983, section 7: the first byte says what a datagram is. */
@@ -133,8 +136,10 @@ static void take(const struct sockaddr_in *from, uint8_t *bytes, size_t size) {
     }
     peer *it = size > 0 ? peer_at(from) : NULL;
     if (!it) return;
-    if (bytes[0] >= 20 && bytes[0] < 64) dtls_take(it, bytes, size);
-    else if (bytes[0] >= 128 && bytes[0] < 192 && network_passes(from, bytes, size)) take_media(from, bytes, size);
+    if (bytes[0] >= 20 && bytes[0] < 64)
+        dtls_take(it, bytes, size);
+    else if (bytes[0] >= 128 && bytes[0] < 192 && network_passes(from, bytes, size))
+        take_media(from, bytes, size);
 }
 
 static void on_signal(int number) {

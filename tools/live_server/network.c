@@ -1,5 +1,5 @@
-/* The UDP port of all peers: many datagrams a call, in and out. On the way SRTP is lost, delayed and reordered as asked, so that a
- * person sees what the library does about it. */
+/* The UDP port of all peers: many datagrams a call, in and out. On the way SRTP is lost, delayed and reordered as asked, so that
+ * a person sees what the library does about it. */
 #include "server.h"
 
 #include <arpa/inet.h>
@@ -129,7 +129,9 @@ static bool passes(bool out, const struct sockaddr_in *at, const uint8_t *bytes,
     return false;
 }
 
-bool network_passes(const struct sockaddr_in *from, const uint8_t *bytes, size_t size) { return passes(false, from, bytes, size); }
+bool network_passes(const struct sockaddr_in *from, const uint8_t *bytes, size_t size) {
+    return passes(false, from, bytes, size);
+}
 
 void network_send_media(const struct sockaddr_in *to, size_t size) {
     if (passes(true, to, out_bytes[out_len], size)) network_send(to, size);

@@ -54,7 +54,8 @@ peer *peer_new(const char *name, bool publishes) {
 
 void peer_free(peer *it) {
     if (it->publisher || it->viewer)
-        fprintf(stderr, "%s %llu of %s leaves\n", it->publisher ? "publisher" : "viewer", (unsigned long long)it->number, it->name);
+        fprintf(stderr, "%s %llu of %s leaves\n", it->publisher ? "publisher" : "viewer", (unsigned long long)it->number,
+                it->name);
     network_flush();
     if (it->publisher) publisher_free(it);
     if (it->viewer) viewer_free(it);
@@ -98,7 +99,8 @@ void peer_seen(peer *it, const struct sockaddr_in *at, bool nominated) {
     if (!is_at(it, at)) it->known[it->known_len++ % MOST_ADDRESSES] = *at;
 }
 
-/* A publisher whose keys are there replaces the one before, such as a page that was loaded again. An offer alone replaces nobody. */
+/* A publisher whose keys are there replaces the one before, such as a page that was loaded again. An offer alone replaces nobody.
+ */
 void peer_secured(peer *of) {
     if (!of->publisher) return;
     EACH_PEER (it)

@@ -1,6 +1,5 @@
-/* A publisher: its datagrams go into a session of the library. The session's feedback goes back, its units are recorded, and each packet
- * goes to the viewers. */
-#include "forward.h"
+/* A publisher: its datagrams go into a session of the library. The session's feedback goes back, its units are recorded, and each
+ * packet goes to the viewers. */
 #include "rtcp.h"
 #include "server.h"
 
@@ -9,13 +8,15 @@
 #include <string.h>
 
 enum {
-    MOST_STREAMS = 8,        /* of a publisher */
-    MOST_HELD = 2048,        /* packets of a stream */
-    MOST_UNIT = 1 << 20,     /* bytes */
-    MOST_MISSING = 256,      /* numbers that are requested: their NACK fits a datagram */
-    KEYFRAME_INTERVAL = 500, /* ms between two requests for a keyframe */
-    REMB_INTERVAL = 1000,    /* ms */
-    RED_STEP = 960,          /* ticks of a packet of Opus of 20 ms */
+    MOST_STREAMS = 8,                   /* of a publisher */
+    MOST_HELD = 2048,                   /* packets of a stream */
+    MOST_UNIT = 1 << 20,                /* bytes */
+    MOST_MISSING = 256,                 /* numbers that are requested: their NACK fits a datagram */
+    MOST_KEPT = 2048,                   /* packets of a stream, for viewers that request them */
+    MOST_FORWARDED = MOST_DATAGRAM - 2, /* bytes of a packet: a retransmission has two more */
+    KEYFRAME_INTERVAL = 500,            /* ms between two requests for a keyframe */
+    REMB_INTERVAL = 1000,               /* ms */
+    RED_STEP = 960,                     /* ticks of a packet of Opus of 20 ms */
     MICROSECONDS = 1000000
 };
 
@@ -23,7 +24,7 @@ enum {
 typedef struct {
     bool arrived, begun, clocked;
     uint32_t ssrc;
-    store *kept;
+    cpay_history store;         /* its latest packets, for all viewers */
     cpay_session_stream stream; /* as the session described it last: at its end the session forgets it */
     report_block reported;      /* to the sender */
     uint64_t frames, bytes, keyframes, faults, requested, keyframes_requested;
@@ -115,18 +116,6 @@ static int track_of(const peer *it, int kind, uint32_t ssrc, const uint8_t *data
     return -1;
 }
 
-/* A retransmission (RFC 4588) becomes the packet that it repeats, in place. */
-static bool unwrap(const cpay_arrival *arrival, const cpay_rtp_info *info, uint8_t *bytes, size_t *size) {
-    uint8_t *payload = bytes + info->payload_at;
-    if (info->payload_len < 2) return false;
-    bytes[1] = (uint8_t)((bytes[1] & 0x80) | arrival->payload_type);
-    memcpy(bytes + 2, payload, 2);
-    put(bytes + 8, arrival->ssrc, 4);
-    memmove(payload, payload + 2, *size - info->payload_at - 2);
-    *size -= 2;
-    return true;
-}
-
 /* The packets in RED (RFC 2198), each under its own number: one that was lost is forwarded from a later packet. */
 static void forward_red(peer *it, const cpay_rtp_info *info, const uint8_t *bytes) {
     uint8_t out[MOST_DATAGRAM], opus = it->media[AUDIO].payload_type;
@@ -143,16 +132,26 @@ static void forward_red(peer *it, const cpay_rtp_info *info, const uint8_t *byte
     }
 }
 
-static void forward(peer *it, const cpay_arrival *arrival, uint8_t *bytes, size_t size) {
+static bool begin_track(track *to, uint32_t ssrc) {
+    cpay_history_settings settings = {.limit = MOST_KEPT};
+    to->ssrc = ssrc;
+    if (!to->arrived) to->arrived = cpay_history_new(&to->store, &settings) == CPAY_OK;
+    return to->arrived;
+}
+
+/* Forwards the packet itself, those that are in RED, or the one that a retransmission repeats. */
+static void forward(peer *it, const cpay_arrival *arrival, const uint8_t *bytes, size_t size) {
+    uint8_t original[MOST_DATAGRAM];
     cpay_rtp_info info = {0};
     int kind = kind_of(it, arrival->payload_type), number = kind < 0 ? -1 : track_of(it, kind, arrival->ssrc, bytes, size);
-    if (number < 0 || size > MOST_DATAGRAM || cpay_rtp_read(bytes, size, &info)) return;
-    track *to = &it->publisher->tracks[number];
-    if (!to->kept && !(to->kept = store_new())) return;
-    to->arrived = true;
-    to->ssrc = arrival->ssrc;
-    if (it->media[kind].has_red && info.payload_type == it->media[kind].red_payload_type) forward_red(it, &info, bytes);
-    else if (info.payload_type == arrival->payload_type || unwrap(arrival, &info, bytes, &size)) viewers_forward(it, number, bytes, size);
+    if (number < 0 || size > MOST_FORWARDED || cpay_rtp_read(bytes, size, &info)) return;
+    if (!begin_track(&it->publisher->tracks[number], arrival->ssrc)) return;
+    if (info.payload_type == arrival->payload_type)
+        viewers_forward(it, number, bytes, size);
+    else if (it->media[kind].has_red && info.payload_type == it->media[kind].red_payload_type)
+        forward_red(it, &info, bytes);
+    else if (cpay_rtx_original(arrival->ssrc, arrival->payload_type, bytes, size, original, sizeof original, &size) == CPAY_OK)
+        viewers_forward(it, number, original, size);
 }
 
 static void send_rtcp(peer *it, const uint8_t *bytes, size_t size) {
@@ -172,7 +171,8 @@ static void report_transport(peer *it) {
 
 void publisher_take(peer *it, uint8_t *bytes, size_t size) {
     cpay_arrival arrival = {0};
-    if (!cpay_is_rtcp(bytes, size) && cpay_transport_reporter_receive(&it->publisher->transport, now_us(), bytes, size) == CPAY_OK)
+    if (!cpay_is_rtcp(bytes, size) &&
+        cpay_transport_reporter_receive(&it->publisher->transport, now_us(), bytes, size) == CPAY_OK)
         report_transport(it);
     if (cpay_session_receive(&it->publisher->session, now_ms(), bytes, size, &arrival)) return; /* out of memory: a loss */
     if (arrival.kind == CPAY_ARRIVAL_STREAM && !arrival.status) forward(it, &arrival, bytes, size);
@@ -236,7 +236,8 @@ static void handle(peer *it, const cpay_event *event, const uint8_t *bytes) {
 void publisher_poll(peer *it) {
     static uint8_t bytes[MOST_UNIT];
     cpay_event event = {0};
-    while (cpay_session_poll(&it->publisher->session, now_ms(), &event, bytes, sizeof bytes) == CPAY_OK) handle(it, &event, bytes);
+    while (cpay_session_poll(&it->publisher->session, now_ms(), &event, bytes, sizeof bytes) == CPAY_OK)
+        handle(it, &event, bytes);
 }
 
 bool publisher_deadline(peer *it, uint64_t *at) { return cpay_session_next_deadline(&it->publisher->session, at) == CPAY_OK; }
@@ -250,7 +251,8 @@ static void send_remb(peer *it) {
     size_t count = 0, size = 0;
     for (int i = VIDEO; i < TRACKS; i++)
         if (it->publisher->tracks[i].arrived) ssrcs[count++] = it->publisher->tracks[i].ssrc;
-    if (cpay_write_remb(it->publisher->ssrc, the.bitrate, ssrcs, count, bytes, sizeof bytes, &size) == CPAY_OK) send_rtcp(it, bytes, size);
+    if (cpay_write_remb(it->publisher->ssrc, the.bitrate, ssrcs, count, bytes, sizeof bytes, &size) == CPAY_OK)
+        send_rtcp(it, bytes, size);
 }
 
 /* A request for a viewer. Those of the session count too. */
@@ -269,7 +271,7 @@ bool publisher_clock(peer *it, int number, cpay_sender_clock_info *clock) {
     return of->begun && cpay_session_sender_clock(&it->publisher->session, of->ssrc, payload_type, clock) == CPAY_OK;
 }
 
-store *publisher_store(peer *it, int number) { return it->publisher->tracks[number].kept; }
+cpay_history *publisher_store(peer *it, int number) { return &it->publisher->tracks[number].store; }
 
 uint32_t publisher_ssrc(peer *it, int number) { return it->publisher->tracks[number].ssrc; }
 
@@ -305,28 +307,38 @@ static void track_stats(const peer *it, int number, text *to) {
     text_add(to, "{\"kind\":\"%s\",\"codec\":\"%s\",\"layer\":\"%s\",\"red\":%s,", kind == VIDEO ? "video" : "audio",
              codec_name(it->media[kind].codec), kind == VIDEO && it->layers_len > 1 ? it->layers[number - VIDEO] : "",
              it->media[kind].has_red ? "true" : "false");
-    text_add(to, "\"packets\":%llu,\"bytes\":%llu,\"lost\":%d,\"jitter\":%u,\"requested\":%llu,\"recovered\":%llu,",
-             (unsigned long long)of->stream.taken, (unsigned long long)of->bytes, of->reported.lost, of->reported.jitter,
-             (unsigned long long)of->requested, (unsigned long long)(counts->retransmitted + counts->recovered));
-    text_add(to, "\"late\":%llu,\"duplicates\":%llu,\"incomplete\":%llu,\"held\":%zu,\"frames\":%llu,\"keyframes\":%llu,",
-             (unsigned long long)counts->late, (unsigned long long)counts->duplicates, (unsigned long long)counts->incomplete,
-             counts->held, (unsigned long long)of->frames, (unsigned long long)of->keyframes);
-    text_add(to, "\"undecodable\":%llu,\"faults\":%llu,\"keyframesRequested\":%llu,\"waited\":%llu,\"longestWait\":%llu,",
-             (unsigned long long)counts->undecodable, (unsigned long long)of->faults, (unsigned long long)of->keyframes_requested,
-             (unsigned long long)of->waited, (unsigned long long)of->longest_wait);
-    text_add(to, "\"roundTrip\":%llu}", (unsigned long long)of->stream.round_trip);
+    const named numbers[] = {{"packets", of->stream.taken},
+                             {"bytes", of->bytes},
+                             {"jitter", of->reported.jitter},
+                             {"requested", of->requested},
+                             {"recovered", counts->retransmitted + counts->recovered},
+                             {"late", counts->late},
+                             {"duplicates", counts->duplicates},
+                             {"incomplete", counts->incomplete},
+                             {"held", counts->held},
+                             {"frames", of->frames},
+                             {"keyframes", of->keyframes},
+                             {"undecodable", counts->undecodable},
+                             {"faults", of->faults},
+                             {"keyframesRequested", of->keyframes_requested},
+                             {"waited", of->waited},
+                             {"longestWait", of->longest_wait},
+                             {"roundTrip", of->stream.round_trip}};
+    text_numbers(to, numbers, sizeof numbers / sizeof *numbers);
+    text_add(to, "\"lost\":%d}", of->reported.lost);
 }
 
 void publisher_stats(peer *it, text *to) {
-    const publisher *own = it->publisher;
+    publisher *own = it->publisher;
     cpay_session_counts_info counts = {0};
     const char *fault = record_fault(own->record);
     bool any = false;
     describe(it);
     if (cpay_session_counts(&it->publisher->session, &counts)) counts = (cpay_session_counts_info){0};
-    text_add(to, "\"received\":%llu,\"rtcp\":%llu,\"malformed\":%llu,\"unknown\":%llu,\"unassociated\":%llu,\"keyframesForViewers\":%llu,",
-             (unsigned long long)counts.received, (unsigned long long)counts.rtcp, (unsigned long long)counts.malformed,
-             (unsigned long long)counts.unknown, (unsigned long long)counts.unassociated, (unsigned long long)own->keyframes_for_viewers);
+    const named numbers[] = {{"received", counts.received},         {"rtcp", counts.rtcp},
+                             {"malformed", counts.malformed},       {"unknown", counts.unknown},
+                             {"unassociated", counts.unassociated}, {"keyframesForViewers", own->keyframes_for_viewers}};
+    text_numbers(to, numbers, sizeof numbers / sizeof *numbers);
     text_add(to, "\"recording\":\"%s\",\"recordingFault\":\"%s\",\"streams\":[", record_path(own->record), fault ? fault : "");
     for (int i = 0; i < TRACKS; i++) {
         if (!own->tracks[i].begun) continue;
@@ -343,7 +355,7 @@ void publisher_free(peer *it) {
     record_free(own->record);
     cpay_session_free(&own->session);
     cpay_transport_reporter_free(&own->transport);
-    for (int i = 0; i < TRACKS; i++) store_free(own->tracks[i].kept);
+    for (int i = 0; i < TRACKS; i++) cpay_history_free(&own->tracks[i].store);
     free(own);
     it->publisher = NULL;
 }

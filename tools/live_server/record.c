@@ -1,4 +1,5 @@
-/* A WebM file of a publisher: the frames as they came, not encoded again. The writer and the time line are those of tools/rtp_record. */
+/* A WebM file of a publisher: the frames as they came, not encoded again. The writer and the time line are those of
+ * tools/rtp_record. */
 #include "server.h"
 
 #include "message.h"
@@ -58,7 +59,8 @@ static size_t av1c_of(const uint8_t *bytes, size_t size, uint8_t *out, size_t ro
     cpay_obu_info obu = {0};
     size_t written = 0;
     for (size_t at = 0; cpay_av1_obu(bytes, size, at, &obu) == CPAY_OK; at = obu.start + obu.bytes)
-        if (obu.obu_type == 1) return cpay_av1c(bytes + at, obu.start + obu.bytes - at, out, room, &written) == CPAY_OK ? written : 0;
+        if (obu.obu_type == 1)
+            return cpay_av1c(bytes + at, obu.start + obu.bytes - at, out, room, &written) == CPAY_OK ? written : 0;
     return 0;
 }
 
@@ -68,7 +70,9 @@ static bool begin_video(recording *it, const cpay_unit *unit, const uint8_t *byt
     cpay_frame_facts facts = {0};
     cpay_codec codec = it->codec[VIDEO];
     if (!unit->keyframe || cpay_frame_info(codec, bytes, unit->bytes, &facts) || !facts.has_size) return false;
-    writer_track track = {.codec = codec == CPAY_VP8 ? AV_CODEC_ID_VP8 : codec == CPAY_VP9 ? AV_CODEC_ID_VP9 : AV_CODEC_ID_AV1,
+    writer_track track = {.codec = codec == CPAY_VP8   ? AV_CODEC_ID_VP8
+                                   : codec == CPAY_VP9 ? AV_CODEC_ID_VP9
+                                                       : AV_CODEC_ID_AV1,
                           .clock_rate = 90000,
                           .width = (int)facts.width,
                           .height = (int)facts.height,
@@ -104,7 +108,8 @@ static void write_unit(recording *it, int kind, const cpay_unit *unit, const uin
     it->bytes += unit->bytes;
 }
 
-/* A recording that cannot be written, such as on a full disk, ends there, and plays up to there. The viewers see nothing of it. */
+/* A recording that cannot be written, such as on a full disk, ends there, and plays up to there. The viewers see nothing of it.
+ */
 static void end_if_failed(recording *it) {
     if (it->bytes > MOST_BYTES) complain("%s: too long", it->path);
     if (!it->fault[0]) return;
@@ -133,6 +138,9 @@ const char *record_fault(const recording *it) { return it->fault[0] ? it->fault 
 
 void record_free(recording *it) {
     if (!it) return;
-    if (it->file) fprintf(stderr, "%s: %s\n", it->path, writer_close(it->file) ? "complete" : "not complete");
+    if (it->file) {
+        bool whole = writer_close(it->file);
+        if (it->bytes > 0) fprintf(stderr, "%s: %s\n", it->path, whole ? "complete" : "not complete");
+    }
     free(it);
 }

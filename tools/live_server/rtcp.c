@@ -23,8 +23,8 @@ bool rtcp_read_block(const uint8_t *bytes, size_t size, uint32_t ssrc, report_bl
         for (size_t i = 0, from = at + first; i < (bytes[at] & 31u) && from + BLOCK <= at + length; i++, from += BLOCK) {
             if (get(bytes + from, 4) != ssrc) continue;
             int32_t lost = (int32_t)get(bytes + from + 5, 3);
-            *block = (report_block){lost >= 1 << 23 ? lost - (1 << 24) : lost, get(bytes + from + 12, 4), get(bytes + from + 16, 4),
-                                    get(bytes + from + 20, 4)};
+            *block = (report_block){lost >= 1 << 23 ? lost - (1 << 24) : lost, get(bytes + from + 12, 4),
+                                    get(bytes + from + 16, 4), get(bytes + from + 20, 4)};
             found = true;
         }
     }
@@ -38,13 +38,13 @@ size_t rtcp_write_pli(uint8_t *to, uint32_t ssrc, uint32_t of) {
     return 12;
 }
 
-size_t rtcp_write_report(uint8_t *to, const sender_report *report, const char *name) {
+size_t rtcp_write_report(uint8_t *to, uint64_t ntp_time, const cpay_sender_report_info *report, const char *name) {
     size_t length = strlen(name) < 255 ? strlen(name) : 255, words = (4 + 2 + length + 1 + 3) / 4;
     memset(to, 0, 28 + 4 + 4 * words);
     put(to, 0x80000000 | SENDER_REPORT << 16 | 6, 4);
     put(to + 4, report->ssrc, 4);
-    put(to + 8, (uint32_t)(report->ntp_time >> 32), 4);
-    put(to + 12, (uint32_t)report->ntp_time, 4);
+    put(to + 8, (uint32_t)(ntp_time >> 32), 4);
+    put(to + 12, (uint32_t)ntp_time, 4);
     put(to + 16, report->rtp_time, 4);
     put(to + 20, report->packets, 4);
     put(to + 24, report->octets, 4);

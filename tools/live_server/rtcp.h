@@ -2,9 +2,7 @@
 #ifndef LIVE_SERVER_RTCP_H
 #define LIVE_SERVER_RTCP_H
 
-#include <stdbool.h>
-#include <stddef.h>
-#include <stdint.h>
+#include <codec_payload.h>
 
 /* The number in the next `bytes` bytes, 1 to 4; and writes it. */
 uint32_t get(const uint8_t *at, int bytes);
@@ -24,12 +22,8 @@ bool rtcp_read_block(const uint8_t *bytes, size_t size, uint32_t ssrc, report_bl
 /* Writes a request for a keyframe (PLI; RFC 4585, section 6.3.1) from one SSRC about another. Returns its size. */
 size_t rtcp_write_pli(uint8_t *to, uint32_t ssrc, uint32_t of);
 
-/* A sender report, and a name of at most 255 bytes (RFC 3550, sections 6.4.1 and 6.5). Returns their size, at most 296 bytes. */
-typedef struct {
-    uint64_t ntp_time;
-    uint32_t ssrc, rtp_time, packets, octets;
-} sender_report;
-
-size_t rtcp_write_report(uint8_t *to, const sender_report *report, const char *name);
+/* Writes a sender report and a name of at most 255 bytes (RFC 3550, sections 6.4.1 and 6.5). Returns their size, at most 296
+ * bytes. */
+size_t rtcp_write_report(uint8_t *to, uint64_t ntp_time, const cpay_sender_report_info *report, const char *name);
 
 #endif

@@ -1,7 +1,9 @@
-/* live_server: a browser publishes by WHIP (RFC 9725), others watch by WHEP, and each publisher is recorded. What all files share. */
+/* live_server: a browser publishes by WHIP (RFC 9725), others watch by WHEP, and each publisher is recorded. What all files
+ * share. */
 #ifndef LIVE_SERVER_H
 #define LIVE_SERVER_H
 
+#include "forwarder_api.h"
 #include "text.h"
 
 #include <codec_payload.h>
@@ -14,13 +16,13 @@
 enum {
     MOST_PEERS = 256,
     MOST_PUBLISHERS = 32,
-    MOST_LAYERS = 3,      /* of simulcast */
-    MOST_ADDRESSES = 4,   /* of a peer, and of the server */
-    MOST_DATAGRAM = 1500, /* bytes of a datagram without SRTP */
-    MOST_NAME = 32,       /* bytes of a name with the 0 at its end */
-    SRTP_ROOM = 64,       /* bytes that SRTP may add */
+    MOST_LAYERS = 3,         /* of simulcast */
+    MOST_ADDRESSES = 4,      /* of a peer, and of the server */
+    MOST_DATAGRAM = 1500,    /* bytes of a datagram without SRTP */
+    MOST_NAME = 32,          /* bytes of a name with the 0 at its end */
+    SRTP_ROOM = 64,          /* bytes that SRTP may add */
     LONGEST_SILENCE = 15000, /* ms after which a peer that sends no STUN is gone */
-    LONGEST_START = 10000    /* ms that a peer has for ICE and DTLS */
+    LONGEST_START = 20000    /* ms that a peer has for ICE and DTLS */
 };
 
 enum { AUDIO = 0, VIDEO = 1, KINDS = 2 };
@@ -40,30 +42,29 @@ typedef struct {
 
 typedef struct publisher publisher; /* receive.c */
 typedef struct viewer viewer;       /* viewers.c */
-typedef struct store store;         /* forward.c */
 
 /* A browser: a publisher or a viewer. */
 typedef struct {
     bool used;
-    uint64_t number;                           /* for people: it shows nothing that ends the session */
-    char id[33];                               /* of its HTTP resource: a secret */
-    char name[MOST_NAME];                      /* under which it publishes or watches */
-    char ufrag[9], password[25];               /* of ICE, ours */
-    char fingerprint[96];                      /* of its certificate, by its offer */
-    struct sockaddr_in at;                     /* the address that ICE nominated last: datagrams go there */
-    struct sockaddr_in known[MOST_ADDRESSES];  /* all addresses that ICE checked: media comes from any of them */
+    uint64_t number;                          /* for people: it shows nothing that ends the session */
+    char id[33];                              /* of its HTTP resource: a secret */
+    char name[MOST_NAME];                     /* under which it publishes or watches */
+    char ufrag[9], password[25];              /* of ICE, ours */
+    char fingerprint[96];                     /* of its certificate, by its offer */
+    struct sockaddr_in at;                    /* the address that ICE nominated last: datagrams go there */
+    struct sockaddr_in known[MOST_ADDRESSES]; /* all addresses that ICE checked: media comes from any of them */
     unsigned known_len;
-    bool found;                                /* `at` is known */
-    bool secure;                               /* DTLS has ended, and the keys of SRTP are there */
-    bool ended;                                /* it said goodbye */
-    uint64_t began, heard;                     /* ms: when its offer came, and its latest STUN request */
+    bool found;            /* `at` is known */
+    bool secure;           /* DTLS has ended, and the keys of SRTP are there */
+    bool ended;            /* it said goodbye */
+    uint64_t began, heard; /* ms: when its offer came, and its latest STUN request */
     SSL *ssl;
     srtp_t in, out;
     agreed media[KINDS];
-    char layers[MOST_LAYERS][MOST_NAME];       /* the RIDs of simulcast, in the order of the offer; 0 or 1: no simulcast */
+    char layers[MOST_LAYERS][MOST_NAME]; /* the RIDs of simulcast, in the order of the offer; 0 or 1: no simulcast */
     int layers_len;
-    uint8_t rid_id, transport_id;              /* ids of header extensions: RID, and the transport-wide number; 0: none */
-    publisher *publisher;                      /* one of the two */
+    uint8_t rid_id, transport_id; /* ids of header extensions: RID, and the transport-wide number; 0: none */
+    publisher *publisher;         /* one of the two */
     viewer *viewer;
 } peer;
 
@@ -149,8 +150,8 @@ void publisher_tick(peer *it, uint64_t now);
 bool publisher_deadline(peer *it, uint64_t *at);
 void publisher_wants_keyframe(peer *it, int track);
 bool publisher_clock(peer *it, int track, cpay_sender_clock_info *clock);
-store *publisher_store(peer *it, int track);  /* NULL: nothing came yet */
-uint32_t publisher_ssrc(peer *it, int track); /* 0: nothing came yet */
+cpay_history *publisher_store(peer *it, int track); /* the latest packets of a track, for all viewers */
+uint32_t publisher_ssrc(peer *it, int track);       /* 0: nothing came yet */
 void publisher_free(peer *it);
 int last_track(const peer *it); /* of video: the layer that is recorded, and that a viewer gets first */
 

@@ -5,10 +5,12 @@ static void add_peers(text *to, bool viewers) {
     bool any = false;
     EACH_PEER (it) {
         if (viewers ? !it->viewer : !it->publisher) continue;
-        text_add(to, "%s{\"number\":%llu,\"name\":\"%s\",\"connected\":%s,", any ? "," : "", (unsigned long long)it->number, it->name,
-                 it->secure ? "true" : "false");
-        if (viewers) viewer_stats(it, to);
-        else publisher_stats(it, to);
+        text_add(to, "%s{\"number\":%llu,\"name\":\"%s\",\"connected\":%s,", any ? "," : "", (unsigned long long)it->number,
+                 it->name, it->secure ? "true" : "false");
+        if (viewers)
+            viewer_stats(it, to);
+        else
+            publisher_stats(it, to);
         text_add(to, "}");
         any = true;
     }

@@ -506,21 +506,82 @@ def rate(loss, feedback, seconds):
 
 
 def measured(statistic, seconds):
-    rates, before = [], statistic().get("bytesSent", 0)
+    found, before = [], statistic().get("bytesSent", 0)
     for _ in range(seconds):
         time.sleep(1)
         now = statistic().get("bytesSent", 0)
-        rates.append((now - before) / 125)
+        found.append((now - before) / 125)
         before = now
-    return rates
+    return found
+
+
+class Relay(threading.Thread):
+    """Two ports between two browsers: what comes to one goes out of the other. A part of the SRTP is lost."""
+
+    def __init__(self, loss):
+        super().__init__(daemon=True)
+        self.loss, self.chance, self.stopped, self.addresses = loss, random.Random(1), False, [None, None]
+        self.ports = [socket.socket(socket.AF_INET, socket.SOCK_DGRAM) for _ in range(2)]
+        for port in self.ports:
+            port.bind(("127.0.0.1", 0))
+
+    def run(self):
+        while not self.stopped:
+            for port in select.select(self.ports, [], [], 0.2)[0]:
+                data, self.addresses[self.ports.index(port)] = port.recvfrom(2048)
+                to = 1 - self.ports.index(port)
+                lost = 128 <= data[0] < 192 and self.chance.random() * 100 < self.loss
+                if self.addresses[to] and not lost:
+                    self.ports[to].sendto(data, self.addresses[to])
+
+    def description(self, side, text):
+        """The description of a side for the other one: with the port of the relay in place of its own, which the relay learns."""
+        port = next(port for address, port in re.findall(r"a=candidate:\S+ 1 udp \d+ (\S+) (\d+)", text) if address == "127.0.0.1")
+        self.addresses[side] = ("127.0.0.1", int(port))
+        text = re.sub(r"a=candidate:.*\r\n", "", text)
+        mine = self.ports[1 - side].getsockname()[1]
+        return re.sub(r"(a=ice-ufrag)", f"a=candidate:1 1 udp 2130706431 127.0.0.1 {mine} typ host\r\n\\1", text)
+
+
+GATHERED = "new Promise((done) => { const look = () => c.iceGatheringState === 'complete' ? done(c.localDescription.sdp) : setTimeout(look, 50); look(); })"
+SENDS = """(async () => {
+  const stream = await navigator.mediaDevices.getUserMedia({ video: { width: 640, height: 480 }, audio: true });
+  const c = window.c = new RTCPeerConnection({ bundlePolicy: "max-bundle" });
+  for (const track of stream.getTracks()) c.addTransceiver(track, { direction: "sendonly", streams: [stream] });
+  await c.setLocalDescription();
+  return GATHERED;
+})()""".replace("GATHERED", GATHERED)
+GETS = """(async () => {
+  await navigator.mediaDevices.getUserMedia({ audio: true }); // or its addresses are hidden
+  const c = window.c = new RTCPeerConnection({ bundlePolicy: "max-bundle" });
+  await c.setRemoteDescription({ type: "offer", sdp: OFFER });
+  await c.setLocalDescription();
+  return GATHERED;
+})()""".replace("GATHERED", GATHERED)
+COUNTS = "(async () => [...(await c.getStats()).values()].find(({ type, kind }) => type === 'outbound-rtp' && kind === 'video'))()"
+
+
+def direct_rate(loss, seconds):
+    """The same for a call from Chromium to Chromium over the same losses."""
+    with Server() as it:  # for its page
+        sends, gets, relay = it.page("name=a"), it.page("name=b"), Relay(loss)
+        wait_for("pages", lambda: all(page.evaluate("typeof window.report") == "function" for page in (sends, gets)))
+        offer = relay.description(0, sends.evaluate(SENDS))
+        answer = relay.description(1, gets.evaluate(GETS.replace("OFFER", json.dumps(offer))))
+        relay.start()
+        sends.evaluate(f"c.setRemoteDescription({{ type: 'answer', sdp: {json.dumps(answer)} }})")
+        wait_for("frame", lambda: (sends.evaluate(COUNTS) or {}).get("framesSent", 0) > 0)
+        found = measured(lambda: sends.evaluate(COUNTS), seconds)
+        relay.stopped = True
+    return found
 
 
 def rates(seconds=25):
-    """How much Chromium sends by the feedback that it gets."""
-    print("| loss | " + " | ".join(("transport", "remb", "none")) + " |\n|---|---|---|---|")
+    """How much video Chromium sends by the feedback that it gets: in the fourth to sixth second, and at the end."""
+    print("| loss | transport-wide | REMB | neither | Chromium to Chromium |\n|---|---|---|---|---|")
     for loss in (0, 2, 5):
-        found = [rate(loss, feedback, seconds) for feedback in ("transport", "remb", "none")]
-        print(f"| {loss} % | " + " | ".join(f"{sum(each[-5:]) / 5:.0f} (after 5 s {sum(each[3:6]) / 3:.0f})" for each in found) + " |", flush=True)
+        found = [rate(loss, feedback, seconds) for feedback in ("transport", "remb", "none")] + [direct_rate(loss, seconds)]
+        print(f"| {loss} % | " + " | ".join(f"{sum(each[3:6]) / 3:.0f}, {sum(each[-5:]) / 5:.0f}" for each in found) + " |", flush=True)
 
 
 def shot(path):

@@ -4,6 +4,7 @@
 
 #include <stdbool.h>
 #include <stddef.h>
+#include <stdint.h>
 
 typedef struct {
     char *at;
@@ -15,5 +16,13 @@ void text_add(text *to, const char *format, ...) __attribute__((format(printf, 2
 
 /* A line of a session description, which ends with CRLF. */
 void text_line(text *to, const char *format, ...) __attribute__((format(printf, 2, 3)));
+
+/* Numbers of JSON with their names, each with a comma behind it. */
+typedef struct {
+    const char *name;
+    uint64_t value;
+} named;
+
+void text_numbers(text *to, const named *numbers, size_t count);
 
 #endif

@@ -1,9 +1,7 @@
 /* Viewers: each gets the packets of its publisher under SSRCs and numbers of its own, and again what it requests. */
-#include "forward.h"
 #include "rtcp.h"
 #include "server.h"
 
-#include <stdio.h>
 #include <stdlib.h>
 #include <string.h>
 
@@ -17,13 +15,15 @@ enum {
 
 /* One stream of a viewer. */
 typedef struct {
-    forwarder numbers;
-    int track, wanted;     /* the publisher's track that it gets, and the one to go over to */
-    int temporal;          /* the highest temporal layer that it gets */
-    unsigned resent_now;   /* in this tick */
-    cpay_red_sender red;   /* with has_red */
-    uint32_t octets;
-    uint64_t packets, requested, resent, not_kept, left_out, filled, keyframes_wanted, switches;
+    cpay_forwarder forwarder;
+    cpay_red_sender red;     /* with has_red */
+    uint32_t ssrc, rtx_ssrc; /* of the viewer */
+    uint32_t source;         /* SSRC of the source that was wanted last */
+    int track, wanted;       /* the publisher's track that it gets, and the one to go over to */
+    int temporal;            /* the highest temporal layer that it gets */
+    bool wants;              /* a source was wanted */
+    unsigned resent_now;     /* in this tick */
+    uint64_t requested, not_kept, keyframes_wanted;
     uint64_t report_sent;  /* ms */
     uint32_t report_ntp;   /* the middle 32 bits of its NTP time */
     report_block reported; /* by the viewer */
@@ -36,38 +36,65 @@ struct viewer {
 
 static int kind_of_track(int track) { return track == AUDIO ? AUDIO : VIDEO; }
 
-bool viewer_begin(peer *it, peer *of) {
+static uint64_t rate_of(int kind) { return kind == AUDIO ? 48000 : 90000; }
+
+static bool begin_stream(outgoing *to, int kind, const agreed *media) {
     static const uint32_t distance[] = {1};
-    viewer *own = of ? calloc(1, sizeof *own) : NULL;
-    if (!own) return false;
-    it->viewer = own;
-    for (int kind = 0; kind < KINDS; kind++) {
-        outgoing *to = &own->streams[kind];
-        const agreed *media = &it->media[kind];
-        forwarder_begin(&to->numbers, media);
-        to->temporal = ALL_LAYERS;
+    cpay_forwarder_settings settings;
+    secret(&to->ssrc, sizeof to->ssrc);
+    to->rtx_ssrc = to->ssrc ^ 0x5a5a5a5a;
+    to->temporal = ALL_LAYERS;
+    if (!media->used) return true;
+    cpay_forwarder_settings_init(&settings, media->codec, to->ssrc, media->payload_type);
+    secret(&settings.first_time, sizeof settings.first_time);
+    secret(&settings.first_number, sizeof settings.first_number);
+    settings.first_number &= 0x7fff; /* a loss near a wrap would confuse SRTP (RFC 3711, section 3.3.1) */
+    settings.has_rtx = media->has_rtx;
+    settings.rtx_ssrc = to->rtx_ssrc;
+    settings.rtx_payload_type = media->rtx_payload_type;
+    if (cpay_forwarder_new(&to->forwarder, &settings)) return false;
+    return kind == VIDEO || !media->has_red ||
+           cpay_red_sender_new(&to->red, media->red_payload_type, media->payload_type, distance, 1) == CPAY_OK;
+}
+
+bool viewer_begin(peer *it, peer *of) {
+    it->viewer = of ? calloc(1, sizeof *it->viewer) : NULL;
+    for (int kind = 0; kind < KINDS && it->viewer; kind++) {
+        outgoing *to = &it->viewer->streams[kind];
         to->track = to->wanted = kind == VIDEO ? last_track(of) : AUDIO;
-        if (media->has_red && cpay_red_sender_new(&to->red, media->red_payload_type, media->payload_type, distance, 1)) return false;
+        if (!begin_stream(to, kind, &it->media[kind])) return false;
     }
-    return true;
+    return it->viewer != NULL;
 }
 
 void viewer_ssrcs(const peer *it, int kind, uint32_t *ssrc, uint32_t *rtx_ssrc) {
-    *ssrc = it->viewer->streams[kind].numbers.ssrc;
-    *rtx_ssrc = it->viewer->streams[kind].numbers.rtx_ssrc;
+    *ssrc = it->viewer->streams[kind].ssrc;
+    *rtx_ssrc = it->viewer->streams[kind].rtx_ssrc;
 }
 
 /* ---- packets ---- */
 
+/* The temporal layer of a packet of VP8 (RFC 7741, section 4.2). 0 of other codecs. */
+static int temporal_of(cpay_codec codec, const uint8_t *datagram, size_t datagram_len) {
+    cpay_rtp_info info = {0};
+    if (codec != CPAY_VP8 || cpay_rtp_read(datagram, datagram_len, &info)) return 0;
+    const uint8_t *payload = datagram + info.payload_at;
+    size_t at = 2;
+    if (info.payload_len < 4 || !(payload[0] & 0x80) || !(payload[1] & 0x20)) return 0;
+    if (payload[1] & 0x80) at += payload[2] & 0x80 ? 2 : 1;
+    if (payload[1] & 0x40) at++;
+    return at < info.payload_len ? payload[at] >> 6 : 0;
+}
+
 /* Wraps a packet of audio in RED, with the one before it (RFC 2198). Returns the new size. */
-static size_t wrap(outgoing *to, uint8_t *packet, size_t size) {
+static size_t wrap(outgoing *to, uint8_t red_payload_type, uint8_t *packet, size_t size) {
     uint8_t payload[MOST_DATAGRAM];
     size_t header = 12, length = 0;
-    cpay_status status = cpay_red_wrap(&to->red, get(packet + 4, 4), RED_BUDGET, packet + header, size - header, payload, sizeof payload,
-                                       &length);
+    cpay_status status =
+        cpay_red_wrap(&to->red, get(packet + 4, 4), RED_BUDGET, packet + header, size - header, payload, sizeof payload, &length);
     if (status || size - header >= RED_BUDGET) return size;
     memcpy(packet + header, payload, length);
-    packet[1] = (uint8_t)((packet[1] & 0x80) | to->numbers.media.red_payload_type);
+    packet[1] = (uint8_t)((packet[1] & 0x80) | red_payload_type);
     return header + length;
 }
 
@@ -75,10 +102,13 @@ static void forward_to(peer *it, peer *from, int track, const uint8_t *datagram,
 
 /* Packets of a keyframe that came before its first one. */
 static void forward_early(peer *it, peer *from, int track, uint16_t number) {
+    uint8_t datagram[MOST_DATAGRAM];
     size_t size = 0;
+    cpay_resent found = CPAY_RESENT_NOT_KEPT;
     for (uint16_t n = 1; n <= EARLY; n++) {
-        const uint8_t *datagram = store_get(publisher_store(from, track), (uint16_t)(number + n), &size);
-        if (datagram) forward_to(it, from, track, datagram, size);
+        cpay_status status = cpay_history_resend(publisher_store(from, track), 0, (uint16_t)(number + n), datagram,
+                                                 sizeof datagram, &size, &found);
+        if (!status && found == CPAY_RESENT_WRITTEN) forward_to(it, from, track, datagram, size);
     }
 }
 
@@ -86,45 +116,52 @@ static void forward_to(peer *it, peer *from, int track, const uint8_t *datagram,
     int kind = kind_of_track(track);
     outgoing *to = &it->viewer->streams[kind];
     uint8_t *out = network_room();
+    uint32_t ssrc = get(datagram + 8, 4);
+    uint64_t ticks = now_us() * rate_of(kind) / 1000000;
     size_t size = 0;
+    cpay_forwarded done = CPAY_FORWARDED_OTHER_SOURCE;
+    cpay_status status;
     if (!it->secure || !it->media[kind].used || it->media[kind].codec != from->media[kind].codec) return;
-    if (track == to->wanted) forwarder_want(&to->numbers, get(datagram + 8, 4));
-    forwarded done = forwarder_write(&to->numbers, datagram, datagram_len, to->temporal, out, &size);
-    to->left_out += done == LEFT_OUT || done == FILLED;
-    to->filled += done == FILLED;
-    if (size == 0) return;
-    to->packets++;
-    to->octets += (uint32_t)(size - 12);
-    if (it->media[kind].has_red) size = wrap(to, out, size);
+    if (track == to->wanted && (!to->wants || to->source != ssrc)) {
+        if (cpay_forwarder_want(&to->forwarder, ssrc)) return;
+        to->wants = true;
+        to->source = ssrc;
+    }
+    if (temporal_of(it->media[kind].codec, datagram, datagram_len) > to->temporal)
+        status = cpay_forwarder_leave_out(&to->forwarder, datagram, datagram_len, out, MOST_DATAGRAM, &size, &done);
+    else
+        status = cpay_forwarder_write(&to->forwarder, ticks, datagram, datagram_len, out, MOST_DATAGRAM, &size, &done);
+    if (status || size == 0) return;
+    if (it->media[kind].has_red) size = wrap(to, it->media[kind].red_payload_type, out, size);
     srtp_send(it, out, size, false);
-    if (done != BEGAN) return;
+    if (done != CPAY_FORWARDED_BEGAN) return;
     to->track = track;
-    to->switches++;
     forward_early(it, from, track, (uint16_t)get(datagram + 2, 2));
 }
 
 void viewers_forward(peer *from, int track, const uint8_t *datagram, size_t size) {
-    store *kept = publisher_store(from, track);
-    if (!kept || !store_keep(kept, datagram, size)) return;
+    cpay_kept_once kept = CPAY_KEPT_KNOWN;
+    if (cpay_history_keep_once(publisher_store(from, track), datagram, size, &kept) || kept != CPAY_KEPT_NEW) return;
     EACH_PEER (it)
         if (it->viewer && !strcmp(it->name, from->name)) forward_to(it, from, track, datagram, size);
 }
 
 /* ---- RTCP of a viewer ---- */
 
-static void resend(peer *it, outgoing *to, const store *kept, uint16_t number) {
+static void resend(peer *it, outgoing *to, cpay_history *store, uint16_t number) {
+    size_t size = 0;
+    cpay_resent resent = CPAY_RESENT_NOT_KEPT;
     uint8_t *out = network_room();
     to->requested++;
     if (++to->resent_now > MOST_RESENT) return;
-    size_t size = forwarder_resend(&to->numbers, kept, number, out);
-    to->not_kept += size == 0;
-    to->resent += size > 0;
-    if (size > 0) srtp_send(it, out, size, false);
+    if (cpay_forwarder_resend(&to->forwarder, store, number, out, MOST_DATAGRAM, &size, &resent)) return;
+    to->not_kept += resent == CPAY_RESENT_NOT_KEPT;
+    if (resent == CPAY_RESENT_WRITTEN) srtp_send(it, out, size, false);
 }
 
 /* What the viewer reports: losses, and the round trip by the sender report that it names (RFC 3550, section 6.4.1). */
 static void read_report(outgoing *to, const uint8_t *bytes, size_t size) {
-    if (!rtcp_read_block(bytes, size, to->numbers.ssrc, &to->reported)) return;
+    if (!rtcp_read_block(bytes, size, to->ssrc, &to->reported)) return;
     if (to->reported.last == 0 || to->reported.last != to->report_ntp) return;
     uint64_t passed = now_ms() - to->report_sent, waited = (uint64_t)to->reported.delay * 1000 / 65536;
     to->round_trip = passed > waited ? passed - waited : 0;
@@ -136,8 +173,9 @@ void viewer_take(peer *it, const uint8_t *bytes, size_t size) {
     for (int kind = 0; kind < KINDS && from; kind++) {
         outgoing *to = &it->viewer->streams[kind];
         size_t count = 0;
+        if (!it->media[kind].used) continue;
         bool keyframe = false;
-        if (cpay_read_requests(bytes, size, to->numbers.ssrc, false, numbers, 512, &count, &keyframe)) return;
+        if (cpay_read_requests(bytes, size, to->ssrc, false, numbers, 512, &count, &keyframe)) return;
         read_report(to, bytes, size);
         for (size_t i = 0; i < count && i < 512; i++) resend(it, to, publisher_store(from, to->track), numbers[i]);
         to->keyframes_wanted += keyframe;
@@ -146,32 +184,35 @@ void viewer_take(peer *it, const uint8_t *bytes, size_t size) {
 }
 
 /* The publisher's clock on the viewer's time line, so that audio and video stay together. */
-static void send_report(peer *it, outgoing *to, const cpay_sender_clock_info *clock, uint64_t now) {
-    uint64_t passed = now - clock->arrived, rate = to->numbers.media.codec == CPAY_OPUS ? 48000 : 90000;
-    sender_report report = {.ntp_time = clock->ntp_time + (passed << 32) / 1000,
-                            .ssrc = to->numbers.ssrc,
-                            .rtp_time = clock->rtp_time + (uint32_t)(passed * rate / 1000) + to->numbers.time_offset,
-                            .packets = (uint32_t)to->packets,
-                            .octets = to->octets};
+static void send_report(peer *it, int kind, uint32_t source, const cpay_sender_clock_info *clock, uint64_t now) {
+    outgoing *to = &it->viewer->streams[kind];
+    uint64_t passed = now - clock->arrived, ntp_time = clock->ntp_time + (passed << 32) / 1000;
+    cpay_sender_report_info report = {0};
     uint8_t *out = network_room();
+    uint32_t rtp_time = clock->rtp_time + (uint32_t)(passed * rate_of(kind) / 1000);
+    if (cpay_forwarder_report(&to->forwarder, source, rtp_time, &report)) return;
     to->report_sent = now;
-    to->report_ntp = (uint32_t)(report.ntp_time >> 16);
-    srtp_send(it, out, rtcp_write_report(out, &report, it->name), true);
+    to->report_ntp = (uint32_t)(ntp_time >> 16);
+    srtp_send(it, out, rtcp_write_report(out, ntp_time, &report, it->name), true);
+}
+
+static void tick_stream(peer *it, peer *from, int kind, uint64_t now) {
+    outgoing *to = &it->viewer->streams[kind];
+    cpay_sender_clock_info clock = {0};
+    uint32_t source = 0;
+    to->resent_now = 0;
+    if (kind == VIDEO && to->wanted > last_track(from)) to->wanted = last_track(from); /* the next publisher has fewer layers */
+    bool gets = cpay_forwarder_source(&to->forwarder, &source) == CPAY_OK;
+    bool waits = !gets || to->track != to->wanted || source != publisher_ssrc(from, to->wanted);
+    if (kind == VIDEO && waits) publisher_wants_keyframe(from, to->wanted);
+    if (gets && now - to->report_sent >= REPORT_INTERVAL && publisher_clock(from, to->track, &clock))
+        send_report(it, kind, source, &clock, now);
 }
 
 void viewer_tick(peer *it, uint64_t now) {
     peer *from = peer_publisher(it->name);
-    cpay_sender_clock_info clock = {0};
-    if (!from || !it->secure) return;
-    for (int kind = 0; kind < KINDS; kind++) {
-        outgoing *to = &it->viewer->streams[kind];
-        to->resent_now = 0;
-        if (kind == VIDEO && to->wanted > last_track(from)) to->wanted = last_track(from); /* the next publisher has fewer layers */
-        bool waits = !to->numbers.begun || to->track != to->wanted || to->numbers.source != publisher_ssrc(from, to->wanted);
-        if (kind == VIDEO && it->media[VIDEO].used && waits) publisher_wants_keyframe(from, to->wanted);
-        if (waits || now - to->report_sent < REPORT_INTERVAL || !publisher_clock(from, to->track, &clock)) continue;
-        send_report(it, to, &clock, now);
-    }
+    for (int kind = 0; kind < KINDS && from && it->secure; kind++)
+        if (it->media[kind].used) tick_stream(it, from, kind, now);
 }
 
 /* ---- the viewer's wishes, and its counts ---- */
@@ -192,18 +233,21 @@ bool viewer_wants_layer(peer *it, const char *name) {
 }
 
 static void stream_stats(const peer *it, int kind, text *to) {
-    const outgoing *from = &it->viewer->streams[kind];
-    const peer *publisher = peer_publisher(it->name);
-    bool layered = kind == VIDEO && publisher && publisher->layers_len > 1;
-    text_add(to, "{\"kind\":\"%s\",\"codec\":\"%s\",\"layer\":\"%s\",\"temporal\":%d,\"red\":%s,", kind == VIDEO ? "video" : "audio",
-             codec_name(it->media[kind].codec), layered ? publisher->layers[from->track - VIDEO] : "", from->temporal,
-             it->media[kind].has_red ? "true" : "false");
-    text_add(to, "\"packets\":%llu,\"bytes\":%u,\"lost\":%d,\"requested\":%llu,\"resent\":%llu,\"notKept\":%llu,",
-             (unsigned long long)from->packets, from->octets, from->reported.lost, (unsigned long long)from->requested,
-             (unsigned long long)from->resent, (unsigned long long)from->not_kept);
-    text_add(to, "\"leftOut\":%llu,\"filled\":%llu,\"keyframesRequested\":%llu,\"switches\":%llu,\"roundTrip\":%llu}",
-             (unsigned long long)from->left_out, (unsigned long long)from->filled, (unsigned long long)from->keyframes_wanted,
-             (unsigned long long)from->switches, (unsigned long long)from->round_trip);
+    outgoing *of = &it->viewer->streams[kind];
+    const peer *from = peer_publisher(it->name);
+    bool layered = kind == VIDEO && from && from->layers_len > 1;
+    cpay_forwarder_counts_info counts = {0};
+    if (cpay_forwarder_counts(&of->forwarder, &counts)) return;
+    text_add(to, "{\"kind\":\"%s\",\"codec\":\"%s\",\"layer\":\"%s\",\"temporal\":%d,\"red\":%s,",
+             kind == VIDEO ? "video" : "audio", codec_name(it->media[kind].codec), layered ? from->layers[of->track - VIDEO] : "",
+             of->temporal, it->media[kind].has_red ? "true" : "false");
+    const named numbers[] = {
+        {"packets", counts.packets},  {"bytes", counts.octets},      {"requested", of->requested},
+        {"resent", counts.resent},    {"notKept", of->not_kept},     {"leftOut", counts.left_out},
+        {"filled", counts.filled},    {"switches", counts.switches}, {"keyframesRequested", of->keyframes_wanted},
+        {"roundTrip", of->round_trip}};
+    text_numbers(to, numbers, sizeof numbers / sizeof *numbers);
+    text_add(to, "\"lost\":%d}", of->reported.lost);
 }
 
 void viewer_stats(peer *it, text *to) {
@@ -219,7 +263,10 @@ void viewer_stats(peer *it, text *to) {
 }
 
 void viewer_free(peer *it) {
-    for (int kind = 0; kind < KINDS; kind++) cpay_red_sender_free(&it->viewer->streams[kind].red);
+    for (int kind = 0; kind < KINDS; kind++) {
+        cpay_forwarder_free(&it->viewer->streams[kind].forwarder);
+        cpay_red_sender_free(&it->viewer->streams[kind].red);
+    }
     free(it->viewer);
     it->viewer = NULL;
 }
