@@ -99,12 +99,19 @@ void peer_seen(peer *it, const struct sockaddr_in *at, bool nominated) {
     if (!is_at(it, at)) it->known[it->known_len++ % MOST_ADDRESSES] = *at;
 }
 
+static bool has_other_codec(const peer *viewer, const peer *of) {
+    for (int kind = 0; kind < KINDS; kind++)
+        if (viewer->media[kind].used && of->media[kind].used && viewer->media[kind].codec != of->media[kind].codec) return true;
+    return false;
+}
+
 /* A publisher whose keys are there replaces the one before, such as a page that was loaded again. An offer alone replaces nobody.
- */
+ * Viewers stay, unless the codec is another one: their pages ask again. */
 void peer_secured(peer *of) {
-    if (!of->publisher) return;
-    EACH_PEER (it)
-        if (it != of && it->publisher && it->secure && !strcmp(it->name, of->name)) it->ended = true;
+    EACH_PEER (it) {
+        if (!of->publisher || it == of || strcmp(it->name, of->name)) continue;
+        if (it->publisher ? it->secure : has_other_codec(it, of)) it->ended = true;
+    }
 }
 
 void peers_tick(uint64_t now) {

@@ -205,7 +205,8 @@ static void tick_stream(peer *it, peer *from, int kind, uint64_t now) {
     bool gets = cpay_forwarder_source(&to->forwarder, &source) == CPAY_OK;
     bool waits = !gets || to->track != to->wanted || source != publisher_ssrc(from, to->wanted);
     if (kind == VIDEO && waits) publisher_wants_keyframe(from, to->wanted);
-    if (gets && now - to->report_sent >= REPORT_INTERVAL && publisher_clock(from, to->track, &clock))
+    bool same = gets && source == publisher_ssrc(from, to->track);
+    if (same && now - to->report_sent >= REPORT_INTERVAL && publisher_clock(from, to->track, &clock))
         send_report(it, kind, source, &clock, now);
 }
 
