@@ -19,8 +19,7 @@ typedef struct {
     uint16_t source_of[KEPT];         /* which numbers of the source were sent under the latest numbers */
     uint32_t time_offset, last_time;
     uint64_t last_at;             /* ticks: when the packet with the highest number was written */
-    uint16_t id_highest, last_id; /* the same for the picture ids of VP8 */
-    uint16_t id_offset, id_offset_at[KEPT];
+    uint16_t id_offset, last_id;  /* the same for the picture ids of VP8 */
     uint8_t tl0_offset, last_tl0; /* and for TL0PICIDX */
 } forwarder;
 
@@ -88,18 +87,6 @@ static bool number_it(forwarder *it, uint16_t number) {
     return true;
 }
 
-/* The same for picture ids of 15 bits. Whether this is a new picture. */
-static bool number_picture(forwarder *it, const cpay_vp8_fields_info *fields) {
-    uint16_t id = fields->picture_id, ahead = (uint16_t)((id - it->id_highest) & 0x7fff);
-    if (!fields->has_picture_id || ahead == 0 || ahead >= 0x4000) return false;
-    for (uint16_t n = it->id_highest; n != id;) {
-        n = (uint16_t)((n + 1) & 0x7fff);
-        it->id_offset_at[n % KEPT] = it->id_offset;
-    }
-    it->id_highest = id;
-    return true;
-}
-
 /* Picture id and TL0PICIDX go on across sources, and close up where layers are left out: browsers wait for pictures that are
  * missing. */
 static void patch(forwarder *it, uint8_t *payload, size_t size, bool is_last) {
@@ -107,7 +94,7 @@ static void patch(forwarder *it, uint8_t *payload, size_t size, bool is_last) {
     if (!fields.has_picture_id && !fields.has_tl0_pic_idx) return;
     fields.has_key_idx = false;
     uint16_t mask = fields.picture_id_bits == 7 ? 0x7f : 0x7fff;
-    fields.picture_id = (uint16_t)((fields.picture_id + it->id_offset_at[fields.picture_id % KEPT]) & mask);
+    fields.picture_id = (uint16_t)((fields.picture_id + it->id_offset) & mask);
     fields.tl0_pic_idx = (uint8_t)(fields.tl0_pic_idx + it->tl0_offset);
     if (cpay_vp8_patch(payload, size, &fields) || !is_last) return;
     it->last_id = fields.picture_id;
@@ -178,7 +165,6 @@ static void begin_source(forwarder *it, uint64_t now, const cpay_rtp_info *info,
     it->first = info->sequence_number;
     it->highest = (uint16_t)(info->sequence_number - 1);
     it->offset = (uint16_t)(it->last_number + 1 - info->sequence_number);
-    it->id_highest = (uint16_t)((fields->picture_id - 1) & 0x7fff);
     it->id_offset = (uint16_t)(it->last_id + 1 - fields->picture_id);
     it->tl0_offset = (uint8_t)(it->last_tl0 + 1 - fields->tl0_pic_idx);
     it->counts.switches++;
@@ -210,7 +196,6 @@ cpay_status cpay_forwarder_write(cpay_forwarder *handle, uint64_t now, const uin
     *forwarded = place(it, &info);
     if (*forwarded != CPAY_FORWARDED_WRITTEN) return CPAY_OK;
     bool ahead = number_it(it, info.sequence_number);
-    number_picture(it, &fields);
     *size = write_packet(it, &info, datagram, ahead, bytes);
     it->source_of[number_of(it, info.sequence_number) % KEPT] = info.sequence_number;
     it->counts.packets++;
@@ -229,14 +214,12 @@ cpay_status cpay_forwarder_leave_out(cpay_forwarder *handle, const uint8_t *data
     cpay_rtp_info info = {0};
     *size = 0;
     if (cpay_rtp_read(datagram, datagram_len, &info) || bytes_len < HEADER + PADDING) return CPAY_TOO_SMALL;
-    cpay_vp8_fields_info fields = fields_of(it->settings.codec, datagram + info.payload_at, info.payload_len);
     *forwarded = place(it, &info);
     if (*forwarded != CPAY_FORWARDED_WRITTEN) return CPAY_OK;
     *forwarded = CPAY_FORWARDED_LEFT_OUT;
     it->counts.left_out++;
     bool ahead = number_it(it, info.sequence_number);
-    if (number_picture(it, &fields)) it->id_offset--; /* the ids of later pictures close up, */
-    if (ahead) it->offset--;                          /* and so do their numbers */
+    if (ahead) it->offset--; /* the numbers of later packets close up */
     if (ahead) return CPAY_OK;
     *forwarded = CPAY_FORWARDED_FILLED;
     it->counts.filled++;

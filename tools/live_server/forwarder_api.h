@@ -5,6 +5,8 @@
 
 #include <codec_payload.h>
 
+#ifndef LIBRARY_FORWARDS /* the Makefile looks whether the library has them */
+
 typedef struct {
     cpay_handle handle;
 } cpay_forwarder;
@@ -64,4 +66,5 @@ CPAY_CHECKED cpay_status cpay_forwarder_counts(cpay_forwarder *forwarder, cpay_f
 CPAY_CHECKED cpay_status cpay_forwarder_report(cpay_forwarder *forwarder, uint32_t ssrc, uint32_t rtp_time,
                                                cpay_sender_report_info *report);
 
+#endif
 #endif
