@@ -54,7 +54,7 @@ void give_up(const char *what, const char *why) {
 static double number_of(const char *value, double most) {
     char *end;
     double number = strtod(value, &end);
-    if (end == value || *end || !(number >= 0 && number <= most)) give_up(value, "not a number of the range");
+    if (end == value || *end || !(number >= 0 && number <= most)) give_up(value, "not a number, or out of range");
     return number;
 }
 
@@ -105,7 +105,8 @@ static void find_candidates(void) {
     struct in_addr address;
     for (int i = 0; i < the.candidates_len; i++)
         if (inet_pton(AF_INET, the.candidates[i], &address) != 1) give_up(the.candidates[i], "not an address of IPv4");
-    if (the.candidates_len > 0 || getifaddrs(&all)) return;
+    if (the.candidates_len > 0) return;
+    if (getifaddrs(&all)) all = NULL;
     for (struct ifaddrs *it = all; it && the.candidates_len < MOST_ADDRESSES; it = it->ifa_next) {
         if (!it->ifa_addr || it->ifa_addr->sa_family != AF_INET || !(it->ifa_flags & IFF_UP)) continue;
         char *to = texts[the.candidates_len];
@@ -113,6 +114,7 @@ static void find_candidates(void) {
         if (inet_ntop(AF_INET, &at->sin_addr, to, INET_ADDRSTRLEN)) add_candidate(to);
     }
     freeifaddrs(all);
+    if (the.candidates_len == 0) add_candidate(the.address);
 }
 
 /* SRTP and SRTCP: first decrypted and authenticated, so that no stranger reaches a session of the library. */

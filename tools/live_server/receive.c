@@ -132,11 +132,13 @@ static void forward_red(peer *it, const cpay_rtp_info *info, const uint8_t *byte
     }
 }
 
+/* Another SSRC has numbers of its own, and so a store of its own. */
 static bool begin_track(track *to, uint32_t ssrc) {
     cpay_history_settings settings = {.limit = MOST_KEPT};
+    if (to->arrived && to->ssrc == ssrc) return true;
+    cpay_history_free(&to->store);
     to->ssrc = ssrc;
-    if (!to->arrived) to->arrived = cpay_history_new(&to->store, &settings) == CPAY_OK;
-    return to->arrived;
+    return to->arrived = cpay_history_new(&to->store, &settings) == CPAY_OK;
 }
 
 /* Forwards the packet itself, those that are in RED, or the one that a retransmission repeats. */

@@ -5,7 +5,7 @@
     ./test.py VP8-5 layers       these tests
     ./test.py --table            the table of losses of the README: calls of 20 s
     ./test.py --rates            the bitrates of Chromium by feedback and loss, beside a call from Chromium to Chromium
-    ./test.py --shot FILE.png    a picture of the page
+    ./test.py --shot FILE.webp   the picture of the page in docs/pictures
 
 A call fails unless its viewer shows nearly all frames that the publisher sent, its recording decodes without a word and has the
 frames that the library released, and the server ends without a message of a sanitizer. Needs chromium, ffmpeg, ffprobe and Python's
@@ -145,7 +145,8 @@ class Page:
     def shot(self, path):
         self.browser.call("Page.bringToFront", self.session)
         time.sleep(1)
-        picture = self.browser.call("Page.captureScreenshot", self.session, format="png", captureBeyondViewport=True)
+        kind = {"format": "png"} if path.endswith(".png") else {"format": "webp", "quality": 60}
+        picture = self.browser.call("Page.captureScreenshot", self.session, captureBeyondViewport=True, **kind)
         pathlib.Path(path).write_bytes(base64.b64decode(picture["data"]))
 
     def close(self):
