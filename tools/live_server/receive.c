@@ -16,7 +16,6 @@ enum {
     MOST_FORWARDED = MOST_DATAGRAM - 2, /* bytes of a packet: a retransmission has two more */
     KEYFRAME_INTERVAL = 500,            /* ms between two requests for a keyframe */
     REMB_INTERVAL = 1000,               /* ms */
-    RED_STEP = 960,                     /* ticks of a packet of Opus of 20 ms */
     MICROSECONDS = 1000000
 };
 
@@ -37,7 +36,8 @@ struct publisher {
     cpay_transport_reporter transport; /* with FEEDBACK_TRANSPORT, if it was offered */
     recording *record;
     track tracks[TRACKS];
-    uint32_t ssrc; /* ours */
+    uint32_t ssrc;     /* ours */
+    uint32_t red_step; /* ticks of a packet of audio, with RED */
     uint64_t remb_sent, keyframes_for_viewers;
 };
 
@@ -56,8 +56,11 @@ static int kind_of(const peer *it, uint8_t payload_type) {
 /* Formats that the answer does not have are left out. */
 static void keep_agreed(const peer *it, cpay_sdp_session_settings *found) {
     size_t kept = 0;
-    for (size_t i = 0; i < found->formats_len; i++)
-        if (kind_of(it, found->formats[i].payload_type) >= 0) found->formats[kept++] = found->formats[i];
+    for (size_t i = 0; i < found->formats_len; i++) {
+        if (kind_of(it, found->formats[i].payload_type) < 0) continue;
+        if (found->formats[i].has_red) it->publisher->red_step = found->formats[i].red_step;
+        found->formats[kept++] = found->formats[i];
+    }
     found->formats_len = kept;
 }
 
@@ -121,8 +124,8 @@ static void forward_red(peer *it, const cpay_rtp_info *info, const uint8_t *byte
     uint8_t out[MOST_DATAGRAM], opus = it->media[AUDIO].payload_type;
     cpay_recovered_info one = {0};
     for (size_t i = 0; i < 33; i++) {
-        if (cpay_red_recover(opus, RED_STEP, 65536 + (uint64_t)info->sequence_number, info->timestamp, bytes + info->payload_at,
-                             info->payload_len, i, &one, out + 12, sizeof out - 12))
+        if (cpay_red_recover(opus, it->publisher->red_step, 65536 + (uint64_t)info->sequence_number, info->timestamp,
+                             bytes + info->payload_at, info->payload_len, i, &one, out + 12, sizeof out - 12))
             return;
         put(out, 0x8000u | (one.is_primary && info->marker ? 0x80u : 0) | opus, 2);
         put(out + 2, (uint16_t)one.number, 2);

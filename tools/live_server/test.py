@@ -394,6 +394,18 @@ def test_disk():
     return f"{fault!r}, {it.recordings[0].frames} frames recorded"
 
 
+def test_phone():
+    """The page fits a phone's screen, with streams of a publisher and of a viewer on it."""
+    with Server() as it:
+        page = it.page("publish=camera&size=320&watch")
+        it.browser.call("Emulation.setDeviceMetricsOverride", page.session, width=390, height=844, deviceScaleFactor=2, mobile=True)
+        wait_for("picture", lambda: page.frames() > 20)
+        width, cards = page.evaluate("[document.documentElement.scrollWidth, document.querySelectorAll('.card b:not(:empty)').length]")
+    require(width <= 390, f"the page has a width of {width}")
+    require(cards > 15, f"{cards} numbers are shown")
+    return f"{cards} numbers within {width} pixels"
+
+
 # ---- strangers ----
 
 
@@ -599,7 +611,7 @@ def shot(path):
 # ---- the tests ----
 
 TESTS = {f"{codec}-{loss}": (lambda codec=codec, loss=loss: test_call(codec, loss)) for codec in CODECS for loss in LOSSES}
-TESTS |= {name: globals()[f"test_{name}"] for name in ("refusals", "token", "disk", "reordered", "viewers", "feedback", "layers", "reload", "damaged", "hostile")}
+TESTS |= {name: globals()[f"test_{name}"] for name in ("refusals", "token", "disk", "phone", "reordered", "viewers", "feedback", "layers", "reload", "damaged", "hostile")}
 
 
 def main():
