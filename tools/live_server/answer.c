@@ -171,10 +171,8 @@ static void write_section(text *to, const peer *it, const description *offer, co
     if (publishes && the.feedback == FEEDBACK_TRANSPORT && media->transport_cc_id)
         text_line(to, "a=extmap:%u " TRANSPORT_WIDE, media->transport_cc_id);
     write_formats(to, offer, media, &it->media[kind], publishes);
-    if (!publishes)
-        write_sources(to, it, kind);
-    else if (kind == VIDEO)
-        write_layers(to, it, media);
+    if (!publishes) write_sources(to, it, kind);
+    else if (kind == VIDEO) write_layers(to, it, media);
 }
 
 static void write_answer(text *to, const peer *it, const description *offer) {

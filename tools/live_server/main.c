@@ -124,10 +124,8 @@ void take_media(const struct sockaddr_in *from, uint8_t *bytes, size_t size) {
     if (!it || !it->secure || it->ended || !srtp_open(it, bytes, &size, rtcp)) return;
     if (the.damage > 0 && drand48() * 100 < the.damage && size > 0)
         bytes[(size_t)(drand48() * (double)size)] ^= (uint8_t)lrand48();
-    if (it->publisher)
-        publisher_take(it, bytes, size);
-    else if (rtcp)
-        viewer_take(it, bytes, size);
+    if (it->publisher) publisher_take(it, bytes, size);
+    else if (rtcp) viewer_take(it, bytes, size);
 }
 
 /* RFC 7983, section 7: the first byte says what a datagram is. */
@@ -138,10 +136,8 @@ static void take(const struct sockaddr_in *from, uint8_t *bytes, size_t size) {
     }
     peer *it = size > 0 ? peer_at(from) : NULL;
     if (!it) return;
-    if (bytes[0] >= 20 && bytes[0] < 64)
-        dtls_take(it, bytes, size);
-    else if (bytes[0] >= 128 && bytes[0] < 192 && network_passes(from, bytes, size))
-        take_media(from, bytes, size);
+    if (bytes[0] >= 20 && bytes[0] < 64) dtls_take(it, bytes, size);
+    else if (bytes[0] >= 128 && bytes[0] < 192 && network_passes(false, from, bytes, size)) take_media(from, bytes, size);
 }
 
 static void on_signal(int number) {

@@ -112,8 +112,7 @@ static delayed *heap_take(void) {
     return first;
 }
 
-/* Whether a datagram of SRTP passes at once. If not, it is lost, or waits. */
-static bool passes(bool out, const struct sockaddr_in *at, const uint8_t *bytes, size_t size) {
+bool network_passes(bool out, const struct sockaddr_in *at, const uint8_t *bytes, size_t size) {
     static uint64_t order;
     unsigned delay = the.network.delay + (happens(the.network.reorder) ? OVERTAKEN : 0);
     delayed *it;
@@ -129,12 +128,8 @@ static bool passes(bool out, const struct sockaddr_in *at, const uint8_t *bytes,
     return false;
 }
 
-bool network_passes(const struct sockaddr_in *from, const uint8_t *bytes, size_t size) {
-    return passes(false, from, bytes, size);
-}
-
 void network_send_media(const struct sockaddr_in *to, size_t size) {
-    if (passes(true, to, out_bytes[out_len], size)) network_send(to, size);
+    if (network_passes(true, to, out_bytes[out_len], size)) network_send(to, size);
 }
 
 void network_deliver(uint64_t now) {

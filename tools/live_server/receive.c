@@ -151,10 +151,8 @@ static void forward(peer *it, const cpay_arrival *arrival, const uint8_t *bytes,
     int kind = kind_of(it, arrival->payload_type), number = kind < 0 ? -1 : track_of(it, kind, arrival->ssrc, bytes, size);
     if (number < 0 || size > MOST_FORWARDED || cpay_rtp_read(bytes, size, &info)) return;
     if (!begin_track(&it->publisher->tracks[number], arrival->ssrc)) return;
-    if (info.payload_type == arrival->payload_type)
-        viewers_forward(it, number, bytes, size);
-    else if (it->media[kind].has_red && info.payload_type == it->media[kind].red_payload_type)
-        forward_red(it, &info, bytes);
+    if (info.payload_type == arrival->payload_type) viewers_forward(it, number, bytes, size);
+    else if (it->media[kind].has_red && info.payload_type == it->media[kind].red_payload_type) forward_red(it, &info, bytes);
     else if (cpay_rtx_original(arrival->ssrc, arrival->payload_type, bytes, size, original, sizeof original, &size) == CPAY_OK)
         viewers_forward(it, number, original, size);
 }

@@ -103,7 +103,7 @@ void network_start(void);
 extern int network_port;
 extern uint64_t network_dropped;
 void network_receive(void (*take)(const struct sockaddr_in *from, uint8_t *bytes, size_t size));
-bool network_passes(const struct sockaddr_in *from, const uint8_t *bytes, size_t size); /* SRTP that is not lost or delayed */
+bool network_passes(bool out, const struct sockaddr_in *at, const uint8_t *bytes, size_t size); /* false: it is lost, or waits */
 uint8_t *network_room(void); /* where the next datagram is written: MOST_DATAGRAM + SRTP_ROOM bytes */
 void network_send(const struct sockaddr_in *to, size_t size);
 void network_send_media(const struct sockaddr_in *to, size_t size);

@@ -7,10 +7,8 @@ static void add_peers(text *to, bool viewers) {
         if (viewers ? !it->viewer : !it->publisher) continue;
         text_add(to, "%s{\"number\":%llu,\"name\":\"%s\",\"connected\":%s,", any ? "," : "", (unsigned long long)it->number,
                  it->name, it->secure ? "true" : "false");
-        if (viewers)
-            viewer_stats(it, to);
-        else
-            publisher_stats(it, to);
+        if (viewers) viewer_stats(it, to);
+        else publisher_stats(it, to);
         text_add(to, "}");
         any = true;
     }

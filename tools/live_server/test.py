@@ -512,19 +512,18 @@ def table(seconds=20):
 
 
 def rate(loss, feedback, seconds):
-    """The bitrates of video that Chromium sends, in kbit/s: of each second."""
+    """The bitrates that Chromium gives its encoder of video, in kbit/s: of each second."""
     with Server("--loss", str(loss), "--feedback", feedback) as it:
         page = publisher_of(it, "publish=camera&codec=VP8")
         return measured(lambda: page.statistic("publish"), seconds)
 
 
 def measured(statistic, seconds):
-    found, before = [], statistic().get("bytesSent", 0)
+    """The bitrate that the encoder is given, each second: what it sends is less if the picture is simple."""
+    found = []
     for _ in range(seconds):
         time.sleep(1)
-        now = statistic().get("bytesSent", 0)
-        found.append((now - before) / 125)
-        before = now
+        found.append(statistic().get("targetBitrate", 0) / 1000)
     return found
 
 
@@ -589,8 +588,8 @@ def direct_rate(loss, seconds):
     return found
 
 
-def rates(seconds=25):
-    """How much video Chromium sends by the feedback that it gets: in the fourth to sixth second, and at the end."""
+def rates(seconds=20):
+    """Which bitrate Chromium gives its encoder by the feedback that it gets: in the fourth to sixth second, and at the end."""
     print("| loss | transport-wide | REMB | neither | Chromium to Chromium |\n|---|---|---|---|---|")
     for loss in (0, 2, 5):
         found = [rate(loss, feedback, seconds) for feedback in ("transport", "remb", "none")] + [direct_rate(loss, seconds)]

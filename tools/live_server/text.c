@@ -7,10 +7,8 @@ static void add(text *to, const char *format, va_list values) {
     if (to->full) return;
     int size = vsnprintf(to->at + to->size, to->room - to->size, format, values);
     to->full = size < 0 || (size_t)size >= to->room - to->size;
-    if (to->full)
-        to->at[to->size] = 0;
-    else
-        to->size += (size_t)size;
+    if (to->full) to->at[to->size] = 0;
+    else to->size += (size_t)size;
 }
 
 void text_add(text *to, const char *format, ...) {
