@@ -750,8 +750,9 @@ typedef enum {
                                     this one */
     CPAY_DUPLICATE = 2,        /**< dropped: a packet with this number is already held */
     CPAY_LATE = 3,             /**< dropped: its number was already released, discarded or evicted */
-    CPAY_SUSPECT = 4,          /**< its number is outside the windows, or arrived before with another RTP time; it is kept aside
-                                    until another suspect packet or a restart */
+    CPAY_SUSPECT = 4,          /**< its number is outside the windows, arrived before with another RTP time, or is below the first
+                                    number with an RTP time that does not fit; it is kept aside until another suspect packet or
+                                    a restart */
     CPAY_RESTARTED = 5,        /**< the sender has restarted: this packet and the suspect packet before it were stored */
     CPAY_RESTARTED_ALONE = 6,  /**< the sender has restarted, and only this packet was stored: the packet before it had no media,
                                     or you called cpay_receiver_restart */
