@@ -547,6 +547,17 @@ cpay_status cpay_session_new(cpay_session *session, const cpay_session_settings 
                                    pairs ? pairs : (const cpay_ssrc_pair *)nothing, pairs_len);
 }
 
+cpay_status proved_cpay_session_settings_check(const cpay_session_settings *settings, const cpay_session_format *formats,
+                                               size_t formats_len, const uint8_t *no_media, size_t no_media_len,
+                                               cpay_settings_fault *fault);
+cpay_status cpay_session_settings_check(const cpay_session_settings *settings, const cpay_session_format *formats,
+                                        size_t formats_len, const uint8_t *no_media, size_t no_media_len,
+                                        cpay_settings_fault *fault) {
+    if ((!formats && formats_len) || (!no_media && no_media_len)) return CPAY_INVALID;
+    return proved_cpay_session_settings_check(settings, formats ? formats : (const cpay_session_format *)nothing, formats_len,
+                                              no_media ? no_media : (const uint8_t *)nothing, no_media_len, fault);
+}
+
 cpay_status proved_cpay_session_receive(cpay_handle *session, uint64_t now, const uint8_t *datagram, size_t datagram_len,
                                         cpay_arrival *arrival);
 cpay_status cpay_session_receive(cpay_session *session, uint64_t now, const uint8_t *datagram, size_t datagram_len,

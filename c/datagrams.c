@@ -37,11 +37,12 @@ static size_t packet(uint8_t *out, uint8_t type, uint16_t number, uint32_t time,
     return 12 + size;
 }
 
-/* The outcome of a packet with this type and number; its RTP time is 960 times the number. */
+/* The outcome of a packet with this type and number. Its RTP time is 960 times the number; numbers right below 0 count as negative. */
 static uint32_t came(cpay_receiver *receiver, uint64_t now, uint8_t type, uint16_t number) {
     uint8_t bytes[16];
     cpay_outcome outcome = (cpay_outcome)99;
-    size_t size = packet(bytes, type, number, (uint32_t)number * 960, 2);
+    uint32_t place = number < 0xff00 ? number : number - (uint32_t)65536;
+    size_t size = packet(bytes, type, number, place * 960, 2);
     CHECK(cpay_receiver_receive(receiver, now, bytes, size, &outcome) == CPAY_OK);
     return outcome;
 }

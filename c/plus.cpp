@@ -99,6 +99,10 @@ void over_a_port() {
     sends.ssrc = 7;
     cpay::sender from;
     cpay::session to;
+    cpay_settings_fault fault = {};
+    cpay_session_format twice[2] = {formats[0], formats[0]};
+    CHECK(cpay::check_settings(settings, twice, {}, fault) == CPAY_INVALID && fault.kind == CPAY_SETTINGS_TWO_MEANINGS);
+    CHECK(fault.has_format && fault.format == 1 && fault.payload_type == 96 && to.make(settings, twice) == CPAY_INVALID);
     CHECK(from.make(sends) == CPAY_OK && to.make(settings, formats) == CPAY_OK && to.make(settings, formats) == CPAY_FULL);
     const std::vector<std::uint8_t> frame(3000, 7);
     cpay::storage datagram, found;

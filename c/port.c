@@ -24,6 +24,26 @@ static const cpay_session_format FORMATS[] = {
 };
 static const uint8_t NO_MEDIA[] = {101}; /* telephone events */
 
+static void check(cpay_status status, const char *what) {
+    if (status == CPAY_OK) return;
+    fprintf(stderr, "%s: %s\n", what, cpay_status_text(status));
+    exit(EXIT_FAILURE);
+}
+
+/* Creates the session, or says which setting it cannot meet. */
+static void create(cpay_session *session, const cpay_session_settings *settings) {
+    cpay_settings_fault fault = {0, CPAY_SETTINGS_FIT, 0, false, false};
+    cpay_status status = cpay_session_new(session, settings, FORMATS, 2, NO_MEDIA, sizeof NO_MEDIA, NULL, 0);
+    if (status == CPAY_INVALID &&
+        cpay_session_settings_check(settings, FORMATS, 2, NO_MEDIA, sizeof NO_MEDIA, &fault) == CPAY_INVALID) {
+        fprintf(stderr, "settings: %s", cpay_settings_fault_text(fault.kind));
+        if (fault.has_format) fprintf(stderr, ", format %zu", fault.format);
+        if (fault.has_payload_type) fprintf(stderr, ", payload type %u", (unsigned)fault.payload_type);
+        fputc('\n', stderr);
+    }
+    check(status, "session");
+}
+
 /* A stream that is recorded. */
 typedef struct {
     uint32_t ssrc;
@@ -40,12 +60,6 @@ typedef struct {
     uint8_t *bytes; /* memory for the bytes of an event, which grows if an event asks for more */
     size_t room;
 } recorder;
-
-static void check(cpay_status status, const char *what) {
-    if (status == CPAY_OK) return;
-    fprintf(stderr, "%s: %s\n", what, cpay_status_text(status));
-    exit(EXIT_FAILURE);
-}
 
 static void require(bool holds, const char *what) {
     if (holds) return;
@@ -167,7 +181,7 @@ int main(int argc, char **argv) {
     require(connect(from, (struct sockaddr *)&address, length) == 0, "connect");
     it.folder = argc > 1 ? argv[1] : NULL;
     cpay_session_settings_init(&settings, CPAY_FOR_LIVE);
-    check(cpay_session_new(&it.session, &settings, FORMATS, 2, NO_MEDIA, sizeof NO_MEDIA, NULL, 0), "session");
+    create(&it.session, &settings);
     check(cpay_sender_new(&senders[0], &video), "sender");
     check(cpay_sender_new(&senders[1], &audio), "sender");
     for (uint64_t frame = 0; frame < FRAMES; frame++) {

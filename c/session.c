@@ -556,6 +556,76 @@ static void large_unit(void) {
     cpay_session_free(&session);
 }
 
+/* The first fault of these settings, or no fault, is this one; -1: it names no format, or no payload type. A session is refused
+ * exactly if there is a fault. */
+static void fault_is(const cpay_session_settings *settings, const cpay_session_format *formats, const uint8_t *no_media,
+                     size_t no_media_len, cpay_settings_fault_kind kind, int format, int payload_type) {
+    cpay_settings_fault fault = {.format = 9, .payload_type = 9};
+    cpay_session session = CPAY_INIT;
+    const cpay_status wanted = kind == CPAY_SETTINGS_FIT ? CPAY_OK : CPAY_INVALID;
+    CHECK(cpay_session_settings_check(settings, formats, 2, no_media, no_media_len, &fault) == wanted && fault.kind == kind);
+    CHECK(fault.has_format == (format >= 0) && fault.format == (size_t)(format >= 0 ? format : 0));
+    CHECK(fault.has_payload_type == (payload_type >= 0) && fault.payload_type == (payload_type >= 0 ? payload_type : 0));
+    CHECK(cpay_session_new(&session, settings, formats, 2, no_media, no_media_len, NULL, 0) == wanted);
+    cpay_session_free(&session);
+}
+
+/* Each fault has a name, and says where it is; of two faults the first counts. */
+static void faults_of_settings(void) {
+    cpay_session_settings right, wrong;
+    cpay_session_format formats[2];
+    cpay_settings_fault fault = {.kind = CPAY_SETTINGS_CNAME};
+    cpay_session_settings_init(&right, CPAY_FOR_LIVE);
+    fault_is(&right, FORMATS, NO_MEDIA, 2, CPAY_SETTINGS_FIT, -1, -1);
+#define FAULT(field, value, kind) \
+    wrong = right; \
+    wrong.field = (value); \
+    fault_is(&wrong, FORMATS, NO_MEDIA, 2, kind, -1, -1)
+    FAULT(tick_rate, 0, CPAY_SETTINGS_TICK_RATE);
+    FAULT(from_keyframe, 3, CPAY_SETTINGS_FROM_KEYFRAME);
+    FAULT(limit, 0, CPAY_SETTINGS_LIMIT);
+    FAULT(limit, 65537, CPAY_SETTINGS_LIMIT);
+    FAULT(max_streams, 0, CPAY_SETTINGS_MAX_STREAMS);
+    FAULT(has_feedback, true, CPAY_SETTINGS_CNAME); /* RFC 3550, section 6.1: each compound packet has a name */
+#define FAULT_AT(at, field, value, kind, payload_type) \
+    memcpy(formats, FORMATS, sizeof formats); \
+    formats[at].field = (value); \
+    fault_is(&right, formats, NO_MEDIA, 2, kind, at, payload_type)
+    FAULT_AT(0, spec.rate, 0, CPAY_SETTINGS_RATE, -1);
+    FAULT_AT(1, spec.rate, 0, CPAY_SETTINGS_RATE, -1);
+    FAULT_AT(1, spec.codec, 6, CPAY_SETTINGS_CODEC, -1); /* H.264 has no depacketizer */
+    FAULT_AT(0, red_step, 16384, CPAY_SETTINGS_RED_STEP, -1);
+    FAULT_AT(1, payload_type, 128, CPAY_SETTINGS_PAYLOAD_TYPE, 128);
+    FAULT_AT(0, rtx_payload_type, 72, CPAY_SETTINGS_PAYLOAD_TYPE, 72); /* RFC 5761, section 4 */
+    FAULT_AT(1, payload_type, AUDIO, CPAY_SETTINGS_TWO_MEANINGS, AUDIO);
+    FAULT_AT(0, red_rtx_payload_type, RTX, CPAY_SETTINGS_TWO_MEANINGS, RTX);
+    static const uint8_t reserved[] = {95}, taken[] = {VIDEO}, both[] = {NOISE, NOISE + CPAY_TELEPHONE};
+    static const uint8_t keys[] = {EVENTS + CPAY_TELEPHONE, VIDEO + CPAY_TELEPHONE};
+    fault_is(&right, FORMATS, reserved, 1, CPAY_SETTINGS_PAYLOAD_TYPE, -1, 95);
+    fault_is(&right, FORMATS, taken, 1, CPAY_SETTINGS_TWO_MEANINGS, -1, VIDEO);
+    fault_is(&right, FORMATS, keys, 2, CPAY_SETTINGS_TWO_MEANINGS, -1, VIDEO);
+    fault_is(&right, FORMATS, both, 2, CPAY_SETTINGS_TWO_MEANINGS, -1, NOISE);
+    wrong = right;
+    wrong.limit = 0;
+    memcpy(formats, FORMATS, sizeof formats);
+    formats[1].spec.codec = 6;
+    fault_is(&wrong, formats, reserved, 1, CPAY_SETTINGS_LIMIT, -1, -1);
+    formats[1].spec.rate = 0;
+    fault_is(&wrong, formats, reserved, 1, CPAY_SETTINGS_RATE, 1, -1);
+    /* without lists; and no list at all, which is no fault of the settings */
+    fault.format = 7;
+    CHECK(cpay_session_settings_check(&right, NULL, 1, NULL, 0, &fault) == CPAY_INVALID && fault.kind == CPAY_SETTINGS_CNAME);
+    CHECK(cpay_session_settings_check(&right, NULL, 0, NULL, 1, &fault) == CPAY_INVALID && fault.format == 7);
+    CHECK(cpay_session_settings_check(&right, NULL, 0, NULL, 0, &fault) == CPAY_OK && fault.kind == CPAY_SETTINGS_FIT);
+    const char *last = "";
+    for (uint32_t kind = CPAY_SETTINGS_FIT; kind <= CPAY_SETTINGS_CNAME; kind++) {
+        const char *text = cpay_settings_fault_text((cpay_settings_fault_kind)kind);
+        CHECK(strcmp(text, last) != 0 && strcmp(text, "unknown fault") != 0);
+        last = text;
+    }
+    CHECK(strcmp(cpay_settings_fault_text((cpay_settings_fault_kind)(CPAY_SETTINGS_CNAME + 1)), "unknown fault") == 0);
+}
+
 /* Settings out of range. */
 static void settings(void) {
     cpay_session_settings right;
@@ -739,6 +809,7 @@ int main(void) {
     values_and_places();
     large_unit();
     settings();
+    faults_of_settings();
     handles();
     return checked();
 }

@@ -889,8 +889,9 @@ typedef enum {
                                     this one */
     CPAY_DUPLICATE = 2,        /**< dropped: a packet with this number is already held */
     CPAY_LATE = 3,             /**< dropped: its number was already released, discarded or evicted */
-    CPAY_SUSPECT = 4,          /**< its number is outside the windows, or arrived before with another RTP time; it is kept aside
-                                    until another suspect packet or a restart */
+    CPAY_SUSPECT = 4,          /**< its number is outside the windows, arrived before with another RTP time, or is below the first
+                                    number with an RTP time that does not fit; it is kept aside until another suspect packet or
+                                    a restart */
     CPAY_RESTARTED = 5,        /**< the sender has restarted: this packet and the suspect packet before it were stored */
     CPAY_RESTARTED_ALONE = 6,  /**< the sender has restarted, and only this packet was stored: the packet before it had no media,
                                     or you called cpay_receiver_restart */
@@ -1264,10 +1265,44 @@ CPAY_CHECKED cpay_status cpay_session_settings_feedback(cpay_session_settings *s
 /** Creates a session in an empty handle, for these payload formats. `no_media` lists payload types that share the SSRC and the
  * numbers of a stream and carry none of its media: comfort noise, error correction. A payload type plus CPAY_TELEPHONE is one of
  * telephone events beside audio: polls report its packets. `pairs` names the SSRCs of retransmissions. The lists are copied. CPAY_INVALID: unsupported codec, a rate, payload type, step,
- * `limit`, `max_streams` or `from_keyframe` out of range, a payload type with two meanings, or with has_feedback no name. [m] */
+ * `limit`, `max_streams` or `from_keyframe` out of range, a payload type with two meanings, or with has_feedback no name:
+ * cpay_session_settings_check says which. [m] */
 CPAY_CHECKED cpay_status cpay_session_new(cpay_session *session, const cpay_session_settings *settings,
                                           const cpay_session_format *formats, size_t formats_len, const uint8_t *no_media,
                                           size_t no_media_len, const cpay_ssrc_pair *pairs, size_t pairs_len);
+
+/** What is wrong with a setting. The settings are checked in this order: CPAY_SETTINGS_TICK_RATE to
+ * CPAY_SETTINGS_MAX_STREAMS; the formats one after another; types without media, and then those of telephone events;
+ * CPAY_SETTINGS_CNAME. */
+typedef enum {
+    CPAY_SETTINGS_FIT = 0,           /**< no fault */
+    CPAY_SETTINGS_TICK_RATE = 1,     /**< `tick_rate` is 0 */
+    CPAY_SETTINGS_FROM_KEYFRAME = 2, /**< `from_keyframe` is above CPAY_KEYFRAME_DROP */
+    CPAY_SETTINGS_RATE = 3,          /**< the clock rate of the format is 0 */
+    CPAY_SETTINGS_LIMIT = 4,         /**< `limit` is not 1 to 65536 */
+    CPAY_SETTINGS_MAX_STREAMS = 5,   /**< `max_streams` is 0 */
+    CPAY_SETTINGS_CODEC = 6,         /**< the codec of the format has no depacketizer */
+    CPAY_SETTINGS_RED_STEP = 7,      /**< `red_step` of the format is not 1 to 16383 */
+    CPAY_SETTINGS_PAYLOAD_TYPE = 8,  /**< the payload type is not 0 to 63 or 96 to 127 */
+    CPAY_SETTINGS_TWO_MEANINGS = 9,  /**< the payload type has a meaning already, in this format, an earlier one or a list */
+    CPAY_SETTINGS_CNAME = 10         /**< with has_feedback: the name does not have 1 to 255 bytes */
+} cpay_settings_fault_kind;
+
+/** A setting that no session can meet. */
+typedef struct {
+    size_t format;                 /**< with has_format: index of the format in `formats` */
+    cpay_settings_fault_kind kind; /**< what is wrong: cpay_settings_fault_text has a text for it */
+    uint8_t payload_type;          /**< with has_payload_type: the payload type; of telephone events without CPAY_TELEPHONE */
+    bool has_format;               /**< the fault is in a format. Without it a payload type is in `no_media` */
+    bool has_payload_type;         /**< the fault is about a payload type */
+} cpay_settings_fault;
+
+/** Reports whether a session can meet these settings: the first fault goes to *fault. Call it if cpay_session_new answered
+ * CPAY_INVALID, with the same arguments. CPAY_OK: there is no fault, and `kind` is CPAY_SETTINGS_FIT. CPAY_INVALID: *fault is
+ * written; or a list is NULL with a length, and it is not. CPAY_OUT_OF_MEMORY: *fault is unchanged. [m] */
+CPAY_CHECKED cpay_status cpay_session_settings_check(const cpay_session_settings *settings, const cpay_session_format *formats,
+                                                     size_t formats_len, const uint8_t *no_media, size_t no_media_len,
+                                                     cpay_settings_fault *fault);
 
 /** What a session did with a datagram. */
 typedef enum {
@@ -1616,6 +1651,24 @@ static inline const char *cpay_ending_text(cpay_ending why) {
     case CPAY_ENDED_BY_CALL: return "a call";
     case CPAY_ENDED_BY_CHANGE: return "a change of format";
     default: return "unknown reason";
+    }
+}
+
+/** Returns an English text for each kind of fault of the settings of a session. */
+static inline const char *cpay_settings_fault_text(cpay_settings_fault_kind kind) {
+    switch (kind) {
+    case CPAY_SETTINGS_FIT: return "no fault";
+    case CPAY_SETTINGS_TICK_RATE: return "the clock of the session has no rate";
+    case CPAY_SETTINGS_FROM_KEYFRAME: return "from_keyframe has no such value";
+    case CPAY_SETTINGS_RATE: return "the clock of the format has no rate";
+    case CPAY_SETTINGS_LIMIT: return "the limit of held packets is not 1 to 65536";
+    case CPAY_SETTINGS_MAX_STREAMS: return "the session has no place for a stream";
+    case CPAY_SETTINGS_CODEC: return "the codec of the format has no depacketizer";
+    case CPAY_SETTINGS_RED_STEP: return "the RED step of the format is not 1 to 16383";
+    case CPAY_SETTINGS_PAYLOAD_TYPE: return "the payload type is not 0 to 63 or 96 to 127";
+    case CPAY_SETTINGS_TWO_MEANINGS: return "the payload type has two meanings";
+    case CPAY_SETTINGS_CNAME: return "the canonical name does not have 1 to 255 bytes";
+    default: return "unknown fault";
     }
 }
 

@@ -314,6 +314,12 @@ public:
     return cpay_read_remb(rtcp.data(), rtcp.size(), full, index, &bitrate, ssrcs.data(), ssrcs.size(), &count);
 }
 
+/** The first setting that no session can meet: see cpay_session_settings_check. */
+[[nodiscard]] inline cpay_status check_settings(const cpay_session_settings &settings, view<const cpay_session_format> formats,
+                                                bytes no_media, cpay_settings_fault &fault) noexcept {
+    return cpay_session_settings_check(&settings, formats.data(), formats.size(), no_media.data(), no_media.size(), &fault);
+}
+
 /** All datagrams of a port in, the events of its streams out. */
 class session : public handle<cpay_session, cpay_session_free> {
 public:

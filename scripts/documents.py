@@ -43,6 +43,8 @@ LIBRARY = f"{ROOT}/c/out"
 WIDTH = 128
 README_LINES = 170
 PICTURE_BYTES = 80_000
+# Pictures of a screen, which a test takes (tools/live_server/test.py).
+SHOTS = ["live_server.webp"]
 FENCE = re.compile(r"^( *)```(.*)$")
 # Commands of the documents that this script runs, in the root of the repository: they need nothing built, and are quick.
 RUN_HERE = ["scripts/mutants.py --stale", "scripts/check_header.py", "scripts/count_lines.sh", "scripts/documents.py"]
@@ -103,6 +105,7 @@ RUN_ELSEWHERE = {
     "tools/rtp_record/rtp_record": ("scripts/test.sh", "runs tools/rtp_record/test.sh"),
     "./install.sh": ("scripts/test.sh", "tools/rtp_record/install.sh"),
     "./rtp_record": ("scripts/test.sh", "runs tools/rtp_record/test.sh"),
+    "./live_server": ("tools/live_server/test.py", '"live_server"'),
     "make -C ../..": ("scripts/install_test.sh", "make"),
     "cd crates/": ("scripts/process.py", '["rt", "run"]'),
     "cd tools/lines": ("scripts/process.py", "cwd=LINES"),
@@ -262,6 +265,8 @@ def pictures(pages):
             yield f"docs/pictures/{name}: no page shows it"
         if os.path.getsize(path) > PICTURE_BYTES:
             yield f"docs/pictures/{name} has {os.path.getsize(path)} bytes"
+        if name in SHOTS:
+            continue
         if name.removesuffix(".svg") not in drawn.PICTURES:
             yield f"docs/pictures/{name}: scripts/pictures.py does not draw it"
         elif not read(path).endswith(drawn.made_of(name.removesuffix(".svg"))):
@@ -417,8 +422,9 @@ def tested_sh(block):
             if words not in read(path):
                 return f"{path} does not run: {command}"
             script = re.sub(r"^\w+=\S+ ", "", command).split()[0]
-            aim = os.path.join(ROOT, "tools/rtp_record" if block.page.startswith("tools/rtp_record") else "", script)
-            is_built = script.endswith("/rtp_record") or script.startswith("c/out/")
+            folder = os.path.dirname(block.page)
+            aim = os.path.join(ROOT, folder if folder in ("tools/rtp_record", "tools/live_server") else "", script)
+            is_built = script.endswith(("/rtp_record", "/live_server")) or script.startswith("c/out/")
             if "/" in script and not is_built and not os.path.exists(aim):
                 return f"there is no {script}"
     return ""

@@ -10,6 +10,7 @@
 # - The eraser refuses each plant of tools/eraser/plants.py.
 # - The package builds by itself, and each example ends well; docs/LIMITS.md and docs/SESSION.md have the tables that examples print.
 # - No pop of a buffer takes more than 2 microseconds if packets that are no frame lie before the next frame (tools/speed).
+# - With valgrind: no datagram of a peer that chooses its numbers takes more instructions than its bound (scripts/rust_speed.py).
 # - The programs over lines, tools/lines: rustfmt and clippy have nothing to say, and each test vector gets its answer
 #   (scripts/process.py).
 # - With clang's libFuzzer: two seconds of each fuzz target (scripts/fuzz.sh). With Debian's packages of crates: rust-extras/test.sh.
@@ -64,6 +65,9 @@ for table in $tables; do
 done
 step cargo run --quiet --release --manifest-path "$root/tools/speed/Cargo.toml" --bin orders -- spike
 longest=$(cat "$work/log")
+if command -v valgrind >/dev/null; then
+    step "$root/scripts/rust_speed.py" --hostile
+fi
 step cargo fmt --check --manifest-path "$root/tools/lines/Cargo.toml"
 step cargo clippy --quiet --all-targets --manifest-path "$root/tools/lines/Cargo.toml" -- -D warnings
 step "$root/scripts/process.py"

@@ -6,10 +6,13 @@
   scripts/rust_speed.py [--fallible] --orders
   scripts/rust_speed.py [--fallible] --buffer
   scripts/rust_speed.py [--fallible] --receiver
+  scripts/rust_speed.py [--fallible] --hostile
 
 With --buffer it prints the instructions of a push and a pop (tools/speed/src/bin/buffer.rs), with --receiver those of a datagram in a
 receiver. With --sessions it prints what a datagram takes in a session beside a receiver alone (tools/speed/src/bin/session.rs). With
---orders it prints times of packets in orders of arrival, and the memory of held packets (tools/speed/src/bin/orders.rs).
+--orders it prints times of packets in orders of arrival, and the memory of held packets (tools/speed/src/bin/orders.rs). With
+--hostile it prints what a datagram takes where the peer chooses the numbers (tools/speed/src/bin/hostile.rs), and fails if a row is
+above its bound.
 Needs cargo, and valgrind for instructions. Times depend on the machine and on what else runs on it; instructions do not.
 """
 import os
@@ -33,6 +36,16 @@ KINDS = {"audio": "Opus", "video": "VP8", "requests": "VP8, requests"}
 POPS = {"bare": "`pop`", "unit": "`pop_unit`", "once": "one `pop_unit`"}
 # Settings of a build, as variables for cargo.
 BUILDS = {"as cargo builds it": {}, "`codegen-units = 1`": {"CODEGEN_UNITS": "1"}, "and `lto = \"fat\"`": {"CODEGEN_UNITS": "1", "LTO": "fat"}}
+# The kinds of tools/speed/src/bin/hostile.rs, each with its largest number of instructions.
+CHOSEN = {
+    ("frames", 4): ("VP8 of 4 packets a frame, nothing lost", 6_000),
+    ("frames", 64): ("of 64 packets", 6_000),
+    ("frames", 1_000): ("of 1,000 packets", 6_000),
+    ("gap", 1_024): ("1,024 packets held behind a lost one", 6_000),
+    ("gaps", 1_024): ("1,024 packets held, each behind a lost one", 800_000),
+    ("no_media", 1_024): ("1,024 numbers without media, each behind a lost packet", 9_000_000),
+    ("strays", 1_000): ("a packet of a new SSRC, all 64 places taken by senders of one packet", 110_000),
+}
 HOSTILE = {"goodbyes": "300 BYEs of nobody, 1,200 bytes", "strays": "a packet of a new SSRC, all places taken"}
 
 
@@ -72,6 +85,24 @@ def print_sessions():
         print(f"| {name} | " + " | ".join(f"{cell:,.0f}" for cell in cells) + " |", flush=True)
 
 
+def of_hostile(kind, size, counts=(40, 80)):
+    few, many = (collected(f"{SPEED}/target/release/hostile", kind, size, count) for count in counts)
+    return (many - few) / (counts[1] - counts[0])
+
+
+def print_hostile():
+    """Prints a table, and returns whether each row is within its bound."""
+    print("| a datagram of a session that requests what it misses | instructions | bound |")
+    print("|---" * 3 + "|")
+    within = True
+    for (kind, size), (name, bound) in CHOSEN.items():
+        taken = of_hostile(kind, size)
+        within = within and taken <= bound
+        print(f"| {name} | {taken:,.0f} | {bound:,} |", flush=True)
+    print(f"rust_speed: {'each row is' if within else 'not each row is'} within its bound")
+    return within
+
+
 def of_packet(way, order, held, counts=(6_528, 13_056)):
     """The instructions of a push and a pop of a packet, with so many held."""
     few, many = (collected(f"{SPEED}/target/release/buffer", way, order, held, count) for count in counts)
@@ -98,8 +129,8 @@ def print_receiver(features):
 
 
 def print_orders():
-    print("| order | held | copy, ns | buffer, ns | over a copy | earlier form, ns | map, ns |")
-    print("|---" * 7 + "|", flush=True)
+    print("| order | held | copy, ns | buffer, ns | over a copy | map, ns |")
+    print("|---" * 6 + "|", flush=True)
     for held, rounds in (64, 9), (4_096, 9), (65_000, 2):
         subprocess.run([f"{SPEED}/target/release/orders", str(held), str(rounds)], check=True)
     print(flush=True)
@@ -116,6 +147,8 @@ def time_of(program, codec, size, call):
 def main(words):
     features = ["--features", "codec-payload/fallible"] if "--fallible" in words else []
     subprocess.run(["cargo", "build", "--offline", "--quiet", "--release", *features], cwd=SPEED, check=True)
+    if "--hostile" in words:
+        return 0 if print_hostile() else 1
     if "--receiver" in words:
         print_receiver(features)
         return 0

@@ -1,5 +1,5 @@
-//! Senders that restart on their SSRC within or near the windows, and hostile networks in which none does. It prints two tables of
-//! docs/LIMITS.md, and fails if a restart takes longer to find than documented, or if a restart is reported although the sender
+//! Senders that restart on their SSRC within or near the windows, and hostile networks in which none does. It prints three tables
+//! of docs/LIMITS.md, and fails if a restart takes longer to find than documented, or if a restart is reported although the sender
 //! did not restart:
 //!
 //! ```sh
@@ -32,6 +32,10 @@ const LONGEST_BESIDE: u64 = 2_000;
 const DISTANCES: [u16; 12] = [
     1, 2, 16, 100, 360, 900, 1_000, 1_001, 1_100, 2_500, 5_000, 5_001,
 ];
+/// How long the first sender sends before the second one begins below its first number, in milliseconds.
+const AGES: [u64; 5] = [0, 100, 1_900, 5_000, 10_000];
+/// How far below the first number the second sender begins.
+const BELOW: [u16; 3] = [20, 100, 420];
 /// Runs of each network.
 const RUNS: usize = 3;
 
@@ -183,30 +187,28 @@ fn put(arriving: &mut BTreeMap<u64, Vec<Vec<u8>>>, at: u64, datagram: &[u8]) {
     arriving.entry(at).or_default().push(datagram.to_vec());
 }
 
-/// How a sender restarts: `distance` numbers below the highest one, with another RTP offset or with times that continue, and with or
-/// without retransmissions of the former sender.
+/// How a sender restarts: after this many frames of the former sender, `distance` numbers below the highest one, with another RTP
+/// offset or with times that continue, and with or without retransmissions of the former sender.
 #[derive(Clone, Copy)]
 struct Restart {
+    frames: u64,
     distance: u16,
     offset: u64,
     beside_former: bool,
 }
 
-/// Runs a sender for 1,200 packets at least, and for more than the distance, and another sender for three seconds. Returns how many
-/// frames of the second were not released.
+/// Runs a sender, and another sender for three seconds. Returns how many frames of the second were not released.
 fn restart(stream: Stream, how: Restart) -> Result<(Outcome, usize), Fault> {
     let mut arriving = BTreeMap::new();
-    let packets = 1_200.max(u64::from(how.distance) + 100);
-    let frames = packets / stream.packets as u64 + 1;
     let mut former = Vec::new();
     let mut sender = stream.sender(30_000)?;
-    for frame in 0..frames {
+    for frame in 0..how.frames {
         let at = frame * stream.interval;
         former.extend(stream.frame(&mut sender, stream.ticks(at), at)?);
     }
     let last = 30_000 + former.len() as u16 - 1;
     let mut sender = stream.sender(last - how.distance)?;
-    let begins = frames * stream.interval;
+    let begins = how.frames * stream.interval;
     let mut times = Vec::new();
     for frame in 0..3_000 / stream.interval + 10 {
         let at = begins + frame * stream.interval;
@@ -245,9 +247,10 @@ enum Network {
     Twice,
     SentAgain,
     TimesJump,
+    FirstLate,
 }
 
-const NETWORKS: [(Network, &str); 7] = [
+const NETWORKS: [(Network, &str); 8] = [
     (Network::BurstWhole, "a burst that arrives late, at once"),
     (Network::BurstSpread, "a burst in which each packet is late"),
     (
@@ -261,6 +264,7 @@ const NETWORKS: [(Network, &str); 7] = [
         "retransmissions, and storms of old packets",
     ),
     (Network::TimesJump, "RTP times that jump, and late bursts"),
+    (Network::FirstLate, "the first packets arrive late"),
 ];
 
 /// The datagrams of 40 seconds, some of them late, lost or repeated.
@@ -275,6 +279,10 @@ fn hostile(
     let mut offset = random.within(0, 0xffff_ffff);
     let mut at = 0;
     let (mut from, mut to, mut late) = (0, 0, 0);
+    if network == Network::FirstLate {
+        to = random.within(20, 2_000);
+        late = random.within(100, 4_900 - to);
+    }
     let mut storm = 10_000;
     while at < 40_000 {
         if at > to + 2_000 {
@@ -304,7 +312,12 @@ fn hostile(
                 Network::BurstWhole | Network::BurstAndSilence if within => {
                     put(&mut arriving, to + late, datagram)
                 }
-                Network::BurstSpread | Network::JustBehind | Network::TimesJump if within => {
+                Network::BurstSpread
+                | Network::JustBehind
+                | Network::TimesJump
+                | Network::FirstLate
+                    if within =>
+                {
                     put(&mut arriving, on_time + late, datagram)
                 }
                 Network::Twice => {
@@ -351,7 +364,10 @@ fn print_restarts(distance: u16, beside_former: bool) -> Result<u32, Fault> {
     };
     print!("| {distance}{beside} |");
     for stream in STREAMS {
+        // The former sender sent all numbers of the distance.
+        let packets = 1_200.max(u64::from(distance) + 100);
         let how = Restart {
+            frames: packets / stream.packets as u64 + 1,
             distance,
             offset: 0x1234_5678,
             beside_former,
@@ -370,6 +386,33 @@ fn print_restarts(distance: u16, beside_former: bool) -> Result<u32, Fault> {
         // One or two numbers behind, the second sender passes the first before a restart is found.
         let expected = 2 * u64::from(distance > 2);
         wrong += u32::from(!beside_former && outcome.restarts + going_on.restarts != expected);
+    }
+    println!();
+    Ok(wrong)
+}
+
+/// Prints a table row of senders that begin below the first number of the stream, after it was sent for `age` milliseconds: the
+/// longest of the distances. Returns the number of restarts that were not found in time.
+fn print_young(age: u64, offset: u64, name: &str) -> Result<u32, Fault> {
+    let mut wrong = 0;
+    print!("| {:.1} s, {name} |", age as f64 / 1_000.0);
+    for stream in STREAMS {
+        let (mut pause, mut lost) = (0, 0);
+        for below in BELOW {
+            let frames = age / stream.interval + 1;
+            let how = Restart {
+                frames,
+                distance: (frames * stream.packets as u64) as u16 - 1 + below,
+                offset,
+                beside_former: false,
+            };
+            let (outcome, missing) = restart(stream, how)?;
+            pause = outcome.longest_pause.max(pause);
+            lost = missing.max(lost);
+            wrong += u32::from(outcome.restarts != 1);
+        }
+        print!(" {pause}; {lost} |");
+        wrong += u32::from(pause > LONGEST.max(5 * stream.interval));
     }
     println!();
     Ok(wrong)
@@ -402,6 +445,11 @@ fn main() -> Result<(), Fault> {
     }
     for distance in [360, 1_100] {
         wrong += print_restarts(distance, true)?;
+    }
+    println!("\n| age | {names} |\n|---|---|---|---|---|");
+    for age in AGES {
+        wrong += print_young(age, 0x1234_5678, "another RTP offset")?;
+        wrong += print_young(age, 0, "times continue")?;
     }
     println!("\n| network | {names} |\n|---|---|---|---|---|");
     for (network, name) in NETWORKS {

@@ -37,7 +37,7 @@ pub use leaving::Left;
 pub use packed_header::PackedHeader;
 use packets::{
     copy_metas, drop_front, find_place, frame_range, hold, is_at, is_too_late, make_room,
-    received_at, starts_next, unpack,
+    received_at, row_from, starts_next, unpack,
 };
 pub use pair::Incoming;
 pub use placed::Placed;
@@ -255,6 +255,17 @@ impl<B: Depacketizer> DepacketizingBuffer<B> {
     pub fn holds(&self, number: SeqNo) -> bool {
         let place = find_place(&self.packets, number.0);
         is_at(&self.packets, place, number.0)
+    }
+
+    /// Returns how many consecutive numbers from this one on are held: 0 if this one is not. The cost is that of
+    /// [`DepacketizingBuffer::holds`], however many there are.
+    pub fn held_in_a_row(&self, number: SeqNo) -> usize {
+        let place = find_place(&self.packets, number.0);
+        if is_at(&self.packets, place, number.0) {
+            row_from(&self.packets, place)
+        } else {
+            0
+        }
     }
 
     /// Skips a number without media, for example a packet with padding only. If the number comes right after the cutoff and is

@@ -70,6 +70,7 @@
     clippy::manual_ok_err,
     clippy::manual_is_multiple_of,
     clippy::question_mark,
+    clippy::redundant_pattern_matching,
     clippy::manual_find,
     clippy::manual_range_contains,
     clippy::mem_replace_with_default,

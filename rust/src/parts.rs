@@ -27,18 +27,382 @@
 //! | [`values`] | iterators, and faults of conversions |
 //! | [`memory`] | out of memory as a value |
 
-#[doc(inline)]
-pub use crate::{
-    amr_wb, av1, buffer, ccfb, codec, congestion, error, feedback, forward, history, interface,
-    jitter, keyframes, media, memory, payload, payloads, plain, red, red_writer, requests, rtcp,
-    rtp, sender, session, stream, tele, transport, vp8, vp9, waiting, wire,
-};
+/// One stream to a socket: what [`Sender`](crate::Sender) reports and refuses.
+pub mod sender {
+    #[doc(inline)]
+    pub use crate::sender::{Counts, Report, SenderError};
 
-/// Iterators over what a receiver, a buffer or a packetizer returns, and the faults of conversions.
+    #[doc(hidden)]
+    pub use crate::sender::*;
+}
+
+/// One stream from a socket: what [`Receiver`](crate::Receiver) reports and refuses.
+pub mod stream {
+    #[doc(inline)]
+    pub use crate::stream::{
+        Counters, ParsedDatagram, ReceptionReport, ReceptionStatistics, SettingsError, Windows,
+    };
+
+    #[doc(hidden)]
+    pub use crate::stream::*;
+}
+
+/// All streams of one port: what [`Session`](crate::Session) reports beside its events.
+pub mod session {
+    #[doc(inline)]
+    pub use crate::session::{SenderClock, SessionCounts, Stage};
+
+    #[doc(hidden)]
+    pub use crate::session::*;
+}
+
+/// The jitter buffer of a receiver, for callers who read RTP headers themselves.
+pub mod jitter {
+    #[doc(inline)]
+    pub use crate::jitter::{
+        Extended, JitterBuffer, MissingNumbers, Outcome, PacketCounters, SequenceNumbers,
+        WaitLimits, WindowError,
+    };
+
+    #[doc(hidden)]
+    pub use crate::jitter::*;
+}
+
+/// RTP packets (RFC 3550, section 5.1) and the elements of their header extensions (RFC 8285), read and written.
+pub mod rtp {
+    #[doc(inline)]
+    pub use crate::rtp::{
+        Element, Elements, ExtensionIds, PacketHeader, RtpError, RtpPacket, RtpTimes,
+        extension_value, is_rtcp, write_elements,
+    };
+
+    #[doc(hidden)]
+    pub use crate::rtp::*;
+}
+
+/// RTCP packets (RFC 3550, section 6; RFC 4585, section 6; RFC 5104, section 4.3.1), read and written.
+pub mod rtcp {
+    #[doc(inline)]
+    pub use crate::rtcp::{
+        CNAME, CompoundRule, FullIntraEntry, FullIntraRequest, Goodbye, Nack, OtherPacket, Packets,
+        PictureLoss, ReceiverReport, ReportBlock, RtcpError, RtcpPacket, SdesChunk, SdesItem,
+        SenderReport, SourceDescription, pack_numbers, read_compound, write_cname, write_padded,
+    };
+
+    #[doc(hidden)]
+    pub use crate::rtcp::*;
+}
+
+/// Retransmission: sent packets that are resent on request (RFC 4588), and the requests in RTCP feedback.
+pub mod history {
+    #[doc(inline)]
+    pub use crate::history::{
+        HistoryError, KeepError, Kept, Request, Requests, Resent, RetransmissionStream,
+    };
+
+    #[doc(hidden)]
+    pub use crate::history::*;
+}
+
+/// Forwarding to viewers: numbers and times that go on from one source to the next.
+pub mod forward {
+    #[doc(inline)]
+    pub use crate::forward::{ForwardError, ForwardSettings, Forwarded, Forwarder};
+
+    #[doc(hidden)]
+    pub use crate::forward::*;
+}
+
+/// Puts the datagrams of a sender in RED (RFC 2198).
+pub mod red_writer {
+    #[doc(inline)]
+    pub use crate::red_writer::{RedWriteError, RedWriter, RedWriterError};
+}
+
+/// Which units of video a decoder can show, and when to request a keyframe.
+pub mod keyframes {
+    #[doc(inline)]
+    pub use crate::keyframes::{FromKeyframe, KeyframeGate, is_keyframe};
+
+    #[doc(hidden)]
+    pub use crate::keyframes::*;
+}
+
+/// When to request missing packets by NACK, and keyframes.
+pub mod requests {
+    #[doc(inline)]
+    pub use crate::requests::{KeyframeRequests, NackSchedule, NackSettings};
+
+    #[doc(hidden)]
+    pub use crate::requests::*;
+}
+
+/// What one receiver requests, as RTCP packets: NACK and PLI; and reports of the arrivals on a transport.
+pub mod feedback {
+    #[doc(inline)]
+    pub use crate::feedback::{
+        FeedbackSource, StreamRequests, TransportReporter, TransportSettings,
+    };
+
+    #[doc(hidden)]
+    pub use crate::feedback::*;
+}
+
+/// When packets arrived, as congestion control needs it: transport-wide feedback
+/// (draft-holmer-rmcat-transport-wide-cc-extensions-01), and REMB (draft-alvestrand-rmcat-remb-03).
+pub mod congestion {
+    #[doc(inline)]
+    pub use crate::congestion::{
+        ArrivalLog, ArrivalLogError, Remb, RembFault, TransportError, TransportFault,
+        TransportFeedback, append_report, quarters, read_remb, read_transport_feedback,
+        take_report, write_remb_packet, write_transport_packet,
+    };
+
+    #[doc(hidden)]
+    pub use crate::congestion::*;
+}
+
+/// The sending side of congestion control: the numbers and times of sent packets, and what feedback reports about them.
+pub mod transport {
+    #[doc(inline)]
+    pub use crate::transport::{
+        Message, MessageKind, Messages, NumberingError, PacketResult, SentPackets,
+        SentPacketsError, read_messages, write_numbered,
+    };
+
+    #[doc(hidden)]
+    pub use crate::transport::*;
+}
+
+/// Congestion control feedback of RFC 8888, read and written.
+pub mod ccfb {
+    #[doc(inline)]
+    pub use crate::ccfb::{
+        CcfbError, CcfbFault, CongestionFeedback, OVER_RANGE, PacketMetric, StreamReport,
+        UNAVAILABLE, stream_report,
+    };
+
+    #[doc(hidden)]
+    pub use crate::ccfb::*;
+}
+
+/// A limit of waiting that follows how late missing packets arrive.
+pub mod waiting {
+    #[doc(inline)]
+    pub use crate::waiting::{AdaptiveWait, AdaptiveWaitSettings};
+
+    #[doc(hidden)]
+    pub use crate::waiting::*;
+}
+
+/// Packetizers and depacketizers of your own, beside those of the library.
+pub mod codec {
+    #[doc(inline)]
+    pub use crate::codec::{BoxedDepacketizer, BoxedPacketizer, NoBox};
+
+    #[doc(hidden)]
+    pub use crate::codec::*;
+}
+
+/// What a popped unit says of itself and of its packets.
+pub mod buffer {
+    #[doc(inline)]
+    pub use crate::buffer::{PoppedPackets, RtpMeta, UnitInfo};
+
+    #[doc(hidden)]
+    pub use crate::buffer::*;
+}
+
+/// RED (RFC 2198): payloads that carry older media beside the media of the packet itself.
+pub mod red {
+    #[doc(inline)]
+    pub use crate::red::{
+        MAX_RED_RECOVERY_DEPTH, Recovered, RedBlock, RedDecoder, RedEncoder, RedReceiver,
+        RedSender, RedundantBlock,
+    };
+
+    #[doc(hidden)]
+    pub use crate::red::*;
+}
+
+/// VP8 (RFC 7741): payloads of frames, frames of payloads, and the descriptor before each payload.
+pub mod vp8 {
+    #[doc(inline)]
+    pub use crate::vp8::{
+        Vp8CodecExtra, Vp8Depacketizer, Vp8Descriptor, Vp8DescriptorError, Vp8Packetizer, Vp8Patch,
+        Vp8PatchBuilder, Vp8PatchError, detect_vp8_keyframe,
+    };
+
+    #[doc(hidden)]
+    pub use crate::vp8::*;
+}
+
+/// VP9 (RFC 9628): payloads of frames, and frames of payloads.
+pub mod vp9 {
+    #[doc(inline)]
+    pub use crate::vp9::{
+        Vp9CodecExtra, Vp9Depacketizer, Vp9Packetizer, Vp9PacketizerMode, detect_vp9_keyframe,
+    };
+
+    #[doc(hidden)]
+    pub use crate::vp9::*;
+}
+
+/// AV1 (RTP Payload Format for AV1, version 1.0): payloads of frames, and frames of payloads.
+pub mod av1 {
+    #[doc(inline)]
+    pub use crate::av1::{Av1CodecExtra, Av1Depacketizer, Av1Packetizer, detect_av1_keyframe};
+
+    #[doc(hidden)]
+    pub use crate::av1::*;
+}
+
+/// AMR-WB (RFC 4867), one channel, in both layouts, without CRC, interleaving and robust sorting.
+pub mod amr_wb {
+    #[doc(inline)]
+    pub use crate::amr_wb::{AmrWbDepacketizer, AmrWbPacketizer};
+}
+
+/// Telephone events (RFC 4733).
+pub mod tele {
+    #[doc(inline)]
+    pub use crate::tele::{
+        TelephoneEvent, TelephoneEventDepacketizer, TelephoneEventPacketizer, TelephoneEvents,
+    };
+
+    #[doc(hidden)]
+    pub use crate::tele::*;
+}
+
+/// Codecs whose payload is the frame itself: Opus, G.711, G.722, comfort noise (RFC 3389), and codecs without a format.
+pub mod plain {
+    #[doc(inline)]
+    pub use crate::plain::{
+        ComfortNoiseDepacketizer, ComfortNoisePacketizer, G7xxPacketizer, G711Depacketizer,
+        G711Packetizer, G722Packetizer, NullDepacketizer, NullPacketizer, OpusDepacketizer,
+        OpusPacketizer,
+    };
+
+    #[doc(hidden)]
+    pub use crate::plain::*;
+}
+
+/// Samples cut into packets and passed to a sink, in fresh memory.
+pub mod payload {
+    #[doc(inline)]
+    pub use crate::payload::{MemorySink, OutgoingPacket, PacketSink, Payloader, RedSink};
+
+    #[doc(hidden)]
+    pub use crate::payload::*;
+}
+
+/// Payloads one after another, in memory that is used again.
+pub mod payloads {
+    #[doc(inline)]
+    pub use crate::payloads::{PayloadWriter, Payloads};
+}
+
+/// Numbers, times, headers and codecs, as RTP has them (RFC 3550, section 5.1).
+pub mod wire {
+    #[doc(inline)]
+    pub use crate::wire::{
+        AbsCaptureTime, CodecSpec, MediaKind, RtpHeader, SenderInfo, VideoLayersAllocation,
+        VideoTiming,
+    };
+
+    #[doc(hidden)]
+    pub use crate::wire::*;
+}
+
+/// What frames say of themselves: keyframe, picture size and duration, and what a file writer needs.
+pub mod media {
+    #[doc(inline)]
+    pub use crate::media::{FrameInfo, MediaError, PictureSize, frame_info};
+
+    #[doc(hidden)]
+    pub use crate::media::*;
+
+    /// AMR-WB: the frames of a unit, and its duration.
+    pub mod amr_wb {
+        #[doc(inline)]
+        pub use crate::media::amr_wb::{AmrWbFrame, AmrWbFrames, amr_wb_ticks};
+
+        #[doc(hidden)]
+        pub use crate::media::amr_wb::*;
+    }
+
+    /// AV1: OBUs, what the sequence header says, and the configuration `av1C` of a file.
+    pub mod av1 {
+        #[doc(inline)]
+        pub use crate::media::av1::{
+            Av1Color, Av1Obu, Av1Obus, Av1SequenceHeader, Av1TemporalUnit, write_av1c,
+        };
+
+        #[doc(hidden)]
+        pub use crate::media::av1::*;
+    }
+
+    /// Opus: what a packet says (RFC 6716, section 3), and the header of a file (RFC 7845, section 5.1).
+    pub mod opus {
+        #[doc(inline)]
+        pub use crate::media::opus::{OpusHead, OpusPacket};
+
+        #[doc(hidden)]
+        pub use crate::media::opus::*;
+    }
+
+    /// VP8: what the header of a frame says (RFC 6386, section 9.1).
+    pub mod vp8 {
+        #[doc(inline)]
+        pub use crate::media::vp8::Vp8FrameHeader;
+
+        #[doc(hidden)]
+        pub use crate::media::vp8::*;
+    }
+
+    /// VP9: what the header of a frame says, and the frames of a superframe.
+    pub mod vp9 {
+        #[doc(inline)]
+        pub use crate::media::vp9::{Vp9FrameHeader, Vp9Frames};
+
+        #[doc(hidden)]
+        pub use crate::media::vp9::*;
+    }
+}
+
+/// Out of memory as a value.
+#[doc(hidden)]
+pub mod memory {
+    #[doc(hidden)]
+    pub use crate::memory::*;
+}
+
+#[doc(hidden)]
+pub mod error {
+    #[doc(hidden)]
+    pub use crate::error::*;
+}
+
+#[doc(hidden)]
+pub mod interface {
+    #[doc(hidden)]
+    pub use crate::interface::*;
+}
+
+/// Iterators over what a receiver or a buffer returns, and the faults of conversions.
 pub mod values {
-    pub use crate::ext::conversions::{UnsupportedCodec, ZeroFrequency};
-    pub use crate::ext::iterators::{PayloadsIter, PopUnits, StreamUnits, Units};
+    #[doc(hidden)]
+    pub use crate::ext::conversions::UnsupportedCodec;
+    #[doc(inline)]
+    pub use crate::ext::conversions::ZeroFrequency;
+    #[doc(inline)]
+    pub use crate::ext::iterators::Units;
+    #[doc(hidden)]
+    pub use crate::ext::iterators::{PayloadsIter, PopUnits, StreamUnits};
+    #[doc(inline)]
     pub use crate::ext::names::UnknownCodec;
+    #[doc(hidden)]
     pub use crate::ext::popped::LostFrame;
+    #[doc(hidden)]
     pub use crate::ext::values::*;
 }

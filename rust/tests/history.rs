@@ -431,7 +431,11 @@ fn each_number_is_kept_once() -> Result<(), Fail> {
     assert_eq!(history.packet(20), Some(&other(20)[..]));
     for number in 11..25 {
         let known = number == 20;
-        let kept = if known { KeptOnce::Known } else { KeptOnce::New };
+        let kept = if known {
+            KeptOnce::Known
+        } else {
+            KeptOnce::New
+        };
         assert_eq!(history.keep_once(&packet(number))?, kept);
     }
     assert_eq!(history.keep_once(&packet(14))?, KeptOnce::TooOld);

@@ -1,5 +1,5 @@
 //! The noted RTP times of a jitter buffer beside a map of all of them: a packet is suspect exactly if its number was noted with
-//! another time.
+//! another time, or is below the first one with a time that is not from 5 seconds before the first one's up to that time.
 
 use codec_payload::jitter::{JitterBuffer, Outcome, SequenceNumbers, WaitLimits};
 use codec_payload::*;
@@ -87,6 +87,7 @@ fn compare(forward: u16, backward: u16, spacing: u64, places: u64, longest: u64)
     };
     let mut dice = Dice(longest);
     let (mut greatest, mut suspect, mut count) = (65_536 + 40_000, None, 0);
+    let mut first: Option<(u64, u32)> = None;
     for step in 0..60_000 {
         // A new packet, an old one again, or a number within the backward window with another time.
         let is_other = dice.below(4) == 0;
@@ -97,7 +98,10 @@ fn compare(forward: u16, backward: u16, spacing: u64, places: u64, longest: u64)
         };
         let true_time = (number * 960 % (1 << 32)) as u32;
         let time = if is_other { true_time ^ 1 } else { true_time };
-        let contradicts = noted.contradicts(number, time);
+        let untimely = first.is_some_and(|(first, first_time)| {
+            number < first && first_time.wrapping_sub(time) > 5 * 48_000
+        });
+        let contradicts = noted.contradicts(number, time) || untimely;
         // Two suspect packets within 16 numbers are a restart, which this test does not have.
         if contradicts && suspect.is_some_and(|last| number.wrapping_sub(last) % 65_536 <= 16) {
             continue;
@@ -109,6 +113,7 @@ fn compare(forward: u16, backward: u16, spacing: u64, places: u64, longest: u64)
             (suspect, count) = (Some(number), count + 1);
         } else {
             noted.note(number, time);
+            first = first.or(Some((number, time)));
             greatest = greatest.max(number);
         }
         while packets.pop(Ticks(step)).is_some() {}

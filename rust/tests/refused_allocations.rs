@@ -664,10 +664,10 @@ impl Life {
     fn receive(&mut self, now: u64, datagram: &[u8]) {
         let before = self.state();
         let answer = self.call(|session| session.receive(Ticks(now), datagram));
-        let blocks = Err(ReceiveError::BlocksOutOfMemory);
+        let blocks = ReceiveError::BlocksOutOfMemory;
         match answer {
             Err(AllocError) => assert_eq!((self.refused, self.state()), (true, before)),
-            Ok(Arrival::Stream { answer, .. }) if answer == blocks => assert!(self.refused),
+            Ok(Arrival::Faulty { fault, .. }) if fault == blocks => assert!(self.refused),
             Ok(_) => return,
         }
         assert!(self.session.receive(Ticks(now), datagram).is_ok());

@@ -1,11 +1,11 @@
 -- New sessions: the faults of their settings.
-use Rattle.std.proofs.Common.{◌≡◌, ◌∙◌, ◌&&◌, ℕ, List, Bool, true, false, not, if◌then◌else◌, Option, Some, None, Result, Ok, Err, is_some, length, ap, refl, sym}
+use Rattle.std.proofs.Common.{◌≡◌, ◌∙◌, ◌&&◌, ℕ, List, Bool, true, false, not, if◌then◌else◌, Option, Some, None, Result, Ok, Err, inl, inr, is_some, length, ap, refl, sym}
 use Rattle.codec_payload_session.specs.Checks.{fault_of, feedback_fault, name_fault}
 use Rattle.codec_payload_session.specs.Ports.{Session, made_of, new_session}
 use Rattle.codec_payload_session.specs.declared.checks.SessionSettingsError.{SessionSettingsError}
 use Rattle.codec_payload_session.specs.declared.formats.FeedbackSettings.{FeedbackSettings}
 use Rattle.codec_payload_session.specs.declared.formats.SessionSettings.{SessionSettings as Settings}
-use Rattle.codec_payload_c.specs.SessionFormats.{AreSessionSettings, MatchFeedbackIf, fault_given}
+use Rattle.codec_payload_c.specs.SessionFormats.{AreSessionSettings, MatchFeedbackIf, RefusesSession, fault_given}
 use Rattle.codec_payload_c.specs.declared.session_settings.SessionFeedback.{SessionFeedback}
 use Rattle.codec_payload_c.specs.declared.session_settings.SessionFormat.{SessionFormat}
 use Rattle.codec_payload_c.specs.declared.session_settings.SessionSettings.{SessionSettings}
@@ -41,11 +41,16 @@ refused_some : (o : Option SessionSettingsError) (t : Settings) (e : SessionSett
 refused_some None t e is = absurd (cc)
 refused_some (Some fault) t e is = refl
 
-all_true : (a b : Bool) (o : Option SessionSettingsError) → a ≡ true → b ≡ true → o ≡ None → (a && (b && not (is_some o))) ≡ true
-all_true true true None x y z = refl
-all_true true true (Some fault) x y z = absurd (cc)
-all_true true false o x y z = absurd (cc)
-all_true false b o x y z = absurd (cc)
+pub both_true : (a b : Bool) → a ≡ true → b ≡ true → (a && b) ≡ true
+both_true true true x y = refl
+both_true true false x y = absurd (cc)
+both_true false b x y = absurd (cc)
+
+all_true : (a b : Bool) (o : Option SessionSettingsError) → (a && b) ≡ true → o ≡ None → (a && (b && not (is_some o))) ≡ true
+all_true true true None x z = refl
+all_true true true (Some fault) x z = absurd (cc)
+all_true true false o x z = absurd (cc)
+all_true false b o x z = absurd (cc)
 
 none_true : (a b : Bool) (o : Option SessionSettingsError) → is_some o ≡ true → (a && (b && not (is_some o))) ≡ false
 none_true true true (Some fault) some = refl
@@ -55,9 +60,16 @@ none_true false b o some = refl
 
 -- a session was made: the settings are in range
 pub range_of_made : (a b : Bool) (s : SessionSettings) (formats : List SessionFormat) (no_media : List ℕ) (pairs : List SsrcPair) (t : Settings) (x : Session)
-    → AreSessionSettings s formats no_media pairs t → a ≡ true → b ≡ true → Ok x ≡ made_of (fault_of t) t → (a && (b && not (is_some (fault_given s formats no_media)))) ≡ true
-range_of_made a b s formats no_media pairs t x are first second made =
-    all_true a b (fault_given s formats no_media) first second (sym (fault_same s formats no_media pairs t are) ∙ made_none (fault_of t) t x made)
+    → AreSessionSettings s formats no_media pairs t → (a && b) ≡ true → Ok x ≡ made_of (fault_of t) t → (a && (b && not (is_some (fault_given s formats no_media)))) ≡ true
+range_of_made a b s formats no_media pairs t x are both made =
+    all_true a b (fault_given s formats no_media) both (sym (fault_same s formats no_media pairs t are) ∙ made_none (fault_of t) t x made)
+
+-- settings that cannot be converted are out of range
+pub refused_by : (a b : Bool) (o : Option SessionSettingsError) (status : ℕ) → RefusesSession (a && b) status → RefusesSession (a && (b && not (is_some o))) status
+refused_by false b o status (inl got) = inl (got.0, refl)
+refused_by true false o status (inl got) = inl (got.0, refl)
+refused_by true true o status (inl got) = absurd (cc)
+refused_by a b o status (inr got) = inr got
 
 -- no session was made: they are not
 pub range_of_refused : (a b : Bool) (s : SessionSettings) (formats : List SessionFormat) (no_media : List ℕ) (pairs : List SsrcPair) (t : Settings) (e : SessionSettingsError)

@@ -119,6 +119,10 @@ fault_given s formats no_media =
     first_of (fault_in s.limit s.max_streams (filter_map format_given formats) (filter_map no_media_given no_media) (filter_map telephone_given no_media))
     (name_fault_given s)
 
+-- clocks have rates, and `from_keyframe` has a meaning, so the settings can be converted
+abbrev pub can_convert : SessionSettings → List SessionFormat → Bool
+can_convert s formats = session_in_range s && list_all format_in_range formats
+
 -- clocks have rates, `from_keyframe` has a meaning, and a session can meet the settings
 abbrev pub is_in_range : SessionSettings → List SessionFormat → List ℕ → Bool
 is_in_range s formats no_media = session_in_range s && (list_all format_in_range formats && not (is_some (fault_given s formats no_media)))

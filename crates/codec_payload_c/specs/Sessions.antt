@@ -10,6 +10,7 @@ use Rattle.codec_payload_handle.specs.Units.{TellsUnit, TellsValues, no_unit}
 use Rattle.codec_payload_handle.specs.declared.extension_values.ExtensionValues.{ExtensionValues as CValues}
 use Rattle.codec_payload_handle.specs.declared.object.PortSession.{PortSession}
 use Rattle.codec_payload_handle.specs.declared.unit.Unit.{Unit as CUnit}
+use Rattle.codec_payload_jitter.specs.declared.outcome.Outcome.{Outcome}
 use Rattle.codec_payload_session.specs.Associations.{Associates}
 use Rattle.codec_payload_session.specs.Polls.{Polls}
 use Rattle.codec_payload_session.specs.Ports.{Session}
@@ -19,6 +20,7 @@ use Rattle.codec_payload_session.specs.declared.session.Event.{Event}
 use Rattle.codec_payload_session.specs.declared.session.Event.TheVariants as events
 use Rattle.codec_payload_session.specs.declared.stream.Ending.{Ending}
 use Rattle.codec_payload_session.specs.declared.stream.Ending.TheVariants as endings
+use Rattle.codec_payload_stream.specs.declared.receiver.ReceiveError.{ReceiveError}
 use Rattle.codec_payload_c.specs.StreamReceivers.{Tells, time_or}
 use Rattle.codec_payload_c.specs.declared.session.Arrival.{Arrival as CArrival}
 use Rattle.codec_payload_c.specs.declared.session.Event.{Event as CEvent}
@@ -29,10 +31,14 @@ use Rattle.codec_payload_c.specs.declared.session.Event.{Event as CEvent}
 abbrev pub arrived_as : ℕ → CArrival
 arrived_as kind = record { kind = kind; ssrc = 0; status = 0; outcome = 0; payload_type = 0 }
 
--- what was done with a datagram; the stream's answer is reported as a receiver reports it, with outcome 0 if there is an error
+-- the answer of a stream, as a receiver reports it, with outcome 0 if there is an error
+abbrev pub TellsOfStream : (ssrc payload_type : ℕ) → Result Outcome ReceiveError → CArrival → Type 0
+TellsOfStream ssrc payload_type answer a = (a.kind ≡ 0) × (a.ssrc ≡ ssrc) × (a.payload_type ≡ payload_type) × Tells answer a.status 0 a.outcome
+
+-- what was done with a datagram
 abbrev pub TellsArrival : Arrival → CArrival → Type 0
-TellsArrival (arrivals.Stream ssrc payload_type answer) a =
-    (a.kind ≡ 0) × (a.ssrc ≡ ssrc) × (a.payload_type ≡ payload_type) × Tells answer a.status 0 a.outcome
+TellsArrival (arrivals.Stream ssrc payload_type outcome) a = TellsOfStream ssrc payload_type (Ok outcome) a
+TellsArrival (arrivals.Faulty ssrc payload_type fault) a = TellsOfStream ssrc payload_type (Err fault) a
 TellsArrival arrivals.Rtcp a = a ≡ arrived_as 1
 TellsArrival arrivals.Malformed a = a ≡ arrived_as 2
 TellsArrival arrivals.Unknown a = a ≡ arrived_as 3

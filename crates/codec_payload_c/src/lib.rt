@@ -24,6 +24,7 @@ mod rtp;
 mod sender;
 mod sent;
 mod session;
+mod session_faults;
 mod session_pairs;
 mod session_reports;
 mod session_settings;

@@ -5,7 +5,7 @@ ghost use Rattle.codec_payload_core.specs.Faults.{fault_number};
 ghost use Rattle.codec_payload_session.specs.Idle.{next_of};
 ghost use Rattle.codec_payload_session.specs.Ports.{ends_all, ends_of};
 ghost use Rattle.codec_payload_c.specs.SessionFormats.{IsPortSessionOf, MakesSession, is_in_range};
-ghost use Rattle.codec_payload_c.specs.Sessions.{Comes, Hands, PollsEvent, ReceivesDatagram, TellsArrival, TellsEvent, TellsJudgedBy, TellsTaken, arrived_as, bytes_in, ending_number, event_with, is_no_memory, latest_unit, popped_or, telephone_unit};
+ghost use Rattle.codec_payload_c.specs.Sessions.{Comes, Hands, PollsEvent, ReceivesDatagram, TellsArrival, TellsEvent, TellsJudgedBy, TellsOfStream, TellsTaken, arrived_as, bytes_in, ending_number, event_with, is_no_memory, latest_unit, popped_or, telephone_unit};
 ghost use Rattle.codec_payload_c.specs.StreamReceivers.{TellsNumber, at_once_if};
 ghost use Rattle.codec_payload_handle.specs.Kinds.{OnPortSession, Refuses, is_port_session};
 ghost use Rattle.codec_payload_handle.specs.Units.{no_unit};
@@ -21,8 +21,10 @@ use codec_payload_handle::handle::Handle;
 use codec_payload_handle::object::{Object, PortSession};
 use codec_payload_handle::status;
 use codec_payload_handle::unit::{Unit, no_unit, unit_of, values_in};
+use codec_payload_jitter::outcome::Outcome;
 use codec_payload_session::session::{Arrival as Arrived, Event as SessionEvent};
 use codec_payload_session::stream::Ending;
+use codec_payload_stream::receiver::ReceiveError;
 use std::alloc::{AllocError, Global};
 
 /// What a session did with a datagram.
@@ -73,6 +75,21 @@ fn arrived_as(kind: u32) -> Arrival
     }
 }
 
+/// Returns the result of a datagram for which a stream has this answer.
+fn arrival_at(ssrc: u32, payload_type: u8, answer: Result<Outcome, ReceiveError>) -> Arrival
+    ensures { TellsOfStream ssrc payload_type answer result }
+{
+    let mut outcome = 0;
+    let status = report_answer(answer, &mut outcome);
+    Arrival {
+        kind: 0,
+        ssrc,
+        status,
+        outcome,
+        payload_type,
+    }
+}
+
 /// Converts the result of a datagram for C.
 fn arrival_of(arrived: Arrived) -> Arrival
     ensures { TellsArrival arrived result }
@@ -81,18 +98,13 @@ fn arrival_of(arrived: Arrived) -> Arrival
         Arrived::Stream {
             ssrc,
             payload_type,
-            answer,
-        } => {
-            let mut outcome = 0;
-            let status = report_answer(answer, &mut outcome);
-            Arrival {
-                kind: 0,
-                ssrc,
-                status,
-                outcome,
-                payload_type,
-            }
-        }
+            outcome,
+        } => arrival_at(ssrc, payload_type, Ok(outcome)),
+        Arrived::Faulty {
+            ssrc,
+            payload_type,
+            fault,
+        } => arrival_at(ssrc, payload_type, Err(fault)),
         Arrived::Rtcp => arrived_as(1),
         Arrived::Malformed => arrived_as(2),
         Arrived::Unknown => arrived_as(3),

@@ -2,7 +2,7 @@
 
 ghost use Rattle.std.specs.Prelude.{◌≡◌, ◌&&◌, is_some, map, filter_map, IfErr, IfOk, IfSome, Option, Bool};
 ghost use Rattle.std.specs.List.{list_all};
-ghost use Rattle.codec_payload_c.specs.SessionFormats.{HasPlainSettings, IsNewSession, MatchFeedback, RefusesSession, format_given, format_in_range, is_in_range, no_media_given, pair_given, red_given, session_in_range, telephone_given};
+ghost use Rattle.codec_payload_c.specs.SessionFormats.{AreSessionSettings, HasPlainSettings, IsNewSession, MatchFeedback, RefusesSession, can_convert, format_given, format_in_range, is_in_range, no_media_given, pair_given, red_given, session_in_range, telephone_given};
 
 use crate::extension::{ExtensionIds, ids_of};
 use crate::receiver::{WaitLimits, bound_of, from_keyframe_of, waiting_for};
@@ -167,7 +167,7 @@ fn format_of(format: &SessionFormat) -> Option<Format>
 }
 
 /// Returns whether the clock of the format has a rate.
-fn is_format_in_range(format: &SessionFormat) -> bool
+pub(crate) fn is_format_in_range(format: &SessionFormat) -> bool
     ensures { result ≡ format_in_range format.now }
 {
     format.spec.rate > 0
@@ -324,16 +324,17 @@ fn settings_of(alloc: Global, settings: &SessionSettings) -> Option<Settings>
     })
 }
 
-/// Creates a session. Which settings it can meet, it says itself.
-pub(crate) fn session_by(
+/// Converts the settings of C. They are refused if a clock has no rate or `from_keyframe` no meaning.
+pub(crate) fn settings_by(
     alloc: Global,
     given: &SessionSettings,
     formats: &[SessionFormat],
     no_media: &[u8],
     pairs: &[SsrcPair],
-) -> Result<PortSession, u32>
-    ensures ok { IfOk result (λ s. IsNewSession given.now formats.now no_media.now pairs.now s × (is_in_range given.now formats.now no_media.now ≡ Bool.true)) }
-    ensures err { IfErr result (λ status. RefusesSession (is_in_range given.now formats.now no_media.now) status) }
+) -> Result<Settings, u32>
+    ensures ok { IfOk result (AreSessionSettings given.now formats.now no_media.now pairs.now) }
+    ensures in_range { IfOk result (λ settings. can_convert given.now formats.now ≡ Bool.true) }
+    ensures err { IfErr result (λ status. RefusesSession (can_convert given.now formats.now) status) }
 {
     let Some(mut settings) = settings_of(alloc, given) else {
         return Err(status::INVALID);
@@ -355,6 +356,24 @@ pub(crate) fn session_by(
     settings.telephone_events = telephone_events;
     settings.pairs = pairs;
     settings.feedback = feedback;
+    Ok(settings)
+}
+
+/// Creates a session. Which settings it can meet, it says itself.
+pub(crate) fn session_by(
+    alloc: Global,
+    given: &SessionSettings,
+    formats: &[SessionFormat],
+    no_media: &[u8],
+    pairs: &[SsrcPair],
+) -> Result<PortSession, u32>
+    ensures ok { IfOk result (λ s. IsNewSession given.now formats.now no_media.now pairs.now s × (is_in_range given.now formats.now no_media.now ≡ Bool.true)) }
+    ensures err { IfErr result (λ status. RefusesSession (is_in_range given.now formats.now no_media.now) status) }
+{
+    let settings = match settings_by(alloc, given, formats, no_media, pairs) {
+        Ok(settings) => settings,
+        Err(status) => return Err(status),
+    };
     match Session::new(alloc, settings) {
         Ok(session) => Ok(PortSession {
             session,

@@ -14,7 +14,7 @@ use Rattle.codec_payload_buffer.specs.declared.buffer.frames.CompleteFrame.{Comp
 use Rattle.codec_payload_buffer.proofs.BlankLemmas.{leaves_few, takes_away}
 use Rattle.codec_payload_jitter.specs.Pressure.{Event, Packet, Retransmitted, Recovered, WithoutMedia, Comes, ComeAll, Drains, Burst, DoesBursts, SparesCompleteFrames}
 use Rattle.codec_payload_jitter.specs.Receiving.{Receiving, Arrival, Accepts, Confirms, GoesInAgain, GoesOn, NotesAs, PopsWith, ReceivesAgainAs, ReceivesAs, RecoversAs, RecoversIf, Restarts}
-use Rattle.codec_payload_jitter.specs.Receiving.{answer_in, answer_to, kept_number, with_noted, counted, counted_again, counted_in_again, counted_pop, counted_recovered, is_stored, has_little_room, is_pressed, may_recover, next, number_again, numbered, outcome_at, restarted, settled, units_in, waiting_at}
+use Rattle.codec_payload_jitter.specs.Receiving.{answer_in, answer_to, kept_number, with_noted, counted, counted_again, counted_in_again, counted_pop, counted_recovered, is_stored, has_little_room, is_pressed, may_recover, next, number_again, numbered, outcome_at, past_first, restarted, settled, units_in, waiting_at, with_first}
 use Rattle.codec_payload_jitter.specs.NoMediaNumbers.{noted_no_media}
 use Rattle.codec_payload_jitter.specs.Runs.{Answer}
 use Rattle.codec_payload_jitter.specs.declared.numbers.Extended.{Extended}
@@ -207,7 +207,7 @@ receives_again None a r o t got =
     weaker 0 1 r t (omega arith)
     (moved 0 r (record r { counters = counted r.counters outcomes.Late }) t got.1 (as_it_is r _ refl refl (omega arith) refl))
 receives_again (Some n) a r o t got =
-    like_by r got.0 t (numbered r (extended.Number n) a.header.sequence_number (record got.0 { counters = counted_in_again got.0.counters o })) got.2
+    like_by r got.0 t (with_first (extended.Number n) a.header.timestamp (numbered r (extended.Number n) a.header.sequence_number (record got.0 { counters = counted_in_again got.0.counters o }))) got.2
     refl refl refl (in_again got.0.counters o) (goes_on n a r o got.0 got.1)
 
 recovers_if : (missing : Bool) (n : ℕ) (a : Arrival) (r : Receiving) (went_in : Bool) (t : Receiving) → RecoversIf missing n a r went_in t → Stores 1 r t
@@ -234,11 +234,11 @@ comes : (event : Event) (r t : Receiving) → Comes event r t → Stores 1 r t
 comes (Packet a) r t come =
     let low = a.header.sequence_number in
     let got = come.1 in
-    like_by r got.0 t (numbered r (answer_to r a.header) low got.0) got.2 refl refl refl refl (receives_as (answer_to r a.header) a r come.0 got.0 got.1)
+    like_by r got.0 t (with_first (answer_to r a.header) a.header.timestamp (numbered r (answer_to r a.header) low got.0)) got.2 refl refl refl refl (receives_as (answer_to r a.header) a r come.0 got.0 got.1)
 comes (Retransmitted a) r t come = receives_again (number_again r a.header.sequence_number) a r come.0 t come.1
 comes (Recovered a) r t come = recovers_as (number_again r a.header.sequence_number) a r come.0 t come.1
 comes (WithoutMedia low) r t come =
-    like_by r come.0 t (numbered r (answer_in r low) low come.0) come.2 refl refl refl refl (weaker 0 1 r come.0 (omega arith) (notes_as (answer_in r low) r come.0 come.1))
+    like_by r come.0 t (past_first (answer_in r low) (numbered r (answer_in r low) low come.0)) come.2 refl refl refl refl (weaker 0 1 r come.0 (omega arith) (notes_as (answer_in r low) r come.0 come.1))
 
 come_all : (events : List Event) (r t : Receiving) → ComeAll events r t → Stores (length events) r t
 come_all [] r t same = moved 0 r r t same (nothing r)

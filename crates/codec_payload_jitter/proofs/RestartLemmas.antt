@@ -1,7 +1,7 @@
 -- The noted times of a sender that gives each number one RTP time contradict none of its packets, so no restart is reported.
 use Rattle.std.proofs.Common.{◌≡◌, ◌∙◌, refl, ap, sym, subst, ℕ, List, [], ◌∷◌, Bool, true, false, not, ◌||◌, ◌&&◌, Option, Some, None, cond}
 use Rattle.codec_payload_base.specs.declared.wire.RtpHeader.{RtpHeader}
-use Rattle.codec_payload_jitter.specs.NotedTimes.{AreTimesOf, contradicts, noted_with}
+use Rattle.codec_payload_jitter.specs.NotedTimes.{AreTimesOf, contradicts, is_untimely, noted_with}
 use Rattle.codec_payload_jitter.specs.Numbers.{answer_for, number_within, without_restart}
 use Rattle.codec_payload_jitter.specs.Pressure.{Event, Packet, Retransmitted, Recovered, WithoutMedia, Comes}
 use Rattle.codec_payload_jitter.specs.Receiving.{Receiving, Arrival, Accepts, GoesOn, NotesAs, PopsWith, ReceivesAs, ReceivesAgainAs, RecoversAs, RecoversIf, settled, waiting_at}
@@ -30,12 +30,19 @@ and_false : (a b : Bool) → b ≡ false → (a && b) ≡ false
 and_false true b is = is
 and_false false b is = refl
 
--- the same for a packet with its RTP time
+or_false : (a b : Bool) → a ≡ false → b ≡ false → (a || b) ≡ false
+or_false true b is e = is
+or_false false b is e = e
+
+-- the same for a packet with its RTP time, which is timely if its number is below the first one
 pub answer_to_is : (time_of : ℕ → ℕ) (r : Receiving) (header : RtpHeader) (n : ℕ) → r.is_restarting ≡ false → AreTimesOf time_of r.noted
-    → answer_for r.numbering header.sequence_number ≡ extended.Number n → header.timestamp ≡ time_of n → answer_to r header ≡ extended.Number n
-answer_to_is time_of r header n running times within time =
+    → answer_for r.numbering header.sequence_number ≡ extended.Number n → header.timestamp ≡ time_of n
+    → is_untimely r.rate r.first (record { number = n; time = header.timestamp }) ≡ false → answer_to r header ≡ extended.Number n
+answer_to_is time_of r header n running times within time timely =
     let x : NotedTime = record { number = n; time = header.timestamp } in
-    let same : is_contradicted r n header.timestamp ≡ false = and_false (not (r.ended || r.is_restarting)) (contradicts r.noted x) (never_contradicts time_of r.noted x time times) in
+    let fits : (contradicts r.noted x || is_untimely r.rate r.first x) ≡ false =
+    or_false (contradicts r.noted x) (is_untimely r.rate r.first x) (never_contradicts time_of r.noted x time times) timely in
+    let same : is_contradicted r n header.timestamp ≡ false = and_false (not (r.ended || r.is_restarting)) (contradicts r.noted x || is_untimely r.rate r.first x) fits in
     ap (answer_by_time r header) (answer_in_is r header.sequence_number n running within)
     ∙ ap (λ (b : Bool). cond b (answer_to_contradiction r header) (extended.Number n)) same
 
@@ -115,11 +122,11 @@ recovered_as time_of (Some n) a r t went_in running times got = recovered_if tim
 again_within : (r : Receiving) (low : ℕ) → r.is_restarting ≡ false → number_again r low ≡ number_within (answer_for r.numbering low)
 again_within r low running = rw running refl
 
-event_goes_on : (time_of : ℕ → ℕ) (event : Event) (r t : Receiving) → r.is_restarting ≡ false → AreTimesOf time_of r.noted → IsHonest time_of r.numbering event → Comes event r t → GoesOnAs time_of r t
+event_goes_on : (time_of : ℕ → ℕ) (event : Event) (r t : Receiving) → r.is_restarting ≡ false → AreTimesOf time_of r.noted → IsHonest time_of r event → Comes event r t → GoesOnAs time_of r t
 event_goes_on time_of (Packet a) r t running times honest come =
     let receives = come.1 in
     let mid : Receiving = receives.0 in
-    let is : answer_to r a.header ≡ extended.Number honest.number = answer_to_is time_of r a.header honest.number running times honest.within honest.time in
+    let is : answer_to r a.header ≡ extended.Number honest.number = answer_to_is time_of r a.header honest.number running times honest.within honest.time honest.timely in
     let goes : GoesOn honest.number a r come.0 mid = subst (λ (e : Extended). ReceivesAs e a r come.0 mid) is receives.1 in
     packet_goes_on time_of a honest.number r mid t come.0 honest.time times goes (ap (λ (x : Receiving). x.counters.restarts) receives.2) (ap (λ (x : Receiving). x.is_restarting) receives.2) (ap (λ (x : Receiving). x.noted) receives.2)
 event_goes_on time_of (Retransmitted a) r t running times honest come =

@@ -8,13 +8,14 @@ use Rattle.codec_payload_buffer.specs.Steps.{State, pushed, is_dropped, without_
 use Rattle.codec_payload_buffer.specs.Stretches.{after_pushes}
 use Rattle.codec_payload_jitter.specs.Numbers.{Numbering, low_bits, no_numbers, number_for, numbering_after, numbers_for, answer_for}
 use Rattle.codec_payload_jitter.specs.Numbers.{numbering_with, without_restart, number_in, is_restart, GoOn, moved}
-use Rattle.codec_payload_jitter.specs.NotedTimes.{AreTimesOf, Noted, noted_with}
+use Rattle.codec_payload_jitter.specs.NotedTimes.{AreTimesOf, Noted, first_or, is_untimely, noted_with}
 use Rattle.codec_payload_jitter.proofs.RestartLemmas.{answer_to_is}
 use Rattle.codec_payload_jitter.proofs.TimesLemmas.{still_times}
-use Rattle.codec_payload_jitter.specs.Receiving.{answer_by_time, answer_to, with_noted}
+use Rattle.codec_payload_jitter.specs.Receiving.{answer_by_time, answer_to, first_with, with_noted}
 use Rattle.codec_payload_jitter.specs.Receiving.{Receiving, Arrival, answer_in, Receives, ReceivesAs, TakesIn, settled, waiting_at, PopsWith}
 use Rattle.codec_payload_jitter.specs.NoMediaNumbers.{passed_no_media, no_media_left}
-use Rattle.codec_payload_jitter.specs.Runs.{ReceivesAll, HaveTimes, HaveTimesByRound, low_numbers, ArriveAs, AreStretches, AreTrueStretches, Answer, numbering_past, numbers_by_round, TurnWith, IsChain, GoOnByRound, AreChains}
+use Rattle.codec_payload_jitter.specs.Runs.{ReceivesAll, HaveTimes, HaveTimesByRound, first_through, low_numbers, timed, ArriveAs, AreStretches, AreTrueStretches, Answer, numbering_past, numbers_by_round, TurnWith, IsChain, GoOnByRound, Round, AreChains}
+use Rattle.codec_payload_jitter.specs.declared.noted_times.NotedTime.{NotedTime}
 use Rattle.codec_payload_jitter.specs.declared.outcome.Outcome.{Outcome}
 use Rattle.codec_payload_jitter.proofs.NumbersLemmas.{are_true_numbers, none_restarts}
 
@@ -74,6 +75,13 @@ one_as extended.Spent a r t outcome on got = record {
   noted = ap (λ (x : Receiving). x.noted) got.1;
 }
 
+-- the first packet stays until the number is taken
+one_first : (answer : Extended) (a : Arrival) (r t : Receiving) (outcome : Outcome) → is_restart answer ≡ false → ReceivesAs answer a r outcome t → t.first ≡ r.first
+one_first (extended.Number n) a r t outcome on got = ap (λ (x : Receiving). x.first) got.2 ∙ ap (λ (x : Receiving). x.first) got.1.3
+one_first (extended.Restarted n) a r t outcome on got = cc
+one_first extended.Suspect a r t outcome on got = ap (λ (x : Receiving). x.first) got.1
+one_first extended.Spent a r t outcome on got = ap (λ (x : Receiving). x.first) got.1
+
 unless_restart : (answer : Extended) → is_restart answer ≡ false → without_restart answer ≡ answer
 unless_restart (extended.Number n) on = refl
 unless_restart (extended.Restarted n) on = cc
@@ -88,15 +96,26 @@ answer_is r low running on = rw running (by_ended r.ended)
     by_ended true = unless_restart (answer_for r.numbering low) on
     by_ended false = refl
 
--- a packet that has a number has its RTP time
-abbrev pub HasTime : (ℕ → ℕ) → Arrival → Option ℕ → Type 0
-HasTime time_of a None = Unit {0}
-HasTime time_of a (Some n) = a.header.timestamp ≡ time_of n
+-- a packet that has a number has its RTP time, and is timely after the first one
+abbrev pub HasTime : (ℕ → ℕ) → ℕ → Option NotedTime → Arrival → Option ℕ → Type 0
+HasTime time_of rate first a None = Unit {0}
+HasTime time_of rate first a (Some n) = (a.header.timestamp ≡ time_of n) × (is_untimely rate first (timed n a) ≡ false)
+
+-- the first packet after it
+abbrev pub first_at : Option NotedTime → Arrival → Option ℕ → Option NotedTime
+first_at first a None = first
+first_at first a (Some n) = first_or first (timed n a)
+
+first_of_answer : (e : Extended) (a : Arrival) (first : Option NotedTime) → is_restart e ≡ false → first_with first e a.header.timestamp ≡ first_at first a (number_in e)
+first_of_answer (extended.Number n) a first on = refl
+first_of_answer (extended.Restarted n) a first on = cc
+first_of_answer extended.Suspect a first on = refl
+first_of_answer extended.Spent a first on = refl
 
 -- so the answer is the numbering's
 answer_of : (time_of : ℕ → ℕ) (r : Receiving) (a : Arrival) (answer : Extended) → r.is_restarting ≡ false → answer_for r.numbering a.header.sequence_number ≡ answer → is_restart answer ≡ false
-    → AreTimesOf time_of r.noted → HasTime time_of a (number_in answer) → answer_to r a.header ≡ answer
-answer_of time_of r a (extended.Number n) running is on times time = answer_to_is time_of r a.header n running times is time
+    → AreTimesOf time_of r.noted → HasTime time_of r.rate r.first a (number_in answer) → answer_to r a.header ≡ answer
+answer_of time_of r a (extended.Number n) running is on times time = answer_to_is time_of r a.header n running times is time.0 time.1
 answer_of time_of r a (extended.Restarted n) running is on times time = cc
 answer_of time_of r a extended.Suspect running is on times time =
     ap (answer_by_time r a.header) (answer_is r a.header.sequence_number running (ap is_restart is) ∙ is)
@@ -104,19 +123,20 @@ answer_of time_of r a extended.Spent running is on times time =
     ap (answer_by_time r a.header) (answer_is r a.header.sequence_number running (ap is_restart is) ∙ is)
 
 -- the noted times are still the sender's
-still_at : (time_of : ℕ → ℕ) (r : Receiving) (a : Arrival) (number : Option ℕ) → HasTime time_of a number → AreTimesOf time_of r.noted → AreTimesOf time_of (noted_at r a number)
+still_at : (time_of : ℕ → ℕ) (r : Receiving) (a : Arrival) (number : Option ℕ) → HasTime time_of r.rate r.first a number → AreTimesOf time_of r.noted → AreTimesOf time_of (noted_at r a number)
 still_at time_of r a None time times = times
-still_at time_of r a (Some n) time times = still_times time_of r.noted (record { number = n; time = a.header.timestamp }) time times
+still_at time_of r a (Some n) time times = still_times time_of r.noted (record { number = n; time = a.header.timestamp }) time.0 times
 
 -- one push
 pub record OneOf (time_of : ℕ → ℕ) (a : Arrival) (r t : Receiving) : Type 0 where
   pub one : IsOne (number_for r.numbering a.header.sequence_number) a r t
   pub numbering : t.numbering ≡ numbering_after r.numbering a.header.sequence_number
   pub running : t.is_restarting ≡ false
+  pub first : t.first ≡ first_at r.first a (number_for r.numbering a.header.sequence_number)
   pub times : AreTimesOf time_of t.noted
 
 one_of : (time_of : ℕ → ℕ) (a : Arrival) (r t : Receiving) (outcome : Outcome) → r.is_restarting ≡ false → is_restart (answer_for r.numbering a.header.sequence_number) ≡ false
-    → AreTimesOf time_of r.noted → HasTime time_of a (number_for r.numbering a.header.sequence_number) → Receives a r outcome t → OneOf time_of a r t
+    → AreTimesOf time_of r.noted → HasTime time_of r.rate r.first a (number_for r.numbering a.header.sequence_number) → Receives a r outcome t → OneOf time_of a r t
 one_of time_of a r t outcome running on times time receives =
     let low = a.header.sequence_number in
     let is : answer_to r a.header ≡ answer_for r.numbering low = answer_of time_of r a (answer_for r.numbering low) running refl on times time in
@@ -134,14 +154,31 @@ one_of time_of a r t outcome running on times time receives =
       };
       numbering = ap (λ (x : Receiving). x.numbering) receives.2 ∙ ap (λ (e : Extended). numbering_with r.numbering e low) is;
       running = ap (λ (x : Receiving). x.is_restarting) receives.2;
+      first = ap (λ (x : Receiving). x.first) receives.2
+          ∙ (ap (λ (o : Option NotedTime). first_with o (answer_to r a.header) a.header.timestamp) (one_first (answer_for r.numbering low) a r mid outcome on taken)
+          ∙ (ap (λ (e : Extended). first_with r.first e a.header.timestamp) is ∙ first_of_answer (answer_for r.numbering low) a r.first on));
       times = subst (AreTimesOf time_of) (sym noted) (still_at time_of r a number time times);
     }
 
 -- the first packet, and the packets after it
-first_time : (time_of : ℕ → ℕ) (a : Arrival) (arrivals : List Arrival) (number : Option ℕ) (numbers : List (Option ℕ)) → HaveTimes time_of (a ∷ arrivals) (number ∷ numbers)
-    → HasTime time_of a number × HaveTimes time_of arrivals numbers
-first_time time_of a arrivals None numbers have = (tt, have)
-first_time time_of a arrivals (Some n) numbers have = have
+first_time : (time_of : ℕ → ℕ) (rate : ℕ) (first : Option NotedTime) (a : Arrival) (arrivals : List Arrival) (number : Option ℕ) (numbers : List (Option ℕ))
+    → HaveTimes time_of rate first (a ∷ arrivals) (number ∷ numbers)
+    → HasTime time_of rate first a number × HaveTimes time_of rate (first_at first a number) arrivals numbers
+first_time time_of rate first a arrivals None numbers have = (tt, have)
+first_time time_of rate first a arrivals (Some n) numbers have = ((have.0, have.1), have.2)
+
+first_more : (first : Option NotedTime) (a : Arrival) (arrivals : List Arrival) (number : Option ℕ) (numbers : List (Option ℕ))
+    → first_through first (a ∷ arrivals) (number ∷ numbers) ≡ first_through (first_at first a number) arrivals numbers
+first_more first a arrivals None numbers = refl
+first_more first a arrivals (Some n) numbers = refl
+
+-- the same premise for the jitter buffer after a packet
+still_have : (time_of : ℕ → ℕ) (arrivals : List Arrival) (rate : ℕ) (first : Option NotedTime) (n : Numbering) (t : Receiving) → t.rate ≡ rate → t.first ≡ first → t.numbering ≡ n
+    → HaveTimes time_of rate first arrivals (numbers_for n (low_numbers arrivals)) → HaveTimes time_of t.rate t.first arrivals (numbers_for t.numbering (low_numbers arrivals))
+still_have time_of arrivals rate first n t rate_is first_is numbering have =
+    subst (λ (k : ℕ). HaveTimes time_of k t.first arrivals (numbers_for t.numbering (low_numbers arrivals))) (sym rate_is)
+    (subst (λ (f : Option NotedTime). HaveTimes time_of rate f arrivals (numbers_for t.numbering (low_numbers arrivals))) (sym first_is)
+    (subst (λ (s : Numbering). HaveTimes time_of rate first arrivals (numbers_for s (low_numbers arrivals))) (sym numbering) have))
 
 one_more : (a : Arrival) (arrivals : List Arrival) (rate : ℕ) (s m t : State) (number : Option ℕ) (numbers : List (Option ℕ)) (ps : List Held)
     → TakesAt rate a number s m → ArriveAs s.depacketizer rate arrivals numbers ps → t ≡ after_pushes m ps
@@ -154,11 +191,11 @@ are_stretches time_of [] r t outcomes running on times have all = ([], refl, ap 
 are_stretches time_of (a ∷ arrivals) r t outcomes running on times have all =
     let mid : Receiving = all.2 in
     let low : ℕ = a.header.sequence_number in
-    let time = first_time time_of a arrivals (number_for r.numbering low) (numbers_for (numbering_after r.numbering low) (low_numbers arrivals)) have in
+    let time = first_time time_of r.rate r.first a arrivals (number_for r.numbering low) (numbers_for (numbering_after r.numbering low) (low_numbers arrivals)) have in
     let one = one_of time_of a r mid all.0 running on.0 times time.0 all.4 in
     let numbering : mid.numbering ≡ numbering_after r.numbering low = one.numbering in
     let later = are_stretches time_of arrivals mid t all.1 one.running (subst (λ (n : Numbering). GoOn n (low_numbers arrivals)) (sym numbering) on.1)
-    one.times (subst (λ (n : Numbering). HaveTimes time_of arrivals (numbers_for n (low_numbers arrivals))) (sym numbering) time.1) all.5 in
+    one.times (still_have time_of arrivals r.rate (first_at r.first a (number_for r.numbering low)) (numbering_after r.numbering low) mid one.one.rate one.first numbering time.1) all.5 in
     let depacketizer : mid.buffer.depacketizer ≡ r.buffer.depacketizer = takes_depacketizer r.rate a (number_for r.numbering low) r.buffer mid.buffer one.one.takes in
     let arrive : ArriveAs r.buffer.depacketizer r.rate arrivals (numbers_for (numbering_after r.numbering low) (low_numbers arrivals)) later.0 =
     subst (λ (d : DepacketizerState). ArriveAs d r.rate arrivals (numbers_for (numbering_after r.numbering low) (low_numbers arrivals)) later.0) depacketizer
@@ -173,23 +210,25 @@ are_true_stretches time_of forward backward first ts arrivals r t outcomes runni
     let numbers : numbers_for r.numbering (low_numbers arrivals) ≡ map (moved first) (first ∷ ts) =
     ap (λ (n : Numbering). numbers_for n (low_numbers arrivals)) fresh ∙ ap (λ (ns : List ℕ). numbers_for (no_numbers forward backward) ns) lows
     ∙ are_true_numbers forward backward kept first ts fits near in
-    let stretch = are_stretches time_of arrivals r t outcomes running on times (subst (HaveTimes time_of arrivals) (sym numbers) have) all in
+    let stretch = are_stretches time_of arrivals r t outcomes running on times (subst (HaveTimes time_of r.rate r.first arrivals) (sym numbers) have) all in
     (stretch.0, subst (λ (ns : List (Option ℕ)). ArriveAs r.buffer.depacketizer r.rate arrivals ns stretch.0) numbers stretch.1, stretch.2)
 
 -- Rounds
 
 -- pushes by a sender that does not restart change only the numbering, the buffer, the suspect packet and the counters
-pub record Stay (time_of : ℕ → ℕ) (lows : List ℕ) (r t : Receiving) : Type 0 where
+pub record Stay (time_of : ℕ → ℕ) (arrivals : List Arrival) (r t : Receiving) : Type 0 where
   pub times : AreTimesOf time_of t.noted
+  pub first : t.first ≡ first_through r.first arrivals (numbers_for r.numbering (low_numbers arrivals))
   pub no_media_numbers : t.no_media_numbers ≡ r.no_media_numbers
   pub rate : t.rate ≡ r.rate
-  pub numbering : t.numbering ≡ numbering_past r.numbering lows
+  pub numbering : t.numbering ≡ numbering_past r.numbering (low_numbers arrivals)
   pub running : t.is_restarting ≡ false
 
 stay : (time_of : ℕ → ℕ) (arrivals : List Arrival) (r t : Receiving) (outcomes : List Outcome) → r.is_restarting ≡ false → GoOn r.numbering (low_numbers arrivals)
-    → AreTimesOf time_of r.noted → HaveTimes time_of arrivals (numbers_for r.numbering (low_numbers arrivals)) → ReceivesAll arrivals r outcomes t → Stay time_of (low_numbers arrivals) r t
+    → AreTimesOf time_of r.noted → HaveTimes time_of r.rate r.first arrivals (numbers_for r.numbering (low_numbers arrivals)) → ReceivesAll arrivals r outcomes t → Stay time_of arrivals r t
 stay time_of [] r t outcomes running on times have all = record {
   times = subst (λ (x : Receiving). AreTimesOf time_of x.noted) (sym all.1) times;
+  first = ap (λ (x : Receiving). x.first) all.1;
   running = ap (λ (x : Receiving). x.is_restarting) all.1 ∙ running;
   no_media_numbers = ap (λ (x : Receiving). x.no_media_numbers) all.1;
   rate = ap (λ (x : Receiving). x.rate) all.1;
@@ -197,12 +236,15 @@ stay time_of [] r t outcomes running on times have all = record {
 }
 stay time_of (a ∷ arrivals) r t outcomes running on times have all =
     let low : ℕ = a.header.sequence_number in
-    let time = first_time time_of a arrivals (number_for r.numbering low) (numbers_for (numbering_after r.numbering low) (low_numbers arrivals)) have in
+    let time = first_time time_of r.rate r.first a arrivals (number_for r.numbering low) (numbers_for (numbering_after r.numbering low) (low_numbers arrivals)) have in
     let one = one_of time_of a r all.2 all.0 running on.0 times time.0 all.4 in
     let rest = stay time_of arrivals all.2 t all.1 one.running (subst (λ (n : Numbering). GoOn n (low_numbers arrivals)) (sym one.numbering) on.1)
-    one.times (subst (λ (n : Numbering). HaveTimes time_of arrivals (numbers_for n (low_numbers arrivals))) (sym one.numbering) time.1) all.5 in
+    one.times (still_have time_of arrivals r.rate (first_at r.first a (number_for r.numbering low)) (numbering_after r.numbering low) all.2 one.one.rate one.first one.numbering time.1) all.5 in
+    let numbers = numbers_for (numbering_after r.numbering low) (low_numbers arrivals) in
     record {
       times = rest.times;
+      first = rest.first ∙ (ap (λ (n : Numbering). first_through all.2.first arrivals (numbers_for n (low_numbers arrivals))) one.numbering
+          ∙ (ap (λ (f : Option NotedTime). first_through f arrivals numbers) one.first ∙ sym (first_more r.first a arrivals (number_for r.numbering low) numbers)));
       no_media_numbers = rest.no_media_numbers ∙ one.one.no_media_numbers;
       rate = rest.rate ∙ one.one.rate;
       numbering = rest.numbering ∙ ap (λ (n : Numbering). numbering_past n (low_numbers arrivals)) one.numbering;
@@ -220,6 +262,7 @@ pub record IsTurn (wait : Option ℕ) (r : Receiving) (answer : Answer) (t : Rec
   pub no_media_numbers : t.no_media_numbers ≡ r.no_media_numbers
   pub rate : t.rate ≡ r.rate
   pub noted : t.noted ≡ r.noted
+  pub first : t.first ≡ r.first
   pub numbering : t.numbering ≡ r.numbering
   pub is_restarting : t.is_restarting ≡ r.is_restarting
 
@@ -229,6 +272,7 @@ turn_of None r answer t pops = record {
   no_media_numbers = ap (λ (x : Receiving). x.no_media_numbers) pops.1;
   rate = ap (λ (x : Receiving). x.rate) pops.1;
   noted = ap (λ (x : Receiving). x.noted) pops.1;
+  first = ap (λ (x : Receiving). x.first) pops.1;
   numbering = ap (λ (x : Receiving). x.numbering) pops.1;
   is_restarting = ap (λ (x : Receiving). x.is_restarting) pops.1;
 }
@@ -237,9 +281,18 @@ turn_of (Some h) r answer t pops = record {
   no_media_numbers = ap (λ (x : Receiving). x.no_media_numbers) pops.2;
   rate = ap (λ (x : Receiving). x.rate) pops.2;
   noted = ap (λ (x : Receiving). x.noted) pops.2;
+  first = ap (λ (x : Receiving). x.first) pops.2;
   numbering = ap (λ (x : Receiving). x.numbering) pops.2;
   is_restarting = ap (λ (x : Receiving). x.is_restarting) pops.2;
 }
+
+-- the same premise for the jitter buffer after a round
+still_by_round : (time_of : ℕ → ℕ) (rounds : List Round) (rate : ℕ) (first : Option NotedTime) (n : Numbering) (t : Receiving) → t.rate ≡ rate → t.first ≡ first → t.numbering ≡ n
+    → HaveTimesByRound time_of rate first n rounds → HaveTimesByRound time_of t.rate t.first t.numbering rounds
+still_by_round time_of rounds rate first n t rate_is first_is numbering have =
+    subst (λ (k : ℕ). HaveTimesByRound time_of k t.first t.numbering rounds) (sym rate_is)
+    (subst (λ (f : Option NotedTime). HaveTimesByRound time_of rate f t.numbering rounds) (sym first_is)
+    (subst (λ (s : Numbering). HaveTimesByRound time_of rate first s rounds) (sym numbering) have))
 
 pub are_chains : AreChains
 are_chains time_of [] r t answers running none on times have does = (does.0, ap (λ (x : Receiving). x.buffer) does.1)
@@ -255,7 +308,8 @@ are_chains time_of (round ∷ rounds) r t answers running none on times have doe
     let rate : after.rate ≡ r.rate = turn.rate ∙ stays.rate in
     let numbering : after.numbering ≡ numbering_past r.numbering lows = turn.numbering ∙ stays.numbering in
     let rest = are_chains time_of rounds after t does.4 (turn.is_restarting ∙ stays.running) (turn.no_media_numbers ∙ none_noted) (subst (λ (n : Numbering). GoOnByRound n rounds) (sym numbering) on.1)
-    (subst (AreTimesOf time_of) (sym turn.noted) stays.times) (subst (λ (n : Numbering). HaveTimesByRound time_of n rounds) (sym numbering) have.1) does.8 in (
+    (subst (AreTimesOf time_of) (sym turn.noted) stays.times) (still_by_round time_of rounds r.rate (first_through r.first round.arrivals (numbers_for r.numbering lows))
+    (numbering_past r.numbering lows) after rate (turn.first ∙ stays.first) numbering have.1) does.8 in (
       stretch.0,
       wait,
       does.2,

@@ -92,6 +92,16 @@ AreTimesFrom time_of spacing index (time ∷ times) = IfSome time (λ t. t ≡ t
 abbrev pub AreTimesOf : (ℕ → ℕ) → Noted → Type 0
 AreTimesOf time_of s = AreTimesFrom time_of (spacing_of s.backward) s.first s.times
 
+-- the number is below the first one, and the RTP time is not from 5 seconds before the first one's up to that time, modulo 2^32
+abbrev pub is_untimely : ℕ → Option NotedTime → NotedTime → Bool
+is_untimely rate None x = false
+is_untimely rate (Some first) x = nat_lt x.number first.number && nat_lt (5 * rate) ((first.time + 2 ^ 32 - x.time) % 2 ^ 32)
+
+-- the first packet, after one more
+abbrev pub first_or : Option NotedTime → NotedTime → Option NotedTime
+first_or None x = Some x
+first_or (Some first) x = Some first
+
 -- how many numbers and how many ticks the later header is after the earlier one, modulo 2^16 and 2^32
 abbrev pub numbers_after : RtpHeader → RtpHeader → ℕ
 numbers_after earlier later = (later.sequence_number + 65536 - earlier.sequence_number) % 65536

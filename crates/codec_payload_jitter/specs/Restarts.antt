@@ -1,36 +1,39 @@
 -- Senders that do not restart: each number has one RTP time.
 use Rattle.std.specs.Prelude.{◌≡◌, ℕ, false, List, [], ◌∷◌, Some}
-use Rattle.codec_payload_jitter.specs.NotedTimes.{AreTimesOf}
-use Rattle.codec_payload_jitter.specs.Numbers.{Numbering, answer_for, number_within}
+use Rattle.codec_payload_jitter.specs.NotedTimes.{AreTimesOf, is_untimely}
+use Rattle.codec_payload_jitter.specs.Numbers.{answer_for, number_within}
 use Rattle.codec_payload_jitter.specs.Pressure.{Event, Packet, Retransmitted, Recovered, WithoutMedia, Comes}
 use Rattle.codec_payload_jitter.specs.Receiving.{Receiving, Arrival, PopsWith, settled, waiting_at}
 use Rattle.codec_payload_jitter.specs.Runs.{Answer}
 use Rattle.codec_payload_jitter.specs.declared.numbers.Extended.TheVariants as extended
 
--- the packet is within the windows of the highest number before it, and has the one RTP time of its number
-pub record IsOfSender (time_of : ℕ → ℕ) (s : Numbering) (a : Arrival) : Type 0 where
+-- the packet is within the windows of the highest number before it, and has the one RTP time of its number. If its number is below
+-- the first one, its RTP time is from 5 seconds before the first one's up to that time
+pub record IsOfSender (time_of : ℕ → ℕ) (r : Receiving) (a : Arrival) : Type 0 where
   pub number : ℕ
-  pub within : answer_for s a.header.sequence_number ≡ extended.Number number
+  pub within : answer_for r.numbering a.header.sequence_number ≡ extended.Number number
   pub time : a.header.timestamp ≡ time_of number
+  pub timely : is_untimely r.rate r.first (record { number = number; time = a.header.timestamp }) ≡ false
 
 -- the same for each event. A retransmission may also be outside the windows. A recovered packet may have any RTP time, which is
 -- a guess
-abbrev pub IsHonest : (ℕ → ℕ) → Numbering → Event → Type 0
-IsHonest time_of s (Packet a) = IsOfSender time_of s a
-IsHonest time_of s (Retransmitted a) = (n : ℕ) → number_within (answer_for s a.header.sequence_number) ≡ Some n → a.header.timestamp ≡ time_of n
-IsHonest time_of s (Recovered a) = Unit {0}
-IsHonest time_of s (WithoutMedia low) = (n : ℕ) × (answer_for s low ≡ extended.Number n)
+abbrev pub IsHonest : (ℕ → ℕ) → Receiving → Event → Type 0
+IsHonest time_of r (Packet a) = IsOfSender time_of r a
+IsHonest time_of r (Retransmitted a) = (n : ℕ) → number_within (answer_for r.numbering a.header.sequence_number) ≡ Some n → a.header.timestamp ≡ time_of n
+IsHonest time_of r (Recovered a) = Unit {0}
+IsHonest time_of r (WithoutMedia low) = (n : ℕ) × (answer_for r.numbering low ≡ extended.Number n)
 
 -- what happens to a jitter buffer: an event, or a pop at a moment
 pub data Step : Type 0 where
   Arrives : Event → Step
   PopsAt : ℕ → Step
 
--- the steps, one after another, for a sender that gives each number one RTP time, and whose packets are within the windows
+-- the steps, one after another, for a sender that gives each number one RTP time, and whose packets are within the windows, and
+-- timely if they are below the first one
 abbrev pub HearsOneSender : (ℕ → ℕ) → List Step → Receiving → Receiving → Type 0
 HearsOneSender time_of [] r t = t ≡ r
 HearsOneSender time_of (Arrives event ∷ steps) r t =
-    (mid : Receiving) × IsHonest time_of r.numbering event × Comes event r mid × HearsOneSender time_of steps mid t
+    (mid : Receiving) × IsHonest time_of r event × Comes event r mid × HearsOneSender time_of steps mid t
 HearsOneSender time_of (PopsAt now ∷ steps) r t =
     (answer : Answer) × (mid : Receiving) × PopsWith (waiting_at (settled r) now) (settled r) answer mid × HearsOneSender time_of steps mid t
 

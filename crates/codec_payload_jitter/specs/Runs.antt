@@ -6,9 +6,10 @@ use Rattle.codec_payload_base.specs.declared.error.PacketError.{PacketError}
 use Rattle.codec_payload_buffer.specs.Release.{Release}
 use Rattle.codec_payload_buffer.specs.Steps.{State, IsArrived, Pops}
 use Rattle.codec_payload_buffer.specs.Stretches.{after_pushes}
-use Rattle.codec_payload_jitter.specs.NotedTimes.{AreTimesOf}
+use Rattle.codec_payload_jitter.specs.NotedTimes.{AreTimesOf, first_or, is_untimely}
 use Rattle.codec_payload_jitter.specs.Numbers.{Numbering, numbering_after, IsNumbering, no_numbers, numbers_for, low_bits, moved, GoOn, StayNear}
 use Rattle.codec_payload_jitter.specs.Receiving.{Receiving, Arrival, Receives, meta_for, settled, waiting_at, PopsWith}
+use Rattle.codec_payload_jitter.specs.declared.noted_times.NotedTime.{NotedTime}
 use Rattle.codec_payload_jitter.specs.declared.outcome.Outcome.{Outcome}
 
 -- pushes, one after another, with their outcomes
@@ -29,19 +30,33 @@ ArriveAs depacketizer rate (a ∷ arrivals) (None ∷ numbers) ps = ArriveAs dep
 ArriveAs depacketizer rate (a ∷ arrivals) (Some n ∷ numbers) ps =
     (p : Held) × (rest : List Held) × (ps ≡ p ∷ rest) × IsArrived depacketizer (meta_for a.now rate a.header n) a.bytes p × ArriveAs depacketizer rate arrivals numbers rest
 
--- each packet with a number has the RTP time of its number; a packet without a number is ignored
-abbrev pub HaveTimes : (ℕ → ℕ) → List Arrival → List (Option ℕ) → Type 0
-HaveTimes time_of [] numbers = Unit {0}
-HaveTimes time_of (a ∷ arrivals) [] = ⊥
-HaveTimes time_of (a ∷ arrivals) (None ∷ numbers) = HaveTimes time_of arrivals numbers
-HaveTimes time_of (a ∷ arrivals) (Some n ∷ numbers) = (a.header.timestamp ≡ time_of n) × HaveTimes time_of arrivals numbers
+-- a packet with its number
+abbrev pub timed : ℕ → Arrival → NotedTime
+timed n a = record { number = n; time = a.header.timestamp }
+
+-- Each packet with a number has the RTP time of its number. If its number is below the first one, its RTP time is from 5 seconds
+-- before the first one's up to that time. A packet without a number is ignored. `first` is the first packet so far, and `rate` the
+-- rate of the RTP clock
+abbrev pub HaveTimes : (ℕ → ℕ) → ℕ → Option NotedTime → List Arrival → List (Option ℕ) → Type 0
+HaveTimes time_of rate first [] numbers = Unit {0}
+HaveTimes time_of rate first (a ∷ arrivals) [] = ⊥
+HaveTimes time_of rate first (a ∷ arrivals) (None ∷ numbers) = HaveTimes time_of rate first arrivals numbers
+HaveTimes time_of rate first (a ∷ arrivals) (Some n ∷ numbers) =
+    (a.header.timestamp ≡ time_of n) × (is_untimely rate first (timed n a) ≡ false) × HaveTimes time_of rate (first_or first (timed n a)) arrivals numbers
+
+-- the first packet after these
+abbrev pub first_through : Option NotedTime → List Arrival → List (Option ℕ) → Option NotedTime
+first_through first [] numbers = first
+first_through first (a ∷ arrivals) [] = first
+first_through first (a ∷ arrivals) (None ∷ numbers) = first_through first arrivals numbers
+first_through first (a ∷ arrivals) (Some n ∷ numbers) = first_through (first_or first (timed n a)) arrivals numbers
 
 -- pushes into a jitter buffer are pushes into its buffer, under the numbers of the numbering. The caller announced no restart,
--- the sender does not restart, and each number has one RTP time
+-- the sender does not restart, each number has one RTP time, and packets below the first one are timely
 abbrev pub AreStretches : Type 0
 AreStretches =
     (time_of : ℕ → ℕ) (arrivals : List Arrival) (r t : Receiving) (outcomes : List Outcome) → r.is_restarting ≡ false → GoOn r.numbering (low_numbers arrivals)
-    → AreTimesOf time_of r.noted → HaveTimes time_of arrivals (numbers_for r.numbering (low_numbers arrivals))
+    → AreTimesOf time_of r.noted → HaveTimes time_of r.rate r.first arrivals (numbers_for r.numbering (low_numbers arrivals))
     → ReceivesAll arrivals r outcomes t
     → (ps : List Held) × ArriveAs r.buffer.depacketizer r.rate arrivals (numbers_for r.numbering (low_numbers arrivals)) ps × (t.buffer ≡ after_pushes r.buffer ps)
 
@@ -49,7 +64,7 @@ AreStretches =
 abbrev pub AreTrueStretches : Type 0
 AreTrueStretches =
     (time_of : ℕ → ℕ) (forward backward first : ℕ) (ts : List ℕ) (arrivals : List Arrival) (r t : Receiving) (outcomes : List Outcome)
-    → r.is_restarting ≡ false → AreTimesOf time_of r.noted → HaveTimes time_of arrivals (map (moved first) (first ∷ ts)) → IsNumbering (no_numbers forward backward) → r.numbering ≡ no_numbers forward backward → first + 65536 < 2 ^ 64 → StayNear forward backward first ts
+    → r.is_restarting ≡ false → AreTimesOf time_of r.noted → HaveTimes time_of r.rate r.first arrivals (map (moved first) (first ∷ ts)) → IsNumbering (no_numbers forward backward) → r.numbering ≡ no_numbers forward backward → first + 65536 < 2 ^ 64 → StayNear forward backward first ts
     → low_numbers arrivals ≡ map low_bits (first ∷ ts) → ReceivesAll arrivals r outcomes t
     → (ps : List Held) × ArriveAs r.buffer.depacketizer r.rate arrivals (map (moved first) (first ∷ ts)) ps × (t.buffer ≡ after_pushes r.buffer ps)
 
@@ -99,16 +114,17 @@ IsChain rate (round ∷ rounds) (numbers ∷ more) s answers t =
     (ps : List Held) × (wait : Option ℕ) × (answer : Answer) × (after : State) × (later : List Answer) × (answers ≡ answer ∷ later)
     × ArriveAs s.depacketizer rate round.arrivals numbers ps × TurnWith wait (after_pushes s ps) answer after × IsChain rate rounds more after later t
 
--- each number has one RTP time in all rounds
-abbrev pub HaveTimesByRound : (ℕ → ℕ) → Numbering → List Round → Type 0
-HaveTimesByRound time_of s [] = Unit {0}
-HaveTimesByRound time_of s (round ∷ rounds) =
-    HaveTimes time_of round.arrivals (numbers_for s (low_numbers round.arrivals)) × HaveTimesByRound time_of (numbering_past s (low_numbers round.arrivals)) rounds
+-- each number has one RTP time in all rounds, and packets below the first one are timely
+abbrev pub HaveTimesByRound : (ℕ → ℕ) → ℕ → Option NotedTime → Numbering → List Round → Type 0
+HaveTimesByRound time_of rate first s [] = Unit {0}
+HaveTimesByRound time_of rate first s (round ∷ rounds) =
+    HaveTimes time_of rate first round.arrivals (numbers_for s (low_numbers round.arrivals))
+    × HaveTimesByRound time_of rate (first_through first round.arrivals (numbers_for s (low_numbers round.arrivals))) (numbering_past s (low_numbers round.arrivals)) rounds
 
 -- the rounds of a jitter buffer are turns of its buffer, each pop with its `hold_back`. The sender is as above, and no number
 -- is without media
 abbrev pub AreChains : Type 0
 AreChains =
     (time_of : ℕ → ℕ) (rounds : List Round) (r t : Receiving) (answers : List Answer) → r.is_restarting ≡ false → r.no_media_numbers ≡ [] → GoOnByRound r.numbering rounds
-    → AreTimesOf time_of r.noted → HaveTimesByRound time_of r.numbering rounds → DoesRounds rounds r answers t
+    → AreTimesOf time_of r.noted → HaveTimesByRound time_of r.rate r.first r.numbering rounds → DoesRounds rounds r answers t
     → IsChain r.rate rounds (numbers_by_round r.numbering rounds) r.buffer answers t.buffer

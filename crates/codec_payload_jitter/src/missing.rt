@@ -7,8 +7,8 @@ use crate::jitter::JitterBuffer;
 use codec_payload_codec::codec::{Depacketizer, NoBox};
 use std::marker::Model;
 
-/// An iterator over the missing numbers, in rising order. No step allocates. A step inspects each number that is held between
-/// the previous answer and this one. See [`JitterBuffer::missing`].
+/// An iterator over the missing numbers, in rising order. No step allocates. A step makes one search for each row of held numbers
+/// between the previous answer and this one, however long the rows are. See [`JitterBuffer::missing`].
 #[derive(Debug, Drop)]
 pub struct MissingNumbers<'a, B = NoBox> {
     packets: &'a JitterBuffer<B>,
@@ -47,16 +47,22 @@ impl<'a, B: Depacketizer> MissingNumbers<'a, B> {
     }
 }
 
-/// Returns the first missing number from `from` up to `to`, exclusive.
-#[tactic(auto, using(crate::proofs::MissingLemmas::absent_here, crate::proofs::MissingLemmas::absent_later, crate::proofs::MissingLemmas::absent_none))]
+/// Returns the first missing number from `from` up to `to`, exclusive. A row of held numbers is one step.
+#[tactic(auto, using(crate::proofs::MissingLemmas::absent_past, crate::proofs::MissingLemmas::absent_free, crate::proofs::MissingLemmas::absent_over, crate::proofs::MissingLemmas::absent_none))]
 fn first_absent<B: Depacketizer>(packets: &JitterBuffer<B>, from: u64, to: u64) -> Option<u64>
     ensures first { MatchOption result (absent_between packets.now from to ≡ []) (λ n. absent_between packets.now from to ≡ n ∷ absent_between packets.now (n + 1) to) }
     ensures within { IfSome result (λ n. n < to) }
 {
-    for number in from..to {
-        if packets.is_absent(number) {
-            return Some(number);
+    let mut number = from;
+    while number < to {
+        let free = number.saturating_add(packets.held_in_a_row(number) as u64);
+        if free >= to {
+            return None;
         }
+        if !packets.has_no_media(free) {
+            return Some(free);
+        }
+        number = free + 1;
     }
     None
 }

@@ -2,7 +2,7 @@
 
 ghost use Rattle.std.specs.Prelude.{◌≡◌, ◌≤◌, ◌<◌, ◌+◌, ◌-◌, OnOk, length, min, None, Some};
 ghost use Rattle.std.specs.VecDeque.{deque_len, deque_capacity};
-ghost use Rattle.codec_payload_jitter.specs.NotedTimes.{contradicts, gone_on, index_of, is_noted, is_soon_after, none_noted, noted_with, places_for, pushed_time, appended_to, room_for, room_for_time, spacing_of};
+ghost use Rattle.codec_payload_jitter.specs.NotedTimes.{contradicts, gone_on, index_of, is_noted, is_soon_after, is_untimely, none_noted, noted_with, places_for, pushed_time, appended_to, room_for, room_for_time, spacing_of};
 
 use codec_payload_base::wire::Frequency;
 use codec_payload_buffer::buffer::PackedHeader;
@@ -205,7 +205,7 @@ fn places_for(backward: u16) -> usize
 fn is_noted(backward: u16, number: u64) -> bool
     ensures { result ≡ is_noted backward number }
 {
-    number % spacing_of(backward) == 0
+    number % 4 == 0 && (backward <= NARROW || number % 8 == 0)
 }
 
 /// Returns the index of a number.
@@ -229,4 +229,21 @@ pub(crate) fn is_soon_after(
     let ticks = later.timestamp().wrapping_sub(earlier.timestamp());
     let most = 2 * u64::from(clock_rate.get());
     1 <= numbers && numbers <= 16 && u64::from(ticks) <= most
+}
+
+/// Returns whether the number is below the first one, and the RTP time is not from 5 seconds before the first one's up to that
+/// time, modulo 2^32.
+#[inline(always)]
+pub(crate) fn is_untimely(
+    clock_rate: Frequency,
+    first: Option<NotedTime>,
+    packet: NotedTime,
+) -> bool
+    ensures { result ≡ is_untimely clock_rate first packet }
+{
+    let Some(first) = first else {
+        return false;
+    };
+    let ticks = first.time.wrapping_sub(packet.time);
+    packet.number < first.number && u64::from(ticks) > 5 * u64::from(clock_rate.get())
 }

@@ -18,8 +18,8 @@ use Rattle.codec_payload_rtcp.specs.declared.items.ReportBlock.{ReportBlock}
 use Rattle.codec_payload_rtcp.specs.declared.packet.RtcpError.{RtcpError}
 use Rattle.codec_payload_session.proofs.QuietLemmas.{quiet_length}
 use Rattle.codec_payload_session.proofs.ReportLemmas.{noted_length}
-use Rattle.codec_payload_session.specs.Arrivals.{Arrives, BeginsIf, BeginsOrFeeds, BeginsWith, Feeds, FeedsIf, Port, StaysEmpty, TakesIn, TakesInAs, added, has_place, left_if, left_where, on_probation, taken_of, without, TakesMedia}
-use Rattle.codec_payload_session.specs.Ports.{IsPort, ReportsIf, counted_if, taken_in}
+use Rattle.codec_payload_session.specs.Arrivals.{Arrives, BeginsIf, BeginsOrFeeds, BeginsWith, Feeds, FeedsIf, Port, StaysEmpty, TakesIn, TakesInAs, added, arrival_of, has_place, left_if, left_where, on_probation, taken_of, without, TakesMedia}
+use Rattle.codec_payload_session.specs.Ports.{IsPort, ReportsIf, counted, counted_if, taken_in}
 use Rattle.codec_payload_session.specs.Reports.{noted_at, noted_in, reported_by}
 use Rattle.codec_payload_session.proofs.ChangeLemmas.{length_continued, taken_continued}
 use Rattle.codec_payload_session.specs.Changes.{continues}
@@ -122,20 +122,29 @@ keeps_by : (settings : SessionSettings) (c : ArrivalCounts) (p q : Port) (answer
 keeps_by settings c p q answer told is same kept =
     subst (λ (a : Result Arrival AllocError). Keeps settings c q a) (sym is) (subst (λ (x : Port). Keeps settings c x told) (sym same) kept)
 
+-- a datagram that a stream took is received, and has no other counter
+counted_taken : (ssrc payload_type : ℕ) (told : Result Outcome ReceiveError) (c : ArrivalCounts) → counted (arrival_of ssrc payload_type told) c ≡ record c { received = next c.received }
+counted_taken ssrc payload_type (Ok outcome) c = refl
+counted_taken ssrc payload_type (Err fault) c = refl
+
+taken_keeps : (settings : SessionSettings) (c : ArrivalCounts) (q : Port) (ssrc payload_type : ℕ) (told : Result Outcome ReceiveError) → IsPort settings q (record c { received = next c.received })
+    → Keeps settings c q (Ok (arrival_of ssrc payload_type told))
+taken_keeps settings c q ssrc payload_type told kept = subst (λ (x : ArrivalCounts). IsPort settings q x) (sym (counted_taken ssrc payload_type told c)) kept
+
 feeds_keep : (settings : SessionSettings) (c : ArrivalCounts) (place : ℕ) (now : Ticks) (bytes : List ℕ) (p : Port) (answer : Result Arrival AllocError) (q : Port)
     → Feeds settings.probation place now bytes p answer q → IsPort settings p c → Keeps settings c q answer
 feeds_keep settings c place now bytes p answer q got kept =
     subst (λ (x : Port). Keeps settings c x answer) (sym got.left)
     (by_test (is_no_memory got.told) answer got.arrives (takes_taken now settings.probation bytes got.stream got.told got.after got.takes))
   where
-    by_test : (b : Bool) (a : Result Arrival AllocError) → Arrives b (arrivals.Stream got.stream.ssrc got.stream.format.payload_type got.told) a
+    by_test : (b : Bool) (a : Result Arrival AllocError) → Arrives b (arrival_of got.stream.ssrc got.stream.format.payload_type got.told) a
         → got.after.taken ≡ taken_unless b got.stream.taken → Keeps settings c (record p { streams = slice_set p.streams place got.after }) a
     by_test false a is taken =
         subst (λ (x : Result Arrival AllocError). Keeps settings c (record p { streams = slice_set p.streams place got.after }) x) (sym is)
-        (record {
+        (taken_keeps settings c (record p { streams = slice_set p.streams place got.after }) got.stream.ssrc got.stream.format.payload_type got.told (record {
           accounted = omega (arith, kept.accounted, taken, taken_set p.streams place got.stream got.after got.there);
           bounded = omega (arith, kept.bounded, length_set p.streams place got.after);
-        })
+        }))
     by_test true (Ok arrival) is taken = absurd (cc)
     by_test true (Err e) is taken = record {
       accounted = omega (arith, kept.accounted, taken, taken_set p.streams place got.stream got.after got.there);
@@ -201,8 +210,8 @@ begins_keep settings c ssrc f now bytes p answer q place got kept =
     let taken : got.after.taken ≡ taken_unless (is_no_memory got.told) got.stream.taken = takes_taken now settings.probation bytes got.stream got.told got.after got.takes in
     let one : got.after.taken ≡ 1 = taken ∙ ap (λ (b : Bool). taken_unless b got.stream.taken) got.received ∙ ap next got.begins.taken in
     let it : Adds settings.max_streams got.after p (added settings.max_streams got.after p) = adds settings.max_streams got.after p place kept.bounded in
-    keeps_by settings c (added settings.max_streams got.after p) q answer (Ok (arrivals.Stream ssrc f.payload_type got.told)) got.answers got.left
-    (record { accounted = omega (arith, kept.accounted, one, it.0); bounded = it.1 })
+    keeps_by settings c (added settings.max_streams got.after p) q answer (Ok (arrival_of ssrc f.payload_type got.told)) got.answers got.left
+    (taken_keeps settings c (added settings.max_streams got.after p) ssrc f.payload_type got.told (record { accounted = omega (arith, kept.accounted, one, it.0); bounded = it.1 }))
 
 stays_keep : (settings : SessionSettings) (c : ArrivalCounts) (p : Port) (answer : Result Arrival AllocError) (q : Port) → StaysEmpty p answer q → IsPort settings p c → Keeps settings c q answer
 stays_keep settings c p (Ok arrival) q got kept = absurd (cc)

@@ -63,7 +63,7 @@ same_named s t same is = subst (λ (x : Receiver). IsNamed x) (sym same) is
 
 heard_named : (now : Ticks) (d : Datagram) (s t : Receiver) (answer : Result Outcome ReceiveError) → IsNamed s → Heard now d s answer t → IsNamed t
 heard_named now d s t (Ok outcome) is heard = record { named = ap (λ (x : Receiver). is_none_of x.named) heard.left ∙ is.named; known = ap (λ (x : Receiver). is_none_of x.ssrc) heard.left ∙ ssrc_kept s.ssrc d is.known }
-heard_named now d s t (Err errors.OutOfMemory) is heard = same_named s t heard is
+heard_named now d s t (Err errors.OutOfMemory) is heard = same_named s t heard.0 is
 heard_named now d s t (Err (errors.Rtp e)) is heard = record { named = ap (λ (x : Receiver). is_none_of x.named) heard.left ∙ is.named; known = ap (λ (x : Receiver). is_none_of x.ssrc) heard.left ∙ ssrc_kept s.ssrc d is.known }
 heard_named now d s t (Err errors.Red) is heard = record { named = ap (λ (x : Receiver). is_none_of x.named) heard.left ∙ is.named; known = ap (λ (x : Receiver). is_none_of x.ssrc) heard.left ∙ ssrc_kept s.ssrc d is.known }
 heard_named now d s t (Err errors.Retransmission) is heard = record { named = ap (λ (x : Receiver). is_none_of x.named) heard.left ∙ is.named; known = ap (λ (x : Receiver). is_none_of x.ssrc) heard.left ∙ ssrc_kept s.ssrc d is.known }

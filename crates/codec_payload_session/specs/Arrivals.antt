@@ -87,6 +87,11 @@ left_where who why at ss = map (left_if who why at) ss
 
 -- ---- a datagram for a stream that exists
 
+-- the outcome of a datagram that a receiver accepted or dropped, or the fault for which it refused the datagram
+abbrev pub arrival_of : (ssrc payload_type : ℕ) → Result Outcome ReceiveError → Arrival
+arrival_of ssrc payload_type (Ok outcome) = arrivals.Stream ssrc payload_type outcome
+arrival_of ssrc payload_type (Err fault) = arrivals.Faulty ssrc payload_type fault
+
 -- if memory runs out for the datagram, there is an error instead of an answer
 abbrev pub Arrives : Bool → Arrival → Result Arrival AllocError → Type 0
 Arrives false arrival answer = answer ≡ Ok arrival
@@ -99,7 +104,7 @@ pub record Feeds (probation place : ℕ) (now : Ticks) (bytes : List ℕ) (p : P
   pub told : Result Outcome ReceiveError
   pub there : slice_get p.streams place ≡ Some stream
   pub takes : Takes now probation bytes stream told after
-  pub arrives : Arrives (is_no_memory told) (arrivals.Stream stream.ssrc stream.format.payload_type told) answer
+  pub arrives : Arrives (is_no_memory told) (arrival_of stream.ssrc stream.format.payload_type told) answer
   pub left : q ≡ record p { streams = slice_set p.streams place after }
 
 -- without a stream nothing changes
@@ -142,7 +147,7 @@ pub record BeginsWith (settings : SessionSettings) (ssrc : ℕ) (f : Format) (no
   pub begins : Begins settings ssrc f stream
   pub takes : Takes now settings.probation bytes stream told after
   pub received : is_no_memory told ≡ false
-  pub answers : answer ≡ Ok (arrivals.Stream ssrc f.payload_type told)
+  pub answers : answer ≡ Ok (arrival_of ssrc f.payload_type told)
   pub left : q ≡ added settings.max_streams after p
 
 -- memory ran out, and nothing has changed

@@ -109,7 +109,8 @@ is_unassociated (Ok arrivals.Rtcp) = false
 is_unassociated (Ok arrivals.Malformed) = false
 is_unassociated (Ok arrivals.Unknown) = false
 is_unassociated (Ok arrivals.Refused) = false
-is_unassociated (Ok (arrivals.Stream ssrc payload_type answer)) = false
+is_unassociated (Ok (arrivals.Stream ssrc payload_type outcome)) = false
+is_unassociated (Ok (arrivals.Faulty ssrc payload_type fault)) = false
 is_unassociated (Err e) = false
 
 -- ---- the same for the settings and the streams

@@ -51,7 +51,8 @@ counted arrivals.Malformed c = record c { received = next c.received; malformed 
 counted arrivals.Unknown c = record c { received = next c.received; unknown = next c.unknown }
 counted arrivals.Refused c = record c { received = next c.received; refused = next c.refused }
 counted arrivals.Unassociated c = record c { received = next c.received; unassociated = next c.unassociated }
-counted (arrivals.Stream ssrc payload_type answer) c = record c { received = next c.received }
+counted (arrivals.Stream ssrc payload_type outcome) c = record c { received = next c.received }
+counted (arrivals.Faulty ssrc payload_type fault) c = record c { received = next c.received }
 
 abbrev pub counted_if : Result Arrival AllocError → ArrivalCounts → ArrivalCounts
 counted_if (Ok arrival) c = counted arrival c

@@ -39,17 +39,17 @@ telephone_at s bytes = if is_rtcp bytes then None else telephone_of s (rtp_at by
 
 -- a stream took the datagram as one without media
 abbrev pub is_without_media : Result Arrival AllocError → Bool
-is_without_media (Ok (arrivals.Stream ssrc payload_type (Ok outcomes.NoMedia))) = true
-is_without_media (Ok (arrivals.Stream ssrc payload_type (Ok outcomes.Held))) = false
-is_without_media (Ok (arrivals.Stream ssrc payload_type (Ok outcomes.HeldAndEvicted))) = false
-is_without_media (Ok (arrivals.Stream ssrc payload_type (Ok (outcomes.Restarted with_kept)))) = false
-is_without_media (Ok (arrivals.Stream ssrc payload_type (Ok outcomes.Duplicate))) = false
-is_without_media (Ok (arrivals.Stream ssrc payload_type (Ok outcomes.Late))) = false
-is_without_media (Ok (arrivals.Stream ssrc payload_type (Ok outcomes.Suspect))) = false
-is_without_media (Ok (arrivals.Stream ssrc payload_type (Ok outcomes.OtherStream))) = false
-is_without_media (Ok (arrivals.Stream ssrc payload_type (Ok outcomes.Undecided))) = false
-is_without_media (Ok (arrivals.Stream ssrc payload_type (Ok outcomes.Rtcp))) = false
-is_without_media (Ok (arrivals.Stream ssrc payload_type (Err e))) = false
+is_without_media (Ok (arrivals.Stream ssrc payload_type outcomes.NoMedia)) = true
+is_without_media (Ok (arrivals.Stream ssrc payload_type outcomes.Held)) = false
+is_without_media (Ok (arrivals.Stream ssrc payload_type outcomes.HeldAndEvicted)) = false
+is_without_media (Ok (arrivals.Stream ssrc payload_type (outcomes.Restarted with_kept))) = false
+is_without_media (Ok (arrivals.Stream ssrc payload_type outcomes.Duplicate)) = false
+is_without_media (Ok (arrivals.Stream ssrc payload_type outcomes.Late)) = false
+is_without_media (Ok (arrivals.Stream ssrc payload_type outcomes.Suspect)) = false
+is_without_media (Ok (arrivals.Stream ssrc payload_type outcomes.OtherStream)) = false
+is_without_media (Ok (arrivals.Stream ssrc payload_type outcomes.Undecided)) = false
+is_without_media (Ok (arrivals.Stream ssrc payload_type outcomes.Rtcp)) = false
+is_without_media (Ok (arrivals.Faulty ssrc payload_type fault)) = false
 is_without_media (Ok arrivals.Rtcp) = false
 is_without_media (Ok arrivals.Malformed) = false
 is_without_media (Ok arrivals.Unknown) = false

@@ -4,11 +4,10 @@ use Rattle.std.specs.declared.alloc.AllocError.{AllocError}
 use Rattle.codec_payload_base.specs.declared.wire.Ticks.{Ticks}
 use Rattle.codec_payload_jitter.specs.declared.outcome.Outcome.{Outcome}
 use Rattle.codec_payload_stream.specs.declared.receiver.ReceiveError.{ReceiveError}
-use Rattle.codec_payload_session.specs.Arrivals.{Arrives, Port}
+use Rattle.codec_payload_session.specs.Arrivals.{Arrives, Port, arrival_of}
 use Rattle.codec_payload_session.specs.Streams.{Steps, StreamState, Takes, is_no_memory}
 use Rattle.codec_payload_session.specs.Turns.{StepsFirst}
 use Rattle.codec_payload_session.specs.declared.session.Arrival.{Arrival}
-use Rattle.codec_payload_session.specs.declared.session.Arrival.TheVariants as arrivals
 use Rattle.codec_payload_session.specs.declared.stream.Step.TheVariants as steps
 use Rattle.codec_payload_session.specs.declared.streams.Turn.{Turn}
 use Rattle.codec_payload_session.specs.declared.waking.Waking.{Waking}
@@ -51,7 +50,7 @@ pub record StepsPort (now : Ticks) (idle : ℕ) (p : Port) (turn : Option Turn) 
 pub record FeedsOne (probation : ℕ) (now : Ticks) (bytes : List ℕ) (s : StreamState) (answer : Result Arrival AllocError) (t : StreamState) : Type 0 where
   pub told : Result Outcome ReceiveError
   pub takes : Takes now probation bytes s told t
-  pub arrives : Arrives (is_no_memory told) (arrivals.Stream s.ssrc s.format.payload_type told) answer
+  pub arrives : Arrives (is_no_memory told) (arrival_of s.ssrc s.format.payload_type told) answer
 
 -- a time as a number; 2^64 - 1 is none
 abbrev pub or_max : Option ℕ → ℕ

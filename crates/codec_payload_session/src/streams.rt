@@ -9,7 +9,7 @@ ghost use Rattle.codec_payload_session.specs.Reports.{noted_where};
 ghost use Rattle.codec_payload_session.specs.Sorting.{sorted_packet, sorted_rtcp};
 ghost use Rattle.codec_payload_session.specs.Streams.{is_of, waiting_if, waiting_where};
 ghost use Rattle.codec_payload_session.specs.Turns.{StepsFirst, TakesTurn, after_step, told_by};
-ghost use Rattle.codec_payload_session.specs.Arrivals.{BeginsIf, BeginsOrFeeds, Feeds, TakesIn, TakesInAs, added, has_place, has_ssrc, includes, leaving, left_if, left_where, on_probation, removed, say_goodbye, TakesMedia};
+ghost use Rattle.codec_payload_session.specs.Arrivals.{BeginsIf, BeginsOrFeeds, Feeds, TakesIn, TakesInAs, added, arrival_of, has_place, has_ssrc, includes, leaving, left_if, left_where, on_probation, removed, say_goodbye, TakesMedia};
 ghost use Rattle.codec_payload_session.specs.Ports.{ReportsIf, ReportsOn, everyone, no_port};
 ghost use Rattle.codec_payload_session.specs.declared.stream.Ending.TheVariants as endings;
 ghost use Rattle.codec_payload_session.specs.Pairs.{paired_where, with_pair};
@@ -27,10 +27,12 @@ use crate::stream::{Ending, Step, StreamState, is_no_memory, is_nothing};
 use crate::waking::{Waking, step_excepted};
 use codec_payload_base::wire::{Frequency, Ticks};
 use codec_payload_jitter::jitter::WaitLimits;
+use codec_payload_jitter::outcome::Outcome;
 use codec_payload_rtcp::compound::{CompoundRule, Packets, read_compound};
 use codec_payload_rtcp::items::ReportBlock;
 use codec_payload_rtp::rtp::PacketHeader;
 use codec_payload_stream::parsed::ParsedDatagram;
+use codec_payload_stream::receiver::ReceiveError;
 use std::alloc::{AllocError, Global};
 use std::marker::Model;
 
@@ -252,11 +254,7 @@ impl Streams {
             return Err(AllocError);
         }
         self.add(settings.max_streams, stream)?;
-        Ok(Arrival::Stream {
-            ssrc,
-            payload_type: format.payload_type,
-            answer,
-        })
+        Ok(arrival_of(ssrc, format.payload_type, answer))
     }
 
     /// Returns whether there is a place for one more stream.
@@ -456,11 +454,25 @@ fn feed_one(
     if is_no_memory(&answer) {
         return Err(AllocError);
     }
-    Ok(Arrival::Stream {
-        ssrc,
-        payload_type,
-        answer,
-    })
+    Ok(arrival_of(ssrc, payload_type, answer))
+}
+
+/// Returns what was done with a datagram for which the stream has this answer.
+fn arrival_of(ssrc: u32, payload_type: u8, answer: Result<Outcome, ReceiveError>) -> Arrival
+    ensures { result ≡ arrival_of ssrc payload_type answer }
+{
+    match answer {
+        Ok(outcome) => Arrival::Stream {
+            ssrc,
+            payload_type,
+            outcome,
+        },
+        Err(fault) => Arrival::Faulty {
+            ssrc,
+            payload_type,
+            fault,
+        },
+    }
 }
 
 /// Returns the place of the stream with this SSRC and payload type.

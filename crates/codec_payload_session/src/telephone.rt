@@ -187,7 +187,7 @@ fn is_without_media(answer: &Result<Arrival, AllocError>) -> bool
     matches!(
         answer,
         Ok(Arrival::Stream {
-            answer: Ok(Outcome::NoMedia),
+            outcome: Outcome::NoMedia,
             ..
         })
     )

@@ -12,7 +12,7 @@ use Rattle.codec_payload_rtp.specs.RtpReading.{rtp_at}
 use Rattle.codec_payload_rtp.specs.declared.rtp.RtpError.{RtpError}
 use Rattle.codec_payload_stream.specs.Kinds.{is_among}
 use Rattle.codec_payload_stream.specs.declared.receiver.Retransmission.{Retransmission}
-use Rattle.codec_payload_session.specs.Arrivals.{Arrives, Feeds, FeedsIf, Port, TakesIn, TakesInAs}
+use Rattle.codec_payload_session.specs.Arrivals.{Arrives, Feeds, FeedsIf, Port, TakesIn, TakesInAs, arrival_of}
 use Rattle.codec_payload_session.specs.Associations.{owner_of, pair_at, pair_of, pair_with, unpaired_at, unpaired_by, unpaired_rtp}
 use Rattle.codec_payload_session.specs.Formats.{has_type, resends, retransmission_for, retransmission_of, role_by, stream_of}
 use Rattle.codec_payload_session.specs.Pairs.{is_apart, paired_if, paired_when, paired_where, with_pair}
@@ -197,7 +197,7 @@ feeds_paired given probation place now datagram ssrc named ss p answer q is abou
     (λ (z : StreamState) (e : paired_if ssrc named z ≡ x).
     paired_fed_goes now datagram probation named (z.ssrc == ssrc) z got.told got.after answer (about z)
     (subst (λ (w : StreamState). Takes now probation datagram.items w got.told got.after) (sym e) got.takes)
-    (subst (λ (w : StreamState). Arrives (is_no_memory got.told) (arrivals.Stream w.ssrc w.format.payload_type got.told) answer) (sym e) got.arrives))
+    (subst (λ (w : StreamState). Arrives (is_no_memory got.told) (arrival_of w.ssrc w.format.payload_type got.told) answer) (sym e) got.arrives))
     (λ (z : StreamState) (other : is_same z.ssrc z.format.payload_type x.ssrc x.format.payload_type ≡ false).
     paired_goes c ssrc named (z.ssrc == ssrc) z refl about refl
     (given_other (is_no_memory got.told) now datagram.items z.ssrc z.format.payload_type x.ssrc x.format.payload_type got.told answer other got.arrives)))))

@@ -17,7 +17,7 @@ use Rattle.codec_payload_rtp.specs.RtpReading.{rtp_at}
 use Rattle.codec_payload_rtp.specs.declared.rtp.RtpError.{RtpError}
 use Rattle.codec_payload_stream.specs.Kinds.{is_among}
 use Rattle.codec_payload_stream.specs.declared.receiver.ReceiveError.{ReceiveError}
-use Rattle.codec_payload_session.specs.Arrivals.{Arrives, BeginsIf, BeginsOrFeeds, BeginsWith, Feeds, FeedsIf, Port, TakesIn, TakesInAs, TakesMedia, goodbye_at, has_place, has_ssrc, left_if, on_probation, without}
+use Rattle.codec_payload_session.specs.Arrivals.{Arrives, BeginsIf, BeginsOrFeeds, BeginsWith, Feeds, FeedsIf, Port, TakesIn, TakesInAs, TakesMedia, arrival_of, goodbye_at, has_place, has_ssrc, left_if, on_probation, without}
 use Rattle.codec_payload_session.specs.Changes.{continued, continues, is_left_behind, left_behind}
 use Rattle.codec_payload_session.specs.Pairs.{paired_if, paired_when}
 use Rattle.codec_payload_session.specs.Ports.{ReportsIf}
@@ -39,7 +39,7 @@ use Rattle.codec_payload_session.specs.declared.stream.Ending.TheVariants as end
 use Rattle.codec_payload_session.specs.declared.stream.StreamState.{StreamState}
 use Rattle.codec_payload_session_runs.proofs.AloneLemmas.{made_append, polled_first, pops_append, runs_append, shown_append}
 use Rattle.codec_payload_session_runs.proofs.FateLemmas.{AreApart, AreFates, AreKnown, BeginsNow, Evolves, GoAll, IsFate, IsSilent, ShowsNothing, absent_middle, all_fates, all_stay, evolves_all, evolves_map, evolves_same, fates_append, found_none, mapped_all, one_goes, others_go, present, present_all, present_append}
-use Rattle.codec_payload_session_runs.proofs.StreamLemmas.{Goes, HasPart, IsKnown, Keeps, Kind, Stepped, call_of, fed_goes, given_is, keeps_left, silent_goes, steps_stepped}
+use Rattle.codec_payload_session_runs.proofs.StreamLemmas.{Goes, HasPart, IsKnown, Keeps, Kind, Stepped, call_of, fed_goes, given_arrival, given_is, keeps_left, silent_goes, steps_stepped}
 use Rattle.codec_payload_session_runs.specs.Lives.{AreMadeBy, AreOfOne, IsAbsent, IsMadeBy, StartsWithDatagram, events_by, events_in, given_by, is_same, one_call, pairs, receives, released_by, reports, shown, shown_in, waits}
 use Rattle.codec_payload_session_runs.specs.SessionRuns.{Call}
 use Rattle.codec_payload_session_runs.specs.declared.run.SessionStep.{SessionStep}
@@ -50,9 +50,10 @@ use Rattle.codec_payload_session_runs.specs.declared.run.StepAnswer.TheVariants 
 -- ---- receive: a stream that exists
 
 pub given_other : (b : Bool) (now : Ticks) (bytes : List ℕ) (ssrc payload_type s p : ℕ) (told : Result Outcome ReceiveError) (answer : Result Arrival AllocError) → is_same ssrc payload_type s p ≡ false
-    → Arrives b (arrivals.Stream s p told) answer → given_by ssrc payload_type now bytes answer ≡ []
+    → Arrives b (arrival_of s p told) answer → given_by ssrc payload_type now bytes answer ≡ []
 given_other false now bytes ssrc payload_type s p told answer other is =
-    ap (λ (a : Result Arrival AllocError). given_by ssrc payload_type now bytes a) is ∙ ap (λ (b : Bool). one_call b (receives now bytes told)) other
+    ap (λ (a : Result Arrival AllocError). given_by ssrc payload_type now bytes a) is ∙ given_arrival ssrc payload_type now bytes s p told
+    ∙ ap (λ (b : Bool). one_call b (receives now bytes told)) other
 given_other true now bytes ssrc payload_type s p told (Ok arrival) other is = absurd (cc)
 given_other true now bytes ssrc payload_type s p told (Err e) other is = refl
 
@@ -139,10 +140,10 @@ begins_evolve settings ssrc f now datagram p answer q none known got =
     let x : StreamState = got.stream in
     let y : StreamState = got.after in
     let absent : IsAbsent ssrc f.payload_type p.streams = found_none ssrc f.payload_type p.streams none in
-    let names : answer ≡ Ok (arrivals.Stream x.ssrc x.format.payload_type got.told) =
-    got.answers ∙ ap₂ (λ (s : ℕ) (g : Format). Ok (arrivals.Stream s g.payload_type got.told)) (sym got.begins.ssrc_is) (sym got.begins.format) in
-    let arrives : Arrives (is_no_memory got.told) (arrivals.Stream x.ssrc x.format.payload_type got.told) answer =
-    subst (λ (b : Bool). Arrives b (arrivals.Stream x.ssrc x.format.payload_type got.told) answer) (sym got.received) names in
+    let names : answer ≡ Ok (arrival_of x.ssrc x.format.payload_type got.told) =
+    got.answers ∙ ap₂ (λ (s : ℕ) (g : Format). Ok (arrival_of s g.payload_type got.told)) (sym got.begins.ssrc_is) (sym got.begins.format) in
+    let arrives : Arrives (is_no_memory got.told) (arrival_of x.ssrc x.format.payload_type got.told) answer =
+    subst (λ (b : Bool). Arrives b (arrival_of x.ssrc x.format.payload_type got.told) answer) (sym got.received) names in
     let goes : Goes c x y = fed_goes now datagram settings.probation x got.told y answer got.takes arrives in
     let ssrc_is : y.ssrc ≡ ssrc = goes.has.ssrc_is ∙ got.begins.ssrc_is in
     let format : y.format ≡ f = goes.has.format ∙ got.begins.format in

@@ -106,8 +106,19 @@ arrival_tally arrivals.Unassociated now datagram cs s t got is =
       unassociated = ap (λ (x : _). x.unassociated) is ∙ up s.counts.unassociated (many is_unassociated cs) (many is_unassociated (cs ++ c ∷ [])) got.unassociated (many_more is_unassociated cs c);
       whole = omega (arith, got.whole, many_more is_any cs c, many_more is_rtcp cs c, many_more is_malformed cs c, many_more is_unknown cs c, many_more is_refused cs c, many_more is_unassociated cs c, many_more is_taken cs c);
     }
-arrival_tally (arrivals.Stream ssrc payload_type told) now datagram cs s t got is =
-    let c : Call = receive_call now datagram (Ok (arrivals.Stream ssrc payload_type told)) in
+arrival_tally (arrivals.Stream ssrc payload_type outcome) now datagram cs s t got is =
+    let c : Call = receive_call now datagram (Ok (arrivals.Stream ssrc payload_type outcome)) in
+    record {
+      received = ap (λ (x : _). x.received) is ∙ up s.counts.received (many is_any cs) (many is_any (cs ++ c ∷ [])) got.received (many_more is_any cs c);
+      rtcp = ap (λ (x : _). x.rtcp) is ∙ same s.counts.rtcp (many is_rtcp cs) (many is_rtcp (cs ++ c ∷ [])) got.rtcp (many_more is_rtcp cs c);
+      malformed = ap (λ (x : _). x.malformed) is ∙ same s.counts.malformed (many is_malformed cs) (many is_malformed (cs ++ c ∷ [])) got.malformed (many_more is_malformed cs c);
+      unknown = ap (λ (x : _). x.unknown) is ∙ same s.counts.unknown (many is_unknown cs) (many is_unknown (cs ++ c ∷ [])) got.unknown (many_more is_unknown cs c);
+      refused = ap (λ (x : _). x.refused) is ∙ same s.counts.refused (many is_refused cs) (many is_refused (cs ++ c ∷ [])) got.refused (many_more is_refused cs c);
+      unassociated = ap (λ (x : _). x.unassociated) is ∙ same s.counts.unassociated (many is_unassociated cs) (many is_unassociated (cs ++ c ∷ [])) got.unassociated (many_more is_unassociated cs c);
+      whole = omega (arith, got.whole, many_more is_any cs c, many_more is_rtcp cs c, many_more is_malformed cs c, many_more is_unknown cs c, many_more is_refused cs c, many_more is_unassociated cs c, many_more is_taken cs c);
+    }
+arrival_tally (arrivals.Faulty ssrc payload_type fault) now datagram cs s t got is =
+    let c : Call = receive_call now datagram (Ok (arrivals.Faulty ssrc payload_type fault)) in
     record {
       received = ap (λ (x : _). x.received) is ∙ up s.counts.received (many is_any cs) (many is_any (cs ++ c ∷ [])) got.received (many_more is_any cs c);
       rtcp = ap (λ (x : _). x.rtcp) is ∙ same s.counts.rtcp (many is_rtcp cs) (many is_rtcp (cs ++ c ∷ [])) got.rtcp (many_more is_rtcp cs c);

@@ -10,7 +10,7 @@ use Rattle.codec_payload_stream.specs.Sessions.{Session as Receiver}
 use Rattle.codec_payload_stream.specs.declared.pops.Popped.{Popped}
 use Rattle.codec_payload_stream.specs.declared.pops.Popped.TheVariants as popped
 use Rattle.codec_payload_stream.specs.declared.receiver.ReceiveError.{ReceiveError}
-use Rattle.codec_payload_session.specs.Arrivals.{Arrives}
+use Rattle.codec_payload_session.specs.Arrivals.{Arrives, arrival_of}
 use Rattle.codec_payload_session.specs.Formats.{retransmission_for}
 use Rattle.codec_payload_session.specs.Pairs.{paired, paired_when}
 use Rattle.codec_payload_session.specs.Requests.{Asking, heard_by, number_at, wait_by}
@@ -19,7 +19,6 @@ use Rattle.codec_payload_session.specs.Turns.{event_of, kept_after}
 use Rattle.codec_payload_session.specs.declared.formats.Format.{Format}
 use Rattle.codec_payload_session.specs.declared.formats.SsrcPair.{SsrcPair}
 use Rattle.codec_payload_session.specs.declared.session.Arrival.{Arrival}
-use Rattle.codec_payload_session.specs.declared.session.Arrival.TheVariants as arrivals
 use Rattle.codec_payload_session.specs.declared.session.Event.{Event}
 use Rattle.codec_payload_session.specs.declared.session.Event.TheVariants as events
 use Rattle.codec_payload_session.specs.declared.stream.Ending.{Ending}
@@ -165,16 +164,23 @@ takes_heard now datagram probation x told y got =
 abbrev pub call_of : Ticks → Vec ℕ → Result Arrival AllocError → Call
 call_of now datagram answer = record { step = calls.Receive now datagram; answer = answers.Received answer }
 
+-- the datagram that an arrival gives to its stream
+pub given_arrival : (ssrc payload_type : ℕ) (now : Ticks) (bytes : List ℕ) (s p : ℕ) (told : Result Outcome ReceiveError)
+    → given_by ssrc payload_type now bytes (Ok (arrival_of s p told)) ≡ one_call (is_same ssrc payload_type s p) (receives now bytes told)
+given_arrival ssrc payload_type now bytes s p (Ok outcome) = refl
+given_arrival ssrc payload_type now bytes s p (Err fault) = refl
+
 -- the answer shows the datagram, unless memory ran out for it
-pub given_is : (b : Bool) (now : Ticks) (bytes : List ℕ) (ssrc payload_type : ℕ) (told : Result Outcome ReceiveError) (answer : Result Arrival AllocError) → Arrives b (arrivals.Stream ssrc payload_type told) answer
+pub given_is : (b : Bool) (now : Ticks) (bytes : List ℕ) (ssrc payload_type : ℕ) (told : Result Outcome ReceiveError) (answer : Result Arrival AllocError) → Arrives b (arrival_of ssrc payload_type told) answer
     → with_shown (not b) (receives now bytes told) [] ≡ given_by ssrc payload_type now bytes answer
 given_is false now bytes ssrc payload_type told answer is =
-    ap (λ (b : Bool). one_call b (receives now bytes told)) (sym (same_is ssrc payload_type)) ∙ ap (λ (a : Result Arrival AllocError). given_by ssrc payload_type now bytes a) (sym is)
+    ap (λ (b : Bool). one_call b (receives now bytes told)) (sym (same_is ssrc payload_type)) ∙ sym (given_arrival ssrc payload_type now bytes ssrc payload_type told)
+    ∙ ap (λ (a : Result Arrival AllocError). given_by ssrc payload_type now bytes a) (sym is)
 given_is true now bytes ssrc payload_type told (Ok arrival) is = absurd (cc)
 given_is true now bytes ssrc payload_type told (Err e) is = refl
 
 pub fed_goes : (now : Ticks) (datagram : Vec ℕ) (probation : ℕ) (x : StreamState) (told : Result Outcome ReceiveError) (y : StreamState) (answer : Result Arrival AllocError)
-    → Takes now probation datagram.items x told y → Arrives (is_no_memory told) (arrivals.Stream x.ssrc x.format.payload_type told) answer → Goes (call_of now datagram answer) x y
+    → Takes now probation datagram.items x told y → Arrives (is_no_memory told) (arrival_of x.ssrc x.format.payload_type told) answer → Goes (call_of now datagram answer) x y
 fed_goes now datagram probation x told y answer got arrives =
     let h : Heard now datagram x.ssrc x.format x.told x.stage got.0 y = takes_heard now datagram probation x told y got in
     record {
@@ -198,7 +204,7 @@ fed_goes now datagram probation x told y answer got arrives =
 -- the same for a stream that first gets the SSRC of its retransmissions
 pub paired_fed_goes : (now : Ticks) (datagram : Vec ℕ) (probation : ℕ) (named : List SsrcPair) (b : Bool) (x : StreamState) (told : Result Outcome ReceiveError) (y : StreamState) (answer : Result Arrival AllocError)
     → (b ≡ true → HasSsrcOf datagram.items (retransmission_for x.ssrc x.format.retransmission named)) → Takes now probation datagram.items (paired_when b named x) told y
-    → Arrives (is_no_memory told) (arrivals.Stream (paired_when b named x).ssrc (paired_when b named x).format.payload_type told) answer → Goes (call_of now datagram answer) x y
+    → Arrives (is_no_memory told) (arrival_of (paired_when b named x).ssrc (paired_when b named x).format.payload_type told) answer → Goes (call_of now datagram answer) x y
 paired_fed_goes now datagram probation named false x told y answer names got arrives = fed_goes now datagram probation x told y answer got arrives
 paired_fed_goes now datagram probation named true x told y answer names got arrives =
     let z : StreamState = paired named x in

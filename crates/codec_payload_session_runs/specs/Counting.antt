@@ -38,7 +38,8 @@ is_rtcp arrivals.Malformed = false
 is_rtcp arrivals.Unknown = false
 is_rtcp arrivals.Refused = false
 is_rtcp arrivals.Unassociated = false
-is_rtcp (arrivals.Stream ssrc payload_type answer) = false
+is_rtcp (arrivals.Stream ssrc payload_type outcome) = false
+is_rtcp (arrivals.Faulty ssrc payload_type fault) = false
 
 abbrev pub is_malformed : Arrival → Bool
 is_malformed arrivals.Rtcp = false
@@ -46,7 +47,8 @@ is_malformed arrivals.Malformed = true
 is_malformed arrivals.Unknown = false
 is_malformed arrivals.Refused = false
 is_malformed arrivals.Unassociated = false
-is_malformed (arrivals.Stream ssrc payload_type answer) = false
+is_malformed (arrivals.Stream ssrc payload_type outcome) = false
+is_malformed (arrivals.Faulty ssrc payload_type fault) = false
 
 abbrev pub is_unknown : Arrival → Bool
 is_unknown arrivals.Rtcp = false
@@ -54,7 +56,8 @@ is_unknown arrivals.Malformed = false
 is_unknown arrivals.Unknown = true
 is_unknown arrivals.Refused = false
 is_unknown arrivals.Unassociated = false
-is_unknown (arrivals.Stream ssrc payload_type answer) = false
+is_unknown (arrivals.Stream ssrc payload_type outcome) = false
+is_unknown (arrivals.Faulty ssrc payload_type fault) = false
 
 abbrev pub is_refused : Arrival → Bool
 is_refused arrivals.Rtcp = false
@@ -62,7 +65,8 @@ is_refused arrivals.Malformed = false
 is_refused arrivals.Unknown = false
 is_refused arrivals.Refused = true
 is_refused arrivals.Unassociated = false
-is_refused (arrivals.Stream ssrc payload_type answer) = false
+is_refused (arrivals.Stream ssrc payload_type outcome) = false
+is_refused (arrivals.Faulty ssrc payload_type fault) = false
 
 abbrev pub is_unassociated : Arrival → Bool
 is_unassociated arrivals.Rtcp = false
@@ -70,7 +74,8 @@ is_unassociated arrivals.Malformed = false
 is_unassociated arrivals.Unknown = false
 is_unassociated arrivals.Refused = false
 is_unassociated arrivals.Unassociated = true
-is_unassociated (arrivals.Stream ssrc payload_type answer) = false
+is_unassociated (arrivals.Stream ssrc payload_type outcome) = false
+is_unassociated (arrivals.Faulty ssrc payload_type fault) = false
 
 abbrev pub is_taken : Arrival → Bool
 is_taken arrivals.Rtcp = false
@@ -78,7 +83,8 @@ is_taken arrivals.Malformed = false
 is_taken arrivals.Unknown = false
 is_taken arrivals.Refused = false
 is_taken arrivals.Unassociated = false
-is_taken (arrivals.Stream ssrc payload_type answer) = true
+is_taken (arrivals.Stream ssrc payload_type outcome) = true
+is_taken (arrivals.Faulty ssrc payload_type fault) = true
 
 -- the counters of a session after a run from a new session: each is how often the calls of `receive` answered so, modulo 2^64.
 -- The removed streams and the existing ones, which took `held` datagrams, took each datagram that an answer gives to a stream

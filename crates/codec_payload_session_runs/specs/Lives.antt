@@ -65,7 +65,8 @@ one_call true call = call ∷ []
 one_call false call = []
 
 abbrev pub given_by : (ssrc payload_type : ℕ) → Ticks → List ℕ → Result Arrival AllocError → List ReceiverCall
-given_by ssrc payload_type now bytes (Ok (arrivals.Stream s p answer)) = one_call (is_same ssrc payload_type s p) (receives now bytes answer)
+given_by ssrc payload_type now bytes (Ok (arrivals.Stream s p outcome)) = one_call (is_same ssrc payload_type s p) (receives now bytes (Ok outcome))
+given_by ssrc payload_type now bytes (Ok (arrivals.Faulty s p fault)) = one_call (is_same ssrc payload_type s p) (receives now bytes (Err fault))
 given_by ssrc payload_type now bytes (Ok arrivals.Rtcp) = []
 given_by ssrc payload_type now bytes (Ok arrivals.Malformed) = []
 given_by ssrc payload_type now bytes (Ok arrivals.Unknown) = []

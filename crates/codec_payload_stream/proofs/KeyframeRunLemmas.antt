@@ -68,7 +68,7 @@ drops_follow_keyframes codec s mid events unit video new run dropping passed =
 -- a datagram leaves the gate unchanged
 heard_leaves : (now : Ticks) (d : Datagram) (s t : Session) (answer : Result Outcome ReceiveError) → Heard now d s answer t → t.gates ≡ s.gates
 heard_leaves now d s t (Ok outcome) heard = ap (λ (x : Session). x.gates) heard.left
-heard_leaves now d s t (Err errors.OutOfMemory) heard = ap (λ (x : Session). x.gates) heard
+heard_leaves now d s t (Err errors.OutOfMemory) heard = ap (λ (x : Session). x.gates) heard.0
 heard_leaves now d s t (Err (errors.Rtp e)) heard = ap (λ (x : Session). x.gates) heard.left
 heard_leaves now d s t (Err errors.Red) heard = ap (λ (x : Session). x.gates) heard.left
 heard_leaves now d s t (Err errors.Retransmission) heard = ap (λ (x : Session). x.gates) heard.left

@@ -205,6 +205,18 @@ kind_read s ssrc (Ok p) = kind_for s ssrc p
 abbrev pub datagram_at : Kinds → Option ℕ → List ℕ → Datagram
 datagram_at s ssrc bytes = if is_rtcp bytes then RtcpPacket else kind_read s ssrc (rtp_at bytes)
 
+-- memory is taken for a datagram of this kind: for its packet, or for its number
+abbrev pub takes_memory : Datagram → Bool
+takes_memory RtcpPacket = false
+takes_memory (Malformed e) = false
+takes_memory OfOthers = false
+takes_memory (WithoutMedia h) = true
+takes_memory (WithMedia p) = true
+takes_memory (InRed c) = true
+takes_memory (Again o) = true
+takes_memory (AgainInRed c) = true
+takes_memory AgainEmpty = false
+
 -- Headers
 
 -- the header of a packet, with the fields that payloads of the stream have

@@ -23,7 +23,7 @@ use Rattle.codec_payload_jitter.specs.declared.outcome.Outcome.TheVariants as ou
 use Rattle.codec_payload_jitter.specs.declared.outcome.PacketCounters.{PacketCounters}
 use Rattle.codec_payload_keyframes.specs.UnitGates.{Gating, new_gating, with_skip}
 use Rattle.codec_payload_stream.specs.Choice.{Choosing, IsCandidate, is_silent, latest_after, leaving, no_choice, origin_of, verdict_of, waiting_with}
-use Rattle.codec_payload_stream.specs.Kinds.{Kinds, Carrier, Datagram, RtcpPacket, Malformed, OfOthers, WithoutMedia, WithMedia, InRed, Again, AgainInRed, AgainEmpty, block_header, datagram_at, header_for, original_header}
+use Rattle.codec_payload_stream.specs.Kinds.{Kinds, Carrier, Datagram, RtcpPacket, Malformed, OfOthers, WithoutMedia, WithMedia, InRed, Again, AgainInRed, AgainEmpty, block_header, datagram_at, header_for, original_header, takes_memory}
 use Rattle.codec_payload_stream.specs.SeenTimes.{Seen, has_block, is_seen, none_seen, seen_with}
 use Rattle.codec_payload_stream.specs.Reports.{Reception, no_reception, observed, reception_anew}
 use Rattle.codec_payload_stream.specs.Bounds.{new_bound}
@@ -299,9 +299,9 @@ pub record Hears (now : Ticks) (d : Datagram) (s : Session) (answer : Result Out
     seen = seen;
   }
 
--- if memory ran out, nothing has changed
+-- if memory ran out, nothing has changed, and the datagram is of a kind that takes memory
 abbrev pub Heard : Ticks → Datagram → Session → Result Outcome ReceiveError → Session → Type 0
-Heard now d s (Err errors.OutOfMemory) t = t ≡ s
+Heard now d s (Err errors.OutOfMemory) t = (t ≡ s) × (takes_memory d ≡ true)
 Heard now d s (Err (errors.Rtp e)) t = Hears now d s (Err (errors.Rtp e)) t
 Heard now d s (Err errors.Red) t = Hears now d s (Err errors.Red) t
 Heard now d s (Err errors.Retransmission) t = Hears now d s (Err errors.Retransmission) t
@@ -389,9 +389,12 @@ ReceivesBy verdicts.Hear now bytes s answer t = Heard now (datagram_at s.stream 
 ReceivesBy (verdicts.Keep o) now bytes s answer t = Keeps now o bytes s answer t
 ReceivesBy (verdicts.Choose place) now bytes s answer t = Chooses place now bytes s answer t
 
--- any bytes are received; if memory runs out before the datagram is sorted, nothing has changed
+-- any bytes are received; if memory runs out before the datagram is sorted, nothing has changed, and the datagram is of a kind that
+-- takes memory
 abbrev pub ReceivesBytes : Ticks → List ℕ → Session → Result Outcome ReceiveError → Session → Type 0
-ReceivesBytes now bytes s answer t = ReceivesBy (verdict_in s now.0 bytes) now bytes s answer t ⊎ ((answer ≡ Err errors.OutOfMemory) × (t ≡ s))
+ReceivesBytes now bytes s answer t =
+    ReceivesBy (verdict_in s now.0 bytes) now bytes s answer t
+    ⊎ ((answer ≡ Err errors.OutOfMemory) × (t ≡ s) × (takes_memory (datagram_at s.stream None bytes) ≡ true))
 
 -- the stream has ended
 abbrev pub ended : Session → Session

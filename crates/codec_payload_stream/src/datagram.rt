@@ -1,11 +1,11 @@
 //! Which datagrams belong to a stream.
 
-ghost use Rattle.std.specs.Prelude.{◌≡◌, IfOk, IfErr, true};
+ghost use Rattle.std.specs.Prelude.{◌≡◌, IfOk, IfErr, OnErr, is_some, true};
 ghost use Rattle.std.specs.Option.{option_map};
 ghost use Rattle.codec_payload_base.specs.declared.error.PacketError.TheVariants.{OutOfMemory};
 ghost use Rattle.codec_payload_red.specs.RedReading.{red_at};
 ghost use Rattle.codec_payload_rtp.specs.RtpValues.{header_of, packet_of};
-ghost use Rattle.codec_payload_stream.specs.Kinds.{WithMedia, again_kind, carrier_of, carrier_with, datagram_at, datagram_of, first_kind, is_among, is_other, is_padding_only, is_sent_again, is_the_type, kind_for, media_kind, red_again_kind, red_again_of, red_kind, red_of, repeated_header, retransmitted_under, ssrc_or, under};
+ghost use Rattle.codec_payload_stream.specs.Kinds.{WithMedia, again_kind, carrier_of, carrier_with, datagram_at, datagram_of, first_kind, is_among, is_other, is_padding_only, is_sent_again, is_the_type, kind_for, media_kind, red_again_kind, red_again_of, red_kind, red_of, repeated_header, retransmitted_under, ssrc_or, under, takes_memory};
 ghost use Rattle.codec_payload_stream.specs.Sessions.{observed_in, ssrc_after};
 
 use crate::parsed::ParsedDatagram;
@@ -190,6 +190,7 @@ fn again_kind<'a>(known: Option<u32>, packet: RtpPacket<'a>) -> Datagram<'a>
 }
 
 /// Sorts a RED packet.
+#[tactic(auto, using(crate::proofs::MemoryLemmas::red_takes, crate::proofs::MemoryLemmas::red_again_takes))]
 fn red_kind<'a>(
     alloc: Global,
     receiver: RedReceiver,
@@ -197,6 +198,7 @@ fn red_kind<'a>(
 ) -> Result<Datagram<'a>, PacketError>
     ensures ok { IfOk result (λ d. datagram_of d ≡ red_kind receiver (packet_of packet.entry)) }
     ensures fault { IfErr result (λ f. f ≡ OutOfMemory) }
+    ensures memory { OnErr result (takes_memory (red_kind receiver (packet_of packet.entry)) ≡ true) }
 {
     if is_padding_only(&packet) {
         return Ok(Datagram::NoMedia(packet));
@@ -216,6 +218,8 @@ fn read_red<'a>(
 ) -> Result<Option<RedPacket<'a>>, PacketError>
     ensures ok { IfOk result (λ red. option_map carrier_of red ≡ option_map (carrier_with receiver (header_of header.entry)) (red_at payload.now)) }
     ensures fault { IfErr result (λ f. f ≡ OutOfMemory) }
+    // Memory runs out for valid RED alone.
+    ensures memory { OnErr result (is_some (red_at payload.now) ≡ true) }
 {
     let mut blocks = match RedDecoder::decode(alloc, payload) {
         Ok(blocks) => blocks,
@@ -276,6 +280,7 @@ fn repeated_header<'a>(
 }
 
 /// Sorts a retransmission of a RED packet: the RED payload comes after the original number.
+#[tactic(auto, using(crate::proofs::MemoryLemmas::red_takes, crate::proofs::MemoryLemmas::red_again_takes))]
 fn red_again_kind<'a>(
     alloc: Global,
     receiver: RedReceiver,
@@ -284,6 +289,7 @@ fn red_again_kind<'a>(
 ) -> Result<Datagram<'a>, PacketError>
     ensures ok { IfOk result (λ d. datagram_of d ≡ red_again_kind receiver known (packet_of packet.entry)) }
     ensures fault { IfErr result (λ f. f ≡ OutOfMemory) }
+    ensures memory { OnErr result (takes_memory (red_again_kind receiver known (packet_of packet.entry)) ≡ true) }
 {
     match packet.payload {
         [] => Ok(Datagram::Nothing),
@@ -309,6 +315,7 @@ impl StreamKinds {
     ) -> Result<Datagram<'a>, PacketError>
         ensures ok { IfOk result (λ d. datagram_of d ≡ datagram_at self.now ssrc datagram.now) }
         ensures fault { IfErr result (λ f. f ≡ OutOfMemory) }
+        ensures memory { OnErr result (takes_memory (datagram_at self.now ssrc datagram.now) ≡ true) }
     {
         if datagram.is_rtcp() {
             return Ok(Datagram::Rtcp);
@@ -340,6 +347,7 @@ impl StreamKinds {
     ) -> Result<Datagram<'a>, PacketError>
         ensures ok { IfOk result (λ d. datagram_of d ≡ kind_for self.now ssrc (packet_of packet.entry)) }
         ensures fault { IfErr result (λ f. f ≡ OutOfMemory) }
+        ensures memory { OnErr result (takes_memory (kind_for self.now ssrc (packet_of packet.entry)) ≡ true) }
     {
         if is_sent_again(self.retransmission, &packet.header) {
             return Ok(again_kind(ssrc, packet));
@@ -362,6 +370,7 @@ impl StreamKinds {
     ) -> Result<Datagram<'a>, PacketError>
         ensures ok { IfOk result (λ d. datagram_of d ≡ first_kind self.now ssrc (packet_of packet.entry)) }
         ensures fault { IfErr result (λ f. f ≡ OutOfMemory) }
+        ensures memory { OnErr result (takes_memory (first_kind self.now ssrc (packet_of packet.entry)) ≡ true) }
     {
         let payload_type = packet.header.payload_type;
         if is_other(ssrc, packet.header.ssrc) {

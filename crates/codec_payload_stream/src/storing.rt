@@ -5,7 +5,7 @@ ghost use Rattle.codec_payload_rtp.specs.RtpValues.{header_of, packet_of};
 ghost use Rattle.codec_payload_codec.specs.Depacketizers.{is_built_in_depacketizer};
 ghost use Rattle.codec_payload_jitter.specs.OwnReceiving.{OwnStores};
 ghost use Rattle.codec_payload_jitter.specs.Receiving.{Receives, ReceivesAgain, would_store};
-ghost use Rattle.codec_payload_stream.specs.Kinds.{Again, WithMedia, datagram_of, header_for, original_of};
+ghost use Rattle.codec_payload_stream.specs.Kinds.{Again, WithMedia, datagram_of, header_for, original_of, takes_memory};
 ghost use Rattle.codec_payload_stream.specs.Sessions.{NotesAgain, TakesDatagram, copied, packet_seen};
 ghost use Rattle.codec_payload_stream.specs.Storing.{Stores, TakesBrought, brought_of};
 
@@ -222,6 +222,7 @@ impl StreamKinds {
     ) -> Result<Taken, AllocError>
         ensures ok { IfOk result (λ taken. TakesDatagram self.now now (datagram_of datagram.now) (record { packets = packets.old; seen = seen.old }) taken.outcome taken.whole (record { packets = packets.new; seen = seen.new })) }
         ensures err { OnErr result ((packets.new ≡ packets.old) × (seen.new ≡ seen.old)) }
+        ensures memory { OnErr result (takes_memory (datagram_of datagram.now) ≡ true) }
         ensures own { is_built_in_depacketizer packets.old.buffer.depacketizer ≡ false → OwnStores B.is_head B.is_tail packets.old.buffer packets.new.buffer }
     {
         let outcome = match datagram {

@@ -21,6 +21,8 @@ use Rattle.codec_payload_sender.specs.declared.sender.Outgoing.{Outgoing}
 use Rattle.codec_payload_stream.specs.Kinds.{Kinds}
 use Rattle.codec_payload_stream.specs.Sessions.{Session, ended}
 use Rattle.codec_payload_wire.proofs.ReceivingLemmas.{AllNumbered, IsListening, KeepsLimits, finishes_as, keeps_then, pops_as, pushes_copy, wait_same}
+use Rattle.codec_payload_wire.proofs.TimelyLemmas.{StayTimely, time_in, timely_next, timely_now, untimely_is}
+use Rattle.codec_payload_jitter.specs.declared.noted_times.NotedTime.{NotedTime}
 use Rattle.codec_payload_wire.proofs.StepLemmas.{Takes}
 use Rattle.codec_payload_wire.specs.Releases.{AreDatagrams, HasValuesOf, HaveNoPops, ReadsAs, delivered}
 use Rattle.codec_payload_wire.specs.WireLogs.{AnswersTurn, IsLogOf, wait_of}
@@ -48,11 +50,6 @@ packet_at_index stream first (q ∷ qs) (d ∷ ds) (suc k) bytes are numbered th
     (rest.0, rest.1, rest.2, omega (arith, rest.3))
 
 -- the RTP times of the packets, by their numbers from `first` on
-abbrev pub time_in : List Packet → ℕ → ℕ
-time_in [] n = 0
-time_in (q ∷ packets) zero = q.rtp_time
-time_in (q ∷ packets) (suc n) = time_in packets n
-
 abbrev pub times_from : ℕ → List Packet → ℕ → ℕ
 times_from first packets n = time_in packets (n - first)
 
@@ -129,9 +126,10 @@ pub record IsMetOn (again : Option RetransmissionStream) (time_of : ℕ → ℕ)
 module _ (again : Option RetransmissionStream) (stream : Outgoing) (types : (stream.payload_type < 64) ⊎ (95 < stream.payload_type)) (first : ℕ) (packets : List Packet) (datagrams : List (List ℕ))
     (are : AreDatagrams stream packets datagrams) (numbered : AreNumbered first packets) (r : Receiving) where
   pub met_by : (time_of : ℕ → ℕ) (all_steps : List DatagramStep) (s t : Session) (answers : List Answer) → IsListening again stream s → KeepsLimits r s.packets
-      → AllNumbered first s.packets.numbering (delivered all_steps) → AllTimed time_of first packets (delivered all_steps) → AreTimesOf time_of s.packets.noted
+      → AllNumbered first s.packets.numbering (delivered all_steps) → AllTimed time_of first packets (delivered all_steps)
+      → StayTimely stream.clock_rate first packets s.packets.first (delivered all_steps) → AreTimesOf time_of s.packets.noted
       → Takes again all_steps datagrams s answers t → IsMetOn again time_of first r stream packets all_steps s answers t
-  met_by time_of [] s t answers listening keeps numbers timed times takes = record {
+  met_by time_of [] s t answers listening keeps numbers timed timely times takes = record {
     met = record {
       events = [];
       meets = (takes.0, ap (λ (x : Session). x.packets.buffer) takes.1);
@@ -144,8 +142,8 @@ module _ (again : Option RetransmissionStream) (stream : Outgoing) (types : (str
     through = ap (λ (x : Session). x.packets.numbering) takes.1;
     kinds = ap (λ (x : Session). x.stream) takes.1;
   }
-  met_by time_of (steps.Send i ∷ later) s t answers listening keeps numbers timed times takes =
-      let all = met_by time_of later s t answers listening keeps numbers timed times takes in
+  met_by time_of (steps.Send i ∷ later) s t answers listening keeps numbers timed timely times takes =
+      let all = met_by time_of later s t answers listening keeps numbers timed timely times takes in
       let rest = all.met in
       record {
         met = record {
@@ -160,7 +158,7 @@ module _ (again : Option RetransmissionStream) (stream : Outgoing) (types : (str
         through = all.through;
         kinds = all.kinds;
       }
-  met_by time_of (steps.Deliver k now ∷ later) s t answers listening keeps numbers timed times takes =
+  met_by time_of (steps.Deliver k now ∷ later) s t answers listening keeps numbers timed timely times takes =
       let mid : Session = takes.5 in
       let p = packet_at_index stream first packets datagrams k takes.0 are numbered takes.1 in
       let q : Packet = p.0 in
@@ -168,9 +166,15 @@ module _ (again : Option RetransmissionStream) (stream : Outgoing) (types : (str
       let number : answer_for s.packets.numbering (q.number % 2 ^ 16) ≡ extended.Number q.number =
       subst (λ (n : ℕ). answer_for s.packets.numbering (n % 2 ^ 16) ≡ extended.Number n) (sym p.3) numbers.0 in
       let time : q.rtp_time ≡ time_of q.number = time_at packets k q p.1 ∙ (timed.0 ∙ ap time_of (sym p.3)) in
-      let one = pushes_copy again time_of stream now q takes.0 takes.2 s mid takes.4 types listening p.2 takes.3 number times time takes.6 in
+      let stamped : q.rtp_time ≡ time_in packets k = time_at packets k q p.1 in
+      let in_time = untimely_is stream.clock_rate s.packets.rate first packets s.packets.first q.number q.rtp_time k listening.rate p.3 stamped
+      (timely_now stream.clock_rate first packets s.packets.first k (delivered later) timely) in
+      let one = pushes_copy again time_of stream now q takes.0 takes.2 s mid takes.4 types listening p.2 takes.3 number times time in_time takes.6 in
+      let timely_then : StayTimely stream.clock_rate first packets mid.packets.first (delivered later) =
+      timely_next stream.clock_rate first packets s.packets.first mid.packets.first (answer_for s.packets.numbering (q.number % 2 ^ 16)) q.number q.rtp_time k (delivered later)
+      timely one.first number p.3 stamped in
       let numbering : mid.packets.numbering ≡ numbering_after s.packets.numbering ((first + k) % 2 ^ 16) = one.numbering ∙ ap (λ (n : ℕ). numbering_after s.packets.numbering (n % 2 ^ 16)) p.3 in
-      let all = met_by time_of later mid t answers one.listening (keeps_then r s.packets mid.packets keeps one.limits) (subst (λ (n : Numbering). AllNumbered first n (delivered later)) (sym numbering) numbers.1) timed.1 one.times takes.7 in
+      let all = met_by time_of later mid t answers one.listening (keeps_then r s.packets mid.packets keeps one.limits) (subst (λ (n : Numbering). AllNumbered first n (delivered later)) (sym numbering) numbers.1) timed.1 timely_then one.times takes.7 in
       let rest = all.met in
       record {
         met = record {
@@ -197,10 +201,11 @@ module _ (again : Option RetransmissionStream) (stream : Outgoing) (types : (str
         through = all.through ∙ ap (λ (n : Numbering). numbering_through first n (delivered later)) numbering;
         kinds = all.kinds ∙ one.kinds;
       }
-  met_by time_of (steps.Pop now ∷ later) s t answers listening keeps numbers timed times takes =
+  met_by time_of (steps.Pop now ∷ later) s t answers listening keeps numbers timed timely times takes =
       let mid : Session = takes.2 in
       let one = pops_as again stream now takes.0 s mid listening takes.4 takes.5 in
-      let all = met_by time_of later mid t takes.1 one.listening (keeps_then r s.packets mid.packets keeps one.limits) (subst (λ (n : Numbering). AllNumbered first n (delivered later)) (sym one.numbering) numbers) timed (subst (AreTimesOf time_of) (sym one.noted) times) takes.6 in
+      let all = met_by time_of later mid t takes.1 one.listening (keeps_then r s.packets mid.packets keeps one.limits) (subst (λ (n : Numbering). AllNumbered first n (delivered later)) (sym one.numbering) numbers) timed
+      (subst (λ (o : Option NotedTime). StayTimely stream.clock_rate first packets o (delivered later)) (sym one.first) timely) (subst (AreTimesOf time_of) (sym one.noted) times) takes.6 in
       let rest = all.met in
       record {
         met = record {
@@ -228,7 +233,7 @@ module _ (again : Option RetransmissionStream) (stream : Outgoing) (types : (str
         through = all.through ∙ ap (λ (n : Numbering). numbering_through first n (delivered later)) one.numbering;
         kinds = all.kinds ∙ one.kinds;
       }
-  met_by time_of (steps.Finish ∷ later) s t answers listening keeps numbers timed times takes =
+  met_by time_of (steps.Finish ∷ later) s t answers listening keeps numbers timed timely times takes =
       let at_end : takes.0 ≡ ended s = finishes_as again stream s takes.0 listening takes.1 in
       let all = met_by time_of later (ended s) t answers (record {
         payload_type = listening.payload_type;
@@ -242,7 +247,7 @@ module _ (again : Option RetransmissionStream) (stream : Outgoing) (types : (str
         no_block_seen = listening.no_block_seen;
         drops_none = listening.drops_none;
         heard = listening.heard;
-      }) (record { wait_limits = keeps.wait_limits; room = keeps.room }) numbers timed times (subst (λ (x : Session). Takes again later datagrams x answers t) at_end takes.2) in
+      }) (record { wait_limits = keeps.wait_limits; room = keeps.room }) numbers timed timely times (subst (λ (x : Session). Takes again later datagrams x answers t) at_end takes.2) in
       let rest = all.met in
       record {
         met = record {
@@ -259,10 +264,11 @@ module _ (again : Option RetransmissionStream) (stream : Outgoing) (types : (str
       }
 
   pub met : (all_steps : List DatagramStep) (s t : Session) (answers : List Answer) → IsListening again stream s → KeepsLimits r s.packets
-      → AllNumbered first s.packets.numbering (delivered all_steps) → AreTimesOf (times_from first packets) s.packets.noted → Takes again all_steps datagrams s answers t
+      → AllNumbered first s.packets.numbering (delivered all_steps) → StayTimely stream.clock_rate first packets s.packets.first (delivered all_steps)
+      → AreTimesOf (times_from first packets) s.packets.noted → Takes again all_steps datagrams s answers t
       → IsMet r stream packets all_steps s answers t
-  met all_steps s t answers listening keeps numbers times takes =
-      (met_by (times_from first packets) all_steps s t answers listening keeps numbers (all_timed first packets (delivered all_steps)) times takes).met
+  met all_steps s t answers listening keeps numbers timely times takes =
+      (met_by (times_from first packets) all_steps s t answers listening keeps numbers (all_timed first packets (delivered all_steps)) timely times takes).met
 
 -- If all datagrams are delivered first
 

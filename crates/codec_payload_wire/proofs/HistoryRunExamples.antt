@@ -32,6 +32,7 @@ is_within no_media = record {
   };
   readable = (refl, (refl, (refl, tt)));
   within = (lit< tt, (lit< tt, lit≤ tt, (lit< tt, lit≤ tt, tt)));
+  timely = (λ l. absurd (omega (arith, l)), (λ l. absurd (omega (arith, l)), tt));
 }
 
 abbrev before_end : List DatagramStep

@@ -29,3 +29,4 @@ pub mod RedReceivingLemmas
 pub mod RedExactLemmas
 pub mod RedReleaseLemmas
 pub mod RedRunExamples
+pub mod TimelyLemmas

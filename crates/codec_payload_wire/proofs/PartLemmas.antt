@@ -32,13 +32,15 @@ use Rattle.codec_payload_stream.specs.Sessions.{Session}
 use Rattle.codec_payload_stream.specs.declared.receiver.Settings.{Settings}
 use Rattle.codec_payload_wire.proofs.BegunNumbers.{AllBelow, all_begun, all_first, below_after, bound_of, first_above, first_after, first_low_bits, first_most, greatest_after, numbering_at, through_begun, through_first, top, top_below}
 use Rattle.codec_payload_wire.proofs.Courses.{proceeds}
-use Rattle.codec_payload_wire.proofs.EventLemmas.{AllAtOnce, AllTimed, Brings, delivery_of, met_by, numbering_through, split_at_end, time_in, times_from}
+use Rattle.codec_payload_wire.proofs.EventLemmas.{AllAtOnce, AllTimed, Brings, delivery_of, met_by, numbering_through, split_at_end, times_from}
+use Rattle.codec_payload_wire.proofs.TimelyLemmas.{StayTimely, stay_timely, time_in}
+use Rattle.codec_payload_jitter.specs.declared.noted_times.NotedTime.{NotedTime}
 use Rattle.codec_payload_wire.proofs.ReceivingLemmas.{AllNumbered, IsListening}
 use Rattle.codec_payload_wire.proofs.SendingLemmas.{SendsRun, running, same_count, sends_run}
 use Rattle.codec_payload_wire.proofs.StepLemmas.{ComesTo, Takes, comes_to}
 use Rattle.codec_payload_wire.proofs.ToldLemmas.{AllBegun, IsHeard, IsTold, heard_on, met_told, numbering_begun}
 use Rattle.codec_payload_wire.proofs.ValueLemmas.{has_values}
-use Rattle.codec_payload_wire.specs.Releases.{AllComeFirst, AreDatagrams, AreOfOneStream, ComeWithin, HasValuesOf, HaveValuesOfSamples, IsDelivery, delivered, received_steps, sending_steps}
+use Rattle.codec_payload_wire.specs.Releases.{AllComeFirst, AreDatagrams, AreOfOneStream, ComeTimely, ComeWithin, HasValuesOf, HaveValuesOfSamples, IsDelivery, delivered, received_steps, sending_steps, times_sent}
 use Rattle.codec_payload_wire.specs.RestartReleases.{EndsAfterFirst}
 use Rattle.codec_payload_wire.specs.WireRuns.{Runs, Wire, begins}
 use Rattle.codec_payload_wire.specs.declared.run.DatagramStep.{DatagramStep}
@@ -73,7 +75,7 @@ below_in bound k (j ∷ ks) below (inr is) = below_in bound k ks below.1 is
 -- how the part starts: the receiver is new, or a restart was announced to it
 abbrev pub Starts : Sending → Session → Option ℕ → List DatagramStep → Type 0
 Starts sender s greatest received =
-    (IsListening None sender.stream s × (greatest ≡ None)) ⊎ (IsTold sender.stream s × EndsAfterFirst received)
+    (IsListening None sender.stream s × (greatest ≡ None) × (s.packets.first ≡ None)) ⊎ (IsTold sender.stream s × EndsAfterFirst received)
 
 -- what is given of a part: its run, its premises, and what is known of its receiver. `greatest` is the highest number so far, and
 -- the noted times are those of `time_of`
@@ -89,6 +91,7 @@ pub record PartGiven : Type 0 where
   pub one_stream : AreOfOneStream sender settings depacketizer
   pub readable : AreReadable sender.packetizer samples
   pub within : ComeWithin settings.forward settings.backward (delivered (received_steps samples 0 all_steps end.sends))
+  pub timely : ComeTimely sender.stream.clock_rate (times_sent sender.stream.clock_rate samples all_steps end.sends) (delivered (received_steps samples 0 all_steps end.sends))
   pub windows : IsNumbering (no_numbers settings.forward settings.backward)
   pub greatest : Option ℕ
   pub numbering : receiver.packets.numbering ≡ numbering_at settings.forward settings.backward greatest
@@ -255,6 +258,10 @@ module _ (g : PartGiven) where
       ap (λ (b : Bool). cond b (g.time_of (first + k)) (times_from first sent.all (first + k))) past ∙ ap (time_in sent.all) place in
       (sym (agrees (first + k) (omega (arith, under.0)) ∙ here_is), all_timed t agrees ks under.1)
 
+  timely_part : StayTimely rate first sent.all None indices
+  timely_part = stay_timely rate first sent.all (times_sent rate g.samples g.all_steps g.end.sends) indices
+      (sent.times ∙ ap (times_sent rate g.samples g.all_steps) (sym sent.sends_are)) g.timely
+
   -- the bound does not fall
   pub bound_grows : bound_of g.greatest ≤ bound_of greatest
   bound_grows = by_indices indices above
@@ -296,7 +303,7 @@ module _ (g : PartGiven) where
           → IsHeard t g.sender.stream sent.all received g.receiver g.end.pops g.end.session (numbering_at forward backward greatest)
       by_start (inr is_told) =
           through_to (numbering_begun first g.receiver.packets.numbering indices) goes_through
-          (met_told g.sender.stream g.one_stream.not_rtcp first sent.all g.end.datagrams sent.at.reads sent.at.numbered t received g.receiver g.end.session g.end.pops is_told.0 is_told.1 numbers_begun timed times takes)
+          (met_told g.sender.stream g.one_stream.not_rtcp first sent.all g.end.datagrams sent.at.reads sent.at.numbered t received g.receiver g.end.session g.end.pops is_told.0 is_told.1 numbers_begun timed timely_part times takes)
       by_start (inl new) =
           let none : g.receiver.packets.numbering ≡ no_numbers forward backward = g.numbering ∙ ap (numbering_at forward backward) new.1 in
           let numbers : AllNumbered first g.receiver.packets.numbering indices =
@@ -306,7 +313,8 @@ module _ (g : PartGiven) where
           through_to (numbering_through first g.receiver.packets.numbering indices) (same ∙ goes_through)
           (heard_on t first g.sender.stream sent.all received g.receiver g.end.pops g.end.session
           (met_by None g.sender.stream g.one_stream.not_rtcp first sent.all g.end.datagrams sent.at.reads sent.at.numbered g.receiver.packets t received g.receiver g.end.session g.end.pops new.0
-          (record { wait_limits = refl; room = refl }) numbers timed times takes))
+          (record { wait_limits = refl; room = refl }) numbers timed
+          (subst (λ (o : Option NotedTime). StayTimely rate first sent.all o indices) (sym new.2) timely_part) times takes))
 
   pub is_heard : IsHeard times_after g.sender.stream sent.all received g.receiver g.end.pops g.end.session (numbering_at forward backward greatest)
   is_heard = heard_by times_after (λ n l. refl)

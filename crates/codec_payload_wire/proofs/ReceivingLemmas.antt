@@ -15,10 +15,10 @@ use Rattle.codec_payload_runs.specs.Arrivals.{PopsWaiting, Tells}
 use Rattle.codec_payload_send.specs.Packets.{Packet}
 use Rattle.codec_payload_runs.specs.Schedule.{Answer, RunState, run_state}
 use Rattle.codec_payload_jitter.specs.NoMediaNumbers.{passed_no_media, no_media_left}
-use Rattle.codec_payload_jitter.specs.NotedTimes.{AreTimesOf, noted_with}
+use Rattle.codec_payload_jitter.specs.NotedTimes.{AreTimesOf, is_untimely, noted_with}
 use Rattle.codec_payload_jitter.specs.Numbers.{Numbering, answer_for, number_within, numbering_after, numbering_with}
 use Rattle.codec_payload_jitter.specs.Receiving.{Arrival, GoesOn, PopsWith, Receives, ReceivesAgain, ReceivesAgainAs, ReceivesAs, Receiving}
-use Rattle.codec_payload_jitter.specs.Receiving.{answer_to, counted_in_again, is_starting, meta_for, number_again, numbered, settled, waiting_at, with_noted, would_store}
+use Rattle.codec_payload_jitter.specs.Receiving.{answer_to, counted_in_again, first_with, is_starting, meta_for, number_again, numbered, settled, waiting_at, with_first, with_noted, would_store}
 use Rattle.codec_payload_jitter.specs.Waiting.{most_held_back}
 use Rattle.codec_payload_jitter.proofs.RestartLemmas.{answer_to_is}
 use Rattle.codec_payload_jitter.proofs.TimesLemmas.{still_times}
@@ -128,6 +128,7 @@ pub record TakesIn (time_of : ℕ → ℕ) (e : Extended) (n : ℕ) (a : Arrival
   pub times : AreTimesOf time_of t.noted
   pub buffer : t.buffer ≡ pushed r.buffer (arrived r.buffer.depacketizer (meta_for a.now r.rate a.header n) a.bytes)
   pub numbering : t.numbering ≡ numbering_with r.numbering e a.header.sequence_number
+  pub first : t.first ≡ first_with r.first e a.header.timestamp
   pub rate : t.rate ≡ r.rate
   pub running : t.is_restarting ≡ false
   pub no_media_numbers : t.no_media_numbers ≡ r.no_media_numbers
@@ -138,7 +139,7 @@ pub record TakesIn (time_of : ℕ → ℕ) (e : Extended) (n : ℕ) (a : Arrival
 pub went_in : (time_of : ℕ → ℕ) (n : ℕ) (a : Arrival) (r mid t : Receiving) (outcome : Outcome) (counters : PacketCounters) (kept : Option Arrival) (e : Extended)
     → is_built_in_depacketizer r.buffer.depacketizer ≡ true
     → AreTimesOf time_of r.noted → a.header.timestamp ≡ time_of n → GoesOn n a r outcome mid
-    → t ≡ numbered r e a.header.sequence_number (record mid { counters = counters; kept = kept }) → TakesIn time_of e n a r t
+    → t ≡ with_first e a.header.timestamp (numbered r e a.header.sequence_number (record mid { counters = counters; kept = kept })) → TakesIn time_of e n a r t
 went_in time_of n a r mid t outcome counters kept e of_codec times time went left =
     let trusted : mid ≡ with_noted n a went.0 = went.2 in
     let accepted = went.1.3 in
@@ -150,6 +151,8 @@ went_in time_of n a r mid t outcome counters kept e of_codec times time went lef
       times = subst (AreTimesOf time_of) (sym noted) (still_times time_of r.noted x time times);
       buffer = ap (λ (x : Receiving). x.buffer) left ∙ (ap (λ (x : Receiving). x.buffer) trusted ∙ (ap (λ (x : Receiving). x.buffer) accepted ∙ (went.1.1.2 ∙ ap (pushed r.buffer) packet)));
       numbering = ap (λ (x : Receiving). x.numbering) left;
+      first = ap (λ (x : Receiving). x.first) left
+          ∙ (ap (λ (x : Receiving). first_with x.first e a.header.timestamp) trusted ∙ ap (λ (x : Receiving). first_with x.first e a.header.timestamp) accepted);
       rate = ap (λ (x : Receiving). x.rate) left ∙ (ap (λ (x : Receiving). x.rate) trusted ∙ ap (λ (x : Receiving). x.rate) accepted);
       running = ap (λ (x : Receiving). x.is_restarting) left;
       no_media_numbers = ap (λ (x : Receiving). x.no_media_numbers) left ∙ (ap (λ (x : Receiving). x.no_media_numbers) trusted ∙ ap (λ (x : Receiving). x.no_media_numbers) accepted);
@@ -162,9 +165,9 @@ went_in time_of n a r mid t outcome counters kept e of_codec times time went lef
 
 pub takes_in : (time_of : ℕ → ℕ) (n : ℕ) (a : Arrival) (r t : Receiving) (outcome : Outcome) → r.is_restarting ≡ false → is_built_in_depacketizer r.buffer.depacketizer ≡ true
     → answer_for r.numbering a.header.sequence_number ≡ extended.Number n → AreTimesOf time_of r.noted → a.header.timestamp ≡ time_of n
-    → Receives a r outcome t → TakesIn time_of (answer_for r.numbering a.header.sequence_number) n a r t
-takes_in time_of n a r t outcome running of_codec is times time receives =
-    let answer : answer_to r a.header ≡ extended.Number n = answer_to_is time_of r a.header n running times is time in
+    → is_untimely r.rate r.first (record { number = n; time = a.header.timestamp }) ≡ false → Receives a r outcome t → TakesIn time_of (answer_for r.numbering a.header.sequence_number) n a r t
+takes_in time_of n a r t outcome running of_codec is times time timely receives =
+    let answer : answer_to r a.header ≡ extended.Number n = answer_to_is time_of r a.header n running times is time timely in
     let mid : Receiving = receives.0 in
     let went : GoesOn n a r outcome mid = subst (λ (e : Extended). ReceivesAs e a r outcome mid) answer receives.1 in
     subst (λ (e : Extended). TakesIn time_of e n a r t) (answer ∙ sym is)
@@ -190,6 +193,7 @@ pub record IsPushedBy (e : Extended) (again : Option RetransmissionStream) (time
   pub received : meta.received ≡ now
   pub buffer : t.packets.buffer ≡ pushed s.packets.buffer (arrived s.packets.buffer.depacketizer meta q.payload)
   pub numbering : t.packets.numbering ≡ numbering_with s.packets.numbering e (q.number % 2 ^ 16)
+  pub first : t.packets.first ≡ first_with s.packets.first e q.rtp_time
   pub listening : IsListening again stream t
   pub kinds : t.stream ≡ s.stream
   pub limits : KeepsLimits s.packets t.packets
@@ -250,6 +254,7 @@ stored_is_pushed e again time_of stream now q s t listening has =
       received = refl;
       buffer = buffer;
       numbering = one.numbering;
+      first = one.first;
       listening = record {
         payload_type = ap (λ (x : Kinds). x.payload_type) has.kinds ∙ listening.payload_type;
         named = has.named ∙ listening.named;
@@ -278,8 +283,8 @@ not_repeated s time low none =
 pushes : (again : Option RetransmissionStream) (time_of : ℕ → ℕ) (stream : Outgoing) (now : Ticks) (q : Packet) (bytes : List ℕ) (s t : Session) (receipt : Receipt) → (stream.payload_type < 64)
     ⊎ (95 < stream.payload_type) → IsListening again stream s → ReadsAs stream q bytes
     → answer_for s.packets.numbering (q.number % 2 ^ 16) ≡ extended.Number q.number → AreTimesOf time_of s.packets.noted → q.rtp_time ≡ time_of q.number
-    → Delivers now bytes s receipt t → IsPushed again time_of stream now q s t
-pushes again time_of stream now q bytes s t receipt types listening reads numbered times time delivers =
+    → is_untimely s.packets.rate s.packets.first (record { number = q.number; time = q.rtp_time }) ≡ false → Delivers now bytes s receipt t → IsPushed again time_of stream now q s t
+pushes again time_of stream now q bytes s t receipt types listening reads numbered times time timely delivers =
     let is : datagram_at s.stream s.ssrc bytes ≡ WithMedia (packet_at stream q) =
     datagram_is s.stream s.ssrc stream q bytes reads listening.payload_type types (same_ssrc stream s listening.ssrc) listening.not_again in
     let hears : Hears now (WithMedia (packet_at stream q)) s receipt t =
@@ -288,7 +293,7 @@ pushes again time_of stream now q bytes s t receipt types listening reads number
     let new = not_repeated s a.header.timestamp a.header.sequence_number listening.no_block_seen in
     let receives : Receives a s.packets hears.outcome hears.packets = subst (λ (b : Bool). TakesMedia b a s.packets hears.outcome hears.packets) new hears.takes.0 in
     let packets : t.packets ≡ hears.packets = ap (λ (x : Session). x.packets) hears.left in
-    let one = takes_in time_of q.number a s.packets hears.packets hears.outcome listening.running listening.of_codec numbered times time receives in
+    let one = takes_in time_of q.number a s.packets hears.packets hears.outcome listening.running listening.of_codec numbered times time timely receives in
     let seen : t.seen ≡ packet_seen (is_some s.stream.red) hears.outcome a.header.timestamp s.seen = ap (λ (x : Session). x.seen) hears.left ∙ hears.takes.1 in
     let e : Extended = answer_for s.packets.numbering (q.number % 2 ^ 16) in
     stored_is_pushed e again time_of stream now q s t (still_calm again stream s listening) (record {
@@ -331,12 +336,12 @@ pushes_again again next time_of stream now q datagram bytes s t receipt listenin
 pub pushes_copy : (again : Option RetransmissionStream) (time_of : ℕ → ℕ) (stream : Outgoing) (now : Ticks) (q : Packet) (datagram bytes : List ℕ) (s t : Session) (receipt : Receipt)
     → (stream.payload_type < 64) ⊎ (95 < stream.payload_type) → IsListening again stream s → ReadsAs stream q datagram → IsCopy again datagram bytes
     → answer_for s.packets.numbering (q.number % 2 ^ 16) ≡ extended.Number q.number → AreTimesOf time_of s.packets.noted → q.rtp_time ≡ time_of q.number
-    → Delivers now bytes s receipt t → IsPushed again time_of stream now q s t
-pushes_copy again time_of stream now q datagram bytes s t receipt types listening reads (inl same) numbered times time delivers =
-    pushes again time_of stream now q bytes s t receipt types listening (subst (ReadsAs stream q) (sym same) reads) numbered times time delivers
-pushes_copy None time_of stream now q datagram bytes s t receipt types listening reads (inr repeated) numbered times time delivers =
-    pushes None time_of stream now q bytes s t receipt types listening (subst (ReadsAs stream q) (sym repeated.1) reads) numbered times time delivers
-pushes_copy (Some again) time_of stream now q datagram bytes s t receipt types listening reads (inr repeated) numbered times time delivers =
+    → is_untimely s.packets.rate s.packets.first (record { number = q.number; time = q.rtp_time }) ≡ false → Delivers now bytes s receipt t → IsPushed again time_of stream now q s t
+pushes_copy again time_of stream now q datagram bytes s t receipt types listening reads (inl same) numbered times time timely delivers =
+    pushes again time_of stream now q bytes s t receipt types listening (subst (ReadsAs stream q) (sym same) reads) numbered times time timely delivers
+pushes_copy None time_of stream now q datagram bytes s t receipt types listening reads (inr repeated) numbered times time timely delivers =
+    pushes None time_of stream now q bytes s t receipt types listening (subst (ReadsAs stream q) (sym repeated.1) reads) numbered times time timely delivers
+pushes_copy (Some again) time_of stream now q datagram bytes s t receipt types listening reads (inr repeated) numbered times time timely delivers =
     pushes_again again repeated.0 time_of stream now q datagram bytes s t receipt listening reads repeated.1 numbered times time delivers
 
 -- Pops
@@ -358,6 +363,7 @@ pub record IsPopped (again : Option RetransmissionStream) (stream : Outgoing) (n
   pub at_end : s.packets.ended ≡ true → wait ≡ Some 0
   pub pops : PopsWaiting wait s.packets.buffer answer t.packets.buffer
   pub noted : t.packets.noted ≡ s.packets.noted
+  pub first : t.packets.first ≡ s.packets.first
   pub numbering : t.packets.numbering ≡ s.packets.numbering
   pub listening : IsListening again stream t
   pub kinds : t.stream ≡ s.stream
@@ -372,6 +378,7 @@ pub record IsTurn (wait : Option ℕ) (r : Receiving) (answer : Answer) (t : Rec
   pub no_media_numbers : t.no_media_numbers ≡ r.no_media_numbers
   pub rate : t.rate ≡ r.rate
   pub noted : t.noted ≡ r.noted
+  pub first : t.first ≡ r.first
   pub numbering : t.numbering ≡ r.numbering
   pub is_restarting : t.is_restarting ≡ r.is_restarting
   pub limits : KeepsLimits r t
@@ -386,6 +393,7 @@ turn_of None r answer t of_codec not_memory pops = record {
   no_media_numbers = ap (λ (x : Receiving). x.no_media_numbers) pops.1;
   rate = ap (λ (x : Receiving). x.rate) pops.1;
   noted = ap (λ (x : Receiving). x.noted) pops.1;
+  first = ap (λ (x : Receiving). x.first) pops.1;
   numbering = ap (λ (x : Receiving). x.numbering) pops.1;
   is_restarting = ap (λ (x : Receiving). x.is_restarting) pops.1;
   limits = record { wait_limits = ap (λ (x : Receiving). x.wait_limits) pops.1; room = ap (λ (x : Receiving). x.room) pops.1 };
@@ -398,6 +406,7 @@ turn_of (Some h) r answer t of_codec not_memory pops = record {
   no_media_numbers = ap (λ (x : Receiving). x.no_media_numbers) pops.2;
   rate = ap (λ (x : Receiving). x.rate) pops.2;
   noted = ap (λ (x : Receiving). x.noted) pops.2;
+  first = ap (λ (x : Receiving). x.first) pops.2;
   numbering = ap (λ (x : Receiving). x.numbering) pops.2;
   is_restarting = ap (λ (x : Receiving). x.is_restarting) pops.2;
   limits = record { wait_limits = ap (λ (x : Receiving). x.wait_limits) pops.2; room = ap (λ (x : Receiving). x.room) pops.2 };
@@ -425,6 +434,7 @@ pops_as again stream now answer s t listening not_memory gated =
       at_end = waits_for_nothing r now.0;
       pops = subst (λ (x : Receiving). PopsWaiting wait r.buffer answer x.buffer) (sym packets) turn.pops;
       noted = ap (λ (x : Receiving). x.noted) packets ∙ turn.noted;
+      first = ap (λ (x : Receiving). x.first) packets ∙ turn.first;
       numbering = ap (λ (x : Receiving). x.numbering) packets ∙ turn.numbering;
       listening = record {
         payload_type = ap (λ (x : Session). x.stream.payload_type) popped.2 ∙ listening.payload_type;

@@ -44,8 +44,8 @@ use Rattle.codec_payload_wire.proofs.ReadingLemmas.{packet_at}
 use Rattle.codec_payload_wire.proofs.ReceivingLemmas.{AllNumbered, settled_none, waits_for_nothing}
 use Rattle.codec_payload_wire.proofs.RedCourses.{Feeds, fed_push}
 use Rattle.codec_payload_wire.proofs.RedReadingLemmas.{AreBlocks, IsBlock, blocks_are, carrier_at, kept_carried}
-use Rattle.codec_payload_wire.proofs.RedReceivingLemmas.{IsPast, RedSide, Steady, StoresBlocks, StoresOwn, Tuned, all_recovered, block_known, deliver_fed, finish_is, hears_red}
-use Rattle.codec_payload_wire.proofs.RedReceivingLemmas.{own_header, own_known, past_number, pop_once, primary_is, pushes_block, recovered_if, stores_none, stores_own, stores_then, tuned_ended, writer_at}
+use Rattle.codec_payload_wire.proofs.RedReceivingLemmas.{IsPast, RedSide, Steady, StoresBlocks, StoresOwn, Timely, Tuned, all_recovered, block_known, deliver_fed, finish_is, hears_red}
+use Rattle.codec_payload_wire.proofs.RedReceivingLemmas.{own_header, own_known, past_number, pop_once, primary_is, pushes_block, recovered_if, same_primary, stores_none, stores_own, stores_then, timely_at, tuned_ended, writer_at}
 use Rattle.codec_payload_wire.proofs.RedStepLemmas.{RedTakes}
 use Rattle.codec_payload_wire.specs.RedReleases.{Carries}
 use Rattle.codec_payload_wire.specs.RedRuns.{DeliversWhole}
@@ -94,10 +94,6 @@ same_index step time i j sent e f apart small some few all e_there f_there same 
         | inr equal ↦ omega (arith, more, equal)
       ]
     ]
-
-same_primary : (s : Sender) (es : List Entry) → (sender_after s es).primary_pt ≡ s.primary_pt
-same_primary s [] = refl
-same_primary s (e ∷ es) = same_primary (recorded s e.bytes e.time) es
 
 or_later : (a b : Bool) → b ≡ true → a || b ≡ true
 or_later true b h = refl
@@ -323,8 +319,8 @@ module _ (l : RedSide) (start : State) (own_type : eqb (l.writer.red.primary_pt 
       → answer_for s.packets.numbering ((first + k) % 2 ^ 16) ≡ extended.Number (first + k)
       → ((q : Packet) → slice_get packets k ≡ Some q → answer_for s.packets.numbering (q.number % 2 ^ 16) ≡ extended.Number q.number
       → is_repeat l.kinds s.seen s.packets q.rtp_time (q.number % 2 ^ 16) ≡ false)
-      → DeliversWhole now bytes s receipt t → IsParted k now s t
-  parts k now bytes s t receipt tuned inside there answer new delivers =
+      → (later : List ℕ) → Timely l s (k ∷ later) → DeliversWhole now bytes s receipt t → IsParted k now s t
+  parts k now bytes s t receipt tuned inside there answer new later in_time delivers =
       let is = l.each k bytes there in
       let q : Packet = is.packet in
       let in_red : IsInRed (writer_at l k) (packet_at l.stream q) bytes is.after = subst (λ (x : Writer). IsInRed x (packet_at l.stream q) bytes is.after) is.before_is is.in_red in
@@ -338,7 +334,7 @@ module _ (l : RedSide) (start : State) (own_type : eqb (l.writer.red.primary_pt 
       let own : is_own_media l.kinds c ≡ true = own_media k q in
       let not_again : (is_own_media l.kinds c && not (is_repeat l.kinds s.seen s.packets c.header.timestamp c.header.sequence_number)) ≡ true = rw (own, new q is.there answer_q) refl in
       let receives : TakesPrimaryIf true l.kinds now c s.packets hears.outcome mid = subst (λ (b : Bool). TakesPrimaryIf b l.kinds now c s.packets hears.outcome mid) not_again primary in
-      let stored = stores_own l k now q s.packets mid hears.outcome is.there inside tuned.steady answer_q
+      let stored = stores_own l k now q s.packets mid hears.outcome is.there inside tuned.steady answer_q (timely_at l k later q s tuned is.there number in_time)
       (subst (λ (a : Arrival). Receives a s.packets hears.outcome mid) (primary_is l now q c refl refl) receives) in
       let plain = outcome_plain s.packets.buffer q.number in
       let suspect : is_suspect hears.outcome ≡ false = ap is_suspect stored.outcome_is ∙ plain.0 in
@@ -514,9 +510,9 @@ module _ (l : RedSide) (start : State) (own_type : eqb (l.writer.red.primary_pt 
 
   delivered_in : (k : ℕ) (now : Ticks) (bytes : List ℕ) (s t : Session) (receipt : Receipt) → Tuned l s → Contains l.received (steps.Deliver k now) → slice_get l.written k ≡ Some bytes
       → answer_for s.packets.numbering ((first + k) % 2 ^ 16) ≡ extended.Number (first + k) → IsTight k (numbering_after s.packets.numbering ((first + k) % 2 ^ 16))
-      → IsFillingUp s.packets s.seen → DeliversWhole now bytes s receipt t → IsDeliveredIn k s t
-  delivered_in k now bytes s t receipt tuned inside there answer tight up delivers =
-      let p = parts k now bytes s t receipt tuned inside there answer (λ q q_there is. not_repeated k q s.packets s.seen q_there up.seen_held tuned.steady.running is) delivers in
+      → IsFillingUp s.packets s.seen → (later : List ℕ) → Timely l s (k ∷ later) → DeliversWhole now bytes s receipt t → IsDeliveredIn k s t
+  delivered_in k now bytes s t receipt tuned inside there answer tight up later in_time delivers =
+      let p = parts k now bytes s t receipt tuned inside there answer (λ q q_there is. not_repeated k q s.packets s.seen q_there up.seen_held tuned.steady.running is) later in_time delivers in
       let q : Packet = p.packet in
       let mid : Receiving = p.mid in
       let seen : Seen = seen_with (record { time = q.rtp_time; is_block = false }) s.seen in
@@ -556,6 +552,7 @@ module _ (l : RedSide) (start : State) (own_type : eqb (l.writer.red.primary_pt 
     pub mid : Session
     pub tuned : Tuned l mid
     pub numbers : AllNumbered first mid.packets.numbering (delivered after)
+    pub in_time : Timely l mid (delivered after)
     pub up : IsFillingUp mid.packets mid.seen
     pub takes : RedTakes (steps.Finish ∷ after) l.written mid answers t
     pub has : (carrier j : ℕ) → IsIn carrier (delivered before) → j < length packets → Carries l.writer l.datagrams carrier j → has_number (first + j) mid.packets.buffer.held ≡ true
@@ -563,28 +560,30 @@ module _ (l : RedSide) (start : State) (own_type : eqb (l.writer.red.primary_pt 
 
   pub fills : (back : ℕ) → back + 8 ≡ l.backward → (before after : List DatagramStep) (s t : Session) (answers : List Answer) → HaveNoPops before → Tuned l s
       → AllNumbered first s.packets.numbering (delivered (before ++ steps.Finish ∷ after)) → NearNumbers first l.forward back s.packets.numbering (delivered before)
-      → IsFillingUp s.packets s.seen → ((step : DatagramStep) → IsIn step (before ++ steps.Finish ∷ after) → IsIn step l.received)
+      → Timely l s (delivered (before ++ steps.Finish ∷ after)) → IsFillingUp s.packets s.seen → ((step : DatagramStep) → IsIn step (before ++ steps.Finish ∷ after) → IsIn step l.received)
       → RedTakes (before ++ steps.Finish ∷ after) l.written s answers t → FillsAll before after s answers t
-  fills back wide [] after s t answers no_pops tuned numbers near up inside takes =
-      record { mid = s; tuned = tuned; numbers = numbers; up = up; takes = takes; has = λ carrier j is. absurd is; still = λ n h. h }
-  fills back wide (steps.Send i ∷ before) after s t answers no_pops tuned numbers near up inside takes =
-      let rest = fills back wide before after s t answers no_pops tuned numbers near up (λ step is. inside step (inr is)) takes in
-      record { mid = rest.mid; tuned = rest.tuned; numbers = rest.numbers; up = rest.up; takes = rest.takes; has = rest.has; still = rest.still }
-  fills back wide (steps.Deliver k now ∷ before) after s t answers no_pops tuned numbers near up inside takes =
+  fills back wide [] after s t answers no_pops tuned numbers near in_time up inside takes =
+      record { mid = s; tuned = tuned; numbers = numbers; in_time = in_time; up = up; takes = takes; has = λ carrier j is. absurd is; still = λ n h. h }
+  fills back wide (steps.Send i ∷ before) after s t answers no_pops tuned numbers near in_time up inside takes =
+      let rest = fills back wide before after s t answers no_pops tuned numbers near in_time up (λ step is. inside step (inr is)) takes in
+      record { mid = rest.mid; tuned = rest.tuned; numbers = rest.numbers; in_time = rest.in_time; up = rest.up; takes = rest.takes; has = rest.has; still = rest.still }
+  fills back wide (steps.Deliver k now ∷ before) after s t answers no_pops tuned numbers near in_time up inside takes =
       let mid : Session = takes.3 in
       let there : Contains l.received (steps.Deliver k now) = contains_in (steps.Deliver k now) l.received (inside (steps.Deliver k now) (inl refl)) in
-      let one = deliver_fed l k now takes.0 s mid takes.2 tuned there takes.1 numbers.0 takes.4 in
+      let later : List ℕ = delivered (before ++ steps.Finish ∷ after) in
+      let one = deliver_fed l k now takes.0 s mid takes.2 tuned there takes.1 numbers.0 later in_time takes.4 in
       let next = near_step first l.forward back ((first + k) % 2 ^ 16) k s.packets.numbering (delivered before) near numbers.0 in
-      let here = delivered_in k now takes.0 s mid takes.2 tuned there takes.1 numbers.0 (tight_next k back (numbering_after s.packets.numbering ((first + k) % 2 ^ 16)) (delivered before) wide next) up takes.4 in
+      let here = delivered_in k now takes.0 s mid takes.2 tuned there takes.1 numbers.0 (tight_next k back (numbering_after s.packets.numbering ((first + k) % 2 ^ 16)) (delivered before) wide next) up later in_time takes.4 in
       let near_after : NearNumbers first l.forward back mid.packets.numbering (delivered before) =
       subst (λ (n : Numbering). NearNumbers first l.forward back n (delivered before)) (sym one.numbering) (inr (next.highest, next.is, next.later)) in
       let numbers_after : AllNumbered first mid.packets.numbering (delivered (before ++ steps.Finish ∷ after)) =
       subst (λ (n : Numbering). AllNumbered first n (delivered (before ++ steps.Finish ∷ after))) (sym one.numbering) numbers.1 in
-      let rest = fills back wide before after mid t answers no_pops one.tuned numbers_after near_after here.up (λ step is. inside step (inr is)) takes.5 in
+      let rest = fills back wide before after mid t answers no_pops one.tuned numbers_after near_after (one.timely later in_time) here.up (λ step is. inside step (inr is)) takes.5 in
       record {
         mid = rest.mid;
         tuned = rest.tuned;
         numbers = rest.numbers;
+        in_time = rest.in_time;
         up = rest.up;
         takes = rest.takes;
         has = λ carrier j is less carries. elim is [
@@ -593,13 +592,13 @@ module _ (l : RedSide) (start : State) (own_type : eqb (l.writer.red.primary_pt 
         ];
         still = λ n h. rest.still n (here.still n h);
       }
-  fills back wide (steps.Pop now ∷ before) after s t answers no_pops tuned numbers near up inside takes = absurd no_pops
-  fills back wide (steps.Finish ∷ before) after s t answers no_pops tuned numbers near up inside takes =
+  fills back wide (steps.Pop now ∷ before) after s t answers no_pops tuned numbers near in_time up inside takes = absurd no_pops
+  fills back wide (steps.Finish ∷ before) after s t answers no_pops tuned numbers near in_time up inside takes =
       let at_end : takes.0 ≡ ended s = finish_is l s takes.0 tuned takes.1 in
-      let rest = fills back wide before after (ended s) t answers no_pops (tuned_ended l s tuned) numbers near
+      let rest = fills back wide before after (ended s) t answers no_pops (tuned_ended l s tuned) numbers near in_time
       (record { filling = up.filling; no_media = up.no_media; seen_held = up.seen_held }) (λ step is. inside step (inr is))
       (subst (λ (x : Session). RedTakes (before ++ steps.Finish ∷ after) l.written x answers t) at_end takes.2) in
-      record { mid = rest.mid; tuned = rest.tuned; numbers = rest.numbers; up = rest.up; takes = rest.takes; has = rest.has; still = rest.still }
+      record { mid = rest.mid; tuned = rest.tuned; numbers = rest.numbers; in_time = rest.in_time; up = rest.up; takes = rest.takes; has = rest.has; still = rest.still }
 
   -- After the end
 
@@ -634,14 +633,14 @@ module _ (l : RedSide) (start : State) (own_type : eqb (l.writer.red.primary_pt 
   -- a delivery changes nothing
   after_delivery : (k : ℕ) (rest : List SentUnit) (j : ℕ) (now : Ticks) (bytes : List ℕ) (s t : Session) (receipt : Receipt) → Tuned l s → Contains l.received (steps.Deliver j now)
       → slice_get l.written j ≡ Some bytes → answer_for s.packets.numbering ((first + j) % 2 ^ 16) ≡ extended.Number (first + j) → Exactly l.c k rest s.packets.buffer
-      → DeliversWhole now bytes s receipt t → t.packets.no_media_numbers ≡ s.packets.no_media_numbers
-  after_delivery k rest j now bytes s t receipt tuned inside there answer exactly delivers =
+      → (later : List ℕ) → Timely l s (j ∷ later) → DeliversWhole now bytes s receipt t → t.packets.no_media_numbers ≡ s.packets.no_media_numbers
+  after_delivery k rest j now bytes s t receipt tuned inside there answer exactly later in_time delivers =
       let p = parts j now bytes s t receipt tuned inside there answer
       (λ q q_there is.
       let number : q.number ≡ first + j = number_at packets first j q l.c.numbered q_there in
       let late : is_dropped s.packets.buffer q.number ≡ true =
       subst (λ (n : ℕ). is_dropped s.packets.buffer n ≡ true) (sym number) (exactly_dropped k rest s.packets.buffer j exactly (slice_get_within packets j q q_there)) in
-      and_no (is_some l.kinds.red && has_block q.rtp_time s.seen.places) (would_store s.packets (q.number % 2 ^ 16)) (would_not s.packets (q.number % 2 ^ 16) q.number tuned.steady.running is late)) delivers in
+      and_no (is_some l.kinds.red && has_block q.rtp_time s.seen.places) (would_store s.packets (q.number % 2 ^ 16)) (would_not s.packets (q.number % 2 ^ 16) q.number tuned.steady.running is late)) later in_time delivers in
       let mid : Receiving = p.mid in
       let numbering : mid.numbering ≡ numbering_after s.packets.numbering ((first + j) % 2 ^ 16) = p.stored.numbering ∙ ap (λ (n : ℕ). numbering_after s.packets.numbering (n % 2 ^ 16)) p.number in
       let past : IsPast (first + j) l.backward mid.numbering =
@@ -651,21 +650,21 @@ module _ (l : RedSide) (start : State) (own_type : eqb (l.writer.red.primary_pt 
       ap (λ (r : Receiving). r.no_media_numbers) p.packets_is ∙ (stores.no_media ∙ p.stored.no_media)
 
   -- each pop returns the next unit
-  pub answers_after : (later : List DatagramStep) (k : ℕ) (rest : List SentUnit) (s t : Session) (answers : List Answer) → Tuned l s → AllNumbered first s.packets.numbering (delivered later)
+  pub answers_after : (later : List DatagramStep) (k : ℕ) (rest : List SentUnit) (s t : Session) (answers : List Answer) → Tuned l s → AllNumbered first s.packets.numbering (delivered later) → Timely l s (delivered later)
       → s.packets.no_media_numbers ≡ [] → s.packets.ended ≡ true → Exactly l.c k rest s.packets.buffer → ((step : DatagramStep) → IsIn step later → IsIn step l.received)
       → RedTakes later l.written s answers t → AnswersAll l.c.known k rest answers
-  answers_after [] k rest s t answers tuned numbers none at_end exactly inside takes = subst (AnswersAll l.c.known k rest) (sym takes.0) tt
-  answers_after (steps.Send i ∷ later) k rest s t answers tuned numbers none at_end exactly inside takes =
-      answers_after later k rest s t answers tuned numbers none at_end exactly (λ step is. inside step (inr is)) takes
-  answers_after (steps.Deliver j now ∷ later) k rest s t answers tuned numbers none at_end exactly inside takes =
+  answers_after [] k rest s t answers tuned numbers in_time none at_end exactly inside takes = subst (AnswersAll l.c.known k rest) (sym takes.0) tt
+  answers_after (steps.Send i ∷ later) k rest s t answers tuned numbers in_time none at_end exactly inside takes =
+      answers_after later k rest s t answers tuned numbers in_time none at_end exactly (λ step is. inside step (inr is)) takes
+  answers_after (steps.Deliver j now ∷ later) k rest s t answers tuned numbers in_time none at_end exactly inside takes =
       let mid : Session = takes.3 in
       let there : Contains l.received (steps.Deliver j now) = contains_in (steps.Deliver j now) l.received (inside (steps.Deliver j now) (inl refl)) in
-      let one = deliver_fed l j now takes.0 s mid takes.2 tuned there takes.1 numbers.0 takes.4 in
+      let one = deliver_fed l j now takes.0 s mid takes.2 tuned there takes.1 numbers.0 (delivered later) in_time takes.4 in
       let same : mid.packets.buffer ≡ s.packets.buffer = feeds_dropped k rest now one.fed.ps s.packets.buffer mid.packets.buffer exactly one.fed.feeds in
-      let none_after = after_delivery k rest j now takes.0 s mid takes.2 tuned there takes.1 numbers.0 exactly takes.4 in
-      answers_after later k rest mid t answers one.tuned (subst (λ (n : Numbering). AllNumbered first n (delivered later)) (sym one.numbering) numbers.1) (none_after ∙ none)
+      let none_after = after_delivery k rest j now takes.0 s mid takes.2 tuned there takes.1 numbers.0 exactly (delivered later) in_time takes.4 in
+      answers_after later k rest mid t answers one.tuned (subst (λ (n : Numbering). AllNumbered first n (delivered later)) (sym one.numbering) numbers.1) (one.timely (delivered later) in_time) (none_after ∙ none)
       (one.fed.ended ∙ at_end) (subst (Exactly l.c k rest) (sym same) exactly) (λ step is. inside step (inr is)) takes.5
-  answers_after (steps.Pop now ∷ later) k rest s t answers tuned numbers none at_end exactly inside takes =
+  answers_after (steps.Pop now ∷ later) k rest s t answers tuned numbers in_time none at_end exactly inside takes =
       let mid : Session = takes.2 in
       let one = pop_once l now takes.0 s mid tuned takes.4 takes.5 in
       let settled_is : settled s.packets ≡ s.packets = settled_none s.packets none in
@@ -677,10 +676,10 @@ module _ (l : RedSide) (start : State) (own_type : eqb (l.writer.red.primary_pt 
       (pop_answers l.c.known l.c.clock_rate l.c.first l.c.kind l.c.faithful l.c.splits l.c.units k rest (record s.packets.buffer { hold_back = 0 }) mid.packets.buffer takes.0 takes.1
       (exactly_with k 0 rest s.packets.buffer exactly) pops.0 pops.1
       (λ n left next. answers_after later n left mid t takes.1 one.tuned (subst (λ (m : Numbering). AllNumbered first m (delivered later)) (sym one.numbering) numbers)
-      (one.no_media ∙ (ap (λ (r : Receiving). r.no_media_numbers) settled_is ∙ none)) (one.ended ∙ at_end) next (λ step is. inside step (inr is)) takes.6))
-  answers_after (steps.Finish ∷ later) k rest s t answers tuned numbers none at_end exactly inside takes =
+      (one.timely (delivered later) in_time) (one.no_media ∙ (ap (λ (r : Receiving). r.no_media_numbers) settled_is ∙ none)) (one.ended ∙ at_end) next (λ step is. inside step (inr is)) takes.6))
+  answers_after (steps.Finish ∷ later) k rest s t answers tuned numbers in_time none at_end exactly inside takes =
       let is : takes.0 ≡ ended s = finish_is l s takes.0 tuned takes.1 in
-      answers_after later k rest (ended s) t answers (tuned_ended l s tuned) numbers none refl exactly (λ step is. inside step (inr is)) (subst (λ (x : Session). RedTakes later l.written x answers t) is takes.2)
+      answers_after later k rest (ended s) t answers (tuned_ended l s tuned) numbers in_time none refl exactly (λ step is. inside step (inr is)) (subst (λ (x : Session). RedTakes later l.written x answers t) is takes.2)
 
   -- all units
   pub answers_exactly : (before after : List DatagramStep) (s t : Session) (answers : List Answer) → MayGo l.c.units start.depacketizer start.contiguity
@@ -690,5 +689,5 @@ module _ (l : RedSide) (start : State) (own_type : eqb (l.writer.red.primary_pt 
       let mid : Session = filled_all.mid in
       let exactly = full_at_pop l.c start mid.packets.buffer filled_all.up.filling may all in
       let is : filled_all.takes.0 ≡ ended mid = finish_is l mid filled_all.takes.0 filled_all.tuned filled_all.takes.1 in
-      answers_after after 0 l.c.units (ended mid) t answers (tuned_ended l mid filled_all.tuned) filled_all.numbers filled_all.up.no_media refl exactly inside
+      answers_after after 0 l.c.units (ended mid) t answers (tuned_ended l mid filled_all.tuned) filled_all.numbers filled_all.in_time filled_all.up.no_media refl exactly inside
       (subst (λ (x : Session). RedTakes after l.written x answers t) is filled_all.takes.2)

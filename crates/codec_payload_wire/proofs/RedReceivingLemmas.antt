@@ -1,7 +1,7 @@
 -- A receiver of a stream in RED does with written datagrams and with pops what its buffer does with their packets and blocks.
 use Rattle.std.proofs.Common.{◌≡◌, ◌≢◌, ◌∙◌, refl, sym, ap, subst, ℕ, ◌+◌, ◌-◌, ◌%◌, ◌^◌, ◌<◌, ◌≤◌, inl, inr, ◌&&◌, ◌||◌, List, [], ◌∷◌, ◌++◌, Bool, true, false, not, cond, eqb, ltb, leb, max}
-use Rattle.std.proofs.Common.{Option, Some, None, Err, length, take, arith}
-use Rattle.std.specs.Prelude.{Contains, slice_get}
+use Rattle.std.proofs.Common.{Option, Some, None, Err, length, take, arith, ◌⊎◌}
+use Rattle.std.specs.Prelude.{Contains, is_some, slice_get}
 use Rattle.std.specs.Option.{option_map}
 use Rattle.std.proofs.lemmas.Bool.{eq-eqb, leb-true, ltb-true, ne_eqb}
 use Rattle.std.proofs.lemmas.Option.{same_Some, slice_get-map}
@@ -14,16 +14,17 @@ use Rattle.codec_payload_buffer.specs.Steps.{State, arrived, pushed}
 use Rattle.codec_payload_buffer.specs.declared.buffer.unit.RtpMeta.{RtpMeta}
 use Rattle.codec_payload_codec.specs.Depacketizers.{is_built_in_depacketizer}
 use Rattle.codec_payload_jitter.proofs.RestartLemmas.{answer_in_is, answer_to_is}
-use Rattle.codec_payload_jitter.specs.NotedTimes.{AreTimesOf}
+use Rattle.codec_payload_jitter.specs.NotedTimes.{AreTimesOf, first_or, is_untimely}
 use Rattle.codec_payload_jitter.specs.Numbers.{Numbering, ahead, answer_by, answer_for, answer_near, behind, fitting, follows_suspect, greater, is_restarting, number_within, numbering_after, numbering_with}
 use Rattle.codec_payload_jitter.specs.Receiving.{Arrival, GoesOn, Notes, NotesAs, Receives, ReceivesAs, Receiving, RecoversAs, RecoversIf}
-use Rattle.codec_payload_jitter.specs.Receiving.{answer_in, answer_to, may_recover, meta_for, number_again, outcome_at, settled, waiting_at}
+use Rattle.codec_payload_jitter.specs.Receiving.{answer_in, answer_to, first_past, first_with, may_recover, meta_for, number_again, outcome_at, settled, waiting_at}
+use Rattle.codec_payload_jitter.specs.declared.noted_times.NotedTime.{NotedTime}
 use Rattle.codec_payload_jitter.specs.declared.numbers.Extended.{Extended}
 use Rattle.codec_payload_jitter.specs.declared.numbers.Extended.TheVariants as extended
 use Rattle.codec_payload_jitter.specs.declared.outcome.Outcome.{Outcome}
 use Rattle.codec_payload_red.proofs.RedRunLemmas.{fits_at, same_distances}
-use Rattle.codec_payload_red.specs.RedLevels.{Entry, is_accepted}
-use Rattle.codec_payload_red.specs.RedRun.{IsKeptIn, IsRecoverable, sender_at}
+use Rattle.codec_payload_red.specs.RedLevels.{Entry, Sender, is_accepted, recorded}
+use Rattle.codec_payload_red.specs.RedRun.{IsKeptIn, IsRecoverable, sender_after, sender_at}
 use Rattle.codec_payload_red_writer.specs.Writers.{IsInRed, Writer}
 use Rattle.codec_payload_runs.proofs.order.SafetyLemmas.{number_at}
 use Rattle.codec_payload_runs.proofs.order.TurnLemmas.{Setting}
@@ -39,14 +40,16 @@ use Rattle.codec_payload_stream.proofs.PopLemmas.{drops_stay, pops_at_once}
 use Rattle.codec_payload_stream.specs.Choice.{is_silent, origin_of, verdict_of}
 use Rattle.codec_payload_stream.specs.Kinds.{Carrier, Datagram, InRed, Kinds, datagram_at, header_for, is_other}
 use Rattle.codec_payload_stream.specs.Pops.{PopsOnce}
-use Rattle.codec_payload_stream.specs.SeenTimes.{is_seen}
+use Rattle.codec_payload_stream.specs.RedOnce.{HasNoBlock}
+use Rattle.codec_payload_stream.specs.SeenTimes.{Seen, is_seen}
 use Rattle.codec_payload_stream.specs.Sessions.{Ends, Heard, Hears, Holding, ReceivesBy, ReceivesBytes, RecoversAll, RecoversUnless, RecoversUnseen, Session, SettlesOn, TakesPrimary, TakesPrimaryIf}
 use Rattle.codec_payload_stream.specs.Sessions.{all_carried, ended, first_waiting, is_none_of, is_open, is_own_media, is_repeat, is_suspect, packet_seen}
 use Rattle.codec_payload_stream.specs.declared.choice.Candidate.{Candidate}
 use Rattle.codec_payload_stream.specs.declared.datagram.RedStream.{RedStream}
-use Rattle.codec_payload_wire.proofs.EventLemmas.{time_at, time_in, times_from}
+use Rattle.codec_payload_wire.proofs.EventLemmas.{time_at, times_from}
+use Rattle.codec_payload_wire.proofs.TimelyLemmas.{StayTimely, stamp, time_in, timely_later, timely_now, untimely_is}
 use Rattle.codec_payload_wire.proofs.ReadingLemmas.{packet_at}
-use Rattle.codec_payload_wire.proofs.ReceivingLemmas.{AllNumbered, heard, takes_in, turn_of}
+use Rattle.codec_payload_wire.proofs.ReceivingLemmas.{AllNumbered, heard, not_repeated, takes_in, turn_of}
 use Rattle.codec_payload_wire.proofs.RedCourses.{Course, Feeds, IsRaised, feeds_append, raised}
 use Rattle.codec_payload_wire.proofs.RedReadingLemmas.{AreBlocks, IsBlock, IsRedFor, IsWritten, blocks_are, carrier_at, red_datagram_is}
 use Rattle.codec_payload_wire.proofs.RedStepLemmas.{RedTakes}
@@ -192,6 +195,12 @@ pub record RedSide : Type 1 where
   pub given : IsRecoverable writer.red red.receiver writer.budget (all_remembered (packets_of c.units))
   pub written : List (List ℕ)
   pub each : (k : ℕ) (bytes : List ℕ) → slice_get written k ≡ Some bytes → IsWritten stream (packets_of c.units) writer k bytes
+  pub own_type : eqb (writer.red.primary_pt % 128) kinds.payload_type ≡ true
+
+-- the payload type of the packets stays
+pub same_primary : (s : Sender) (es : List Entry) → (sender_after s es).primary_pt ≡ s.primary_pt
+same_primary s [] = refl
+same_primary s (e ∷ es) = same_primary (recorded s e.bytes e.time) es
 
 module _ (l : RedSide) where
   abbrev stream : Outgoing
@@ -265,7 +274,7 @@ module _ (l : RedSide) where
 
   -- a number that is noted as one without media
   noted_fed : (now : Ticks) (low n : ℕ) (r t : Receiving) → Steady r → answer_for r.numbering low ≡ extended.Number n → Notes low r t
-      → IsFed now r t × (t.numbering ≡ numbering_after r.numbering low)
+      → IsFed now r t × (t.numbering ≡ numbering_after r.numbering low) × (t.first ≡ r.first)
   noted_fed now low n r t steady is notes =
       let answer : answer_in r low ≡ extended.Number n = answer_in_is r low n steady.running is in
       let mid : Receiving = notes.0 in
@@ -285,6 +294,7 @@ module _ (l : RedSide) where
           ended = ap (λ (x : Receiving). x.ended) notes.2 ∙ ap (λ (x : Receiving). x.ended) noted;
         },
         numbering ∙ ap (λ (e : Extended). numbering_with r.numbering e low) (sym is),
+        ap (λ (x : Receiving). x.first) notes.2 ∙ (ap (first_past mid.first) answer ∙ ap (λ (x : Receiving). x.first) noted),
       )
 
   abbrev pub own_arrival : Ticks → Packet → Arrival
@@ -296,17 +306,19 @@ module _ (l : RedSide) where
     pub numbering : t.numbering ≡ numbering_after r.numbering (q.number % 2 ^ 16)
     pub buffer : t.buffer ≡ pushed r.buffer (arrived r.buffer.depacketizer (meta_for now stream.clock_rate (own_header q) q.number) q.payload)
     pub no_media : t.no_media_numbers ≡ r.no_media_numbers
+    pub first : t.first ≡ first_or r.first (record { number = q.number; time = q.rtp_time })
     pub outcome_is : outcome ≡ outcome_at r.buffer q.number
 
   pub stores_own : (k : ℕ) (now : Ticks) (q : Packet) (r t : Receiving) (outcome : Outcome) → slice_get packets k ≡ Some q → Contains received (steps.Deliver k now) → Steady r
-      → answer_for r.numbering (q.number % 2 ^ 16) ≡ extended.Number q.number → Receives (own_arrival now q) r outcome t → StoresOwn now q r t outcome
-  stores_own k now q r t outcome there inside steady is receives =
+      → answer_for r.numbering (q.number % 2 ^ 16) ≡ extended.Number q.number → is_untimely r.rate r.first (record { number = q.number; time = q.rtp_time }) ≡ false
+      → Receives (own_arrival now q) r outcome t → StoresOwn now q r t outcome
+  stores_own k now q r t outcome there inside steady is timely receives =
       let number : q.number ≡ first + k = number_at packets first k q numbered there in
       let place : k ≡ q.number - first = omega (arith, number) in
       let time : q.rtp_time ≡ time_of q.number = time_at packets k q there ∙ ap (time_in packets) place in
       let a : Arrival = own_arrival now q in
-      let one = takes_in time_of q.number a r t outcome steady.running steady.of_codec is steady.times time receives in
-      let answer : answer_to r a.header ≡ extended.Number q.number = answer_to_is time_of r a.header q.number steady.running steady.times is time in
+      let one = takes_in time_of q.number a r t outcome steady.running steady.of_codec is steady.times time timely receives in
+      let answer : answer_to r a.header ≡ extended.Number q.number = answer_to_is time_of r a.header q.number steady.running steady.times is time timely in
       let went : GoesOn q.number a r outcome receives.0 = subst (λ (e : Extended). ReceivesAs e a r outcome receives.0) answer receives.1 in
       let meta : RtpMeta = meta_for now stream.clock_rate (own_header q) q.number in
       let p : Held = arrived r.buffer.depacketizer meta q.payload in
@@ -331,6 +343,7 @@ module _ (l : RedSide) where
         numbering = one.numbering;
         buffer = buffer;
         no_media = one.no_media_numbers;
+        first = one.first ∙ ap (λ (e : Extended). first_with r.first e q.rtp_time) is;
         outcome_is = went.1.2;
       }
 
@@ -341,14 +354,20 @@ module _ (l : RedSide) where
       ap (λ (h : Header). record { now = now; header = header_for kinds h; bytes = c.primary.payload }) header
       ∙ ap (λ (b : List ℕ). record { now = now; header = own_header q; bytes = b }) bytes
 
+  -- the first packet after a datagram: its packet counts, if it was pushed
+  abbrev FirstAfter : Bool → NotedTime → Option NotedTime → Option NotedTime → Type 0
+  FirstAfter true x o p = p ≡ first_or o x
+  FirstAfter false x o p = p ≡ o
+
   primary_fed : (b : Bool) (k : ℕ) (now : Ticks) (q : Packet) (c : Carrier) (r t : Receiving) (outcome : Outcome) → c.header ≡ record (packet_at stream q).header { payload_type = w.red_type }
       → c.primary.payload ≡ q.payload → slice_get packets k ≡ Some q → Contains received (steps.Deliver k now) → Steady r
-      → answer_for r.numbering (q.number % 2 ^ 16) ≡ extended.Number q.number → TakesPrimaryIf b kinds now c r outcome t
-      → IsFed now r t × (t.numbering ≡ numbering_after r.numbering (q.number % 2 ^ 16))
-  primary_fed true k now q c r t outcome header bytes there inside steady is takes =
-      let one = stores_own k now q r t outcome there inside steady is (subst (λ (a : Arrival). Receives a r outcome t) (primary_is now q c header bytes) takes) in
-      (one.fed, one.numbering)
-  primary_fed false k now q c r t outcome header bytes there inside steady is takes =
+      → answer_for r.numbering (q.number % 2 ^ 16) ≡ extended.Number q.number → is_untimely r.rate r.first (record { number = q.number; time = q.rtp_time }) ≡ false
+      → TakesPrimaryIf b kinds now c r outcome t
+      → IsFed now r t × (t.numbering ≡ numbering_after r.numbering (q.number % 2 ^ 16)) × FirstAfter b (record { number = q.number; time = q.rtp_time }) r.first t.first
+  primary_fed true k now q c r t outcome header bytes there inside steady is timely takes =
+      let one = stores_own k now q r t outcome there inside steady is timely (subst (λ (a : Arrival). Receives a r outcome t) (primary_is now q c header bytes) takes) in
+      (one.fed, one.numbering, one.first)
+  primary_fed false k now q c r t outcome header bytes there inside steady is timely takes =
       let low : c.header.sequence_number ≡ q.number % 2 ^ 16 = ap (λ (h : Header). h.sequence_number) header in
       noted_fed now (q.number % 2 ^ 16) q.number r t steady is (subst (λ (n : ℕ). Notes n r t) low takes.1)
 
@@ -373,12 +392,14 @@ module _ (l : RedSide) where
     pub fed : IsFed now r t
     pub numbering : t.numbering ≡ r.numbering
     pub no_media : t.no_media_numbers ≡ r.no_media_numbers
+    pub first : t.first ≡ r.first
 
   pub stores_none : (now : Ticks) (r t : Receiving) → t ≡ r → Steady r → StoresBlocks now r t
   stores_none now r t same steady = record {
     fed = fed_none now r t same steady;
     numbering = ap (λ (x : Receiving). x.numbering) same;
     no_media = ap (λ (x : Receiving). x.no_media_numbers) same;
+    first = ap (λ (x : Receiving). x.first) same;
   }
 
   -- a stored block
@@ -428,6 +449,7 @@ module _ (l : RedSide) where
         };
         numbering = numbering;
         no_media = ap (λ (x : Receiving). x.no_media_numbers) recovers.4 ∙ ap (λ (x : Receiving). x.no_media_numbers) accepts.3;
+        first = ap (λ (x : Receiving). x.first) recovers.4 ∙ ap (λ (x : Receiving). x.first) accepts.3;
       }
 
   recovered_as : (o : Option ℕ) (went_in : Bool) (k : ℕ) (now : Ticks) (a : Arrival) (r t : Receiving) → number_again r a.header.sequence_number ≡ o
@@ -457,7 +479,7 @@ module _ (l : RedSide) where
   past_same n s t same past = subst (IsPast n backward) (sym same) past
 
   pub stores_then : (now : Ticks) (r mid t : Receiving) → StoresBlocks now r mid → StoresBlocks now mid t → StoresBlocks now r t
-  stores_then now r mid t one two = record { fed = fed_then now r mid t one.fed two.fed; numbering = two.numbering ∙ one.numbering; no_media = two.no_media ∙ one.no_media }
+  stores_then now r mid t one two = record { fed = fed_then now r mid t one.fed two.fed; numbering = two.numbering ∙ one.numbering; no_media = two.no_media ∙ one.no_media; first = two.first ∙ one.first }
 
   pub all_recovered : (all : List Arrival) (whole : Bool) (k : ℕ) (now : Ticks) (x y : Holding) → Contains received (steps.Deliver k now) → AreBlocks packets w first k now all
       → IsPast (first + k) backward x.packets.numbering → Steady x.packets → RecoversAll whole all x y → StoresBlocks now x.packets y.packets
@@ -486,6 +508,41 @@ module _ (l : RedSide) where
   -- the writer before a packet, and what the receiver finds in its datagram
   abbrev pub writer_at : ℕ → Writer
   writer_at k = record w { red = sender_at w.red (all_remembered packets) k }
+
+  own_primary : (k : ℕ) (q : Packet) → is_own_media kinds (carrier_at l.red.receiver stream (writer_at k) q) ≡ true
+  own_primary k q = ap (λ (n : ℕ). eqb (n % 128) kinds.payload_type) (same_primary w.red (take k (all_remembered packets))) ∙ l.own_type
+
+  -- The packets of the datagrams with these indices are timely. If no packet was first so far, none can repeat a block
+  abbrev pub Timely : Session → List ℕ → Type 0
+  Timely s ks = (HasNoBlock s.seen ⊎ (is_some s.packets.first ≡ true)) × StayTimely stream.clock_rate first packets s.packets.first ks
+
+  pub timely_same : (ks : List ℕ) (s t : Session) → t.seen ≡ s.seen → t.packets.first ≡ s.packets.first → Timely s ks → Timely t ks
+  timely_same ks s t seen_is first_is timely =
+      subst (λ (z : Seen). (HasNoBlock z ⊎ (is_some t.packets.first ≡ true)) × StayTimely stream.clock_rate first packets t.packets.first ks) (sym seen_is)
+      (subst (λ (o : Option NotedTime). (HasNoBlock s.seen ⊎ (is_some o ≡ true)) × StayTimely stream.clock_rate first packets o ks) (sym first_is) timely)
+
+  -- the premise of a packet
+  pub timely_at : (k : ℕ) (ks : List ℕ) (q : Packet) (s : Session) → Tuned s → slice_get packets k ≡ Some q → q.number ≡ first + k → Timely s (k ∷ ks)
+      → is_untimely s.packets.rate s.packets.first (record { number = q.number; time = q.rtp_time }) ≡ false
+  timely_at k ks q s tuned there number timely =
+      untimely_is stream.clock_rate s.packets.rate first packets s.packets.first q.number q.rtp_time k tuned.steady.rate number (time_at packets k q there)
+      (timely_now stream.clock_rate first packets s.packets.first k ks timely.1)
+
+  has_first : (o : Option NotedTime) (x : NotedTime) → is_some (first_or o x) ≡ true
+  has_first None x = refl
+  has_first (Some y) x = refl
+
+  -- after a datagram
+  timely_after : (b : Bool) (k : ℕ) (ks : List ℕ) (o p : Option NotedTime) → (b ≡ true) ⊎ (is_some o ≡ true) → StayTimely stream.clock_rate first packets o (k ∷ ks)
+      → FirstAfter b (stamp first packets k) o p → (is_some p ≡ true) × StayTimely stream.clock_rate first packets p ks
+  timely_after true k ks o p some stay is = (
+    ap is_some is ∙ has_first o (stamp first packets k),
+    subst (λ (x : Option NotedTime). StayTimely stream.clock_rate first packets x ks) (sym is) (timely_later stream.clock_rate first packets o k ks stay),
+  )
+  timely_after false k ks o p (inl none) stay is = cc
+  timely_after false k ks None p (inr some) stay is = cc
+  timely_after false k ks (Some x) p (inr some) stay is =
+      (ap is_some is, subst (λ (y : Option NotedTime). StayTimely stream.clock_rate first packets y ks) (sym is) stay.1)
 
   heard_at_once : (now : Ticks) (bytes : List ℕ) (s t : Session) (receipt : Receipt) → Tuned s → DeliversWhole now bytes s receipt t → Heard now (datagram_at s.stream s.ssrc bytes) s receipt t
   heard_at_once now bytes s t receipt tuned delivers = by_case delivers.1.1
@@ -520,10 +577,11 @@ module _ (l : RedSide) where
     pub fed : IsFed now s.packets t.packets
     pub numbering : t.packets.numbering ≡ numbering_after s.packets.numbering ((first + k) % 2 ^ 16)
     pub tuned : Tuned t
+    pub timely : (ks : List ℕ) → Timely s (k ∷ ks) → Timely t ks
 
   pub deliver_fed : (k : ℕ) (now : Ticks) (bytes : List ℕ) (s t : Session) (receipt : Receipt) → Tuned s → Contains received (steps.Deliver k now) → slice_get l.written k ≡ Some bytes
-      → answer_for s.packets.numbering ((first + k) % 2 ^ 16) ≡ extended.Number (first + k) → DeliversWhole now bytes s receipt t → IsDelivered k now s t
-  deliver_fed k now bytes s t receipt tuned inside there answer delivers =
+      → answer_for s.packets.numbering ((first + k) % 2 ^ 16) ≡ extended.Number (first + k) → (later : List ℕ) → Timely s (k ∷ later) → DeliversWhole now bytes s receipt t → IsDelivered k now s t
+  deliver_fed k now bytes s t receipt tuned inside there answer later in_time delivers =
       let is = l.each k bytes there in
       let q : Packet = is.packet in
       let in_red : IsInRed (writer_at k) (packet_at stream q) bytes is.after = subst (λ (x : Writer). IsInRed x (packet_at stream q) bytes is.after) is.before_is is.in_red in
@@ -534,8 +592,9 @@ module _ (l : RedSide) where
       let takes = hears.takes in
       let mid : Receiving = takes.0 in
       let primary : TakesPrimary kinds now c s.seen s.packets hears.outcome mid = subst (λ (x : Kinds). TakesPrimary x now c s.seen s.packets hears.outcome mid) tuned.kinds_are takes.1 in
-      let one = primary_fed (is_own_media kinds c && not (is_repeat kinds s.seen s.packets c.header.timestamp c.header.sequence_number)) k now q c s.packets mid hears.outcome
-      refl refl is.there inside tuned.steady answer_q primary in
+      let pushed_if : Bool = is_own_media kinds c && not (is_repeat kinds s.seen s.packets c.header.timestamp c.header.sequence_number) in
+      let one = primary_fed pushed_if k now q c s.packets mid hears.outcome
+      refl refl is.there inside tuned.steady answer_q (timely_at k later q s tuned is.there number in_time) primary in
       let numbering : mid.numbering ≡ numbering_after s.packets.numbering ((first + k) % 2 ^ 16) = one.1 ∙ ap (λ (n : ℕ). numbering_after s.packets.numbering (n % 2 ^ 16)) number in
       let past : IsPast (first + k) backward mid.numbering =
       subst (IsPast (first + k) backward) (sym numbering) (subst (λ (b : ℕ). IsPast (first + k) b (numbering_after s.packets.numbering ((first + k) % 2 ^ 16))) tuned.steady.backward_is
@@ -548,7 +607,22 @@ module _ (l : RedSide) where
       let stored = recovered_unless (is_suspect hears.outcome) hears.whole (all_carried kinds now c) k now holding end inside blocks past one.0.steady others in
       let all : IsFed now s.packets hears.packets = fed_then now s.packets mid hears.packets one.0 stored.fed in
       let packets_is : t.packets ≡ hears.packets = ap (λ (x : Session). x.packets) hears.left in
+      let own : is_own_media kinds c ≡ true = own_primary k q in
+      let new : HasNoBlock s.seen → (is_own_media kinds c && not (is_repeat kinds s.seen s.packets c.header.timestamp c.header.sequence_number)) ≡ true = λ none.
+      let fresh : is_repeat kinds s.seen s.packets c.header.timestamp c.header.sequence_number ≡ false =
+      ap (λ (x : Kinds). is_repeat x s.seen s.packets c.header.timestamp c.header.sequence_number) (sym tuned.kinds_are) ∙ not_repeated s c.header.timestamp c.header.sequence_number none in
+      rw (own, fresh) refl in
+      let stamped : (record { number = q.number; time = q.rtp_time }) ≡ stamp first packets k =
+      ap (λ (n : ℕ). record { number = n; time = q.rtp_time }) number ∙ ap (λ (n : ℕ). record { number = first + k; time = n }) (time_at packets k q is.there) in
+      let first_is : t.packets.first ≡ mid.first = ap (λ (x : Receiving). x.first) packets_is ∙ stored.first in
       record {
+        timely = λ ks in_time_so.
+            let some : (pushed_if ≡ true) ⊎ (is_some s.packets.first ≡ true) = elim in_time_so.0 [ inl none ↦ inl (new none) | inr has ↦ inr has ] in
+            let here = timely_after pushed_if k ks s.packets.first mid.first some in_time_so.1
+            (subst (λ (x : NotedTime). FirstAfter pushed_if x s.packets.first mid.first) stamped one.2) in (
+              inr (ap is_some first_is ∙ here.0),
+              subst (λ (o : Option NotedTime). StayTimely stream.clock_rate first packets o ks) (sym first_is) here.1,
+            );
         fed = subst (IsFed now s.packets) (sym packets_is) all;
         numbering = ap (λ (x : Receiving). x.numbering) packets_is ∙ (stored.numbering ∙ numbering);
         tuned = record {
@@ -572,6 +646,7 @@ module _ (l : RedSide) where
     pub numbering : t.packets.numbering ≡ s.packets.numbering
     pub ended : t.packets.ended ≡ s.packets.ended
     pub tuned : Tuned t
+    pub timely : (ks : List ℕ) → Timely s ks → Timely t ks
 
   pub pop_once : (now : Ticks) (answer : Answer) (s t : Session) → Tuned s → answer ≢ Some (Err faults.OutOfMemory) → PopsUnit now s answer t → IsPoppedOnce now answer s t
   pop_once now answer s t tuned not_memory gated =
@@ -592,6 +667,7 @@ module _ (l : RedSide) where
         pops = subst (λ (x : Receiving). PopsWaiting wait r.buffer answer x.buffer) (sym packets_is) turn.pops;
         numbering = ap (λ (x : Receiving). x.numbering) packets_is ∙ turn.numbering;
         ended = ap (λ (x : Receiving). x.ended) packets_is ∙ turn.ended;
+        timely = λ ks. timely_same ks s t (ap (λ (x : Session). x.seen) popped.2) (ap (λ (x : Receiving). x.first) packets_is ∙ turn.first);
         tuned = record {
           kinds_are = ap (λ (x : Session). x.stream) popped.2 ∙ tuned.kinds_are;
           named = ap (λ (x : Session). x.named) popped.2 ∙ tuned.named;
@@ -632,22 +708,22 @@ module _ (l : RedSide) where
   }
 
   -- the steps of the receiver are a course of its buffer
-  pub red_course : (later : List DatagramStep) (s t : Session) (answers : List Answer) → Tuned s → AllNumbered first s.packets.numbering (delivered later)
+  pub red_course : (later : List DatagramStep) (s t : Session) (answers : List Answer) → Tuned s → AllNumbered first s.packets.numbering (delivered later) → Timely s (delivered later)
       → ((step : DatagramStep) → IsIn step later → IsIn step received) → RedTakes later l.written s answers t
       → Course Known packets later s.packets.buffer answers t.packets.buffer
-  red_course [] s t answers tuned numbers inside takes = (takes.0, ap (λ (x : Session). x.packets.buffer) takes.1)
-  red_course (steps.Send i ∷ later) s t answers tuned numbers inside takes = red_course later s t answers tuned numbers (λ step is. inside step (inr is)) takes
-  red_course (steps.Deliver k now ∷ later) s t answers tuned numbers inside takes =
+  red_course [] s t answers tuned numbers in_time inside takes = (takes.0, ap (λ (x : Session). x.packets.buffer) takes.1)
+  red_course (steps.Send i ∷ later) s t answers tuned numbers in_time inside takes = red_course later s t answers tuned numbers in_time (λ step is. inside step (inr is)) takes
+  red_course (steps.Deliver k now ∷ later) s t answers tuned numbers in_time inside takes =
       let mid : Session = takes.3 in
       let there : Contains received (steps.Deliver k now) = contains_in (steps.Deliver k now) received (inside (steps.Deliver k now) (inl refl)) in
-      let one = deliver_fed k now takes.0 s mid takes.2 tuned there takes.1 numbers.0 takes.4 in
-      let rest = red_course later mid t answers one.tuned (subst (λ (n : Numbering). AllNumbered first n (delivered later)) (sym one.numbering) numbers.1) (λ step is. inside step (inr is)) takes.5 in
+      let one = deliver_fed k now takes.0 s mid takes.2 tuned there takes.1 numbers.0 (delivered later) in_time takes.4 in
+      let rest = red_course later mid t answers one.tuned (subst (λ (n : Numbering). AllNumbered first n (delivered later)) (sym one.numbering) numbers.1) (one.timely (delivered later) in_time) (λ step is. inside step (inr is)) takes.5 in
       (one.fed.ps, mid.packets.buffer, one.fed.feeds, rest)
-  red_course (steps.Pop now ∷ later) s t answers tuned numbers inside takes =
+  red_course (steps.Pop now ∷ later) s t answers tuned numbers in_time inside takes =
       let mid : Session = takes.2 in
       let one = pop_once now takes.0 s mid tuned takes.4 takes.5 in
-      let rest = red_course later mid t takes.1 one.tuned (subst (λ (n : Numbering). AllNumbered first n (delivered later)) (sym one.numbering) numbers) (λ step is. inside step (inr is)) takes.6 in
+      let rest = red_course later mid t takes.1 one.tuned (subst (λ (n : Numbering). AllNumbered first n (delivered later)) (sym one.numbering) numbers) (one.timely (delivered later) in_time) (λ step is. inside step (inr is)) takes.6 in
       (takes.0, takes.1, one.up, one.wait, mid.packets.buffer, takes.3, one.raised_to, one.pops, rest)
-  red_course (steps.Finish ∷ later) s t answers tuned numbers inside takes =
+  red_course (steps.Finish ∷ later) s t answers tuned numbers in_time inside takes =
       let at_end : takes.0 ≡ ended s = finish_is s takes.0 tuned takes.1 in
-      red_course later (ended s) t answers (tuned_ended s tuned) numbers (λ step is. inside step (inr is)) (subst (λ (x : Session). RedTakes later l.written x answers t) at_end takes.2)
+      red_course later (ended s) t answers (tuned_ended s tuned) numbers in_time (λ step is. inside step (inr is)) (subst (λ (x : Session). RedTakes later l.written x answers t) at_end takes.2)

@@ -46,13 +46,16 @@ use Rattle.codec_payload_wire.proofs.ReceivingLemmas.{AllNumbered}
 use Rattle.codec_payload_wire.proofs.RedCourses.{Course, course_in_order, fed_before}
 use Rattle.codec_payload_wire.proofs.RedExactLemmas.{IsFillingUp, NearNumbers, answers_exactly, fills}
 use Rattle.codec_payload_wire.proofs.RedReadingLemmas.{IsRedFor, entries_are, written_at}
-use Rattle.codec_payload_wire.proofs.RedReceivingLemmas.{IsTuned, RedSide, red_course}
-use Rattle.codec_payload_wire.proofs.RedStepLemmas.{RedComes, RedTakes, SendsAlone, only_sends, red_comes_to, same_sends, sends_alone, writes_count, written_in}
+use Rattle.codec_payload_wire.proofs.RedReceivingLemmas.{IsTuned, RedSide, Timely, red_course}
+use Rattle.codec_payload_wire.proofs.RedStepLemmas.{RedComes, RedTakes, SendsAlone, only_sends, red_comes_to, same_sends, same_times, sends_alone, writes_count, written_in}
 use Rattle.codec_payload_wire.proofs.ReleaseLemmas.{AllBelow, first_for, first_low, first_small, numbered_within}
-use Rattle.codec_payload_wire.proofs.SendingLemmas.{SendsRun, running, same_count, sends_run}
+use Rattle.codec_payload_wire.proofs.SendingLemmas.{SendsRun, running, same_count, sends_run, times_in}
+use Rattle.codec_payload_wire.proofs.TimelyLemmas.{StayTimely, stay_timely}
+use Rattle.codec_payload_stream.proofs.BlockTimeLemmas.{new_has_no_block}
+use Rattle.codec_payload_stream.specs.RedOnce.{HasNoBlock}
 use Rattle.codec_payload_wire.specs.RedReleases.{AllComeInRed, IsInRedWithinWindows, IsRedDelivery, ReleaseInRed, ReleasesUnitsInRed, entries_in, is_ssrc_of, red_receiver}
 use Rattle.codec_payload_wire.specs.RedRuns.{RedRuns, RedWire, WritesAll, begins_in_red}
-use Rattle.codec_payload_wire.specs.Releases.{AreDatagrams, ComeWithin, delivered, received_steps, sending_steps}
+use Rattle.codec_payload_wire.specs.Releases.{AreDatagrams, ComeWithin, delivered, received_steps, sending_steps, times_sent}
 use Rattle.codec_payload_wire.specs.WireRuns.{begins}
 use Rattle.codec_payload_wire.specs.declared.run.DatagramStep.{DatagramStep}
 use Rattle.codec_payload_wire.specs.declared.run.DatagramStep.TheVariants as steps
@@ -147,7 +150,7 @@ module _ (samples : List Sample) (all_steps : List DatagramStep) (sender : Sendi
       (subst (λ (sends : List SentSample). RedTakes (received_steps samples 0 all_steps sends) t.written receiver comes.answers t.wire.session) (sym comes.sends) comes.takes)
 
   alone : SendsAlone samples all_steps (begins sender receiver) t
-  alone = sends_alone samples all_steps (begins sender receiver) (begins_in_red sender writer receiver) t run (refl, refl)
+  alone = sends_alone samples all_steps (begins sender receiver) (begins_in_red sender writer receiver) t run (refl, refl, refl)
 
   begun : IsBegun within.plain.settings within.plain.depacketizer receiver
   begun = new_is_begun within.plain.settings within.plain.depacketizer receiver within.plain.new
@@ -260,6 +263,13 @@ module _ (samples : List Sample) (all_steps : List DatagramStep) (sender : Sendi
     not_again = ap (λ (x : Session). is_ssrc_of x.stream.retransmission sender.stream.ssrc) begun.is ∙ within.one_red.not_again;
   }
 
+  own_type : eqb (writer.red.primary_pt % 128) receiver.stream.payload_type ≡ true
+  own_type =
+      let small = uses.small in
+      let type_is : receiver.stream.payload_type ≡ within.plain.settings.payload_type = ap (λ (x : Session). x.stream.payload_type) begun.is in
+      let same : within.plain.settings.payload_type % 128 ≡ writer.red.primary_pt % 128 = within.recoverable.same_type in
+      eq-eqb (writer.red.primary_pt % 128) receiver.stream.payload_type (omega (arith, same, type_is, small))
+
   abbrev side : RedSide
   side = record {
     c = here;
@@ -279,6 +289,7 @@ module _ (samples : List Sample) (all_steps : List DatagramStep) (sender : Sendi
     given = subst (IsRecoverable writer.red red.receiver writer.budget) entries within.recoverable;
     written = t.written;
     each = λ k bytes there. written_at sender.stream packets writer t.wire.datagrams t.written t.writer k bytes within.one_red.media_type reads wrote there;
+    own_type = own_type;
   }
 
   nothing_noted : AreTimesOf (times_from first packets) receiver.packets.noted
@@ -301,17 +312,20 @@ module _ (samples : List Sample) (all_steps : List DatagramStep) (sender : Sendi
     };
   }
 
+  times : times_in packets ≡ times_sent rate samples all_steps t.wire.sends
+  times = ap times_in (sym whole.whole) ∙ (sent.times ∙ (ap (times_sent rate samples (only_sends all_steps)) (sym sent.sends_are ∙ alone.sends) ∙ same_times rate samples all_steps t.wire.sends))
+
+  in_time : Timely side receiver (delivered received)
+  in_time = (
+    inl (subst HasNoBlock (sym (ap (λ (x : Session). x.seen) begun.is)) new_has_no_block),
+    subst (λ (x : Session). StayTimely rate first packets x.packets.first (delivered received)) (sym begun.is)
+        (stay_timely rate first packets (times_sent rate samples all_steps t.wire.sends) (delivered received) times within.plain.timely),
+  )
+
   course : Course Known packets received receiver.packets.buffer t.wire.pops t.wire.session.packets.buffer
-  course = red_course side received receiver t.wire.session t.wire.pops tuned numbers (λ step is. is) takes
+  course = red_course side received receiver t.wire.session t.wire.pops tuned numbers in_time (λ step is. is) takes
 
   -- All units
-
-  own_type : eqb (writer.red.primary_pt % 128) receiver.stream.payload_type ≡ true
-  own_type =
-      let small = uses.small in
-      let type_is : receiver.stream.payload_type ≡ within.plain.settings.payload_type = ap (λ (x : Session). x.stream.payload_type) begun.is in
-      let same : within.plain.settings.payload_type % 128 ≡ writer.red.primary_pt % 128 = within.recoverable.same_type in
-      eq-eqb (writer.red.primary_pt % 128) receiver.stream.payload_type (omega (arith, same, type_is, small))
 
   limit_is : receiver.packets.buffer.limit ≡ within.plain.settings.limit
   limit_is = ap (λ (x : Session). x.packets.buffer.limit) begun.is
@@ -340,7 +354,8 @@ module _ (samples : List Sample) (all_steps : List DatagramStep) (sender : Sendi
       } in
       let inside : (step : DatagramStep) → IsIn step (come.before ++ steps.Finish ∷ come.after) → IsIn step received = λ step is. subst (IsIn step) (sym come.whole) is in
       let all = fills side receiver.packets.buffer own_type small back (omega (arith, wide, back_is)) come.before come.after receiver t.wire.session t.wire.pops come.no_pops tuned
-      (subst (λ (ss : List DatagramStep). AllNumbered first receiver.packets.numbering (delivered ss)) come.whole numbers) near none_seen_yet inside
+      (subst (λ (ss : List DatagramStep). AllNumbered first receiver.packets.numbering (delivered ss)) come.whole numbers) near
+      (subst (λ (ss : List DatagramStep). Timely side receiver (delivered ss)) come.whole in_time) none_seen_yet inside
       (subst (λ (ss : List DatagramStep). RedTakes ss t.written receiver t.wire.pops t.wire.session) come.whole takes) in
       answers_exactly side receiver.packets.buffer own_type small come.before come.after receiver t.wire.session t.wire.pops
       (may_go samples sends start after units_sent unused within.plain.readable Known faithful) all

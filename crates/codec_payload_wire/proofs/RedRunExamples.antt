@@ -35,6 +35,7 @@ plain_within no_media = record {
   };
   readable = (refl, (refl, (refl, tt)));
   within = (lit< tt, (lit< tt, lit≤ tt, tt));
+  timely = (λ l. absurd (omega (arith, l)), tt);
 }
 
 recoverable : (no_media : Vec ℕ) → IsRecoverable red_writer.red (red_receiver (red_settings no_media) red_used) red_writer.budget frame_entries

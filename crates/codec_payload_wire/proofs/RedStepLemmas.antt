@@ -17,7 +17,7 @@ use Rattle.codec_payload_stream.specs.Sessions.{Ends, Session}
 use Rattle.codec_payload_wire.proofs.StepLemmas.{get_append, past_end}
 use Rattle.codec_payload_wire.specs.HistoryRuns.{sent_since}
 use Rattle.codec_payload_wire.specs.RedRuns.{DeliversWhole, RedRuns, RedWire, WritesAll, WritesWhatIsSent}
-use Rattle.codec_payload_wire.specs.Releases.{received_steps, sending_steps, sends_after, sent_after}
+use Rattle.codec_payload_wire.specs.Releases.{received_steps, sending_steps, sends_after, sent_after, times_of, times_sent}
 use Rattle.codec_payload_wire.specs.WireRuns.{DoesStep, PopsUnit, Receipt, Runs, SendsIt, Wire}
 use Rattle.codec_payload_wire.specs.declared.run.DatagramStep.{DatagramStep}
 use Rattle.codec_payload_wire.specs.declared.run.DatagramStep.TheVariants as steps
@@ -98,6 +98,15 @@ only_sends (steps.Deliver k now ∷ later) = only_sends later
 only_sends (steps.Pop now ∷ later) = only_sends later
 only_sends (steps.Finish ∷ later) = only_sends later
 
+pub same_times : (clock_rate : ℕ) (samples : List Sample) (all_steps : List DatagramStep) (sends : List SentSample)
+    → times_sent clock_rate samples (only_sends all_steps) sends ≡ times_sent clock_rate samples all_steps sends
+same_times clock_rate samples [] sends = refl
+same_times clock_rate samples (steps.Send i ∷ later) sends =
+    ap (λ (ts : List ℕ). times_of clock_rate (slice_get samples i) sends ++ ts) (same_times clock_rate samples later (sends_after (slice_get samples i) sends))
+same_times clock_rate samples (steps.Deliver k now ∷ later) sends = same_times clock_rate samples later sends
+same_times clock_rate samples (steps.Pop now ∷ later) sends = same_times clock_rate samples later sends
+same_times clock_rate samples (steps.Finish ∷ later) sends = same_times clock_rate samples later sends
+
 pub same_sends : (mtu : ℕ) (all_steps : List DatagramStep) → sending_steps mtu (only_sends all_steps) ≡ sending_steps mtu all_steps
 same_sends mtu [] = refl
 same_sends mtu (steps.Send i ∷ later) = ap (λ (ss : List Step). run_steps.Send i mtu ∷ ss) (same_sends mtu later)
@@ -111,9 +120,10 @@ pub record SendsAlone (samples : List Sample) (all_steps : List DatagramStep) (x
   pub runs : Runs samples (only_sends all_steps) x end
   pub sending : end.sending ≡ t.wire.sending
   pub datagrams : end.datagrams ≡ t.wire.datagrams
+  pub sends : end.sends ≡ t.wire.sends
 
 abbrev AreAlike : Wire → RedWire → Type 0
-AreAlike x s = (x.sending ≡ s.wire.sending) × (x.datagrams ≡ s.wire.datagrams)
+AreAlike x s = (x.sending ≡ s.wire.sending) × (x.datagrams ≡ s.wire.datagrams) × (x.sends ≡ s.wire.sends)
 
 -- the same step for a wire with this sender and these datagrams
 record SendsOnce (samples : List Sample) (i : ℕ) (x : Wire) (s : RedWire) : Type 0 where
@@ -121,18 +131,19 @@ record SendsOnce (samples : List Sample) (i : ℕ) (x : Wire) (s : RedWire) : Ty
   does : DoesStep samples (steps.Send i) x mid
   alike : AreAlike mid s
 
-send_once : (samples : List Sample) (i : ℕ) (o : Option Sample) (x s wire : Wire) → slice_get samples i ≡ o → x.sending ≡ s.sending → x.datagrams ≡ s.datagrams
+send_once : (samples : List Sample) (i : ℕ) (o : Option Sample) (x s wire : Wire) → slice_get samples i ≡ o → x.sending ≡ s.sending → x.datagrams ≡ s.datagrams → x.sends ≡ s.sends
     → MatchOption o (wire ≡ s) (λ sample. (entry : SentSample) × SendsIt sample s.sending s.datagrams entry wire.sending wire.datagrams
     × (wire ≡ record s { sending = wire.sending; datagrams = wire.datagrams; sends = s.sends ++ entry ∷ [] }))
-    → (mid : Wire) × DoesStep samples (steps.Send i) x mid × (mid.sending ≡ wire.sending) × (mid.datagrams ≡ wire.datagrams)
-send_once samples i None x s wire is sending datagrams same = (
+    → (mid : Wire) × DoesStep samples (steps.Send i) x mid × (mid.sending ≡ wire.sending) × (mid.datagrams ≡ wire.datagrams) × (mid.sends ≡ wire.sends)
+send_once samples i None x s wire is sending datagrams sends_are same = (
   x,
   subst (λ (o : Option Sample). MatchOption o (x ≡ x) (λ sample. (entry : SentSample) × SendsIt sample x.sending x.datagrams entry x.sending x.datagrams
       × (x ≡ record x { sending = x.sending; datagrams = x.datagrams; sends = x.sends ++ entry ∷ [] }))) (sym is) refl,
   sending ∙ ap (λ (y : Wire). y.sending) (sym same),
   datagrams ∙ ap (λ (y : Wire). y.datagrams) (sym same),
+  sends_are ∙ ap (λ (y : Wire). y.sends) (sym same),
 )
-send_once samples i (Some sample) x s wire is sending datagrams done =
+send_once samples i (Some sample) x s wire is sending datagrams sends_are done =
     let entry : SentSample = done.0 in
     let mid : Wire = record x { sending = wire.sending; datagrams = wire.datagrams; sends = x.sends ++ entry ∷ [] } in
     let sends : SendsIt sample x.sending x.datagrams entry wire.sending wire.datagrams =
@@ -143,6 +154,7 @@ send_once samples i (Some sample) x s wire is sending datagrams done =
           × (mid ≡ record x { sending = mid.sending; datagrams = mid.datagrams; sends = x.sends ++ e ∷ [] }))) (sym is) (entry, sends, refl),
       refl,
       refl,
+      ap (λ (es : List SentSample). es ++ entry ∷ []) sends_are ∙ ap (λ (y : Wire). y.sends) (sym done.2),
     )
 
 -- a step that sends nothing
@@ -153,6 +165,7 @@ alone_later samples later x t all_steps same alone = record {
   runs = subst (λ (ss : List DatagramStep). Runs samples ss x alone.end) (sym same) alone.runs;
   sending = alone.sending;
   datagrams = alone.datagrams;
+  sends = alone.sends;
 }
 
 delivery_alike : (o : Option (List ℕ)) (now : Ticks) (x : Wire) (s t : RedWire)
@@ -168,13 +181,14 @@ sends_alone samples [] x s t run alike = record {
   runs = refl;
   sending = alike.0 ∙ ap (λ (y : RedWire). y.wire.sending) (sym run);
   datagrams = alike.1 ∙ ap (λ (y : RedWire). y.wire.datagrams) (sym run);
+  sends = alike.2 ∙ ap (λ (y : RedWire). y.wire.sends) (sym run);
 }
 sends_alone samples (steps.Send i ∷ later) x s t run alike =
     let done = run.1 in
-    let one = send_once samples i (slice_get samples i) x s.wire done.0 refl alike.0 alike.1 done.3 in
+    let one = send_once samples i (slice_get samples i) x s.wire done.0 refl alike.0 alike.1 alike.2 done.3 in
     let rest = sends_alone samples later one.0 run.0 t run.2
-    (one.2 ∙ ap (λ (y : RedWire). y.wire.sending) (sym done.5), one.3 ∙ ap (λ (y : RedWire). y.wire.datagrams) (sym done.5)) in
-    record { end = rest.end; runs = (one.0, one.1, rest.runs); sending = rest.sending; datagrams = rest.datagrams }
+    (one.2 ∙ ap (λ (y : RedWire). y.wire.sending) (sym done.5), one.3 ∙ ap (λ (y : RedWire). y.wire.datagrams) (sym done.5), one.4 ∙ ap (λ (y : RedWire). y.wire.sends) (sym done.5)) in
+    record { end = rest.end; runs = (one.0, one.1, rest.runs); sending = rest.sending; datagrams = rest.datagrams; sends = rest.sends }
 sends_alone samples (steps.Deliver k now ∷ later) x s t run alike =
     alone_later samples later x t (steps.Deliver k now ∷ later) refl
     (sends_alone samples later x run.0 t run.2 (delivery_alike (slice_get s.written k) now x s run.0 run.1 alike))
@@ -182,12 +196,12 @@ sends_alone samples (steps.Pop now ∷ later) x s t run alike =
     let done = run.1 in
     let same : run.0.wire ≡ record s.wire { session = done.3.1; pops = s.wire.pops ++ done.3.0 ∷ [] } = ap (λ (y : RedWire). y.wire) done.5 ∙ done.3.4 in
     alone_later samples later x t (steps.Pop now ∷ later) refl
-    (sends_alone samples later x run.0 t run.2 (alike.0 ∙ ap (λ (y : Wire). y.sending) (sym same), alike.1 ∙ ap (λ (y : Wire). y.datagrams) (sym same)))
+    (sends_alone samples later x run.0 t run.2 (alike.0 ∙ ap (λ (y : Wire). y.sending) (sym same), alike.1 ∙ ap (λ (y : Wire). y.datagrams) (sym same), alike.2 ∙ ap (λ (y : Wire). y.sends) (sym same)))
 sends_alone samples (steps.Finish ∷ later) x s t run alike =
     let done = run.1 in
     let same : run.0.wire ≡ record s.wire { session = done.3.0 } = ap (λ (y : RedWire). y.wire) done.5 ∙ done.3.2 in
     alone_later samples later x t (steps.Finish ∷ later) refl
-    (sends_alone samples later x run.0 t run.2 (alike.0 ∙ ap (λ (y : Wire). y.sending) (sym same), alike.1 ∙ ap (λ (y : Wire). y.datagrams) (sym same)))
+    (sends_alone samples later x run.0 t run.2 (alike.0 ∙ ap (λ (y : Wire). y.sending) (sym same), alike.1 ∙ ap (λ (y : Wire). y.datagrams) (sym same), alike.2 ∙ ap (λ (y : Wire). y.sends) (sym same)))
 
 -- What is received
 

@@ -39,6 +39,7 @@ use Rattle.codec_payload_stream.specs.RedOnce.{HasNoBlock}
 use Rattle.codec_payload_stream.proofs.BlockTimeLemmas.{new_has_no_block}
 use Rattle.codec_payload_wire.proofs.Courses.{Proceeds, proceeds}
 use Rattle.codec_payload_wire.proofs.DeliveredLemmas.{AllIn, delivered_before}
+use Rattle.codec_payload_wire.proofs.TimelyLemmas.{StayTimely, stay_timely}
 use Rattle.codec_payload_wire.proofs.EventLemmas.{Brings, HasLog, IsMet, IsRead, delivery_of, met, split_at_end, times_from}
 use Rattle.codec_payload_wire.proofs.GapLemmas.{only_past_gap}
 use Rattle.codec_payload_wire.proofs.LogLemmas.{Chained, all_follow, chained, log_known, none_is_lost, none_passed, stretches}
@@ -48,7 +49,7 @@ use Rattle.codec_payload_wire.proofs.SendingLemmas.{SendsRun, running, same_coun
 use Rattle.codec_payload_wire.proofs.StepLemmas.{ComesTo, Takes, comes_to}
 use Rattle.codec_payload_wire.proofs.ValueLemmas.{has_values}
 use Rattle.codec_payload_wire.specs.HistoryReleases.{AreHeard}
-use Rattle.codec_payload_wire.specs.Releases.{is_sent_again_by, AllComeFirst, AreDatagrams, ComeWithin, HasValuesOf, StayWithin, IsDelivery}
+use Rattle.codec_payload_wire.specs.Releases.{is_sent_again_by, AllComeFirst, AreDatagrams, ComeWithin, HasValuesOf, StayWithin, IsDelivery, times_sent}
 use Rattle.codec_payload_wire.specs.Releases.{IsWithinWindows, ReleaseOverDatagrams, ReleasesUnits, delivered, received_steps, sending_steps}
 use Rattle.codec_payload_wire.specs.WireLogs.{IsLogOf, KeepsPromises, PromisesOverDatagrams, WireLog}
 use Rattle.codec_payload_wire.specs.WireRuns.{Wire, begins}
@@ -204,8 +205,13 @@ module _ (again : Option RetransmissionStream) (samples : List Sample) (all_step
   nothing_noted : AreTimesOf (times_from first sent.all) receiver.packets.noted
   nothing_noted = subst (λ (x : Session). AreTimesOf (times_from first sent.all) x.packets.noted) (sym begun.is) tt
 
+  timely : StayTimely rate first sent.all receiver.packets.first (delivered received)
+  timely = subst (λ (x : Session). StayTimely rate first sent.all x.packets.first (delivered received)) (sym begun.is)
+      (stay_timely rate first sent.all (times_sent rate samples all_steps t.sends) (delivered received)
+      (sent.times ∙ ap (times_sent rate samples all_steps) (sym sent.sends_are)) within.timely)
+
   come : IsMet receiver.packets sender.stream sent.all received receiver t.pops t.session
-  come = met again sender.stream within.one_stream.not_rtcp first sent.all t.datagrams sent.at.reads sent.at.numbered receiver.packets received receiver t.session t.pops listening (record { wait_limits = refl; room = refl }) numbers nothing_noted takes
+  come = met again sender.stream within.one_stream.not_rtcp first sent.all t.datagrams sent.at.reads sent.at.numbered receiver.packets received receiver t.session t.pops listening (record { wait_limits = refl; room = refl }) numbers timely nothing_noted takes
 
   abbrev start : RunState
   start = running receiver.packets.buffer first rate sender []

@@ -100,7 +100,7 @@ module _ (samples : List Sample) (settings : Settings) (depacketizer : Depacketi
       → Starts sender (told_if later part.ssrc s) highest (received_in samples part run)
   starts_as false name highest s part sender run is within =
       let one_stream : AreOfOneStream sender settings depacketizer = subst (λ (n : Option ℕ). AreOfOneStream sender (named n) depacketizer) is.state.1 within.one_stream in
-      inl (subst (IsListening None sender.stream) (sym is.state.0) (is_listening sender one_stream), is.state.2)
+      inl (subst (IsListening None sender.stream) (sym is.state.0) (is_listening sender one_stream), is.state.2, ap (λ (x : Session). x.packets.first) is.state.0 ∙ ap (λ (x : Session). x.packets.first) begun.is)
   starts_as true name highest s part sender run is within =
       inr (
         is_told part.ssrc base.stream name settings.clock_rate sender.stream s is.state within.one_stream.ssrc
@@ -125,6 +125,7 @@ module _ (samples : List Sample) (settings : Settings) (depacketizer : Depacketi
     one_stream = within.one_stream;
     readable = within.readable;
     within = within.within;
+    timely = within.timely;
     windows = begun.windows;
     greatest = highest;
     numbering = told_numbering later part.ssrc s ∙ is.numbering;

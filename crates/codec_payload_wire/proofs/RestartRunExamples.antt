@@ -3,7 +3,7 @@ use Rattle.std.specs.Global.{Vec}
 use Rattle.std.proofs.Common.{◌≡◌, ◌∙◌, refl, sym, ap, subst, ℕ, zero, suc, ◌<◌, List, [], ◌∷◌, inr, Option, Some, false, true, arith, length, lit<, lit≤}
 use Rattle.std.specs.Prelude.{Contains}
 use Rattle.codec_payload_codec.specs.Depacketizers.{OpusDepacketizing}
-use Rattle.codec_payload_wire.specs.Releases.{AllComeFirst, ComeWithin, delivered, received_steps}
+use Rattle.codec_payload_wire.specs.Releases.{AllComeFirst, ComeTimely, ComeWithin, delivered, received_steps, times_sent}
 use Rattle.codec_payload_wire.specs.RestartReleases.{AreWithinWindows, EndsAfterFirst, name_in, received_in}
 use Rattle.codec_payload_wire.specs.RestartRunExample.{AreExampleParts, AreExampleRuns, RestartCanBeMet, first_steps, next_sender, next_steps, two_sent}
 use Rattle.codec_payload_wire.specs.WireRunExample.{at, frames_sent, one_sent, opus_receiver, opus_sender, opus_settings}
@@ -28,6 +28,10 @@ next_is : (p q : Part) (one two : DatagramRun) → AreExampleParts p q → AreEx
 next_is p q one two parts runs =
     ap (λ (all : List DatagramStep). received_steps frames_sent 0 all two.sends.items) parts.second ∙ ap (λ (sends : List SentSample). received_steps frames_sent 0 next_steps sends) runs.second
 
+first_times : (p q : Part) (one two : DatagramRun) → AreExampleParts p q → AreExampleRuns one two → times_sent 48000 frames_sent p.steps.items one.sends.items ≡ 960 ∷ 1920 ∷ []
+first_times p q one two parts runs =
+    ap (λ (all : List DatagramStep). times_sent 48000 frames_sent all one.sends.items) parts.first ∙ ap (λ (sends : List SentSample). times_sent 48000 frames_sent first_steps sends) runs.first
+
 are_within : (no_media : Vec ℕ) (p q : Part) (one two : DatagramRun) → AreExampleParts p q → AreExampleRuns one two
     → AreWithinWindows frames_sent (p ∷ q ∷ []) (opus_sender ∷ next_sender ∷ []) (opus_receiver no_media) (one ∷ two ∷ [])
 are_within no_media p q one two parts runs = record {
@@ -49,6 +53,8 @@ are_within no_media p q one two parts runs = record {
       };
       readable = (refl, (refl, (refl, tt)));
       within = subst (λ (received : List DatagramStep). ComeWithin 3000 1000 (delivered received)) (sym (first_is p q one two parts runs)) (lit< tt, (lit< tt, lit≤ tt, tt));
+      timely = subst (λ (received : List DatagramStep). ComeTimely 48000 (times_sent 48000 frames_sent p.steps.items one.sends.items) (delivered received)) (sym (first_is p q one two parts runs))
+          (subst (λ (times : List ℕ). ComeTimely 48000 times (1 ∷ 0 ∷ [])) (sym (first_times p q one two parts runs)) (λ l. lit≤ tt, tt));
       in_time = λ later. absurd (cc);
     },
     (
@@ -66,6 +72,7 @@ are_within no_media p q one two parts runs = record {
         };
         readable = (refl, (refl, (refl, tt)));
         within = subst (λ (received : List DatagramStep). ComeWithin 3000 1000 (delivered received)) (sym (next_is p q one two parts runs)) (lit< tt, tt);
+        timely = subst (λ (received : List DatagramStep). ComeTimely 48000 (times_sent 48000 frames_sent q.steps.items two.sends.items) (delivered received)) (sym (next_is p q one two parts runs)) tt;
         in_time = λ later. subst EndsAfterFirst (sym (next_is p q one two parts runs)) tt;
       },
       tt,

@@ -1,6 +1,6 @@
 -- A sender sends over a run exactly the packets that a payloader sends for the same samples.
 use Rattle.std.proofs.Common.{◌≡◌, ◌≢◌, ◌∙◌, refl, sym, ap, subst, ℕ, suc, ◌+◌, ◌%◌, ◌^◌, ◌<◌, ◌||◌, ◌&&◌, List}
-use Rattle.std.proofs.Common.{[], ◌∷◌, ◌++◌, Bool, true, eqb, Option, Some, None, Result, Ok, Err, MatchOption, length, arith, append-nil}
+use Rattle.std.proofs.Common.{[], ◌∷◌, ◌++◌, Bool, true, eqb, Option, Some, None, Result, Ok, Err, MatchOption, length, arith, append_assoc, append-nil, map, replicate}
 use Rattle.std.specs.Prelude.{slice_get, slice_index_or}
 use Rattle.std.proofs.lemmas.Bool.{eq-eqb, ne_eqb}
 use Rattle.std.proofs.lemmas.List.{length-append}
@@ -24,7 +24,7 @@ use Rattle.codec_payload_sender.specs.Datagrams.{IsSentAt, header_at, header_wit
 use Rattle.codec_payload_sender.specs.Senders.{Refuses, Sending, Sends}
 use Rattle.codec_payload_sender.specs.declared.sender.Outgoing.{Outgoing}
 use Rattle.codec_payload_wire.proofs.Courses.{DeliversCopy, Proceeds}
-use Rattle.codec_payload_wire.specs.Releases.{AreDatagrams, ReadsAs, sending_steps}
+use Rattle.codec_payload_wire.specs.Releases.{AreDatagrams, ReadsAs, sending_steps, sends_after, times_of, times_sent}
 use Rattle.codec_payload_base.specs.declared.wire.Ticks.{Ticks}
 use Rattle.codec_payload_wire.specs.WireRuns.{SendsIt, SendsOrRefuses, Wire, sent_sample}
 use Rattle.codec_payload_wire.specs.declared.run.DatagramStep.{DatagramStep}
@@ -69,6 +69,21 @@ from_count : (packetizer : PacketizerState) (sample : Sample) (rtp_time number p
     → length (packets_from packetizer sample rtp_time number place payloads) ≡ length payloads
 from_count packetizer sample rtp_time number place [] = refl
 from_count packetizer sample rtp_time number place (payload ∷ payloads) = ap suc (from_count packetizer sample rtp_time ((number + 1) % 2 ^ 64) (place + 1) payloads)
+
+-- and one RTP time
+from_times : (packetizer : PacketizerState) (sample : Sample) (rtp_time number place : ℕ) (payloads : List (List ℕ))
+    → map (λ (q : Packet). q.rtp_time) (packets_from packetizer sample rtp_time number place payloads) ≡ replicate (length payloads) rtp_time
+from_times packetizer sample rtp_time number place [] = refl
+from_times packetizer sample rtp_time number place (payload ∷ payloads) =
+    ap (λ (ts : List ℕ). rtp_time ∷ ts) (from_times packetizer sample rtp_time ((number + 1) % 2 ^ 64) (place + 1) payloads)
+
+-- the RTP times of packets
+abbrev pub times_in : List Packet → List ℕ
+times_in packets = map (λ (q : Packet). q.rtp_time) packets
+
+times_append : (ps qs : List Packet) → times_in (ps ++ qs) ≡ times_in ps ++ times_in qs
+times_append [] qs = refl
+times_append (p ∷ ps) qs = ap (λ (ts : List ℕ). p.rtp_time ∷ ts) (times_append ps qs)
 
 -- One sample
 
@@ -138,6 +153,7 @@ pub record SendsBoth (buffer : State) (stream : Outgoing) (budget start place : 
   pub entry : Sent
   pub sends : core.SendsIt place budget sample (running buffer start stream.clock_rate s packets) entry (running buffer start stream.clock_rate t (packets ++ more))
   pub at : IsAt stream budget start t after (packets ++ more)
+  pub times : times_in more ≡ replicate (length t.datagrams) (rtp_time_at stream.clock_rate sample.rtp_time)
 
 -- a sample for which the packetizer gave payloads
 sent_both : (buffer : State) (stream : Outgoing) (budget start place : ℕ) (sample : Sample) (s t : Sending) (before after : List (List ℕ)) (packets : List Packet)
@@ -190,6 +206,8 @@ sent_both buffer stream budget start place sample s t before after packets small
         numbered = numbered_append start packets more at.numbered numbered;
         few = few_packets;
       };
+      times = from_times t.packetizer sample (rtp_time_at stream.clock_rate sample.rtp_time) number 0 payloads
+          ∙ ap (λ (n : ℕ). replicate n (rtp_time_at stream.clock_rate sample.rtp_time)) (sym datagrams);
     }
 
 -- the answer of the packetizer if it refused a sample, and memory did not run out
@@ -234,6 +252,7 @@ refused_both buffer stream budget start place sample fault s t before after pack
         numbered = at.numbered;
         few = at.few;
       };
+      times = ap (λ (ds : List (List ℕ)). replicate (length ds) (rtp_time_at stream.clock_rate sample.rtp_time)) (sym nothing);
     }
 
 one_sample : (buffer : State) (stream : Outgoing) (budget start place : ℕ) (sample : Sample) (fault : Option PacketError) (s t : Sending) (before after : List (List ℕ)) (packets : List Packet)
@@ -252,6 +271,9 @@ pub record SendsRun (buffer : State) (stream : Outgoing) (budget start place : �
   pub entries : List Sent
   pub runs : core.Runs samples place (sending_steps budget all_steps) (running buffer start stream.clock_rate s.sending packets) entries [] (running buffer start stream.clock_rate t.sending all)
   pub at : IsAt stream budget start t.sending t.datagrams all
+  pub later : List SentSample
+  pub sends_are : t.sends ≡ s.sends ++ later
+  pub times : times_in all ≡ times_in packets ++ times_sent stream.clock_rate samples all_steps later
 
 module _ (buffer : State) (stream : Outgoing) (budget start : ℕ) (small : start < 2 ^ 63) (samples : List Sample) where
   abbrev Goes : ℕ → List DatagramStep → Wire → Wire → List Packet → Type 0
@@ -267,9 +289,10 @@ module _ (buffer : State) (stream : Outgoing) (budget start : ℕ) (small : star
 
   -- a step that sends no sample is not a step of a payloader
   stays : (place : ℕ) (step : DatagramStep) (later : List DatagramStep) (s mid t : Wire) (packets : List Packet)
-      → sending_steps budget (step ∷ later) ≡ sending_steps budget later → mid.sending ≡ s.sending
+      → sending_steps budget (step ∷ later) ≡ sending_steps budget later → mid.sending ≡ s.sending → mid.sends ≡ s.sends
+      → ((sends : List SentSample) → times_sent stream.clock_rate samples (step ∷ later) sends ≡ times_sent stream.clock_rate samples later sends)
       → Goes place later mid t packets → Goes place (step ∷ later) s t packets
-  stays place step later s mid t packets none sending goes = record {
+  stays place step later s mid t packets none sending sends no_times goes = record {
     all = goes.all;
     entries = goes.entries;
     runs = subst (λ (ss : List Step). core.Runs samples place ss (running buffer start stream.clock_rate s.sending packets) goes.entries []
@@ -277,6 +300,9 @@ module _ (buffer : State) (stream : Outgoing) (budget start : ℕ) (small : star
         (subst (λ (x : Sending). core.Runs samples place (sending_steps budget later) (running buffer start stream.clock_rate x packets) goes.entries []
         (running buffer start stream.clock_rate t.sending goes.all)) sending goes.runs);
     at = goes.at;
+    later = goes.later;
+    sends_are = goes.sends_are ∙ ap (λ (es : List SentSample). es ++ goes.later) sends;
+    times = goes.times ∙ ap (λ (ts : List ℕ). times_in packets ++ ts) (sym (no_times goes.later));
   }
 
   -- a step that sends
@@ -309,6 +335,9 @@ module _ (buffer : State) (stream : Outgoing) (budget start : ℕ) (small : star
           goes.runs,
         );
         at = goes.at;
+        later = goes.later;
+        sends_are = goes.sends_are ∙ ap (λ (x : Wire). x.sends ++ goes.later) same;
+        times = goes.times ∙ ap (λ (o : Option Sample). times_in packets ++ (times_of stream.clock_rate o goes.later ++ times_sent stream.clock_rate samples later (sends_after o goes.later))) (sym is);
       }
   sends_one (Some sample) place i later s mid t packets is at done rest =
       let both = one_sample buffer stream budget start place sample done.0.fault s.sending mid.sending s.datagrams mid.datagrams packets small at done.1.gained done.1.few done.1.sends in
@@ -335,13 +364,23 @@ module _ (buffer : State) (stream : Outgoing) (budget start : ℕ) (small : star
           goes.runs,
         );
         at = goes.at;
+        later = done.0 ∷ goes.later;
+        sends_are = goes.sends_are ∙ (ap (λ (x : Wire). x.sends ++ goes.later) done.2 ∙ append_assoc s.sends (done.0 ∷ []) goes.later);
+        times = goes.times ∙ (ap (λ (ts : List ℕ). ts ++ rest_times goes.later) (times_append packets both.more)
+            ∙ (append_assoc (times_in packets) (times_in both.more) (rest_times goes.later)
+            ∙ (ap (λ (ts : List ℕ). times_in packets ++ (ts ++ rest_times goes.later)) (both.times ∙ ap (λ (n : ℕ). replicate n (rtp_time_at stream.clock_rate sample.rtp_time)) (sym done.1.count))
+            ∙ ap (λ (o : Option Sample). times_in packets ++ (times_of stream.clock_rate o (done.0 ∷ goes.later)
+            ++ times_sent stream.clock_rate samples later (sends_after o (done.0 ∷ goes.later)))) (sym is))));
       }
+    where
+      rest_times : List SentSample → List ℕ
+      rest_times sends = times_sent stream.clock_rate samples later sends
 
   -- a delivery leaves the sender and its datagrams unchanged
   delivery_leaves : (again : Option RetransmissionStream) (o : Option (List ℕ)) (now : Ticks) (s mid : Wire) → DeliversCopy again o now s mid
-      → (mid.sending ≡ s.sending) × (mid.datagrams ≡ s.datagrams)
-  delivery_leaves again None now s mid same = (ap (λ (x : Wire). x.sending) same, ap (λ (x : Wire). x.datagrams) same)
-  delivery_leaves again (Some datagram) now s mid done = (ap (λ (x : Wire). x.sending) done.5, ap (λ (x : Wire). x.datagrams) done.5)
+      → (mid.sending ≡ s.sending) × (mid.datagrams ≡ s.datagrams) × (mid.sends ≡ s.sends)
+  delivery_leaves again None now s mid same = (ap (λ (x : Wire). x.sending) same, ap (λ (x : Wire). x.datagrams) same, ap (λ (x : Wire). x.sends) same)
+  delivery_leaves again (Some datagram) now s mid done = (ap (λ (x : Wire). x.sending) done.5, ap (λ (x : Wire). x.datagrams) done.5, ap (λ (x : Wire). x.sends) done.5)
 
   pub sends_run : (again : Option RetransmissionStream) (place : ℕ) (all_steps : List DatagramStep) (s t : Wire) (packets : List Packet) → At s packets → Proceeds again samples all_steps s t → Goes place all_steps s t packets
   sends_run again place [] s t packets at run = record {
@@ -349,15 +388,18 @@ module _ (buffer : State) (stream : Outgoing) (budget start : ℕ) (small : star
     entries = [];
     runs = (refl, refl, ap (λ (x : Wire). running buffer start stream.clock_rate x.sending packets) run);
     at = at_same s t packets (ap (λ (x : Wire). x.sending) run) (ap (λ (x : Wire). x.datagrams) run) at;
+    later = [];
+    sends_are = ap (λ (x : Wire). x.sends) run ∙ sym (append-nil s.sends);
+    times = sym (append-nil (times_in packets));
   }
   sends_run again place (steps.Send i ∷ later) s t packets at run =
       sends_one (slice_get samples i) place i later s run.0 t packets refl at run.1 (λ more next. sends_run again (place + 1) later run.0 t more next run.2)
   sends_run again place (steps.Deliver k now ∷ later) s t packets at run =
       let leaves = delivery_leaves again (slice_get s.datagrams k) now s run.0 run.1 in
-      stays place (steps.Deliver k now) later s run.0 t packets refl leaves.0 (sends_run again place later run.0 t packets (at_same s run.0 packets leaves.0 leaves.1 at) run.2)
+      stays place (steps.Deliver k now) later s run.0 t packets refl leaves.0 leaves.2 (λ sends. refl) (sends_run again place later run.0 t packets (at_same s run.0 packets leaves.0 leaves.1 at) run.2)
   sends_run again place (steps.Pop now ∷ later) s t packets at run =
       let sending : run.0.sending ≡ s.sending = ap (λ (x : Wire). x.sending) run.1.4 in
-      stays place (steps.Pop now) later s run.0 t packets refl sending (sends_run again place later run.0 t packets (at_same s run.0 packets sending (ap (λ (x : Wire). x.datagrams) run.1.4) at) run.2)
+      stays place (steps.Pop now) later s run.0 t packets refl sending (ap (λ (x : Wire). x.sends) run.1.4) (λ sends. refl) (sends_run again place later run.0 t packets (at_same s run.0 packets sending (ap (λ (x : Wire). x.datagrams) run.1.4) at) run.2)
   sends_run again place (steps.Finish ∷ later) s t packets at run =
       let sending : run.0.sending ≡ s.sending = ap (λ (x : Wire). x.sending) run.1.2 in
-      stays place steps.Finish later s run.0 t packets refl sending (sends_run again place later run.0 t packets (at_same s run.0 packets sending (ap (λ (x : Wire). x.datagrams) run.1.2) at) run.2)
+      stays place steps.Finish later s run.0 t packets refl sending (ap (λ (x : Wire). x.sends) run.1.2) (λ sends. refl) (sends_run again place later run.0 t packets (at_same s run.0 packets sending (ap (λ (x : Wire). x.datagrams) run.1.2) at) run.2)

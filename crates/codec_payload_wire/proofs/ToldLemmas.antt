@@ -7,10 +7,10 @@ use Rattle.codec_payload_base.specs.declared.wire.RtpHeader.{RtpHeader}
 use Rattle.codec_payload_base.specs.declared.wire.Ticks.{Ticks}
 use Rattle.codec_payload_buffer.specs.Steps.{State}
 use Rattle.codec_payload_codec.specs.Depacketizers.{is_built_in_depacketizer}
-use Rattle.codec_payload_jitter.specs.NotedTimes.{AreTimesOf, contradicts}
+use Rattle.codec_payload_jitter.specs.NotedTimes.{AreTimesOf, contradicts, is_untimely}
 use Rattle.codec_payload_jitter.specs.Numbers.{Numbering, answer_anew, begun_with, number_in}
 use Rattle.codec_payload_jitter.specs.Receiving.{Arrival, Confirms, GoesOn, PopsWith, Receives, ReceivesAs, Receiving, Restarts}
-use Rattle.codec_payload_jitter.specs.Receiving.{answer_by_time, answer_in, answer_to, answer_to_contradiction, begun_anew, is_contradicted, numbered, settled, waiting_at}
+use Rattle.codec_payload_jitter.specs.Receiving.{answer_by_time, answer_in, answer_to, answer_to_contradiction, begun_anew, is_contradicted, numbered, settled, waiting_at, with_first}
 use Rattle.codec_payload_jitter.specs.Receiving as jitter
 use Rattle.codec_payload_jitter.specs.declared.noted_times.NotedTime.{NotedTime}
 use Rattle.codec_payload_jitter.specs.declared.numbers.Extended.{Extended}
@@ -29,6 +29,7 @@ use Rattle.codec_payload_stream.specs.Sessions.{Hears, Session, TakesMedia, ende
 use Rattle.codec_payload_stream.specs.declared.receiver.Retransmission.{Retransmission}
 use Rattle.codec_payload_wire.proofs.Courses.{IsCopy}
 use Rattle.codec_payload_wire.proofs.EventLemmas.{AllHaveValues, AllTimed, Brings, IsMetOn, met_by, numbering_through, packet_at_index, time_at, values_asked, values_with}
+use Rattle.codec_payload_wire.proofs.TimelyLemmas.{StayTimely, time_in, timely_begun}
 use Rattle.codec_payload_wire.proofs.ReadingLemmas.{datagram_is, packet_at}
 use Rattle.codec_payload_wire.proofs.ReceivingLemmas.{AllNumbered, IsListening, IsPushedBy, TakesIn, arrival_at, calmed, finishes_at, heard, heard_at_once, not_repeated, same_ssrc}
 use Rattle.codec_payload_wire.proofs.ReceivingLemmas.{settled_none, still_calm, stored_is_pushed, turn_of, waits_for_nothing, went_in}
@@ -47,6 +48,7 @@ pub record IsTold (stream : Outgoing) (s : Session) : Type 0 where
   pub calm : IsListening None stream (calmed s)
   pub waiting : s.packets.is_restarting ≡ true
   pub kept : s.packets.kept ≡ None
+  pub fresh : s.packets.first ≡ None
 
 -- a receiver between two parts
 pub record IsResting (stream : Kinds) (name : Option ℕ) (clock : ℕ) (s : Session) : Type 0 where
@@ -87,6 +89,7 @@ is_told None kinds named rate stream s resting is payload_type not_again clock =
   };
   waiting = refl;
   kept = refl;
+  fresh = refl;
 }
 is_told (Some ssrc) kinds named rate stream s resting is payload_type not_again clock = record {
   calm = record {
@@ -105,6 +108,7 @@ is_told (Some ssrc) kinds named rate stream s resting is payload_type not_again 
   };
   waiting = refl;
   kept = refl;
+  fresh = refl;
 }
 
 -- The first packet
@@ -118,7 +122,8 @@ answer_told : (r : Receiving) (header : RtpHeader) (e : Extended) → r.is_resta
 answer_told r header (extended.Number n) waiting is =
     let x : NotedTime = record { number = n; time = header.timestamp } in
     let never : is_contradicted r n header.timestamp ≡ false =
-    ap (λ (b : Bool). not (r.ended || b) && contradicts r.noted x) waiting ∙ none_contradicts r.ended (contradicts r.noted x) in
+    ap (λ (b : Bool). not (r.ended || b) && (contradicts r.noted x || is_untimely r.rate r.first x)) waiting
+    ∙ none_contradicts r.ended (contradicts r.noted x || is_untimely r.rate r.first x) in
     ap (answer_by_time r header) is ∙ ap (λ (b : Bool). cond b (answer_to_contradiction r header) (extended.Number n)) never
 answer_told r header (extended.Restarted n) waiting is = ap (answer_by_time r header) is
 answer_told r header extended.Suspect waiting is = ap (answer_by_time r header) is
@@ -126,7 +131,7 @@ answer_told r header extended.Spent waiting is = ap (answer_by_time r header) is
 
 first_as : (time_of : ℕ → ℕ) (n : ℕ) (a : Arrival) (e : Extended) (r mid t : Receiving) (outcome : Outcome) → r.kept ≡ None → is_built_in_depacketizer r.buffer.depacketizer ≡ true
     → number_in e ≡ Some n → AreTimesOf time_of r.noted → a.header.timestamp ≡ time_of n → ReceivesAs e a r outcome mid
-    → t ≡ numbered r e a.header.sequence_number mid → TakesIn time_of e n a r t
+    → t ≡ with_first e a.header.timestamp (numbered r e a.header.sequence_number mid) → TakesIn time_of e n a r t
 first_as time_of n a (extended.Number m) r mid t outcome none of_codec is times time went left =
     let same : m ≡ n = same_Some m n is in
     let here : GoesOn n a r outcome mid = subst (λ (k : ℕ). GoesOn k a r outcome mid) same went in
@@ -139,7 +144,7 @@ first_as time_of n a (extended.Restarted m) r mid t outcome none of_codec is tim
     let confirms = subst (λ (o : Option Arrival). Confirms m o (jitter.restarted x) restarts.2 mid) kept restarts.4 in
     let here : GoesOn n a r restarts.0 x = subst (λ (k : ℕ). GoesOn k a r restarts.0 x) same went in
     went_in time_of n a r x t restarts.0 (jitter.counted_restart x.counters) None (extended.Restarted m) of_codec times time here
-    (left ∙ ap (numbered r (extended.Restarted m) a.header.sequence_number) confirms.1)
+    (left ∙ ap (λ (x : Receiving). with_first (extended.Restarted m) a.header.timestamp (numbered r (extended.Restarted m) a.header.sequence_number x)) confirms.1)
 first_as time_of n a extended.Suspect r mid t outcome none of_codec is times time went left = absurd (cc)
 first_as time_of n a extended.Spent r mid t outcome none of_codec is times time went left = absurd (cc)
 
@@ -153,7 +158,7 @@ takes_first time_of n a r t outcome waiting none of_codec is times time receives
     let here : answer_in r low ≡ e = rw waiting refl in
     let answer : answer_to r a.header ≡ e = answer_told r a.header e waiting here in
     first_as time_of n a e r mid t outcome none of_codec is times time (subst (λ (x : Extended). ReceivesAs x a r outcome mid) answer receives.1)
-    (receives.2 ∙ ap (λ (x : Extended). numbered r x low mid) answer)
+    (receives.2 ∙ ap (λ (x : Extended). with_first x a.header.timestamp (numbered r x low mid)) answer)
 
 pub pushes_first : (time_of : ℕ → ℕ) (stream : Outgoing) (now : Ticks) (q : Packet) (bytes : List ℕ) (s t : Session) (receipt : Receipt) → (stream.payload_type < 64) ⊎ (95 < stream.payload_type)
     → IsTold stream s → ReadsAs stream q bytes → number_in (answer_anew s.packets.numbering (q.number % 2 ^ 16)) ≡ Some q.number
@@ -193,6 +198,7 @@ record IsPoppedTold (stream : Outgoing) (now : Ticks) (answer : Answer) (s t : S
   at_end : s.packets.ended ≡ true → wait ≡ Some 0
   pops : PopsWaiting wait s.packets.buffer answer t.packets.buffer
   noted : t.packets.noted ≡ s.packets.noted
+  first : t.packets.first ≡ s.packets.first
   numbering : t.packets.numbering ≡ s.packets.numbering
   is_told : IsTold stream t
   kinds : t.stream ≡ s.stream
@@ -213,6 +219,7 @@ pops_told stream now answer s t is_told not_memory gated =
       at_end = waits_for_nothing r now.0;
       pops = subst (λ (x : Receiving). PopsWaiting wait r.buffer answer x.buffer) (sym packets) turn.pops;
       noted = ap (λ (x : Receiving). x.noted) packets ∙ turn.noted;
+      first = ap (λ (x : Receiving). x.first) packets ∙ turn.first;
       numbering = ap (λ (x : Receiving). x.numbering) packets ∙ turn.numbering;
       is_told = record {
         calm = record {
@@ -230,6 +237,7 @@ pops_told stream now answer s t is_told not_memory gated =
         };
         waiting = ap (λ (x : Receiving). x.is_restarting) packets ∙ (turn.is_restarting ∙ is_told.waiting);
         kept = ap (λ (x : Receiving). x.kept) packets ∙ (turn.kept ∙ is_told.kept);
+        fresh = ap (λ (x : Receiving). x.first) packets ∙ (turn.first ∙ is_told.fresh);
       };
       kinds = ap (λ (x : Session). x.stream) popped.2;
       ended = ap (λ (x : Receiving). x.ended) packets ∙ turn.ended;
@@ -279,9 +287,10 @@ module _ (stream : Outgoing) (types : (stream.payload_type < 64) ⊎ (95 < strea
   Heard time_of all_steps s answers t = IsHeard time_of stream packets all_steps s answers t (numbering_begun first s.packets.numbering (delivered all_steps))
 
   pub met_told : (time_of : ℕ → ℕ) (all_steps : List DatagramStep) (s t : Session) (answers : List Answer) → IsTold stream s → EndsAfterFirst all_steps
-      → AllBegun first s.packets.numbering (delivered all_steps) → AllTimed time_of first packets (delivered all_steps) → AreTimesOf time_of s.packets.noted
+      → AllBegun first s.packets.numbering (delivered all_steps) → AllTimed time_of first packets (delivered all_steps)
+      → StayTimely stream.clock_rate first packets None (delivered all_steps) → AreTimesOf time_of s.packets.noted
       → Takes None all_steps datagrams s answers t → Heard time_of all_steps s answers t
-  met_told time_of [] s t answers is_told in_time numbers timed times takes = record {
+  met_told time_of [] s t answers is_told in_time numbers timed timely times takes = record {
     events = [];
     meets = (takes.0, ap (λ (x : Session). x.packets.buffer) takes.1);
     brings = refl;
@@ -291,8 +300,8 @@ module _ (stream : Outgoing) (types : (stream.payload_type < 64) ⊎ (95 < strea
     kinds = ap (λ (x : Session). x.stream) takes.1;
     calm = subst (λ (x : Session). IsListening None stream (calmed x)) (sym takes.1) is_told.calm;
   }
-  met_told time_of (steps.Send i ∷ later) s t answers is_told in_time numbers timed times takes =
-      let rest = met_told time_of later s t answers is_told in_time numbers timed times takes in
+  met_told time_of (steps.Send i ∷ later) s t answers is_told in_time numbers timed timely times takes =
+      let rest = met_told time_of later s t answers is_told in_time numbers timed timely times takes in
       record {
         events = rest.events;
         meets = rest.meets;
@@ -303,19 +312,23 @@ module _ (stream : Outgoing) (types : (stream.payload_type < 64) ⊎ (95 < strea
         kinds = rest.kinds;
         calm = rest.calm;
       }
-  met_told time_of (steps.Deliver k now ∷ later) s t answers is_told in_time numbers timed times takes =
+  met_told time_of (steps.Deliver k now ∷ later) s t answers is_told in_time numbers timed timely times takes =
       let mid : Session = takes.5 in
       let p = packet_at_index stream first packets datagrams k takes.0 are numbered takes.1 in
       let q : Packet = p.0 in
       let number : number_in (answer_anew s.packets.numbering (q.number % 2 ^ 16)) ≡ Some q.number =
       subst (λ (n : ℕ). number_in (answer_anew s.packets.numbering (n % 2 ^ 16)) ≡ Some n) (sym p.3) numbers.0 in
-      let time : q.rtp_time ≡ time_of q.number = time_at packets k q p.1 ∙ (timed.0 ∙ ap time_of (sym p.3)) in
+      let stamped : q.rtp_time ≡ time_in packets k = time_at packets k q p.1 in
+      let time : q.rtp_time ≡ time_of q.number = stamped ∙ (timed.0 ∙ ap time_of (sym p.3)) in
       let reads : ReadsAs stream q takes.2 = reads_copy stream q takes.0 takes.2 takes.3 p.2 in
       let one = pushes_first time_of stream now q takes.2 s mid takes.4 types is_told reads number times time takes.6 in
       let numbering : mid.packets.numbering ≡ begun_with s.packets.numbering ((first + k) % 2 ^ 16) =
       one.numbering ∙ ap (λ (n : ℕ). begun_with s.packets.numbering (n % 2 ^ 16)) p.3 in
+      let timely_then : StayTimely stream.clock_rate first packets mid.packets.first (delivered later) =
+      timely_begun stream.clock_rate first packets s.packets.first mid.packets.first (answer_anew s.packets.numbering (q.number % 2 ^ 16)) q.number q.rtp_time k (delivered later)
+      is_told.fresh timely one.first number p.3 stamped in
       let all = met_by None stream types first packets datagrams are numbered mid.packets time_of later mid t answers one.listening (record { wait_limits = refl; room = refl })
-      (subst (λ (n : Numbering). AllNumbered first n (delivered later)) (sym numbering) numbers.1) timed.1 one.times takes.7 in
+      (subst (λ (n : Numbering). AllNumbered first n (delivered later)) (sym numbering) numbers.1) timed.1 timely_then one.times takes.7 in
       let rest = all.met in
       record {
         events = Arrives k one.meta ∷ rest.events;
@@ -328,10 +341,10 @@ module _ (stream : Outgoing) (types : (stream.payload_type < 64) ⊎ (95 < strea
         kinds = all.kinds ∙ one.kinds;
         calm = still_calm None stream t all.listening;
       }
-  met_told time_of (steps.Pop now ∷ later) s t answers is_told in_time numbers timed times takes =
+  met_told time_of (steps.Pop now ∷ later) s t answers is_told in_time numbers timed timely times takes =
       let mid : Session = takes.2 in
       let one = pops_told stream now takes.0 s mid is_told takes.4 takes.5 in
-      let rest = met_told time_of later mid t takes.1 one.is_told in_time (subst (λ (n : Numbering). AllBegun first n (delivered later)) (sym one.numbering) numbers) timed
+      let rest = met_told time_of later mid t takes.1 one.is_told in_time (subst (λ (n : Numbering). AllBegun first n (delivered later)) (sym one.numbering) numbers) timed timely
       (subst (AreTimesOf time_of) (sym one.noted) times) takes.6 in
       record {
         events = Asked one.wait ∷ rest.events;
@@ -343,7 +356,7 @@ module _ (stream : Outgoing) (types : (stream.payload_type < 64) ⊎ (95 < strea
         kinds = rest.kinds ∙ one.kinds;
         calm = rest.calm;
       }
-  met_told time_of (steps.Finish ∷ later) s t answers is_told in_time numbers timed times takes =
+  met_told time_of (steps.Finish ∷ later) s t answers is_told in_time numbers timed timely times takes =
       let at_end : takes.0 ≡ ended s = finishes_at stream.ssrc s takes.0 is_told.calm.ssrc takes.1 in
       let all = met_by None stream types first packets datagrams are numbered (ended s).packets time_of later (ended s) t answers (record {
         payload_type = is_told.calm.payload_type;
@@ -357,7 +370,8 @@ module _ (stream : Outgoing) (types : (stream.payload_type < 64) ⊎ (95 < strea
         no_block_seen = is_told.calm.no_block_seen;
         drops_none = is_told.calm.drops_none;
         heard = tt;
-      }) (record { wait_limits = refl; room = refl }) (subst (AllNumbered first s.packets.numbering) (sym in_time) tt) timed times
+      }) (record { wait_limits = refl; room = refl }) (subst (AllNumbered first s.packets.numbering) (sym in_time) tt) timed
+      (subst (StayTimely stream.clock_rate first packets s.packets.first) (sym in_time) (subst (λ (o : Option NotedTime). StayTimely stream.clock_rate first packets o []) (sym is_told.fresh) tt)) times
       (subst (λ (x : Session). Takes None later datagrams x answers t) at_end takes.2) in
       let rest = all.met in
       record {

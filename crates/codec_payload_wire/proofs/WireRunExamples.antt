@@ -27,6 +27,7 @@ is_within no_media = record {
   };
   readable = (refl, (refl, (refl, tt)));
   within = (lit< tt, (lit< tt, lit≤ tt, (lit< tt, lit≤ tt, (lit< tt, lit≤ tt, tt))));
+  timely = (λ l. lit≤ tt, (λ l. absurd (omega (arith, l)), (λ l. absurd (omega (arith, l)), tt)));
 }
 
 video_is_within : (no_media : Vec ℕ) → IsWithinWindows (oriented ∷ []) video_steps video_sender (video_receiver no_media) one_sent
@@ -47,6 +48,7 @@ video_is_within no_media = record {
   };
   readable = (refl, tt);
   within = (lit< tt, tt);
+  timely = tt;
 }
 
 abbrev before_end : List DatagramStep

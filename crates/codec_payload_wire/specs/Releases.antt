@@ -1,6 +1,6 @@
 -- The units that a run over datagrams releases, with any loss, repetition and order of its datagrams.
-use Rattle.std.specs.Prelude.{◌≡◌, ℕ, ◌+◌, ◌%◌, ◌^◌, ◌<◌, ◌≤◌, ◌⊎◌, ◌==◌, ◌&&◌, nat_lt, max, if◌then◌else◌, Bool, true}
-use Rattle.std.specs.Prelude.{false, List, [], ◌∷◌, ◌++◌, Option, Some, None, Ok, Err, Contains, length, map, slice_get, refl}
+use Rattle.std.specs.Prelude.{◌≡◌, ℕ, ◌+◌, ◌-◌, ◌*◌, ◌%◌, ◌^◌, ◌<◌, ◌≤◌, ◌⊎◌, ◌==◌, ◌&&◌, nat_lt, max, if◌then◌else◌, Bool, true}
+use Rattle.std.specs.Prelude.{false, List, [], ◌∷◌, ◌++◌, Option, Some, None, Ok, Err, Contains, length, map, replicate, slice_get, slice_index_or, refl}
 use Rattle.std.proofs.Common.{lit<, lit≤}
 use Rattle.codec_payload_base.specs.declared.wire.Ticks.{Ticks}
 use Rattle.codec_payload_base.specs.declared.wire.extension.ExtensionValues.{ExtensionValues}
@@ -15,7 +15,7 @@ use Rattle.codec_payload_runs.specs.RunUnits.{IsWholeAt}
 use Rattle.codec_payload_runs.specs.RunValues.{values_of_run}
 use Rattle.codec_payload_runs.specs.Schedule.{Answer}
 use Rattle.codec_payload_send.specs.Packets.{Packet}
-use Rattle.codec_payload_send.specs.Sending.{Sample}
+use Rattle.codec_payload_send.specs.Sending.{Sample, rtp_time_at}
 use Rattle.codec_payload_runs.specs.SentStream.{AllEndWithTail, AreReadable, SentUnit, packets_of, units_of_run}
 use Rattle.codec_payload_runs.specs.ReportedIds.{read_by}
 use Rattle.codec_payload_runs.specs.declared.run.Step.{Step}
@@ -80,6 +80,21 @@ received_steps samples sent (steps.Deliver k now ∷ later) sends =
     if nat_lt k sent then steps.Deliver k now ∷ received_steps samples sent later sends else received_steps samples sent later sends
 received_steps samples sent (steps.Pop now ∷ later) sends = steps.Pop now ∷ received_steps samples sent later sends
 received_steps samples sent (steps.Finish ∷ later) sends = steps.Finish ∷ received_steps samples sent later sends
+
+-- the RTP times of the datagrams of a `Send` of this sample, if there is one
+abbrev pub times_of : ℕ → Option Sample → List SentSample → List ℕ
+times_of clock_rate None sends = []
+times_of clock_rate (Some sample) [] = []
+times_of clock_rate (Some sample) (entry ∷ sends) = replicate entry.count (rtp_time_at clock_rate sample.rtp_time)
+
+-- the RTP times of the datagrams that these steps send, in order; `sends` has an entry for each of their samples
+abbrev pub times_sent : ℕ → List Sample → List DatagramStep → List SentSample → List ℕ
+times_sent clock_rate samples [] sends = []
+times_sent clock_rate samples (steps.Send i ∷ later) sends =
+    times_of clock_rate (slice_get samples i) sends ++ times_sent clock_rate samples later (sends_after (slice_get samples i) sends)
+times_sent clock_rate samples (steps.Deliver k now ∷ later) sends = times_sent clock_rate samples later sends
+times_sent clock_rate samples (steps.Pop now ∷ later) sends = times_sent clock_rate samples later sends
+times_sent clock_rate samples (steps.Finish ∷ later) sends = times_sent clock_rate samples later sends
 
 -- the indices of the datagrams that are delivered, in order
 abbrev pub delivered : List DatagramStep → List ℕ
@@ -162,8 +177,25 @@ abbrev pub ComeWithin : ℕ → ℕ → List ℕ → Type 0
 ComeWithin forward backward [] = Unit {0}
 ComeWithin forward backward (k ∷ ks) = (k < 65536) × StayWithin forward backward k ks
 
+-- an RTP time from 5 seconds before the first one's up to that time, modulo 2^32
+abbrev pub IsTimely : ℕ → ℕ → ℕ → Type 0
+IsTimely clock_rate first time = (first + 2 ^ 32 - time) % 2 ^ 32 ≤ 5 * clock_rate
+
+-- each of these datagrams that was sent before the datagram with the index `first` has such an RTP time; `times` are the RTP times
+-- of all datagrams
+abbrev pub AreTimely : ℕ → List ℕ → ℕ → List ℕ → Type 0
+AreTimely clock_rate times first [] = Unit {0}
+AreTimely clock_rate times first (k ∷ ks) =
+    (k < first → IsTimely clock_rate (slice_index_or times first 0) (slice_index_or times k 0)) × AreTimely clock_rate times first ks
+
+-- the datagrams with these indices are timely: if one was sent before the first that arrives, its RTP time is from 5 seconds
+-- before the RTP time of the first up to that time
+abbrev pub ComeTimely : ℕ → List ℕ → List ℕ → Type 0
+ComeTimely clock_rate times [] = Unit {0}
+ComeTimely clock_rate times (k ∷ ks) = AreTimely clock_rate times k ks
+
 -- the receiver is new, for the stream of the sender; the samples can be read again; and all delivered datagrams are within the
--- windows
+-- windows, and timely
 pub record IsWithinWindows (samples : List Sample) (all_steps : List DatagramStep) (sender : Sending) (receiver : Session) (sends : List SentSample) : Type 0 where
   pub settings : Settings
   pub depacketizer : DepacketizerState
@@ -171,6 +203,7 @@ pub record IsWithinWindows (samples : List Sample) (all_steps : List DatagramSte
   pub one_stream : AreOfOneStream sender settings depacketizer
   pub readable : AreReadable sender.packetizer samples
   pub within : ComeWithin settings.forward settings.backward (delivered (received_steps samples 0 all_steps sends))
+  pub timely : ComeTimely sender.stream.clock_rate (times_sent sender.stream.clock_rate samples all_steps sends) (delivered (received_steps samples 0 all_steps sends))
 
 -- Guarantees
 

@@ -16,7 +16,7 @@ use Rattle.codec_payload_sender.specs.Senders.{Sending}
 use Rattle.codec_payload_rtp.specs.declared.values.ExtensionIds.{ExtensionIds}
 use Rattle.codec_payload_stream.specs.Sessions.{Session, session_by}
 use Rattle.codec_payload_stream.specs.declared.receiver.Settings.{Settings}
-use Rattle.codec_payload_wire.specs.Releases.{AllComeFirst, AreDatagrams, AreOfOneStream, ComeWithin, HaveValuesOfSamples, IsDelivery, delivered, received_steps, sending_steps}
+use Rattle.codec_payload_wire.specs.Releases.{AllComeFirst, AreDatagrams, AreOfOneStream, ComeTimely, ComeWithin, HaveValuesOfSamples, IsDelivery, delivered, received_steps, sending_steps, times_sent}
 use Rattle.codec_payload_wire.specs.RestartRuns.{RunsParts}
 use Rattle.codec_payload_wire.specs.WireRuns.{begins, bytes_in, wire_of}
 use Rattle.codec_payload_wire.specs.declared.restart_run.Part.{Part}
@@ -49,11 +49,12 @@ EndsAfterFirst (steps.Pop now ∷ later) = EndsAfterFirst later
 EndsAfterFirst (steps.Finish ∷ later) = delivered later ≡ []
 
 -- the sender and the receiver are of one stream; the samples can be read again; and all delivered datagrams of the part are within
--- the windows. After an announced restart the stream does not end before the first of them
+-- the windows, and timely. After an announced restart the stream does not end before the first of them
 pub record IsPartWithin (samples : List Sample) (later : Bool) (settings : Settings) (depacketizer : DepacketizerState) (part : Part) (sender : Sending) (run : DatagramRun) : Type 0 where
   pub one_stream : AreOfOneStream sender settings depacketizer
   pub readable : AreReadable sender.packetizer samples
   pub within : ComeWithin settings.forward settings.backward (delivered (received_in samples part run))
+  pub timely : ComeTimely sender.stream.clock_rate (times_sent sender.stream.clock_rate samples part.steps.items run.sends.items) (delivered (received_in samples part run))
   pub in_time : later ≡ true → EndsAfterFirst (received_in samples part run)
 
 -- each part is

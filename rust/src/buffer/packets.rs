@@ -76,6 +76,27 @@ pub(super) fn is_at(packets: &TieredQueue<HeldPacket>, place: usize, number: u64
     place < packets.len() && packets.at(place).number == number
 }
 
+/// Returns how many packets from `place` on have consecutive numbers. The last packet is inspected first, since most often no number
+/// is missing. Then it searches in steps that double: the time grows with the logarithm of the answer.
+pub(super) fn row_from(packets: &TieredQueue<HeldPacket>, place: usize) -> usize {
+    let first = packets.at(place).number;
+    let mut high = packets.len() - place;
+    if packets.at(place + (high - 1)).number - first == (high - 1) as u64 {
+        return high;
+    }
+    // The first `low` packets have consecutive numbers. Those behind the first `high` do not continue them.
+    let mut low = 1;
+    while low < high {
+        let middle = low + (low - 1).min((high - low) / 2);
+        if packets.at(place + middle).number - first == middle as u64 {
+            low = middle + 1;
+        } else {
+            high = middle;
+        }
+    }
+    low
+}
+
 /// Returns the time at which the packet with this number arrived, if it is held.
 #[inline(always)]
 pub(super) fn received_at(packets: &TieredQueue<HeldPacket>, number: u64) -> Option<Ticks> {

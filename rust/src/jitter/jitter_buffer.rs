@@ -16,7 +16,7 @@ use crate::codec::{CodecDepacketizer, Depacketizer, NoBox};
 use crate::error::PacketError;
 use crate::jitter::missing::MissingNumbers;
 use crate::jitter::no_media_numbers::{is_late, is_noted, note_no_media};
-use crate::jitter::noted_times::{NotedTime, NotedTimes, is_soon_after};
+use crate::jitter::noted_times::{NotedTime, NotedTimes, is_soon_after, is_untimely};
 use crate::jitter::numbers::{
     Extended, SequenceNumbers, lowest_with, number_within, without_restart,
 };
@@ -53,6 +53,8 @@ pub struct JitterBuffer<B = NoBox> {
     /// The numbers without media above the cutoff, in rising order.
     no_media_numbers: Vec<u64>,
     noted_times: NotedTimes,
+    /// The first packet with media since the start, or since the latest restart.
+    first: Option<NotedTime>,
     kept: Option<KeptPacket>,
     wait_limits: WaitLimits,
     counters: PacketCounters,
@@ -96,6 +98,7 @@ impl<B: Depacketizer> JitterBuffer<B> {
             numbers,
             buffer,
             no_media_numbers: Vec::new(),
+            first: None,
             kept: None,
             clock_rate,
             wait_limits,
@@ -140,7 +143,7 @@ impl<B: Depacketizer> JitterBuffer<B> {
         header: PackedHeader,
         payload: Vec<u8>,
     ) -> Result<Outcome, PacketError> {
-        let low = header.sequence_number();
+        let (low, time) = (header.sequence_number(), header.timestamp());
         let answer = self.answer_to_packet(&header);
         let (numbers, lowest) = self.extended(answer, low);
         let packet = KeptPacket {
@@ -150,6 +153,7 @@ impl<B: Depacketizer> JitterBuffer<B> {
         };
         let outcome = self.receive_as(answer, packet)?;
         self.set_numbers(numbers, lowest);
+        self.note_first(answer, time);
         Ok(outcome)
     }
 
@@ -165,6 +169,7 @@ impl<B: Depacketizer> JitterBuffer<B> {
         let (numbers, lowest) = self.extended(answer, low);
         self.note_as(answer)?;
         self.set_numbers(numbers, lowest);
+        self.forget_first(answer);
         Ok(())
     }
 
@@ -195,6 +200,7 @@ impl<B: Depacketizer> JitterBuffer<B> {
         let outcome = self.store_and_note(number, packet)?;
         self.count_again(outcome);
         self.set_numbers(numbers, lowest);
+        self.note_first(answer, header.timestamp);
         Ok(outcome)
     }
 
@@ -266,9 +272,14 @@ impl<B: Depacketizer> JitterBuffer<B> {
         self.numbers.greatest()
     }
 
-    /// Returns whether a number is neither held nor known to carry no media.
-    pub(crate) fn is_absent(&self, number: u64) -> bool {
-        !self.buffer.holds(SeqNo(number)) && !is_noted(&self.no_media_numbers, number)
+    /// Returns how many consecutive numbers from this one on are held.
+    pub(crate) fn held_in_a_row(&self, number: u64) -> usize {
+        self.buffer.held_in_a_row(SeqNo(number))
+    }
+
+    /// Returns whether a number is known to carry no media.
+    pub(crate) fn has_no_media(&self, number: u64) -> bool {
+        is_noted(&self.no_media_numbers, number)
     }
 
     /// Returns the next unit, if one is due at time `now`. A frame is due if it directly follows the last released unit, if
@@ -353,6 +364,7 @@ impl<B: Depacketizer> JitterBuffer<B> {
     pub fn restart(&mut self) {
         self.ended = false;
         self.is_restarting = true;
+        self.first = None;
         self.kept = None;
     }
 
@@ -380,8 +392,8 @@ impl<B: Depacketizer> JitterBuffer<B> {
         }
     }
 
-    /// Returns the same for a packet with media: if its number arrived before with another RTP time, the packet is suspect, or
-    /// it confirms that the sender has restarted.
+    /// Returns the same for a packet with media: if its number arrived before with another RTP time, or if it is below the first
+    /// one with an RTP time that does not fit, the packet is suspect, or it confirms that the sender has restarted.
     #[inline(always)]
     fn answer_to_packet(&self, header: &PackedHeader) -> Extended {
         let answer = self.answer_to(header.sequence_number());
@@ -398,11 +410,14 @@ impl<B: Depacketizer> JitterBuffer<B> {
         }
     }
 
-    /// Returns whether the number arrived before with another RTP time. Always false while no restart is detected.
+    /// Returns whether the number arrived before with another RTP time, or is below the first one with an RTP time that is not
+    /// from 5 seconds before the first one's up to that time. Always false while no restart is detected.
     #[inline(always)]
     fn is_contradicted(&self, number: u64, time: u32) -> bool {
         let packet = NotedTime { number, time };
-        !(self.ended || self.is_restarting) && self.noted_times.contradicts(packet)
+        !(self.ended || self.is_restarting)
+            && (self.noted_times.contradicts(packet)
+                || is_untimely(self.clock_rate, self.first, packet))
     }
 
     /// Returns whether the packet comes soon after the suspect packet.

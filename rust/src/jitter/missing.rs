@@ -5,8 +5,8 @@
 use crate::codec::{Depacketizer, NoBox};
 use crate::jitter::jitter_buffer::JitterBuffer;
 
-/// An iterator over the missing numbers, in rising order. No step allocates. A step inspects each number that is held between
-/// the previous answer and this one. See [`JitterBuffer::missing`].
+/// An iterator over the missing numbers, in rising order. No step allocates. A step makes one search for each row of held numbers
+/// between the previous answer and this one, however long the rows are. See [`JitterBuffer::missing`].
 #[derive(Debug)]
 pub struct MissingNumbers<'a, B = NoBox> {
     packets: &'a JitterBuffer<B>,
@@ -34,12 +34,18 @@ impl<'a, B: Depacketizer> MissingNumbers<'a, B> {
     }
 }
 
-/// Returns the first missing number from `from` up to `to`, exclusive.
+/// Returns the first missing number from `from` up to `to`, exclusive. A row of held numbers is one step.
 fn first_absent<B: Depacketizer>(packets: &JitterBuffer<B>, from: u64, to: u64) -> Option<u64> {
-    for number in from..to {
-        if packets.is_absent(number) {
-            return Some(number);
+    let mut number = from;
+    while number < to {
+        let free = number.saturating_add(packets.held_in_a_row(number) as u64);
+        if free >= to {
+            return None;
         }
+        if !packets.has_no_media(free) {
+            return Some(free);
+        }
+        number = free + 1;
     }
     None
 }

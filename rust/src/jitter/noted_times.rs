@@ -153,7 +153,7 @@ fn places_for(backward: u16) -> usize {
 
 /// Returns whether the time of this number is noted.
 fn is_noted(backward: u16, number: u64) -> bool {
-    number % spacing_of(backward) == 0
+    number % 4 == 0 && (backward <= NARROW || number % 8 == 0)
 }
 
 /// Returns the index of a number.
@@ -173,4 +173,19 @@ pub(crate) fn is_soon_after(
     let ticks = later.timestamp().wrapping_sub(earlier.timestamp());
     let most = 2 * u64::from(clock_rate.get());
     1 <= numbers && numbers <= 16 && u64::from(ticks) <= most
+}
+
+/// Returns whether the number is below the first one, and the RTP time is not from 5 seconds before the first one's up to that
+/// time, modulo 2^32.
+#[inline(always)]
+pub(crate) fn is_untimely(
+    clock_rate: Frequency,
+    first: Option<NotedTime>,
+    packet: NotedTime,
+) -> bool {
+    let Some(first) = first else {
+        return false;
+    };
+    let ticks = first.time.wrapping_sub(packet.time);
+    packet.number < first.number && u64::from(ticks) > 5 * u64::from(clock_rate.get())
 }

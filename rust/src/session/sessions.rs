@@ -39,14 +39,25 @@ pub enum Arrival {
     /// A retransmission whose stream is not known: no pair names its SSRC, and none or several streams fit
     /// ([`Session::receive`]).
     Unassociated,
-    /// The stream of this SSRC and payload type received the datagram. `answer` is the answer of [`Receiver::receive`], and
-    /// never `OutOfMemory`.
+    /// The stream of this SSRC and payload type received the datagram. `outcome` is what [`Receiver::receive`] returned: the
+    /// packet was stored, or why it was dropped.
     ///
     /// [`Receiver::receive`]: crate::stream::receiver::Receiver::receive
     Stream {
         ssrc: u32,
         payload_type: u8,
-        answer: Result<Outcome, ReceiveError>,
+        outcome: Outcome,
+    },
+    /// The stream of this SSRC and payload type refused the datagram: its payload is not valid RED or not a valid
+    /// retransmission, or memory ran out for older blocks of RED. The stream counts it, and continues. Any peer can send such a
+    /// datagram, so do not end a program for it. `fault` is the error of [`Receiver::receive`], and never
+    /// [`ReceiveError::OutOfMemory`].
+    ///
+    /// [`Receiver::receive`]: crate::stream::receiver::Receiver::receive
+    Faulty {
+        ssrc: u32,
+        payload_type: u8,
+        fault: ReceiveError,
     },
 }
 
@@ -458,7 +469,7 @@ impl ArrivalCounts {
             Arrival::Unknown => self.unknown = self.unknown.wrapping_add(1),
             Arrival::Refused => self.refused = self.refused.wrapping_add(1),
             Arrival::Unassociated => self.unassociated = self.unassociated.wrapping_add(1),
-            Arrival::Stream { .. } => {}
+            Arrival::Stream { .. } | Arrival::Faulty { .. } => {}
         }
         self
     }

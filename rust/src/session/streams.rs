@@ -3,6 +3,7 @@
 //! The streams of a session, in the order in which they began.
 
 use crate::jitter::jitter_buffer::WaitLimits;
+use crate::jitter::outcome::Outcome;
 use crate::memory::{AllocError, TryVec};
 use crate::rtcp::compound::{CompoundRule, Packets, read_compound};
 use crate::rtcp::items::ReportBlock;
@@ -16,6 +17,7 @@ use crate::session::sort::{SortedPacket, sort};
 use crate::session::stream::{Ending, Step, StreamState, is_no_memory, is_nothing};
 use crate::session::waking::{Waking, step_excepted};
 use crate::stream::parsed::ParsedDatagram;
+use crate::stream::receiver::ReceiveError;
 use crate::wire::{Frequency, Ticks};
 use alloc::vec::Vec;
 
@@ -195,11 +197,7 @@ impl Streams {
             return Err(AllocError);
         }
         self.add(settings.max_streams, stream)?;
-        Ok(Arrival::Stream {
-            ssrc,
-            payload_type: format.payload_type,
-            answer,
-        })
+        Ok(arrival_of(ssrc, format.payload_type, answer))
     }
 
     /// Returns whether there is a place for one more stream.
@@ -362,11 +360,23 @@ fn feed_one(
     if is_no_memory(&answer) {
         return Err(AllocError);
     }
-    Ok(Arrival::Stream {
-        ssrc,
-        payload_type,
-        answer,
-    })
+    Ok(arrival_of(ssrc, payload_type, answer))
+}
+
+/// Returns what was done with a datagram for which the stream has this answer.
+fn arrival_of(ssrc: u32, payload_type: u8, answer: Result<Outcome, ReceiveError>) -> Arrival {
+    match answer {
+        Ok(outcome) => Arrival::Stream {
+            ssrc,
+            payload_type,
+            outcome,
+        },
+        Err(fault) => Arrival::Faulty {
+            ssrc,
+            payload_type,
+            fault,
+        },
+    }
 }
 
 /// Returns the place of the stream with this SSRC and payload type.

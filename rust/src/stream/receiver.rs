@@ -325,7 +325,8 @@ impl<B: Depacketizer> Receiver<B> {
     ///
     /// # Errors
     ///
-    /// - `OutOfMemory`: this datagram has changed nothing; you can pass it again. A packet that waited may have been received.
+    /// - `OutOfMemory`: this datagram has changed nothing; you can pass it again. A packet that waited may have been received. Only
+    ///   a datagram that takes memory has this error: not RTCP, and no malformed datagram.
     /// - `BlocksOutOfMemory`: the RED packet itself was received; see [`ReceiveError::BlocksOutOfMemory`].
     /// - `Rtp`, `Red`, `Retransmission`: the datagram is counted as malformed, and the stream continues.
     pub fn receive(&mut self, now: Ticks, bytes: &[u8]) -> Result<Outcome, ReceiveError> {

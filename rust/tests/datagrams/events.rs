@@ -60,13 +60,15 @@ pub const WAITS_LONGER: WaitLimits = WaitLimits {
 /// An RTP packet of 13 bytes: its payload type, number and SSRC, and a byte.
 pub fn packet(payload_type: u8, number: u16, ssrc: u8, byte: u8) -> [u8; 13] {
     let [high, low] = number.to_be_bytes();
+    // The RTP time of numbers right below 0 is right below 0 too.
+    let wrapped = if number >= 0xff00 { 0xff } else { 0 };
     [
         0x80,
         payload_type,
         high,
         low,
-        0,
-        0,
+        wrapped,
+        wrapped,
         high,
         low,
         0,

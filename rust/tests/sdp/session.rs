@@ -133,13 +133,9 @@ fn packet(payload_type: u8, ssrc: u32, number: u8, payload: &[u8]) -> Vec<u8> {
 fn stream(session: &mut Session, datagram: &[u8]) -> Result<Option<(u32, u8)>, Fail> {
     match session.receive(Ticks(0), datagram)? {
         Arrival::Stream {
-            ssrc,
-            payload_type,
-            answer,
-        } => {
-            answer?;
-            Ok(Some((ssrc, payload_type)))
-        }
+            ssrc, payload_type, ..
+        } => Ok(Some((ssrc, payload_type))),
+        Arrival::Faulty { fault, .. } => Err(fault.into()),
         _ => Ok(None),
     }
 }

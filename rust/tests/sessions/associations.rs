@@ -71,10 +71,7 @@ fn with_requests(session: &mut Session, streams: &[(u32, u32)]) -> Result<(), Fa
 /// The SSRC of the stream that takes the datagram.
 fn taker(session: &mut Session, now: u64, datagram: &[u8]) -> Result<Option<u32>, Fail> {
     match session.receive(Ticks(now), datagram)? {
-        Arrival::Stream { ssrc, answer, .. } => {
-            answer?;
-            Ok(Some(ssrc))
-        }
+        Arrival::Stream { ssrc, .. } => Ok(Some(ssrc)),
         Arrival::Unassociated => Ok(None),
         other => Err(format!("{other:?}").into()),
     }

@@ -29,8 +29,11 @@ fn poll(now: u64) -> SessionStep {
 fn line(ssrc: u32, answer: &StepAnswer) -> Option<String> {
     match answer {
         StepAnswer::Received(Ok(Arrival::Stream {
-            ssrc: own, answer, ..
-        })) if *own == ssrc => Some(format!("{answer:?}")),
+            ssrc: own, outcome, ..
+        })) if *own == ssrc => Some(format!("{outcome:?}")),
+        StepAnswer::Received(Ok(Arrival::Faulty {
+            ssrc: own, fault, ..
+        })) if *own == ssrc => Some(format!("{fault:?}")),
         StepAnswer::Polled(Some(event)) => match event {
             Event::Begun { ssrc: own, .. } if *own == ssrc => Some("begun".to_string()),
             Event::Unit {
@@ -72,10 +75,10 @@ fn two_streams() -> Result<(), Fail> {
     assert_eq!(
         lines(1, &made.run),
         [
-            "Ok(Held)",
-            "Ok(Held)",
-            "Ok(Held)",
-            "Ok(Duplicate)",
+            "Held",
+            "Held",
+            "Held",
+            "Duplicate",
             "begun",
             "unit [1, 7]",
             "unit [2, 7]",
@@ -85,8 +88,8 @@ fn two_streams() -> Result<(), Fail> {
     assert_eq!(
         lines(2, &made.run),
         [
-            "Ok(Held)",
-            "Ok(Held)",
+            "Held",
+            "Held",
             "begun",
             "unit [9, 7]",
             "unit [10, 7]",

@@ -3,9 +3,10 @@
 
 use crate::Fail;
 use crate::datagrams::*;
+use codec_payload::jitter::Outcome;
 use codec_payload::sender::{Sample, Sender, SenderSettings};
 use codec_payload::session::*;
-use codec_payload::stream::{Receiver, ReceiverSettings, Retransmission};
+use codec_payload::stream::{ReceiveError, Receiver, ReceiverSettings, Retransmission};
 use codec_payload::*;
 
 /// A session whose streams wait for nothing at their start.
@@ -253,7 +254,7 @@ fn retransmissions_of_a_pair_and_packets_without_media() -> Result<(), Fail> {
         Arrival::Stream {
             ssrc: 5,
             payload_type: VP8,
-            answer: Ok(_)
+            ..
         }
     ));
     assert_eq!(told(&mut session, 30), ["unit 5 [3]", "unit 5 [4]"]);
@@ -413,5 +414,47 @@ fn units_say_whether_a_decoder_can_show_them() -> Result<(), Fail> {
             (Some(7), true, false)
         ]
     );
+    Ok(())
+}
+
+/// A payload that a receiver refuses is an arrival with the fault, and the stream continues: RED whose last block has no header
+/// (RFC 2198, section 3), and a retransmission without its original number (RFC 4588, section 4).
+#[test]
+fn refused_payloads_are_faulty() -> Result<(), Fail> {
+    let mut session = session(|s| {
+        s.probation = 1;
+        s.pairs.push(SsrcPair {
+            ssrc: 6,
+            retransmission: 60,
+        });
+    });
+    session.receive(Ticks(0), &opus(5, 10))?;
+    session.receive(Ticks(0), &vp8(6, 20, true))?;
+    let red = Arrival::Faulty {
+        ssrc: 5,
+        payload_type: OPUS,
+        fault: ReceiveError::Red,
+    };
+    let retransmission = Arrival::Faulty {
+        ssrc: 6,
+        payload_type: VP8,
+        fault: ReceiveError::Retransmission,
+    };
+    let truncated = packet(RED, 5, 11, 960, &[0x80 | OPUS, 0, 0]);
+    assert_eq!(session.receive(Ticks(20), &truncated)?, red);
+    let short = packet(RTX, 60, 1, 0, &[0]);
+    assert_eq!(session.receive(Ticks(20), &short)?, retransmission);
+    let counted = |place| {
+        let stream = session.stream_at(place).expect("a stream");
+        (stream.taken, stream.counters.malformed)
+    };
+    assert_eq!((counted(0), counted(1)), ((2, 1), (2, 1)));
+    let held = Arrival::Stream {
+        ssrc: 5,
+        payload_type: OPUS,
+        outcome: Outcome::Held,
+    };
+    assert_eq!(session.receive(Ticks(40), &opus(5, 11))?, held);
+    assert_sum(&session);
     Ok(())
 }

@@ -77,7 +77,7 @@ fn poll(session: &mut Session, now: u64) -> (Vec<Told>, Vec<u8>) {
 
 fn outcome(arrival: Arrival) -> Option<Outcome> {
     match arrival {
-        Arrival::Stream { answer, .. } => answer.ok(),
+        Arrival::Stream { outcome, .. } => Some(outcome),
         _ => None,
     }
 }

@@ -183,7 +183,9 @@ pub fn histories(input: &mut Input, compared: &mut Compared) {
             2 => now = now.wrapping_add(u64::from(how / 8)),
             _ => {
                 let packet = packet(&mut number, input);
-                let answer = ours.keep(&packet).map(|kept| u32::from(kept == Kept::TooOld));
+                let answer = ours
+                    .keep(&packet)
+                    .map(|kept| u32::from(kept == Kept::TooOld));
                 compared.answers(answer, theirs.keep(&packet));
             }
         }

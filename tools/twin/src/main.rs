@@ -8,10 +8,12 @@
 #[path = "../../../rust/tests/sdp/dump.rs"]
 mod descriptions;
 mod histories;
+#[path = "../../fuzz/src/input.rs"]
 mod input;
 mod proved;
 mod proved_history;
 mod proved_session;
+mod random;
 mod sessions;
 mod waits;
 
@@ -22,7 +24,8 @@ use codec_payload::{
     Packetizer, Ticks, Vp8Packetizer, Vp9PacketizerMode,
 };
 use histories::histories;
-use input::{Input, random_bytes};
+use input::Input;
+use random::random_bytes;
 use sessions::sessions;
 use std::collections::HashMap;
 use std::fmt::Debug;

@@ -2,11 +2,12 @@
 
 use super::input::Input;
 use super::{Compared, codec, proved_session};
+use codec_payload::jitter::Outcome;
 use codec_payload::keyframes::FromKeyframe;
 use codec_payload::session::{
     Arrival, Ending, Event, FeedbackSettings, Format, Session, SessionSettings, SsrcPair,
 };
-use codec_payload::stream::RedSettings;
+use codec_payload::stream::{ReceiveError, RedSettings};
 use codec_payload::{Codec, CodecSpec, Frequency, Ticks};
 
 /// The formats of the port: this one with RED and retransmissions, and Opus.
@@ -233,9 +234,19 @@ fn receive(
         Arrival::Stream {
             ssrc,
             payload_type,
-            answer,
+            outcome,
         } => {
+            let answer: Result<Outcome, ReceiveError> = Ok(outcome);
             // Each outcome and each fault has a number.
+            compared.fault(&answer, (found[3] << 8 | found[4]) as u32);
+            [0, ssrc.into(), payload_type.into(), found[3], found[4]]
+        }
+        Arrival::Faulty {
+            ssrc,
+            payload_type,
+            fault,
+        } => {
+            let answer: Result<Outcome, ReceiveError> = Err(fault);
             compared.fault(&answer, (found[3] << 8 | found[4]) as u32);
             [0, ssrc.into(), payload_type.into(), found[3], found[4]]
         }

@@ -4,7 +4,7 @@
 ghost use Rattle.std.specs.Prelude.{◌≡◌, IfOk, OnOk, OnErr, IfErr, Option, false};
 ghost use Rattle.std.specs.Option.{option_map};
 ghost use Rattle.codec_payload_base.specs.declared.error.PacketError.TheVariants.{OutOfMemory};
-ghost use Rattle.codec_payload_jitter.specs.Receiving.{Confirms, GoesInAgain, GoesOn, NotesAs, Restarts, TakesInBoth, arrival_of, counted, kept_number, meta_for, restarted, RestartsWith};
+ghost use Rattle.codec_payload_jitter.specs.Receiving.{Confirms, GoesInAgain, GoesOn, NotesAs, Restarts, TakesInBoth, arrival_of, counted, first_past, first_with, kept_number, meta_for, restarted, RestartsWith};
 ghost use Rattle.codec_payload_codec.specs.Depacketizers.{is_built_in_depacketizer};
 ghost use Rattle.codec_payload_jitter.specs.NoMediaNumbers.{noted_no_media};
 ghost use Rattle.codec_payload_jitter.specs.OwnReceiving.{OwnStores};
@@ -14,7 +14,7 @@ ghost use Rattle.codec_payload_jitter.specs.declared.outcome.Outcome.TheVariants
 use super::{JitterBuffer, KeptPacket, meta_for, store};
 use crate::no_media_numbers::note_in_room;
 use crate::noted_times::NotedTime;
-use crate::numbers::kept_number;
+use crate::numbers::{Extended, kept_number};
 use crate::outcome::{Outcome, outcome_of, with_kept, with_outcome, with_restart};
 use codec_payload_base::error::PacketError;
 use codec_payload_base::wire::Frequency;
@@ -121,6 +121,31 @@ impl<B: Depacketizer> JitterBuffer<B> {
         self.counters = with_kept(counters, outcome);
         self.kept = None;
         Ok(())
+    }
+
+    /// Remembers a packet with media, if it is the first one since the start or since the latest restart.
+    #[inline(always)]
+    pub(super) fn note_first(&mut self, answer: Extended, time: u32)
+        ensures { self.new ≡ record self.old { first = first_with self.old.first answer time } }
+    {
+        match answer {
+            Extended::Number(number) => {
+                if self.first.is_none() {
+                    self.first = Some(NotedTime { number, time });
+                }
+            }
+            Extended::Restarted(number) => self.first = Some(NotedTime { number, time }),
+            Extended::Suspect | Extended::Spent => {}
+        }
+    }
+
+    /// Forgets the first packet, if a number without media has confirmed a restart.
+    pub(super) fn forget_first(&mut self, answer: Extended)
+        ensures { self.new ≡ record self.old { first = first_past self.old.first answer } }
+    {
+        if let Extended::Restarted(_) = answer {
+            self.first = None;
+        }
     }
 
     /// Counts a restart. No packet is suspect any more.

@@ -9,7 +9,7 @@ use crate::codec::Depacketizer;
 use crate::error::PacketError;
 use crate::jitter::no_media_numbers::note_in_room;
 use crate::jitter::noted_times::NotedTime;
-use crate::jitter::numbers::kept_number;
+use crate::jitter::numbers::{Extended, kept_number};
 use crate::jitter::outcome::{Outcome, outcome_of, with_kept, with_outcome, with_restart};
 use crate::memory::{AllocError, TryVec};
 use crate::wire::Frequency;
@@ -92,6 +92,27 @@ impl<B: Depacketizer> JitterBuffer<B> {
         self.counters = with_kept(counters, outcome);
         self.kept = None;
         Ok(())
+    }
+
+    /// Remembers a packet with media, if it is the first one since the start or since the latest restart.
+    #[inline(always)]
+    pub(super) fn note_first(&mut self, answer: Extended, time: u32) {
+        match answer {
+            Extended::Number(number) => {
+                if self.first.is_none() {
+                    self.first = Some(NotedTime { number, time });
+                }
+            }
+            Extended::Restarted(number) => self.first = Some(NotedTime { number, time }),
+            Extended::Suspect | Extended::Spent => {}
+        }
+    }
+
+    /// Forgets the first packet, if a number without media has confirmed a restart.
+    pub(super) fn forget_first(&mut self, answer: Extended) {
+        if let Extended::Restarted(_) = answer {
+            self.first = None;
+        }
     }
 
     /// Counts a restart. No packet is suspect any more.

@@ -67,18 +67,18 @@ impl Watch {
             Arrival::Unknown => &mut self.counts.unknown,
             Arrival::Refused => &mut self.counts.refused,
             Arrival::Unassociated => &mut self.counts.unassociated,
-            Arrival::Stream { .. } => &mut self.counts.ended,
+            Arrival::Stream { .. } | Arrival::Faulty { .. } => &mut self.counts.ended,
             _ => unreachable!("this version has no other"),
         } += 1;
     }
 
     /// A packet of telephone events that a stream took without media waits, if fewer than 32 wait.
     fn note_telephone(&mut self, arrival: &Arrival, datagram: &[u8]) {
-        let answer = match arrival {
-            Arrival::Stream { answer, .. } => answer,
+        let outcome = match arrival {
+            Arrival::Stream { outcome, .. } => outcome,
             _ => return,
         };
-        if *answer == Ok(Outcome::NoMedia) && datagram[1] & 0x7f == 97 {
+        if *outcome == Outcome::NoMedia && datagram[1] & 0x7f == 97 {
             if self.telephone < 32 {
                 self.telephone += 1;
             } else {

@@ -1,12 +1,12 @@
 //! Times of packets that arrive in other orders than they were sent, some of which only an attacker would choose, and the memory that
 //! held packets take:
 //!
-//!   orders HELD ROUNDS     nanoseconds of a packet, for each order: a copy of its bytes, the buffer, the earlier form of it, a map
+//!   orders HELD ROUNDS     nanoseconds of a packet, for each order: a copy of its bytes, the buffer, a map
 //!   orders memory          bytes and allocations, for buffers that hold 0 to 65,536 packets of Opus
 //!   orders spike           the longest pop that a peer can cause before 60,000 packets that are no frame; fails above 2,000 nanoseconds
 //!
-//! All forms take turns in one run, and the least time of each counts. The earlier form keeps its packets in two plain queues
-//! (rust/tests/buffer_beside). The map is a `BTreeMap` of the same packets, which looks for no frames and releases in order.
+//! All forms take turns in one run, and the least time of each counts. The map is a `BTreeMap` of the same packets, which looks for no
+//! frames and releases in order.
 
 use codec_payload::{
     Codec, CodecDepacketizer, DepacketizingBuffer, MediaTime, Pt, RtpMeta, SeqNo, Ticks,
@@ -16,10 +16,6 @@ use std::collections::BTreeMap;
 use std::hint::black_box;
 use std::sync::atomic::{AtomicUsize, Ordering::Relaxed};
 use std::time::Instant;
-
-#[allow(clippy::duplicate_mod)]
-#[path = "../../../../rust/tests/buffer_beside/before/mod.rs"]
-mod before;
 
 /// Counts bytes and allocations.
 struct Counting;
@@ -103,42 +99,24 @@ fn vp8() -> CodecDepacketizer {
     CodecDepacketizer::from_codec(Codec::Vp8).unwrap()
 }
 
-/// Makes a form of a buffer and the memory into which it pops.
-macro_rules! form_of {
-    ($(#[$doc:meta])* $name:ident, $buffer:ty) => {
-        $(#[$doc])*
-        struct $name($buffer, Vec<u8>, Vec<RtpMeta>);
+/// The buffer, and the memory into which it pops.
+struct Now(DepacketizingBuffer, Vec<u8>, Vec<RtpMeta>);
 
-        impl Form for $name {
-            fn with_hold_back(hold_back: usize) -> Self {
-                $name(
-                    <$buffer>::with_limit(vp8(), hold_back, LIMIT),
-                    vec![],
-                    vec![],
-                )
-            }
+impl Form for Now {
+    fn with_hold_back(hold_back: usize) -> Self {
+        let buffer = DepacketizingBuffer::with_limit(vp8(), hold_back, LIMIT);
+        Now(buffer, vec![], vec![])
+    }
 
-            fn push(&mut self, number: u64, payload: &[u8]) {
-                let mut meta = meta(number);
-                meta.header.marker = payload[0] != 0;
-                self.0.push(meta, payload.to_vec()).unwrap();
-            }
+    fn push(&mut self, number: u64, payload: &[u8]) {
+        let mut meta = meta(number);
+        meta.header.marker = payload[0] != 0;
+        self.0.push(meta, payload.to_vec()).unwrap();
+    }
 
-            fn pop(&mut self) -> bool {
-                self.0.pop_into(&mut self.1, &mut self.2).is_some()
-            }
-        }
-    };
-}
-
-form_of! {
-    /// The buffer.
-    Now, DepacketizingBuffer
-}
-
-form_of! {
-    /// Its earlier form.
-    Before, before::DepacketizingBuffer
+    fn pop(&mut self) -> bool {
+        self.0.pop_into(&mut self.1, &mut self.2).is_some()
+    }
 }
 
 /// The packets by number. Payloads that begin with 0 are no frame.
@@ -251,16 +229,15 @@ fn time<F: Form>(order: Order, held: usize, numbers: &[u64]) -> f64 {
     began.elapsed().as_nanos() as f64 / count as f64
 }
 
-/// The least times of a packet: of a copy, the buffer, its earlier form and the map.
-fn least(order: Order, held: usize, rounds: usize) -> [f64; 4] {
+/// The least times of a packet: of a copy, the buffer and the map.
+fn least(order: Order, held: usize, rounds: usize) -> [f64; 3] {
     let pushes = matches!(order, Order::Random | Order::Far);
     let numbers = shuffled(if pushes { held } else { 8_448 });
-    let mut least = [f64::MAX; 4];
+    let mut least = [f64::MAX; 3];
     for _ in 0..rounds {
         let times = [
             time::<Copy>(order, held, &numbers),
             time::<Now>(order, held, &numbers),
-            time::<Before>(order, held, &numbers),
             time::<Map>(order, held, &numbers),
         ];
         for (least, time) in least.iter_mut().zip(times) {
@@ -344,9 +321,9 @@ fn main() {
         [held, rounds] => {
             let (held, rounds) = (held.parse().unwrap(), rounds.parse().unwrap());
             for (order, name) in ORDERS {
-                let [copy, now, before, map] = least(order, held, rounds);
+                let [copy, now, map] = least(order, held, rounds);
                 println!(
-                    "| {name} | {held} | {copy:.1} | {now:.0} | {:.1} | {before:.0} | {map:.0} |",
+                    "| {name} | {held} | {copy:.1} | {now:.0} | {:.1} | {map:.0} |",
                     now / copy
                 );
             }

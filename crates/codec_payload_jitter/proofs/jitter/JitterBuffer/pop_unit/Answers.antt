@@ -36,6 +36,7 @@ returns-clause-pops g c =
       buffer = c.self.inside.buffer;
       no_media_numbers = c.self.inside.no_media_numbers.items;
       noted = c.self.inside.noted_times.noted;
+      first = c.self.inside.first;
       kept = option_map arrival_of c.self.inside.kept;
       rate = c.self.inside.clock_rate;
       wait_limits = c.self.inside.wait_limits;

@@ -1,13 +1,13 @@
-use Rattle.std.proofs.Common.{◌≡◌, ◌∙◌, Bool, true, Ok, inl, refl, subst, sym}
+use Rattle.std.proofs.Common.{◌≡◌, ◌∙◌, Bool, true, Ok, ap, inl, subst, sym}
 use Rattle.codec_payload_session.specs.Arrivals.{BeginsIf, has_place}
-use Rattle.codec_payload_session.specs.declared.session.Arrival.TheVariants as arrivals
+use Rattle.codec_payload_session.specs.declared.session.Arrival.{Arrival}
 use Rattle.codec_payload_session.proofs.streams.Streams.begin.Goals as goal
 
 pub returns : goal.returns
 returns c =
     let place : has_place c.args.settings.now.max_streams c.args.self.now ≡ true = sym c.has_place.ensures ∙ c.if-not-has_place.false in
     subst (λ (b : Bool). BeginsIf b c.args.settings.now c.args.of.0 c.args.of.1 c.args.now c.args.datagram.now c.args.self.now
-    (Ok (arrivals.Stream c.args.of.0 c.args.of.1.payload_type c.take-answer.result)) c.add.new.self) (sym place)
+    (Ok c.arrival_of.result) c.add.new.self) (sym place)
     (inl (record {
       stream = c.in_ok-stream.stream;
       after = c.take-answer.new.self;
@@ -15,6 +15,6 @@ returns c =
       begins = c.in_ok-stream.ensures;
       takes = c.take-answer.ensures;
       received = sym c.is_no_memory.ensures ∙ c.if-is_no_memory.false;
-      answers = refl;
+      answers = ap (λ (a : Arrival). Ok a) c.arrival_of.ensures;
       left = c.in_ok-add.ensures.ok;
     }))

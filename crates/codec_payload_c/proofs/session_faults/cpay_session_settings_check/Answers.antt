@@ -1,0 +1,8 @@
+use Rattle.codec_payload_c.proofs.SettingsFaultLemmas.{accepts, refuses}
+use Rattle.codec_payload_c.proofs.session_faults.cpay_session_settings_check.Goals as goal
+
+pub returns-in-Ok-clause-accepted : goal.returns-in-Ok-clause-accepted
+returns-in-Ok-clause-accepted c = accepts c.args.settings.now c.args.formats.now c.args.no_media.now c.in-Ok.found c.tell.result c.tell.new.fault c.in-Ok.ensures.ok c.tell.ensures
+
+pub returns-in-Ok-clause-refused : goal.returns-in-Ok-clause-refused
+returns-in-Ok-clause-refused c = refuses c.args.settings.now c.args.formats.now c.args.no_media.now c.in-Ok.found c.tell.result c.tell.new.fault c.in-Ok.ensures.ok c.tell.ensures

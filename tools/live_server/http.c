@@ -1,0 +1,201 @@
+/* HTTP: the page, WHIP (RFC 9725), WHEP, and what the server counts.
+ *
+ *     POST /whip/NAME, POST /whep/NAME   an offer: 201, the answer, and the Location of the session
+ *     DELETE /session/ID                 ends it
+ *     PUT /session/ID/layer              of a viewer: the RID of a layer, or T0 to T3, the highest temporal layer
+ *     PUT /network                       loss=PERCENT reorder=PERCENT delay=MS
+ *     GET /stats, GET / */
+#include "server.h"
+
+#include <arpa/inet.h>
+#include <errno.h>
+#include <microhttpd.h>
+#include <stdio.h>
+#include <stdlib.h>
+#include <string.h>
+
+enum { MOST_BODY = 32 << 10, MOST_ANSWER = 16 << 10, MOST_STATS = 512 << 10, MOST_PAGE = 128 << 10 };
+enum { CONNECTIONS = 256, CONNECTION_BYTES = 16 << 10, CONNECTION_SECONDS = 10 };
+
+static struct MHD_Daemon *server;
+
+/* A request whose body comes piece by piece. */
+typedef struct {
+    struct MHD_Connection *connection;
+    const char *url, *method;
+    size_t size;
+    char *body; /* MOST_BODY bytes from its first byte on, with a 0 at the end */
+} request;
+
+/* ---- replies ---- */
+
+/* Pages of other origins may publish and watch, but neither read what is counted nor change the network. */
+static void allow_others(struct MHD_Response *response) {
+    MHD_add_response_header(response, "Access-Control-Allow-Origin", "*");
+    MHD_add_response_header(response, "Access-Control-Allow-Methods", "POST, PUT, DELETE, OPTIONS");
+    MHD_add_response_header(response, "Access-Control-Allow-Headers", "Content-Type, Authorization");
+    MHD_add_response_header(response, "Access-Control-Expose-Headers", "Location");
+}
+
+static bool is_for_others(const char *url) {
+    return !strncmp(url, "/whip/", 6) || !strncmp(url, "/whep/", 6) || !strncmp(url, "/session/", 9);
+}
+
+static enum MHD_Result reply(const request *to, unsigned code, const char *type, const char *body, const char *location) {
+    struct MHD_Response *response = MHD_create_response_from_buffer(strlen(body), (void *)body, MHD_RESPMEM_MUST_COPY);
+    if (!response) return MHD_NO;
+    MHD_add_response_header(response, "Content-Type", type);
+    MHD_add_response_header(response, "Cache-Control", "no-store");
+    if (is_for_others(to->url)) allow_others(response);
+    if (location) MHD_add_response_header(response, "Location", location);
+    if (code == MHD_HTTP_CONFLICT) MHD_add_response_header(response, "Retry-After", "1");
+    if (code == MHD_HTTP_UNAUTHORIZED) MHD_add_response_header(response, "WWW-Authenticate", "Bearer");
+    if (code == MHD_HTTP_UNSUPPORTED_MEDIA_TYPE) MHD_add_response_header(response, "Accept-Post", "application/sdp");
+    enum MHD_Result result = MHD_queue_response(to->connection, code, response);
+    MHD_destroy_response(response);
+    return result;
+}
+
+static enum MHD_Result say(const request *to, unsigned code, const char *sentence) {
+    return reply(to, code, "text/plain; charset=utf-8", sentence, NULL);
+}
+
+/* ---- what is asked for ---- */
+
+static enum MHD_Result publish_or_watch(const request *from, bool publishes) {
+    static char bytes[MOST_ANSWER];
+    text to = {.at = bytes, .room = sizeof bytes};
+    char location[64];
+    const char *name = from->url + 6, *fault = "",
+               *type = MHD_lookup_connection_value(from->connection, MHD_HEADER_KIND, "Content-Type");
+    if (!is_name(name)) return say(from, MHD_HTTP_NOT_FOUND, "A name has up to 31 letters, digits, - and _.\n");
+    if (!type || strncmp(type, "application/sdp", 15))
+        return say(from, MHD_HTTP_UNSUPPORTED_MEDIA_TYPE, "An offer is application/sdp.\n");
+    if (!publishes && !peer_publisher(name)) return say(from, MHD_HTTP_CONFLICT, "Nobody publishes under this name yet.\n");
+    peer *it = peer_new(name, publishes);
+    if (!it) return say(from, MHD_HTTP_SERVICE_UNAVAILABLE, "The server is full.\n");
+    unsigned code = answer(it, from->body, publishes, &to, &fault);
+    if (code != MHD_HTTP_CREATED) {
+        peer_free(it);
+        return say(from, code, fault);
+    }
+    snprintf(location, sizeof location, "/session/%s", it->id);
+    return reply(from, code, "application/sdp", bytes, location);
+}
+
+static enum MHD_Result session(const request *from) {
+    char id[sizeof peers->id];
+    const char *rest = from->url + 9;
+    size_t size = strcspn(rest, "/");
+    snprintf(id, sizeof id, "%.*s", (int)size, rest);
+    peer *it = size == sizeof id - 1 ? peer_session(id) : NULL;
+    if (!it) return say(from, MHD_HTTP_NOT_FOUND, "There is no such session.\n");
+    if (!strcmp(from->method, "PATCH"))
+        return say(from, MHD_HTTP_METHOD_NOT_ALLOWED, "ICE-lite needs neither trickle nor restarts.\n");
+    if (!strcmp(from->method, "DELETE") && !rest[size]) {
+        it->ended = true;
+        return say(from, MHD_HTTP_OK, "");
+    }
+    if (strcmp(from->method, "PUT") || strcmp(rest + size, "/layer"))
+        return say(from, MHD_HTTP_NOT_FOUND, "There is no such thing.\n");
+    if (!viewer_wants_layer(it, from->body)) return say(from, MHD_HTTP_CONFLICT, "There is no such layer.\n");
+    return say(from, MHD_HTTP_OK, "");
+}
+
+static enum MHD_Result change_network(const request *from) {
+    impairment to;
+    bool read = sscanf(from->body, "loss=%lf reorder=%lf delay=%u", &to.loss, &to.reorder, &to.delay) == 3;
+    if (!read || !(to.loss >= 0 && to.loss <= 100 && to.reorder >= 0 && to.reorder <= 100) || to.delay > 1000)
+        return say(from, MHD_HTTP_BAD_REQUEST, "loss=PERCENT reorder=PERCENT delay=MS, at most 1000 ms.\n");
+    the.network = to;
+    return say(from, MHD_HTTP_OK, "");
+}
+
+static enum MHD_Result show_stats(const request *from) {
+    static char bytes[MOST_STATS];
+    text to = {.at = bytes, .room = sizeof bytes};
+    stats(&to);
+    if (to.full) return say(from, MHD_HTTP_INTERNAL_SERVER_ERROR, "Too much to show.\n");
+    return reply(from, MHD_HTTP_OK, "application/json", bytes, NULL);
+}
+
+static enum MHD_Result show_page(const request *from) {
+    static char bytes[MOST_PAGE];
+    FILE *file = fopen(the.page, "rb");
+    if (!file) return say(from, MHD_HTTP_NOT_FOUND, "The page is missing.\n");
+    bytes[fread(bytes, 1, sizeof bytes - 1, file)] = 0;
+    fclose(file);
+    return reply(from, MHD_HTTP_OK, "text/html; charset=utf-8", bytes, NULL);
+}
+
+/* Whether a request has the token of the server, as `Authorization: Bearer TOKEN` (RFC 6750). */
+static bool is_allowed(const request *from) {
+    const char *given = MHD_lookup_connection_value(from->connection, MHD_HEADER_KIND, "Authorization");
+    if (!the.token) return true;
+    size_t size = strlen(the.token);
+    return given && !strncmp(given, "Bearer ", 7) && strlen(given + 7) == size && !CRYPTO_memcmp(given + 7, the.token, size);
+}
+
+static enum MHD_Result answer_request(const request *from) {
+    const char *url = from->url, *method = from->method;
+    bool posts = !strcmp(method, "POST"), gets = !strcmp(method, "GET");
+    if (from->size >= MOST_BODY) return say(from, MHD_HTTP_CONTENT_TOO_LARGE, "The body is too long.\n");
+    if (!strcmp(method, "OPTIONS")) return say(from, MHD_HTTP_OK, "");
+    if (gets && !strcmp(url, "/")) return show_page(from);
+    if (!is_allowed(from)) return say(from, MHD_HTTP_UNAUTHORIZED, "This server asks for a token.\n");
+    if (gets && !strcmp(url, "/stats")) return show_stats(from);
+    if (posts && !strncmp(url, "/whip/", 6)) return publish_or_watch(from, true);
+    if (posts && !strncmp(url, "/whep/", 6)) return publish_or_watch(from, false);
+    if (!strncmp(url, "/session/", 9)) return session(from);
+    if (!strcmp(method, "PUT") && !strcmp(url, "/network")) return change_network(from);
+    return say(from, MHD_HTTP_NOT_FOUND, "There is no such thing.\n");
+}
+
+/* ---- libmicrohttpd ---- */
+
+/* It calls this once for the headers, then for each piece of the body, then for its end. */
+static enum MHD_Result on_request(void *none, struct MHD_Connection *connection, const char *url, const char *method,
+                                  const char *version, const char *bytes, size_t *size, void **own) {
+    (void)none, (void)version;
+    if (!*own) return (*own = calloc(1, sizeof(request))) ? MHD_YES : MHD_NO;
+    request *it = *own;
+    if (*size > 0) {
+        if (!it->body && !(it->body = calloc(1, MOST_BODY))) return MHD_NO;
+        if (it->size + *size < MOST_BODY) memcpy(it->body + it->size, bytes, *size);
+        it->size = it->size + *size < MOST_BODY ? it->size + *size : MOST_BODY;
+        *size = 0;
+        return MHD_YES;
+    }
+    request whole = {.connection = connection, .url = url, .method = method, .size = it->size, .body = it->body ? it->body : ""};
+    return answer_request(&whole);
+}
+
+static void on_end(void *none, struct MHD_Connection *connection, void **own, enum MHD_RequestTerminationCode why) {
+    (void)none, (void)connection, (void)why;
+    request *it = *own;
+    if (it) free(it->body);
+    free(it);
+    *own = NULL;
+}
+
+/* Its descriptor of epoll goes into the loop: no thread is started. */
+int http_start(void) {
+    struct sockaddr_in at = {.sin_family = AF_INET, .sin_port = htons(the.http)};
+    if (inet_pton(AF_INET, the.address, &at.sin_addr) != 1) give_up(the.address, "not an address of IPv4");
+    server = MHD_start_daemon(MHD_USE_EPOLL, the.http, NULL, NULL, on_request, NULL, MHD_OPTION_SOCK_ADDR, (struct sockaddr *)&at,
+                              MHD_OPTION_NOTIFY_COMPLETED, on_end, NULL, MHD_OPTION_CONNECTION_TIMEOUT,
+                              (unsigned)CONNECTION_SECONDS, MHD_OPTION_CONNECTION_LIMIT, (unsigned)CONNECTIONS,
+                              MHD_OPTION_CONNECTION_MEMORY_LIMIT, (size_t)CONNECTION_BYTES, MHD_OPTION_END);
+    const union MHD_DaemonInfo *info = server ? MHD_get_daemon_info(server, MHD_DAEMON_INFO_EPOLL_FD) : NULL;
+    if (!info) give_up("the port of the page (--http)", errno ? strerror(errno) : "cannot be used");
+    return info->epoll_fd;
+}
+
+void http_run(void) { MHD_run(server); }
+
+uint64_t http_deadline(uint64_t now) {
+    MHD_UNSIGNED_LONG_LONG wait;
+    return MHD_get_timeout(server, &wait) == MHD_YES ? now + wait : UINT64_MAX;
+}
+
+void http_stop(void) { MHD_stop_daemon(server); }

@@ -1,0 +1,148 @@
+/* The UDP port of all peers: many datagrams a call, in and out. On the way SRTP is lost, delayed and reordered as asked, so that
+ * a person sees what the library does about it. */
+#include "server.h"
+
+#include <arpa/inet.h>
+#include <errno.h>
+#include <stdlib.h>
+#include <string.h>
+#include <sys/socket.h>
+
+enum {
+    BATCH = 64,          /* datagrams a call of the system */
+    ROUNDS = 16,         /* such calls before others have their turn */
+    MOST_DELAYED = 8192, /* datagrams; more are lost */
+    OVERTAKEN = 30       /* ms that a datagram is behind its place */
+};
+
+typedef struct {
+    uint64_t due, order;
+    struct sockaddr_in at;
+    bool out;
+    size_t size;
+    uint8_t bytes[];
+} delayed;
+
+int network_port = -1;
+uint64_t network_dropped;
+
+/* The datagrams that wait to be sent. */
+static uint8_t out_bytes[BATCH][MOST_DATAGRAM + SRTP_ROOM];
+static struct iovec out_parts[BATCH];
+static struct sockaddr_in out_to[BATCH];
+static struct mmsghdr out_heads[BATCH];
+static unsigned out_len;
+
+/* A heap: the datagram that is due first is at 0, and each other one is not before the one at half its place. */
+static delayed *heap[MOST_DELAYED];
+static size_t heap_len;
+
+void network_start(void) {
+    struct sockaddr_in at = {.sin_family = AF_INET, .sin_port = htons(the.udp), .sin_addr.s_addr = htonl(INADDR_ANY)};
+    int room = 4 << 20;
+    network_port = socket(AF_INET, SOCK_DGRAM | SOCK_CLOEXEC, 0);
+    if (network_port < 0 || bind(network_port, (struct sockaddr *)&at, sizeof at))
+        give_up("the UDP port (--udp)", strerror(errno));
+    setsockopt(network_port, SOL_SOCKET, SO_RCVBUF, &room, sizeof room);
+    setsockopt(network_port, SOL_SOCKET, SO_SNDBUF, &room, sizeof room);
+}
+
+uint8_t *network_room(void) {
+    if (out_len == BATCH) network_flush();
+    return out_bytes[out_len];
+}
+
+void network_send(const struct sockaddr_in *to, size_t size) {
+    unsigned i = out_len++;
+    out_to[i] = *to;
+    out_parts[i] = (struct iovec){out_bytes[i], size};
+    out_heads[i] = (struct mmsghdr){.msg_hdr = {&out_to[i], sizeof out_to[i], &out_parts[i], 1, NULL, 0, 0}};
+}
+
+void network_flush(void) {
+    for (unsigned done = 0; done < out_len;) {
+        int sent = sendmmsg(network_port, out_heads + done, out_len - done, MSG_DONTWAIT);
+        done += sent > 0 ? (unsigned)sent : 1; /* a datagram that the system refuses is lost */
+    }
+    out_len = 0;
+}
+
+void network_receive(void (*take)(const struct sockaddr_in *from, uint8_t *bytes, size_t size)) {
+    static uint8_t bytes[BATCH][2048];
+    static struct iovec parts[BATCH];
+    static struct sockaddr_in from[BATCH];
+    static struct mmsghdr heads[BATCH];
+    for (int round = 0, count = BATCH; round < ROUNDS && count == BATCH; round++) {
+        for (int i = 0; i < BATCH; i++) {
+            parts[i] = (struct iovec){bytes[i], sizeof bytes[i]};
+            heads[i] = (struct mmsghdr){.msg_hdr = {&from[i], sizeof from[i], &parts[i], 1, NULL, 0, 0}};
+        }
+        count = recvmmsg(network_port, heads, BATCH, MSG_DONTWAIT, NULL);
+        for (int i = 0; i < count; i++) take(&from[i], bytes[i], heads[i].msg_len);
+    }
+}
+
+/* ---- a worse network ---- */
+
+/* Whether something happens whose probability is this many percent. */
+static bool happens(double percent) { return percent > 0 && drand48() * 100 < percent; }
+
+static bool is_before(const delayed *a, const delayed *b) { return a->due < b->due || (a->due == b->due && a->order < b->order); }
+
+static void swap(size_t a, size_t b) {
+    delayed *it = heap[a];
+    heap[a] = heap[b];
+    heap[b] = it;
+}
+
+static void heap_add(delayed *it) {
+    size_t at = heap_len++;
+    heap[at] = it;
+    for (; at > 0 && is_before(heap[at], heap[(at - 1) / 2]); at = (at - 1) / 2) swap(at, (at - 1) / 2);
+}
+
+static delayed *heap_take(void) {
+    delayed *first = heap[0];
+    heap[0] = heap[--heap_len];
+    for (size_t at = 0, next; (next = 2 * at + 1) < heap_len; at = next) {
+        if (next + 1 < heap_len && is_before(heap[next + 1], heap[next])) next++;
+        if (!is_before(heap[next], heap[at])) break;
+        swap(at, next);
+    }
+    return first;
+}
+
+bool network_passes(bool out, const struct sockaddr_in *at, const uint8_t *bytes, size_t size) {
+    static uint64_t order;
+    unsigned delay = the.network.delay + (happens(the.network.reorder) ? OVERTAKEN : 0);
+    delayed *it;
+    if (happens(the.network.loss)) {
+        network_dropped++;
+        return false;
+    }
+    if (delay == 0) return true;
+    if (heap_len == MOST_DELAYED || !(it = malloc(sizeof *it + size))) return false;
+    *it = (delayed){.due = now_ms() + delay, .order = order++, .at = *at, .out = out, .size = size};
+    memcpy(it->bytes, bytes, size);
+    heap_add(it);
+    return false;
+}
+
+void network_send_media(const struct sockaddr_in *to, size_t size) {
+    if (network_passes(true, to, out_bytes[out_len], size)) network_send(to, size);
+}
+
+void network_deliver(uint64_t now) {
+    while (heap_len > 0 && heap[0]->due <= now) {
+        delayed *it = heap_take();
+        if (it->out) {
+            memcpy(network_room(), it->bytes, it->size);
+            network_send(&it->at, it->size);
+        } else {
+            take_media(&it->at, it->bytes, it->size);
+        }
+        free(it);
+    }
+}
+
+uint64_t network_deadline(void) { return heap_len > 0 ? heap[0]->due : UINT64_MAX; }

@@ -1,0 +1,124 @@
+/* The table of peers: by the secrets of their offers, by the addresses that ICE has checked, by name. */
+#include "server.h"
+
+#include <openssl/rand.h>
+#include <stdio.h>
+#include <string.h>
+
+peer peers[MOST_PEERS];
+
+/* The peer that was seen last at an address with this port. It is only a guess, and compared. */
+static peer *by_port[65536];
+
+void secret(void *bytes, size_t size) {
+    if (RAND_bytes(bytes, (int)size) != 1) give_up("random bytes", "none");
+}
+
+bool is_name(const char *name) {
+    size_t size = strspn(name, "abcdefghijklmnopqrstuvwxyzABCDEFGHIJKLMNOPQRSTUVWXYZ0123456789_-");
+    return size > 0 && size < MOST_NAME && name[size] == 0;
+}
+
+peer *peers_from(peer *at) {
+    for (; at < peers + MOST_PEERS; at++)
+        if (at->used) return at;
+    return NULL;
+}
+
+/* Random letters of ICE (RFC 8445, section 5.3). */
+static void write_letters(char *to, size_t size) {
+    static const char letters[] = "ABCDEFGHIJKLMNOPQRSTUVWXYZabcdefghijklmnopqrstuvwxyz0123456789+/";
+    secret(to, size);
+    for (size_t i = 0; i < size; i++) to[i] = letters[(uint8_t)to[i] & 63];
+    to[size] = 0;
+}
+
+peer *peer_new(const char *name, bool publishes) {
+    static uint64_t latest;
+    uint8_t id[16];
+    int publishers = 0;
+    EACH_PEER (it) publishers += it->publisher != NULL;
+    if (publishes && publishers == MOST_PUBLISHERS) return NULL;
+    for (peer *it = peers; it < peers + MOST_PEERS; it++) {
+        if (it->used) continue;
+        *it = (peer){.used = true, .number = ++latest, .began = now_ms(), .heard = now_ms()};
+        write_letters(it->ufrag, sizeof it->ufrag - 1);
+        write_letters(it->password, sizeof it->password - 1);
+        secret(id, sizeof id);
+        for (size_t i = 0; i < sizeof id; i++) snprintf(it->id + 2 * i, 3, "%02x", id[i]);
+        snprintf(it->name, sizeof it->name, "%s", name);
+        return it;
+    }
+    return NULL;
+}
+
+void peer_free(peer *it) {
+    if (it->publisher || it->viewer)
+        fprintf(stderr, "%s %llu of %s leaves\n", it->publisher ? "publisher" : "viewer", (unsigned long long)it->number,
+                it->name);
+    network_flush();
+    if (it->publisher) publisher_free(it);
+    if (it->viewer) viewer_free(it);
+    dtls_end(it);
+    *it = (peer){.used = false};
+}
+
+peer *peer_publisher(const char *name) {
+    peer *found = NULL;
+    EACH_PEER (it)
+        if (it->publisher && !it->ended && !strcmp(it->name, name) && (!found || it->secure)) found = it;
+    return found;
+}
+
+peer *peer_session(const char *id) {
+    EACH_PEER (it)
+        if (strlen(id) == sizeof it->id - 1 && !CRYPTO_memcmp(it->id, id, sizeof it->id - 1)) return it;
+    return NULL;
+}
+
+static bool is_at(const peer *it, const struct sockaddr_in *from) {
+    if (!it || !it->used) return false;
+    for (unsigned i = 0; i < it->known_len && i < MOST_ADDRESSES; i++)
+        if (it->known[i].sin_port == from->sin_port && it->known[i].sin_addr.s_addr == from->sin_addr.s_addr) return true;
+    return false;
+}
+
+peer *peer_at(const struct sockaddr_in *from) {
+    peer **guess = &by_port[ntohs(from->sin_port)];
+    if (is_at(*guess, from)) return *guess;
+    EACH_PEER (it)
+        if (is_at(it, from)) return *guess = it;
+    return NULL;
+}
+
+/* A browser checks several addresses, and sends media from any of them. The one that it nominated last gets the media. */
+void peer_seen(peer *it, const struct sockaddr_in *at, bool nominated) {
+    it->heard = now_ms();
+    if (nominated || !it->found) it->at = *at;
+    it->found = true;
+    if (!is_at(it, at)) it->known[it->known_len++ % MOST_ADDRESSES] = *at;
+}
+
+static bool has_other_codec(const peer *viewer, const peer *of) {
+    for (int kind = 0; kind < KINDS; kind++)
+        if (viewer->media[kind].used && of->media[kind].used && viewer->media[kind].codec != of->media[kind].codec) return true;
+    return false;
+}
+
+/* A publisher whose keys are there replaces the one before, such as a page that was loaded again. An offer alone replaces nobody.
+ * Viewers stay, unless the codec is another one: their pages ask again. */
+void peer_secured(peer *of) {
+    EACH_PEER (it) {
+        if (!of->publisher || it == of || strcmp(it->name, of->name)) continue;
+        if (it->publisher ? it->secure : has_other_codec(it, of)) it->ended = true;
+    }
+}
+
+void peers_tick(uint64_t now) {
+    EACH_PEER (it) {
+        dtls_tick(it);
+        if (it->publisher) publisher_tick(it, now);
+        if (it->viewer) viewer_tick(it, now);
+        if (it->ended || now - it->heard > LONGEST_SILENCE || (!it->secure && now - it->began > LONGEST_START)) peer_free(it);
+    }
+}
