@@ -1,5 +1,4 @@
-use Rattle.std.proofs.Common.{◌≡◌, ◌∙◌, ap, sym, subst, rules, ℕ, List, Option, Some}
-use Rattle.codec_payload_history.specs.Packets.{Past}
+use Rattle.std.proofs.Common.{◌≡◌, ◌∙◌, ap, sym, subst, rules, ℕ, Option, Some}
 use Rattle.codec_payload_handle.specs.declared.object.Object.{Object}
 use Rattle.codec_payload_handle.specs.declared.object.Object.TheVariants as objects
 use Rattle.codec_payload_handle.specs.declared.object.PacketForwarder.{PacketForwarder}
@@ -19,12 +18,12 @@ resends_as held store number r known status v w t s same_store same_status same_
 
 pub returns-clause-resends : goal.returns-clause-resends
 returns-clause-resends c = elim c.match-deref.branch [
-    in-PacketHistory w ↦
-        let v : Writing = record { before = c.args.bytes.now; bytes = w.resend-answer.new.bytes; size_before = c.args.size.now; size = w.resend-answer.new.size; answer_before = c.args.resent.now; answer = w.resend-answer.new.resent } in
-        let u : Writing = record { before = c.args.bytes.now; bytes = c.match-deref.bytes; size_before = c.args.size.now; size = c.match-deref.size; answer_before = c.args.resent.now; answer = c.match-deref.resent } in
-        let same : u ≡ v = cc in
-        let held : c.args.history.now.place.value ≡ Some (objects.PacketHistory w.in-PacketHistory.kept) = sym c.in-Some.ensures.value ∙ ap Some (sym c.deref.ensures ∙ w.in-PacketHistory.is) in
-        let told = resends_as _ _ _ _ _ _ v u _ _ w.deref-in-PacketHistory.ensures w.answer-is same w.viewer-is w.resend-answer.ensures.resends in
-        subst (λ (o : Option Object). ResendsIn o c.args.number c.args.viewer.now c.match-deref.answer u c.match-deref.viewer) (sym held) told
-    | in_default-deref w ↦ search rules
+  | in-PacketHistory w ↦
+      let v : Writing = record { before = c.args.bytes.now; bytes = w.resend-answer.new.bytes; size_before = c.args.size.now; size = w.resend-answer.new.size; answer_before = c.args.resent.now; answer = w.resend-answer.new.resent } in
+      let u : Writing = record { before = c.args.bytes.now; bytes = c.match-deref.bytes; size_before = c.args.size.now; size = c.match-deref.size; answer_before = c.args.resent.now; answer = c.match-deref.resent } in
+      let same : u ≡ v = cc in
+      let held : c.args.history.now.place.value ≡ Some (objects.PacketHistory w.in-PacketHistory.kept) = sym c.in-Some.ensures.value ∙ ap Some (sym c.deref.ensures ∙ w.in-PacketHistory.is) in
+      let told = resends_as _ _ _ _ _ _ v u _ _ w.deref-in-PacketHistory.ensures w.answer-is same w.viewer-is w.resend-answer.ensures.resends in
+      subst (λ (o : Option Object). ResendsIn o c.args.number c.args.viewer.now c.match-deref.answer u c.match-deref.viewer) (sym held) told
+  | in_default-deref w ↦ search rules
 ]

@@ -23,10 +23,10 @@ keeps_as held r datagram known status before told answer s same_history same_sta
 
 pub returns-clause-keeps : goal.returns-clause-keeps
 returns-clause-keeps c = elim c.match-deref_mut.branch [
-    in-PacketHistory w ↦
-        let was : c.args.handle.now.place.value ≡ Some (objects.PacketHistory w.in-PacketHistory.history) = sym c.in-Some.ensures.value ∙ ap Some (sym c.deref_mut.ensures.value ∙ w.in-PacketHistory.is) in
-        let is = c.put.ensures ∙ ap (λ (b : Box Object Global). Some b.value) w.object-is in
-        let keeps = keeps_as w.deref_mut-in-PacketHistory.result.now w.in-PacketHistory.history.value c.args.datagram.now _ _ _ _ _ w.keep_once-status.new.history w.deref_mut-in-PacketHistory.ensures.value w.status-is w.kept-is w.keep_once-status.ensures.keeps in
-        stays (λ (r s : PacketHistory). KeepsDatagramOnce r c.args.datagram.now c.match-deref_mut.status c.args.kept.now c.match-deref_mut.kept s) _ _ _ _ was is keeps
-    | in_default-deref_mut w ↦ search rules
+  | in-PacketHistory w ↦
+      let was : c.args.handle.now.place.value ≡ Some (objects.PacketHistory w.in-PacketHistory.history) = sym c.in-Some.ensures.value ∙ ap Some (sym c.deref_mut.ensures.value ∙ w.in-PacketHistory.is) in
+      let is = c.put.ensures ∙ ap (λ (b : Box Object Global). Some b.value) w.object-is in
+      let keeps = keeps_as w.deref_mut-in-PacketHistory.result.now w.in-PacketHistory.history.value c.args.datagram.now _ _ _ _ _ w.keep_once-status.new.history w.deref_mut-in-PacketHistory.ensures.value w.status-is w.kept-is w.keep_once-status.ensures.keeps in
+      stays (λ (r s : PacketHistory). KeepsDatagramOnce r c.args.datagram.now c.match-deref_mut.status c.args.kept.now c.match-deref_mut.kept s) _ _ _ _ was is keeps
+  | in_default-deref_mut w ↦ search rules
 ]
