@@ -3,7 +3,6 @@
 #ifndef LIVE_SERVER_H
 #define LIVE_SERVER_H
 
-#include "forwarder_api.h"
 #include "text.h"
 
 #include <codec_payload.h>
