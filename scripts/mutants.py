@@ -1,7 +1,7 @@
 #!/usr/bin/env python3
 """Tries mutants: the prover must refuse each, by the contract of the function that it edits.
 
-  scripts/mutants.py                     all edits of must-fail/ and mutants/, of every crate
+  scripts/mutants.py                     all edits of must-fail/ and mutants/CRATE.edits, of every crate
   scripts/mutants.py CRATE [NAME..]      the edits of one crate, or the named ones
   scripts/mutants.py CRATE FILE.edit..   edits from anywhere, applied to that crate
   scripts/mutants.py --alone ..          the same, with each edit in a check of its own
@@ -10,8 +10,8 @@
   scripts/mutants.py --record [--jobs N] [CRATE..]   all edits of these crates or of all, into mutants/RESULTS.txt
   scripts/mutants.py --missing           the crates whose line in mutants/RESULTS.txt is missing or old, without the prover
 
-An edit is a file with a line 'file: src/x.rt' and pairs of lines 'old: TEXT' and 'new: TEXT'; each old text occurs once in
-that file. It is applied to a scratch copy of the crate, over the results of `rt check`. The function with its first old text is
+mutants/CRATE.edits has the edits of a crate: each is a line '[NAME]', a line 'file: src/x.rt', and pairs of lines 'old: TEXT' and
+'new: TEXT'; each old text occurs once in that file. An edit of must-fail/ is a file of these lines. It is applied to a scratch copy of the crate, over the results of `rt check`. The function with its first old text is
 checked, with the functions that it calls. Edits of bodies of different functions are tried in one check; scripts/mutant_trials.py
 says when that counts. One line is printed for each edit, and the last line has the counts:
 
@@ -53,6 +53,8 @@ HEAD = (
     "and names:NAME of those refused by names alone.\n"
 )
 COMMENTS = {".rt": (assembly.COMMENT, r"\1"), ".antt": (re.compile(r"(?m)(?:^|(?<=\s))--(?:[ \t].*)?$"), "")}
+# The edits of mutants/ as files.
+ROOM = tempfile.TemporaryDirectory(prefix="edits-")
 # One crate is checked at a time, and one line is written at a time.
 ALONE = threading.Lock()
 
@@ -75,9 +77,24 @@ def with_those_below(crate):
     return [crate, *(it for below in crates()[crate] for it in with_those_below(below))]
 
 
+def unfolded(crate):
+    """The edits of mutants/CRATE.edits, each as a file of its own, as must-fail/ has them."""
+    path = f"{ROOT}/mutants/{crate}.edits"
+    _, *parts = re.split(r"(?m)^\[(\w+)\]\n", read(path)) if os.path.exists(path) else [""]
+    names, texts = parts[::2], parts[1::2]
+    if len({*names}) < len(names):
+        sys.exit(f"mutants/{crate}.edits has a name twice")
+    os.makedirs(f"{ROOM.name}/{crate}", exist_ok=True)
+    for name, text in zip(names, texts):
+        edit = f"{ROOM.name}/{crate}/{name}.edit"
+        if not os.path.exists(edit):
+            with open(edit, "w", encoding="utf-8") as it:
+                it.write(text.strip("\n") + "\n")
+        yield edit
+
+
 def edits_of(crate):
-    found = glob.glob(f"{ROOT}/crates/{crate}/must-fail/*.edit") + glob.glob(f"{ROOT}/mutants/{crate}/*.edit")
-    return sorted(found, key=name_of)
+    return sorted([*glob.glob(f"{ROOT}/crates/{crate}/must-fail/*.edit"), *unfolded(crate)], key=name_of)
 
 
 def proved_functions(crate):
@@ -102,7 +119,7 @@ def tried(crate, edits, jobs=0, is_alone=False):
             print(f"{crate}/{name_of(edit)}: {word}{': ' + why if why else ''}", flush=True)
             if word != "BAD EDIT":
                 with open(kept_at(crate), "a", encoding="utf-8") as it:
-                    it.write(f"{checksum(sources, read(edit))} {word}\n")
+                    it.write(f"{checksum(sources, read(edit).strip())} {word}\n")
             yield edit, word
     print(f"{crate}: {count} tried in {scratch.checks} checks and {time.time() - began:.0f} seconds", flush=True)
 
@@ -137,7 +154,7 @@ def sum_of_sources(crate):
 
 def sum_of(crate):
     """A checksum of all that the answers about a crate depend on."""
-    return checksum(sum_of_sources(crate), *(f"{name_of(it)}\n{read(it)}" for it in edits_of(crate)))
+    return checksum(sum_of_sources(crate), *(f"{name_of(it)}\n{read(it).strip()}" for it in edits_of(crate)))
 
 
 def recorded():
@@ -173,7 +190,7 @@ def kept_answers(crate):
 def answers_of(crate, jobs):
     """The answers about all edits of a crate, by name; those that an earlier run kept are not tried again."""
     sources, kept = sum_of_sources(crate), kept_answers(crate)
-    sums = {edit: checksum(sources, read(edit)) for edit in edits_of(crate)}
+    sums = {edit: checksum(sources, read(edit).strip()) for edit in edits_of(crate)}
     answers = {name_of(edit): kept[it] for edit, it in sums.items() if it in kept}
     rest = [edit for edit, it in sums.items() if it not in kept]
     answers.update((name_of(edit), word) for edit, word in (tried(crate, rest, jobs) if rest else ()))
@@ -247,7 +264,7 @@ def print_stale():
             texts, why = apply(read_edit(edit), f"{ROOT}/crates/{crate}")
             if texts is None:
                 count += 1
-                print(f"{os.path.relpath(edit, ROOT)}: {why}")
+                print(f"{crate}/{name_of(edit)}: {why}")
     print(f"{count} stale")
     return 1 if count else 0
 
