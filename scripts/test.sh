@@ -10,7 +10,7 @@
 # only tested natively; without abigail-tools its ABI is not compared; without libpcap, libavformat and ffmpeg the recorder is
 # not tested. Without ffmpeg the headers of frames are not compared with other readers; without Debian's packages of crates and
 # the runtime of libFuzzer, rust-extras and tools/fuzz are not tested. Chromium is never installed; without it no browser sends
-# to a session. The last line is `N passed, N failed`; the status is 0 if nothing failed.
+# to a session or to tools/live_server, which is built only where its libraries are installed. The last line is `N passed, N failed`; the status is 0 if nothing failed.
 set -u
 
 root=$(cd "$(dirname "$0")/.." && pwd)
@@ -132,6 +132,17 @@ if pkg-config --exists libpcap libavformat libavcodec libavutil && command -v ff
     runs tools/rtp_record/test.sh
 else
     echo "skipped tools/rtp_record/test.sh: tools/rtp_record/install.sh installs what it needs"
+fi
+if pkg-config --exists openssl libsrtp2 libmicrohttpd libavformat libavcodec libavutil; then
+    runs make -s -C tools/live_server all
+    if command -v chromium >/dev/null && command -v ffmpeg >/dev/null; then
+        # Some of its tests; `make -C tools/live_server check` has all.
+        runs tools/live_server/test.py VP8-0 VP8-5 refusals token
+    else
+        echo "skipped tools/live_server/test.py: there is no chromium or no ffmpeg"
+    fi
+else
+    echo "skipped tools/live_server: tools/live_server/install.sh installs what it needs"
 fi
 echo "$passed passed, $failed failed"
 [ "$failed" -eq 0 ]
