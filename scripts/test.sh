@@ -9,8 +9,9 @@
 # without them no Debian packages and manual pages are made. Without gcc-aarch64-linux-gnu and qemu-user the library for C is
 # only tested natively; without abigail-tools its ABI is not compared; without libpcap, libavformat and ffmpeg the recorder is
 # not tested. Without ffmpeg the headers of frames are not compared with other readers; without Debian's packages of crates and
-# the runtime of libFuzzer, rust-extras and tools/fuzz are not tested. Chromium is never installed; without it no browser sends
-# to a session or to tools/live_server, which is built only where its libraries are installed. The last line is `N passed, N failed`; the status is 0 if nothing failed.
+# the runtime of libFuzzer, rust-extras and tools/fuzz are not tested. tools/live_server is built only if its libraries are
+# installed. Chromium is never installed; without it no browser sends to a session or to live_server. The last line is
+# `N passed, N failed`; the status is 0 if nothing failed.
 set -u
 
 root=$(cd "$(dirname "$0")/.." && pwd)
