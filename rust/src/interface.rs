@@ -60,8 +60,8 @@ pub struct Vp9CodecExtra {
     /// The picture id, extended in the same way; `None` if none was sent.
     pub picture_id: Option<u64>,
     /// Whether the P bit of the descriptors is clear: the frame can be decoded without any other. Some senders never set this bit,
-    /// so each of their frames counts as a keyframe. `Vp9FrameHeader` of `codec_payload_vpx` and `frame_info` of
-    /// `codec_payload_media` read the frame itself.
+    /// so each of their frames counts as a keyframe. `Vp9FrameHeader` of `parts::media::vp9` and `frame_info` of
+    /// `parts::media` read the frame itself.
     pub is_keyframe: bool,
 }
 

@@ -90,3 +90,34 @@ fn inner_types_are_not_documented() {
         );
     }
 }
+
+/// The texts of items, in the file or the files of the folder.
+fn item_texts(path: &std::path::Path, found: &mut Vec<String>) {
+    if path.is_dir() {
+        for entry in std::fs::read_dir(path).expect("a folder") {
+            item_texts(&entry.expect("an entry").path(), found);
+        }
+        return;
+    }
+    let source = std::fs::read_to_string(path).expect("a file");
+    let texts = source
+        .lines()
+        .map(str::trim)
+        .filter(|line| line.starts_with("/// "));
+    found.extend(texts.map(|line| format!("{}: {line}", path.display())));
+}
+
+#[test]
+fn no_text_names_a_crate_of_the_sources() {
+    let mut texts = Vec::new();
+    item_texts(
+        std::path::Path::new(concat!(env!("CARGO_MANIFEST_DIR"), "/src")),
+        &mut texts,
+    );
+    assert!(texts.len() > 1_000, "{} lines", texts.len());
+    let named: Vec<_> = texts
+        .iter()
+        .filter(|line| line.contains("codec_payload_") || line.contains("docs/"))
+        .collect();
+    assert!(named.is_empty(), "{named:#?}");
+}

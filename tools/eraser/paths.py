@@ -7,7 +7,10 @@ from tokens import Token, elements, joined, plain, tokens
 
 # Links of documentation whose names are not in scope.
 DOC_LINKS = {("codec/depacketizer.rt", "[`BoxedDepacketizer`]"): "[`BoxedDepacketizer`](super::BoxedDepacketizer)",
-             ("codec/packetizer.rt", "[`BoxedPacketizer`]"): "[`BoxedPacketizer`](super::BoxedPacketizer)"}
+             ("codec/packetizer.rt", "[`BoxedPacketizer`]"): "[`BoxedPacketizer`](super::BoxedPacketizer)",
+             ("session/src/session.rt", "(crate `codec_payload_rtcp`)"): "(module `parts::rtcp`)",
+             ("base/src/interface.rt", "`codec_payload_vpx`"): "`parts::media::vp9`",
+             ("base/src/interface.rt", "`codec_payload_media`"): "`parts::media`"}
 CORE = {"fmt", "mem", "ops", "cmp", "str", "error", "convert", "iter", "slice"}
 
 

@@ -83,14 +83,13 @@ pub struct FeedbackSettings {
 /// The settings of a session.
 #[derive(Clone, Debug)]
 pub struct SessionSettings {
-    /// The payload formats. If two of them have the same payload type, the first counts.
+    /// The payload formats. No two of them have a payload type in common ([`SessionSettings::check`]).
     pub formats: Vec<Format>,
     /// Payload types without media that share the SSRC and the numbers of a stream: comfort noise, error correction. Their
     /// payloads are dropped.
     pub no_media: Vec<u8>,
     /// Payload types of telephone events (RFC 4733) that share the SSRC and the numbers of a stream of audio. They count as
-    /// without media, so audio does not wait for them, and polls return their packets ([`Event::Telephone`]). A format with the
-    /// same payload type has precedence.
+    /// without media, so audio does not wait for them, and polls return their packets ([`Event::Telephone`]).
     ///
     /// [`Event::Telephone`]: crate::session::sessions::Event::Telephone
     pub telephone_events: Vec<u8>,

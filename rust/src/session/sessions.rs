@@ -326,7 +326,7 @@ impl Session {
 
     /// Returns the block of a receiver report about the sender of the stream with this SSRC and payload type (RFC 3550, section
     /// 6.4.1). `None`: there is no such stream, or no packet of it counts so far ([`Receiver::report`]). A stream in probation
-    /// has a block too. Put at most 31 blocks into one `ReceiverReport` (crate `codec_payload_rtcp`), and send it.
+    /// has a block too. Put at most 31 blocks into one `ReceiverReport` (module `parts::rtcp`), and send it.
     ///
     /// The next block of the stream starts its fraction here. The last sender report is the one of [`StreamInfo::sender_clock`];
     /// without one both of its fields are 0. The delay since then is in 1/65,536 s, by `tick_rate` of the settings, and at most
