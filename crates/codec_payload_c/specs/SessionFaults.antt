@@ -58,6 +58,6 @@ abbrev pub TellsFault : Option SettingsFault → ℕ → SettingsFault → Type 
 TellsFault None status after = (status ≡ 0) × (after ≡ plain_fault 0)
 TellsFault (Some fault) status after = (status ≡ 37) × (after ≡ fault)
 
--- status 17: memory ran out, and nothing is told
+-- status 17: out of memory, and nothing is written
 abbrev pub ChecksSettings : Option SettingsFault → ℕ → (before after : SettingsFault) → Type 0
 ChecksSettings fault status before after = TellsFault fault status after ⊎ ((status ≡ 17) × (after ≡ before))

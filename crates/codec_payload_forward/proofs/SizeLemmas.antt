@@ -1,6 +1,6 @@
 -- How many bytes a packet has that is written for a viewer.
-use Rattle.std.proofs.Common.{◌≡◌, ◌∙◌, sym, ap, refl, ℕ, zero, suc, ◌+◌, ◌%◌, ◌≤◌, List, [], ◌∷◌, ◌++◌, length, replicate, Bool, true, false, Option, Some, None, Result, Ok, Err, arith}
-use Rattle.std.specs.Prelude.{IfOk, OnOk}
+use Rattle.std.proofs.Common.{◌≡◌, ◌∙◌, ap, refl, ℕ, zero, suc, ◌+◌, List, [], ◌∷◌, ◌++◌, length, replicate, Bool, Option, Some, None, Result, Ok, Err, arith}
+use Rattle.std.specs.Prelude.{OnOk}
 use Rattle.std.proofs.lemmas.List.{length-append, length-replicate, length-set}
 use Rattle.std.specs.declared.alloc.AllocError.{AllocError}
 use Rattle.codec_payload_base.specs.declared.wire.Codec.{Codec}
@@ -8,12 +8,8 @@ use Rattle.codec_payload_base.specs.declared.wire.Codec.TheVariants as codecs
 use Rattle.codec_payload_rtp.specs.RtpPackets.{Header, Packet, header_bytes, is_padded, packet_bytes, padding_bytes}
 use Rattle.codec_payload_vp8.specs.Vp8Patch.{Patch, patched, written}
 use Rattle.codec_payload_forward.specs.declared.forwarder.ForwardSettings.{ForwardSettings}
-use Rattle.codec_payload_forward.specs.declared.forwarder.Forwarded.{Forwarded}
-use Rattle.codec_payload_forward.specs.declared.forwarder.Forwarded.TheVariants as answers
 use Rattle.codec_payload_forward.specs.declared.vp8_ids.Vp8Ids.{Vp8Ids}
-use Rattle.codec_payload_forward.specs.Forwarding.{Forward, Forwards, IsWritten, Leaves, forwarded_size, ids_switched, packet_under, payload_for, sent_packet, ticks_between}
-use Rattle.codec_payload_forward.specs.Numbers.{next_number}
-use Rattle.codec_payload_forward.specs.Times.{time_as}
+use Rattle.codec_payload_forward.specs.Forwarding.{IsWritten, forwarded_size, packet_under, payload_for, sent_packet}
 use Rattle.codec_payload_forward.specs.Vp8Numbers.{patch_in, patched_by, payload_as}
 
 -- A patch keeps the number of bytes
@@ -81,46 +77,6 @@ length_sent s ids number time p =
     length_under s number time (record p { payload = payload_for s.codec ids p.payload }) in
     let same : length (payload_for s.codec ids p.payload) ≡ length p.payload = length_payload_for s.codec ids p.payload in
     omega (arith, under, same)
-
--- What is written
-
-some_written : (bytes sent : List ℕ) (size : ℕ) → bytes ≡ sent → length sent ≡ size → length bytes ≤ size
-some_written bytes sent size e f =
-    let n : length bytes ≡ length sent = ap length e in
-    omega (arith, n, f)
-
-none_written : (bytes : List ℕ) (most : ℕ) → bytes ≡ [] → length bytes ≤ most
-none_written bytes most e =
-    let n : length bytes ≡ 0 = ap length e in
-    omega (arith, n)
-
-forwards_size : (now : ℕ) (p : Packet) (f : Forward) (answer : Forwarded) (bytes : List ℕ) (t : Forward) → Forwards now p f answer bytes t → length bytes ≤ forwarded_size p
-forwards_size now p f answers.Began bytes t h = some_written bytes _ (forwarded_size p) h.3.0 (length_sent f.settings (ids_switched f.settings.codec p.payload f.ids) (next_number f.numbers) ((f.times.highest + ticks_between f.written_at now) % 4294967296) p)
-forwards_size now p f answers.Written bytes t h = some_written bytes _ (forwarded_size p) h.1.2.0 (length_sent f.settings f.ids h.1.0 (time_as f.times p.header.timestamp) p)
-forwards_size now p f answers.NoKeyframe bytes t h = none_written bytes (forwarded_size p) h.3.0
-forwards_size now p f answers.OtherSource bytes t h = none_written bytes (forwarded_size p) h.2.0
-forwards_size now p f answers.TooOld bytes t h = none_written bytes (forwarded_size p) h.2.0
-forwards_size now p f answers.LeftOut bytes t h = none_written bytes (forwarded_size p) h.2.0
-forwards_size now p f answers.Filled bytes t h = absurd h
-
-leaves_size : (p : Packet) (f : Forward) (answer : Forwarded) (bytes : List ℕ) (t : Forward) → Leaves p f answer bytes t → length bytes ≤ 13
-leaves_size p f answers.LeftOut bytes t h = none_written bytes 13 h.1
-leaves_size p f answers.Filled bytes t h = some_written bytes _ 13 h.2.2.0 (length_under f.settings h.2.0 (time_as f.times p.header.timestamp) (record p { payload = []; padding = 1 }))
-leaves_size p f answers.OtherSource bytes t h = none_written bytes 13 h.1.0
-leaves_size p f answers.TooOld bytes t h = none_written bytes 13 h.2.0
-leaves_size p f answers.Began bytes t h = absurd h
-leaves_size p f answers.Written bytes t h = absurd h
-leaves_size p f answers.NoKeyframe bytes t h = absurd h
-
-pub answers_size : (r : Result Forwarded AllocError) (now : ℕ) (p : Packet) (f : Forward) (bytes : List ℕ) (t : Forward)
-    → IfOk r (λ answer. Forwards now p f answer bytes t) → OnOk r (length bytes ≤ forwarded_size p)
-answers_size (Ok answer) now p f bytes t h = forwards_size now p f answer bytes t h
-answers_size (Err e) now p f bytes t h = tt
-
-pub answers_left : (r : Result Forwarded AllocError) (p : Packet) (f : Forward) (bytes : List ℕ) (t : Forward)
-    → IfOk r (λ answer. Leaves p f answer bytes t) → OnOk r (length bytes ≤ 13)
-answers_left (Ok answer) p f bytes t h = leaves_size p f answer bytes t h
-answers_left (Err e) p f bytes t h = tt
 
 -- ---- written again
 

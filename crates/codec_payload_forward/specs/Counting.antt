@@ -10,11 +10,11 @@ no_counts = record { packets = 0; octets = 0; switches = 0; filled = 0; left_out
 abbrev pub plus : ℕ → ℕ → ℕ
 plus n more = (n + more) % 18446744073709551616
 
--- one more packet under the viewer's SSRC, with so many bytes of payload
+-- one more packet under the viewer's SSRC, with that number of bytes of payload
 abbrev pub one_packet : ℕ → ForwardCounts → ForwardCounts
 one_packet octets c = record c { packets = plus c.packets 1; octets = plus c.octets octets }
 
--- the counts after an answer for a packet whose payload has so many bytes. A packet of padding has no payload
+-- the counts after an answer for a packet whose payload has that number of bytes. A packet of padding has no payload
 abbrev pub after_answer : Forwarded → ℕ → ForwardCounts → ForwardCounts
 after_answer answers.Began octets c = one_packet octets (record c { switches = plus c.switches 1 })
 after_answer answers.Written octets c = one_packet octets c

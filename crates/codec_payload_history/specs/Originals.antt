@@ -1,5 +1,5 @@
 -- The packet that a retransmission repeats (RFC 4588, section 4).
-use Rattle.std.specs.Prelude.{◌≡◌, ℕ, nat_lt, Bool, true, List, [], ◌∷◌, Option, option_map, Some, None, Ok, Err}
+use Rattle.std.specs.Prelude.{◌≡◌, ℕ, nat_lt, Bool, true, false, List, [], ◌∷◌, Option, option_map, is_some, Some, None, Ok, Err}
 use Rattle.std.specs.Int.{w16, from_be_bytes}
 use Rattle.codec_payload_rtp.specs.RtpPackets.{Header, Packet, packet_bytes}
 use Rattle.codec_payload_rtp.specs.RtpReading.{rtp_at}
@@ -32,9 +32,14 @@ pub record WritesOriginal (stream : OriginalStream) (retransmission bytes : List
   pub bytes_are : bytes ≡ packet_bytes original
   pub reads : rtp_at bytes ≡ Ok original
 
--- why no packet is written
+-- the payload type of the stream is at most 127
+abbrev pub type_fits : OriginalStream → Type 0
+type_fits stream = nat_lt 127 stream.payload_type ≡ false
+
+-- why no packet is written: the first reason that applies
 abbrev pub IsRefused : OriginalStream → List ℕ → OriginalError → Type 0
 IsRefused stream retransmission errors.PayloadType = nat_lt 127 stream.payload_type ≡ true
-IsRefused stream retransmission (errors.Rtp fault) = rtp_at retransmission ≡ Err fault
-IsRefused stream retransmission errors.TooShort = (packet : Packet) × (rtp_at retransmission ≡ Ok packet) × (original_of stream packet ≡ None)
-IsRefused stream retransmission errors.OutOfMemory = (packet : Packet) × (rtp_at retransmission ≡ Ok packet)
+IsRefused stream retransmission (errors.Rtp fault) = type_fits stream × (rtp_at retransmission ≡ Err fault)
+IsRefused stream retransmission errors.TooShort = type_fits stream × ((packet : Packet) × (rtp_at retransmission ≡ Ok packet) × (original_of stream packet ≡ None))
+IsRefused stream retransmission errors.OutOfMemory =
+    type_fits stream × ((packet : Packet) × (rtp_at retransmission ≡ Ok packet) × (is_some (original_of stream packet) ≡ true))
