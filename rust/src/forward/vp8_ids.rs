@@ -76,9 +76,16 @@ fn is_ahead(numbers: &VecDeque<u64>, number: u64) -> bool {
     }
 }
 
-/// Puts a number in front of the others, for which there is room.
-fn put_first(numbers: &mut VecDeque<u64>, number: u64) {
-    numbers.push_front(number);
+/// Leaves out the packet with this number, and puts it in front of the others.
+fn add_picture(
+    left_out: &mut VecDeque<u64>,
+    numbers: &mut Renumbering,
+    number: u64,
+) -> Result<(), AllocError> {
+    left_out.try_room(1)?;
+    numbers.place(number, false)?;
+    left_out.push_front(number);
+    Ok(())
 }
 
 impl IdOffsets {
@@ -199,20 +206,41 @@ impl Vp8Ids {
         number: u64,
         payload: &[u8],
     ) -> Result<(), AllocError> {
-        let Some(id) = self.to_leave(number, payload) else {
-            numbers.place(number, false)?;
-            return Ok(());
-        };
-        if self.left_out.len() < MAX_LEFT_OUT {
-            self.left_out.try_room(1)?;
-            numbers.place(number, false)?;
-            put_first(&mut self.left_out, number);
-        } else {
-            numbers.place(number, false)?;
-            replace_last(&mut self.left_out, number);
-            self.offsets.picture = self.offsets.picture.wrapping_sub(1);
+        match self.to_leave(number, payload) {
+            Some(id) => self.close_up(numbers, number, id),
+            None => {
+                numbers.place(number, false)?;
+                Ok(())
+            }
         }
+    }
+
+    /// Leaves out the first packet of the picture with this PictureID.
+    fn close_up(
+        &mut self,
+        numbers: &mut Renumbering,
+        number: u64,
+        id: u16,
+    ) -> Result<(), AllocError> {
+        if self.left_out.len() < MAX_LEFT_OUT {
+            return self.add(numbers, number, id);
+        }
+        numbers.place(number, false)?;
+        self.replace_lowest(number, id);
+        Ok(())
+    }
+
+    /// Leaves out the first packet of a picture, if there is room for it.
+    fn add(&mut self, numbers: &mut Renumbering, number: u64, id: u16) -> Result<(), AllocError> {
+        add_picture(&mut self.left_out, numbers, number)?;
         self.leaving = Some(id);
         Ok(())
+    }
+
+    /// Puts the first packet of a picture in front of the others, and forgets the lowest one.
+    fn replace_lowest(&mut self, number: u64, id: u16) {
+        replace_last(&mut self.left_out, number);
+        self.offsets.picture = self.offsets.picture.wrapping_sub(1);
+        self.leaving = Some(id);
     }
 }
