@@ -195,6 +195,26 @@ static size_t put_vp8(uint8_t *to, uint16_t number, uint8_t ssrc, uint16_t id, u
     return put_packet(to, number, ssrc, payload, sizeof payload);
 }
 
+/* A layer that the viewer does not want: PictureIDs close up behind each picture that is left out (RFC 7741, section 4.2). */
+static void pictures_close_up(void) {
+    cpay_forwarder_settings settings = settings_for(CPAY_VP8);
+    cpay_forwarder it = CPAY_INIT;
+    uint8_t packet[20];
+    output to;
+    CHECK(cpay_forwarder_new(&it, &settings) == CPAY_OK && cpay_forwarder_want(&it, 1) == CPAY_OK);
+    for (uint16_t n = 0; n < 40000; n++) {
+        size_t size = put_vp8(packet, n, 1, (uint16_t)((500 + n) & 0x7fff), 77, n == 0);
+        if (n % 3 == 2) {
+            CHECK(leave_out(&it, packet, size, ROOM, &to) == CPAY_OK && wrote_nothing(&to, CPAY_FORWARDED_LEFT_OUT));
+            continue;
+        }
+        uint16_t id = (uint16_t)(n - n / 3) & 0x7fff;
+        CHECK(write(&it, 0, packet, size, ROOM, &to) == CPAY_OK && to.size == size);
+        CHECK(to.bytes[14] == (0x80 | id >> 8) && to.bytes[15] == (id & 0xff));
+    }
+    cpay_forwarder_free(&it);
+}
+
 /* What the viewer requests: wrapped, and as it was sent; each with output buffers that are too small. */
 static void resent(void) {
     /* SSRC 0x8888, payload type 102, the number of the retransmission, the first time, 65530 in front; then the ids of the viewer */
@@ -543,6 +563,7 @@ int main(void) {
     bytes();
     keyframes();
     left_out();
+    pictures_close_up();
     resent();
     stored_once();
     originals();

@@ -27,4 +27,4 @@ pub use renumbering::{MAX_LEFT_OUT, Placed, Renumbering};
 pub use times::Retiming;
 
 #[doc(inline)]
-pub use vp8_ids::Vp8Ids;
+pub use vp8_ids::{IdOffsets, Vp8Ids};

@@ -495,6 +495,114 @@ fn left_out_packets_close_up() -> Outcome {
     Ok(())
 }
 
+/// Pictures of VP8 that are left out leave no gap in the PictureIDs of the others (RFC 7741, section 4.2), also in packets that are
+/// late or sent again. An id is unused only if all packets of its picture come late.
+#[test]
+fn picture_ids_close_up() -> Outcome {
+    let mut forwarder = Forwarder::new(settings(Codec::Vp8))?;
+    let mut out = Vec::new();
+    forwarder.want(1);
+    // Two packets a picture: picture 500 + n has the numbers 2 n and 2 n + 1.
+    let packet_of = |number: u16| {
+        let start: &[u8] = if number == 0 { &[0, 9] } else { &[1, 9] };
+        packet(number, 0, 1, &vp8(500 + number / 2, 7, start))
+    };
+    let id = |out: &[u8]| u16::from_be_bytes([out[14] & 0x7f, out[15]]);
+    let mut call = |number: u16, wanted: bool| -> Result<(Forwarded, u16), Box<dyn Error>> {
+        let datagram = packet_of(number);
+        let read = RtpPacket::parse(&datagram)?;
+        let answer = if wanted {
+            forwarder.write(0, &read, &mut out)?
+        } else {
+            forwarder.leave_out(&read, &mut out)?
+        };
+        let written = matches!(answer, Forwarded::Began | Forwarded::Written);
+        Ok((answer, if written { id(&out) } else { 0 }))
+    };
+    assert_eq!(call(0, true)?, (Forwarded::Began, 0));
+    assert_eq!(call(1, true)?, (Forwarded::Written, 0));
+    // Picture 501 is left out, with both packets: 502 follows 500.
+    assert_eq!(call(2, false)?.0, Forwarded::LeftOut);
+    assert_eq!(call(3, false)?.0, Forwarded::LeftOut);
+    assert_eq!(call(4, true)?, (Forwarded::Written, 1));
+    // 503 is left out, and its first packet comes late. 502's second packet is late too, and keeps its id.
+    assert_eq!(call(7, false)?.0, Forwarded::LeftOut);
+    assert_eq!(call(8, true)?, (Forwarded::Written, 2));
+    assert_eq!(call(6, false)?.0, Forwarded::Filled);
+    assert_eq!(call(5, true)?, (Forwarded::Written, 1));
+    // A lost picture is a gap of one: 505 does not come, and 506 is one further.
+    assert_eq!(call(12, true)?, (Forwarded::Written, 4));
+    // It comes after all, all of it late, and is left out: its id stays unused.
+    assert_eq!(call(10, false)?.0, Forwarded::Filled);
+    assert_eq!(call(11, false)?.0, Forwarded::Filled);
+    // Two pictures in a row are left out, and the first packet of each comes.
+    for number in [14, 15, 16, 17] {
+        assert_eq!(call(number, false)?.0, Forwarded::LeftOut);
+    }
+    assert_eq!(call(18, true)?, (Forwarded::Written, 5));
+    // Sent again: the id with which it was sent.
+    let again = packet_of(9);
+    assert!(forwarder.write_again(&RtpPacket::parse(&again)?, &mut out)?);
+    assert_eq!(id(&out), 2);
+    // Another source follows the last picture that was sent.
+    forwarder.want(2);
+    let other = packet(700, 0, 2, &vp8(9_000, 1, &[0, 9]));
+    let answer = forwarder.write(0, &RtpPacket::parse(&other)?, &mut out)?;
+    assert_eq!((answer, id(&out)), (Forwarded::Began, 6));
+    Ok(())
+}
+
+/// PictureIDs against a model, with losses and reordering: the id of a packet is the source's, less the pictures that were left out
+/// before it. A picture counts once a packet of it was left out ahead of all others.
+#[test]
+fn picture_ids_follow_a_model() -> Outcome {
+    let mut random = 5_u64;
+    let mut next = |below: u64| {
+        random = random
+            .wrapping_mul(6_364_136_223_846_793_005)
+            .wrapping_add(1_442_695_040_888_963_407);
+        (random >> 33) % below
+    };
+    let mut order: Vec<u64> = (0..40_000)
+        .filter(|number| *number == 0 || next(10) > 0)
+        .collect();
+    for place in 1..order.len() - 4 {
+        if next(4) == 0 {
+            order.swap(place, place + next(4) as usize);
+        }
+    }
+    let mut forwarder = Forwarder::new(settings(Codec::Vp8))?;
+    let mut out = Vec::new();
+    forwarder.want(1);
+    // The pictures that were left out, and the number of the first packet of each, which rise.
+    let (mut highest, mut pictures, mut firsts) = (0, BTreeSet::new(), Vec::new());
+    for number in order {
+        let picture = number / 3;
+        let start: &[u8] = if number == 0 { &[0, 9] } else { &[1, 9] };
+        let payload = vp8((picture % 32_768) as u16, 7, start);
+        let datagram = packet((number % 65_536) as u16, 0, 1, &payload);
+        let read = RtpPacket::parse(&datagram)?;
+        if picture % 2 == 1 {
+            let answer = forwarder.leave_out(&read, &mut out)?;
+            if number > highest {
+                assert_eq!(answer, Forwarded::LeftOut);
+                if pictures.insert(picture) {
+                    firsts.push(number);
+                }
+            }
+        } else {
+            let answer = forwarder.write(0, &read, &mut out)?;
+            assert!(matches!(answer, Forwarded::Began | Forwarded::Written));
+            let before = firsts.partition_point(|first| *first < number) as u64;
+            let id = u64::from(u16::from_be_bytes([out[14] & 0x7f, out[15]]));
+            assert_eq!(id, (picture - before) % 32_768, "packet {number}");
+        }
+        highest = highest.max(number);
+    }
+    assert!(firsts.len() > MAX_LEFT_OUT);
+    Ok(())
+}
+
 /// The packet of a store under each number of the viewer, and none for a number that was not sent, or of another source.
 #[test]
 fn requested_packets_are_found() -> Outcome {

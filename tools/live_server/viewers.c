@@ -9,29 +9,19 @@ enum {
     REPORT_INTERVAL = 1000, /* ms between two sender reports */
     MOST_RESENT = 100,      /* packets in a tick of 50 ms: nobody makes the server a source of floods */
     EARLY = 64,             /* packets of a keyframe that may come before its first one */
-    KEPT = 2048,            /* picture ids */
     RED_BUDGET = 1200,      /* bytes of a RED payload */
     ALL_LAYERS = 3,
     HEADER = 12 /* bytes of an RTP header without extension */
 };
 
-/* How picture ids of VP8 close up where pictures are left out: browsers wait for pictures whose ids are missing. */
-typedef struct {
-    uint16_t highest;           /* the highest id of the source */
-    uint16_t shift;             /* what the forwarder adds to its ids */
-    uint16_t left_out;          /* pictures so far, modulo 2^16 */
-    uint16_t left_out_at[KEPT]; /* and before each of the latest ids of the source */
-} picture_ids;
-
 /* One stream of a viewer. */
 typedef struct {
     cpay_forwarder forwarder;
-    picture_ids ids;
     cpay_red_sender red;     /* with has_red */
     uint32_t ssrc, rtx_ssrc; /* of the viewer */
     uint32_t source;         /* SSRC of the source that was wanted last */
     int track, wanted;       /* the publisher's track that it gets, and the one to go over to */
-    int temporal;            /* the highest temporal layer that it gets */
+    int temporal, layers;    /* the highest temporal layer that it is to get, and that of the picture that it gets now */
     bool wants;              /* a source was wanted */
     unsigned resent_now;     /* in this tick */
     uint64_t requested, not_kept, keyframes_wanted;
@@ -54,7 +44,7 @@ static bool begin_stream(outgoing *to, int kind, const agreed *media) {
     cpay_forwarder_settings settings;
     secret(&to->ssrc, sizeof to->ssrc);
     to->rtx_ssrc = to->ssrc ^ 0x5a5a5a5a;
-    to->temporal = ALL_LAYERS;
+    to->temporal = to->layers = ALL_LAYERS;
     if (!media->used) return true;
     cpay_forwarder_settings_init(&settings, media->codec, to->ssrc, media->payload_type);
     secret(&settings.first_time, sizeof settings.first_time);
@@ -85,43 +75,15 @@ void viewer_ssrcs(const peer *it, int kind, uint32_t *ssrc, uint32_t *rtx_ssrc) 
 
 /* ---- packets ---- */
 
-/* What is at the beginning of a payload of VP8 (RFC 7741, section 4.2). */
-typedef struct {
-    bool has_id; /* a picture id of 15 bits */
-    uint16_t id;
-    int temporal; /* the temporal layer; the library reports it for units alone */
-} picture;
-
-static picture picture_of(cpay_codec codec, const uint8_t *payload, size_t size) {
+/* The temporal layer of a VP8 payload (RFC 7741, section 4.2), which the library reports for units alone, and whether a picture begins
+ * with it. */
+static int temporal_of(cpay_codec codec, const uint8_t *payload, size_t size, bool *begins) {
     cpay_vp8_fields_info fields = {0};
     bool starts_keyframe;
-    picture found = {0};
-    if (codec != CPAY_VP8 || cpay_vp8_fields(payload, size, &fields, &starts_keyframe)) return found;
-    found.has_id = fields.picture_id_bits == 15;
-    found.id = fields.picture_id;
+    if (codec != CPAY_VP8 || cpay_vp8_fields(payload, size, &fields, &starts_keyframe)) return 0;
     size_t at = 2 + (size_t)fields.picture_id_bits / 7 + fields.has_tl0_pic_idx;
-    if ((payload[0] & 0x80) && (payload[1] & 0x20) && at < size) found.temporal = payload[at] >> 6;
-    return found;
-}
-
-/* Notes a picture of the source: how many were left out before it, and whether it is left out itself. */
-static void note_picture(picture_ids *ids, const picture *it, bool left_out) {
-    uint16_t ahead = (uint16_t)((it->id - ids->highest) & 0x7fff);
-    if (!it->has_id || ahead == 0 || ahead >= 0x4000) return;
-    while (ids->highest != it->id) {
-        ids->highest = (uint16_t)((ids->highest + 1) & 0x7fff);
-        ids->left_out_at[ids->highest % KEPT] = ids->left_out;
-    }
-    ids->left_out += left_out;
-}
-
-/* Closes up the picture id of a payload that the forwarder wrote. */
-static void close_up(const picture_ids *ids, cpay_codec codec, uint8_t *payload, size_t size) {
-    picture it = picture_of(codec, payload, size);
-    uint16_t source = (uint16_t)((it.id - ids->shift) & 0x7fff);
-    cpay_vp8_fields_info values = {.has_picture_id = true,
-                                   .picture_id = (uint16_t)((it.id - ids->left_out_at[source % KEPT]) & 0x7fff)};
-    if (it.has_id && cpay_vp8_patch(payload, size, &values)) return; /* it has this field, so it is patched */
+    *begins = (payload[0] & 0x1f) == 0x10; /* S, and partition 0 */
+    return (payload[0] & 0x80) && (payload[1] & 0x20) && at < size ? payload[at] >> 6 : 0;
 }
 
 /* Wraps a packet of audio in RED, with the one before it (RFC 2198). Returns the new size. */
@@ -164,21 +126,13 @@ static size_t write_packet(outgoing *to, int kind, cpay_codec codec, const uint8
     cpay_rtp_info info = {0};
     size_t size = 0;
     if (cpay_rtp_read(datagram, datagram_len, &info)) return 0;
-    picture it = picture_of(codec, datagram + info.payload_at, info.payload_len);
-    if (it.temporal > to->temporal) {
-        if (cpay_forwarder_leave_out(&to->forwarder, datagram, datagram_len, out, MOST_DATAGRAM, &size, done)) return 0;
-        if (*done == CPAY_FORWARDED_LEFT_OUT) note_picture(&to->ids, &it, true);
-        return size;
-    }
+    bool begins = false;
+    int temporal = temporal_of(codec, datagram + info.payload_at, info.payload_len, &begins);
+    if (begins) to->layers = to->temporal; /* all packets of a picture are left out, or none */
+    if (temporal > to->layers)
+        return cpay_forwarder_leave_out(&to->forwarder, datagram, datagram_len, out, MOST_DATAGRAM, &size, done) ? 0 : size;
     uint64_t ticks = now_us() * rate_of(kind) / 1000000;
-    if (cpay_forwarder_write(&to->forwarder, ticks, datagram, datagram_len, out, MOST_DATAGRAM, &size, done) || size == 0)
-        return 0;
-    if (*done == CPAY_FORWARDED_BEGAN) to->ids.highest = (uint16_t)((it.id - 1) & 0x7fff);
-    note_picture(&to->ids, &it, false);
-    picture written = picture_of(codec, out + HEADER, size - HEADER);
-    to->ids.shift = (uint16_t)((written.id - it.id) & 0x7fff);
-    close_up(&to->ids, codec, out + HEADER, size - HEADER);
-    return size;
+    return cpay_forwarder_write(&to->forwarder, ticks, datagram, datagram_len, out, MOST_DATAGRAM, &size, done) ? 0 : size;
 }
 
 static void forward_to(peer *it, peer *from, int track, const uint8_t *datagram, size_t datagram_len) {
@@ -207,7 +161,7 @@ void viewers_forward(peer *from, int track, const uint8_t *datagram, size_t size
 
 /* ---- RTCP of a viewer ---- */
 
-static void resend(peer *it, outgoing *to, const agreed *media, cpay_history *store, uint16_t number) {
+static void resend(peer *it, outgoing *to, cpay_history *store, uint16_t number) {
     size_t size = 0;
     cpay_resent resent = CPAY_RESENT_NOT_KEPT;
     uint8_t *out = network_room();
@@ -216,8 +170,6 @@ static void resend(peer *it, outgoing *to, const agreed *media, cpay_history *st
     if (cpay_forwarder_resend(&to->forwarder, store, number, out, MOST_DATAGRAM, &size, &resent)) return;
     to->not_kept += resent == CPAY_RESENT_NOT_KEPT;
     if (resent != CPAY_RESENT_WRITTEN) return;
-    size_t payload_at = HEADER + (media->has_rtx ? 2 : 0); /* a retransmission has the number in front (RFC 4588, section 4) */
-    if (size > payload_at) close_up(&to->ids, media->codec, out + payload_at, size - payload_at);
     srtp_send(it, out, size, false);
 }
 
@@ -240,7 +192,7 @@ void viewer_take(peer *it, const uint8_t *bytes, size_t size) {
         if (cpay_read_requests(bytes, size, to->ssrc, false, numbers, 512, &count, &keyframe)) return;
         read_report(to, bytes, size);
         for (size_t i = 0; i < count && i < 512; i++)
-            resend(it, to, &it->media[kind], publisher_store(from, to->track), numbers[i]);
+            resend(it, to, publisher_store(from, to->track), numbers[i]);
         to->keyframes_wanted += keyframe;
         if (keyframe) publisher_wants_keyframe(from, to->track);
     }

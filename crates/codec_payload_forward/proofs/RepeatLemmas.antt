@@ -1,13 +1,13 @@
 -- A packet that is written again is the packet that was sent.
-use Rattle.std.proofs.Common.{◌≡◌, refl, ap, ℕ, ◌+◌, ◌%◌, List, Bool, true, false, ltb, Result, Ok, Err}
+use Rattle.std.proofs.Common.{◌≡◌, refl, ap, ℕ, ◌+◌, ◌%◌, List, Bool, true, false, ltb, None, Result, Ok, Err}
 use Rattle.codec_payload_base.specs.declared.wire.Codec.{Codec}
 use Rattle.codec_payload_base.specs.declared.wire.Codec.TheVariants as codecs
 use Rattle.codec_payload_vp8.specs.Vp8Descriptor.{Descriptor, parsed}
 use Rattle.codec_payload_vp8.specs.declared.vp8.descriptor.Vp8DescriptorError.{Vp8DescriptorError}
-use Rattle.codec_payload_forward.specs.declared.vp8_ids.Vp8Ids.{Vp8Ids}
-use Rattle.codec_payload_forward.specs.Forwarding.{RepeatsWhatWasSent, ids_after, ids_when, packet_under, payload_for}
+use Rattle.codec_payload_forward.specs.declared.vp8_ids.IdOffsets.{IdOffsets}
+use Rattle.codec_payload_forward.specs.Forwarding.{RepeatsWhatWasSent, ids_after, ids_when, sent_packet}
 use Rattle.codec_payload_forward.specs.Numbers.{Numbers, after_packet, is_too_old, sent_as}
-use Rattle.codec_payload_forward.specs.Vp8Numbers.{after_described, payload_as}
+use Rattle.codec_payload_forward.specs.Vp8Numbers.{Ids, after_described, offsets_at}
 
 -- Numbers
 
@@ -19,38 +19,39 @@ same_sent m number n = by (is_too_old m number) refl (ltb m.highest number) refl
     by false e true g = rw (e, g) refl
     by false e false g = rw (e, g) refl
 
--- Ids
+-- Ids: the offsets of what was sent do not depend on what is sent later
 
-same_payload : (m : Vp8Ids) (read : Result Descriptor Vp8DescriptorError) (payload : List ℕ) → payload_as (after_described read m) payload ≡ payload_as m payload
-same_payload m (Ok d) payload = refl
-same_payload m (Err error) payload = refl
+same_offsets : (o : IdOffsets) (read : Result Descriptor Vp8DescriptorError) (m : Ids) (n : ℕ)
+    → offsets_at (after_described o read (record m { leaving = None })) n ≡ offsets_at m n
+same_offsets o (Ok d) m n = refl
+same_offsets o (Err error) m n = refl
 
-same_ids : (codec : Codec) (ids : Vp8Ids) (payload other : List ℕ) → payload_for codec (ids_after codec other ids) payload ≡ payload_for codec ids payload
-same_ids codecs.Vp8 ids payload other = same_payload ids (parsed other) payload
-same_ids codecs.Opus ids payload other = refl
-same_ids codecs.PCMU ids payload other = refl
-same_ids codecs.PCMA ids payload other = refl
-same_ids codecs.G722 ids payload other = refl
-same_ids codecs.CN ids payload other = refl
-same_ids codecs.AmrWb ids payload other = refl
-same_ids codecs.H264 ids payload other = refl
-same_ids codecs.H265 ids payload other = refl
-same_ids codecs.H266 ids payload other = refl
-same_ids codecs.Vp9 ids payload other = refl
-same_ids codecs.Av1 ids payload other = refl
-same_ids codecs.Null ids payload other = refl
-same_ids codecs.Tele ids payload other = refl
-same_ids codecs.Rtx ids payload other = refl
-same_ids codecs.Red ids payload other = refl
-same_ids codecs.Unknown ids payload other = refl
+same_ids : (codec : Codec) (m : ℕ) (ids : Ids) (other : List ℕ) (n : ℕ) → offsets_at (ids_after codec m other ids) n ≡ offsets_at ids n
+same_ids codecs.Vp8 m ids other n = same_offsets (offsets_at ids m) (parsed other) ids n
+same_ids codecs.Opus m ids other n = refl
+same_ids codecs.PCMU m ids other n = refl
+same_ids codecs.PCMA m ids other n = refl
+same_ids codecs.G722 m ids other n = refl
+same_ids codecs.CN m ids other n = refl
+same_ids codecs.AmrWb m ids other n = refl
+same_ids codecs.H264 m ids other n = refl
+same_ids codecs.H265 m ids other n = refl
+same_ids codecs.H266 m ids other n = refl
+same_ids codecs.Vp9 m ids other n = refl
+same_ids codecs.Av1 m ids other n = refl
+same_ids codecs.Null m ids other n = refl
+same_ids codecs.Tele m ids other n = refl
+same_ids codecs.Rtx m ids other n = refl
+same_ids codecs.Red m ids other n = refl
+same_ids codecs.Unknown m ids other n = refl
 
-same_when : (ahead : Bool) (codec : Codec) (ids : Vp8Ids) (payload other : List ℕ) → payload_for codec (ids_when ahead codec other ids) payload ≡ payload_for codec ids payload
-same_when true codec ids payload other = same_ids codec ids payload other
-same_when false codec ids payload other = refl
+same_when : (ahead : Bool) (codec : Codec) (m : ℕ) (ids : Ids) (other : List ℕ) (n : ℕ) → offsets_at (ids_when ahead codec m other ids) n ≡ offsets_at ids n
+same_when true codec m ids other n = same_ids codec m ids other n
+same_when false codec m ids other n = refl
 
 pub repeats_what_was_sent : RepeatsWhatWasSent
 repeats_what_was_sent f now m n sent p q = (
   same_sent f.numbers m n,
-  ap (λ (payload : List ℕ). packet_under f.settings sent ((p.header.timestamp + f.times.offset) % 4294967296) (record p { payload = payload }))
-      (same_when (ltb f.numbers.highest m) f.settings.codec f.ids p.payload q.payload),
+  ap (λ (o : IdOffsets). sent_packet f.settings o sent ((p.header.timestamp + f.times.offset) % 4294967296) p)
+      (same_when (ltb f.numbers.highest m) f.settings.codec m f.ids q.payload n),
 )

@@ -8,7 +8,7 @@ use Rattle.codec_payload_base.specs.declared.wire.Codec.TheVariants as codecs
 use Rattle.codec_payload_rtp.specs.RtpPackets.{Header, Packet, header_bytes, is_padded, packet_bytes, padding_bytes}
 use Rattle.codec_payload_vp8.specs.Vp8Patch.{Patch, patched, written}
 use Rattle.codec_payload_forward.specs.declared.forwarder.ForwardSettings.{ForwardSettings}
-use Rattle.codec_payload_forward.specs.declared.vp8_ids.Vp8Ids.{Vp8Ids}
+use Rattle.codec_payload_forward.specs.declared.vp8_ids.IdOffsets.{IdOffsets}
 use Rattle.codec_payload_forward.specs.Forwarding.{IsWritten, forwarded_size, packet_under, payload_for, sent_packet}
 use Rattle.codec_payload_forward.specs.Vp8Numbers.{patch_in, patched_by, payload_as}
 
@@ -29,27 +29,27 @@ length_patched_by : (patch : Option Patch) (payload : List ℕ) → length (patc
 length_patched_by None payload = refl
 length_patched_by (Some p) payload = length_patched p payload
 
-pub length_payload : (ids : Vp8Ids) (payload : List ℕ) → length (payload_as ids payload) ≡ length payload
-length_payload ids payload = length_patched_by (patch_in ids payload) payload
+pub length_payload : (offsets : IdOffsets) (payload : List ℕ) → length (payload_as offsets payload) ≡ length payload
+length_payload offsets payload = length_patched_by (patch_in offsets payload) payload
 
-pub length_payload_for : (codec : Codec) (ids : Vp8Ids) (payload : List ℕ) → length (payload_for codec ids payload) ≡ length payload
-length_payload_for codecs.Vp8 ids payload = length_payload ids payload
-length_payload_for codecs.Opus ids payload = refl
-length_payload_for codecs.PCMU ids payload = refl
-length_payload_for codecs.PCMA ids payload = refl
-length_payload_for codecs.G722 ids payload = refl
-length_payload_for codecs.CN ids payload = refl
-length_payload_for codecs.AmrWb ids payload = refl
-length_payload_for codecs.H264 ids payload = refl
-length_payload_for codecs.H265 ids payload = refl
-length_payload_for codecs.H266 ids payload = refl
-length_payload_for codecs.Vp9 ids payload = refl
-length_payload_for codecs.Av1 ids payload = refl
-length_payload_for codecs.Null ids payload = refl
-length_payload_for codecs.Tele ids payload = refl
-length_payload_for codecs.Rtx ids payload = refl
-length_payload_for codecs.Red ids payload = refl
-length_payload_for codecs.Unknown ids payload = refl
+pub length_payload_for : (codec : Codec) (offsets : IdOffsets) (payload : List ℕ) → length (payload_for codec offsets payload) ≡ length payload
+length_payload_for codecs.Vp8 offsets payload = length_payload offsets payload
+length_payload_for codecs.Opus offsets payload = refl
+length_payload_for codecs.PCMU offsets payload = refl
+length_payload_for codecs.PCMA offsets payload = refl
+length_payload_for codecs.G722 offsets payload = refl
+length_payload_for codecs.CN offsets payload = refl
+length_payload_for codecs.AmrWb offsets payload = refl
+length_payload_for codecs.H264 offsets payload = refl
+length_payload_for codecs.H265 offsets payload = refl
+length_payload_for codecs.H266 offsets payload = refl
+length_payload_for codecs.Vp9 offsets payload = refl
+length_payload_for codecs.Av1 offsets payload = refl
+length_payload_for codecs.Null offsets payload = refl
+length_payload_for codecs.Tele offsets payload = refl
+length_payload_for codecs.Rtx offsets payload = refl
+length_payload_for codecs.Red offsets payload = refl
+length_payload_for codecs.Unknown offsets payload = refl
 
 -- A header without CSRCs and extension has 12 bytes
 
@@ -71,16 +71,16 @@ length_under s number time p =
     let padding : length (padding_bytes p.padding) ≡ p.padding = length_padding p.padding in
     omega (arith, whole, head, rest, padding)
 
-pub length_sent : (s : ForwardSettings) (ids : Vp8Ids) (number time : ℕ) (p : Packet) → length (packet_bytes (sent_packet s ids number time p)) ≡ forwarded_size p
-length_sent s ids number time p =
-    let under : length (packet_bytes (sent_packet s ids number time p)) ≡ 12 + length (payload_for s.codec ids p.payload) + p.padding =
-    length_under s number time (record p { payload = payload_for s.codec ids p.payload }) in
-    let same : length (payload_for s.codec ids p.payload) ≡ length p.payload = length_payload_for s.codec ids p.payload in
+pub length_sent : (s : ForwardSettings) (offsets : IdOffsets) (number time : ℕ) (p : Packet) → length (packet_bytes (sent_packet s offsets number time p)) ≡ forwarded_size p
+length_sent s offsets number time p =
+    let under : length (packet_bytes (sent_packet s offsets number time p)) ≡ 12 + length (payload_for s.codec offsets p.payload) + p.padding =
+    length_under s number time (record p { payload = payload_for s.codec offsets p.payload }) in
+    let same : length (payload_for s.codec offsets p.payload) ≡ length p.payload = length_payload_for s.codec offsets p.payload in
     omega (arith, under, same)
 
 -- ---- written again
 
-pub on_written : {T : Type 0} (r : Result T AllocError) (s : ForwardSettings) (ids : Vp8Ids) (number time : ℕ) (p : Packet) (bytes : List ℕ)
-    → OnOk r (IsWritten (sent_packet s ids number time p) bytes) → OnOk r (length bytes ≡ forwarded_size p)
-on_written (Ok x) s ids number time p bytes h = ap length h.0 ∙ length_sent s ids number time p
-on_written (Err e) s ids number time p bytes h = tt
+pub on_written : {T : Type 0} (r : Result T AllocError) (s : ForwardSettings) (offsets : IdOffsets) (number time : ℕ) (p : Packet) (bytes : List ℕ)
+    → OnOk r (IsWritten (sent_packet s offsets number time p) bytes) → OnOk r (length bytes ≡ forwarded_size p)
+on_written (Ok x) s offsets number time p bytes h = ap length h.0 ∙ length_sent s offsets number time p
+on_written (Err e) s offsets number time p bytes h = tt

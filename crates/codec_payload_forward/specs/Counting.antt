@@ -1,5 +1,5 @@
 -- Counts of a viewer's stream, each modulo 2^64.
-use Rattle.std.specs.Prelude.{ℕ, ◌+◌, ◌%◌, ◌^◌, Bool, true, false}
+use Rattle.std.specs.Prelude.{ℕ, ◌+◌, ◌%◌, Bool, true, false}
 use Rattle.codec_payload_forward.specs.declared.counts.ForwardCounts.{ForwardCounts}
 use Rattle.codec_payload_forward.specs.declared.forwarder.Forwarded.{Forwarded}
 use Rattle.codec_payload_forward.specs.declared.forwarder.Forwarded.TheVariants as answers

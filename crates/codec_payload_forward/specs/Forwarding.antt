@@ -20,8 +20,8 @@ use Rattle.codec_payload_forward.specs.declared.forwarder.Forwarded.TheVariants 
 use Rattle.codec_payload_forward.specs.declared.renumbering.Placed.TheVariants as places
 use Rattle.codec_payload_forward.specs.declared.times.Retiming.{Retiming}
 use Rattle.codec_payload_forward.specs.Numbers.{HasNumber, Numbers, after_packet, begun, next_number, placed, sent_as}
-use Rattle.codec_payload_forward.specs.declared.vp8_ids.Vp8Ids.{Vp8Ids}
-use Rattle.codec_payload_forward.specs.Vp8Numbers.{after_picture, first_ids, payload_as, switched_ids}
+use Rattle.codec_payload_forward.specs.declared.vp8_ids.IdOffsets.{IdOffsets}
+use Rattle.codec_payload_forward.specs.Vp8Numbers.{Ids, after_picture, first_ids, left_picture, offsets_at, offsets_switched, payload_as, switched_ids}
 use Rattle.codec_payload_forward.specs.Times.{after_time, begun_times, switched_times, time_as}
 
 -- a forwarder: its settings; the source that is forwarded, and the one to go over to; the maps of numbers, times and VP8's ids; the
@@ -32,7 +32,7 @@ pub record Forward : Type 0 where
   pub wanted : Option ℕ
   pub numbers : Numbers
   pub times : Retiming
-  pub ids : Vp8Ids
+  pub ids : Ids
   pub next : ℕ
   pub written_at : Option ℕ
 
@@ -75,9 +75,9 @@ begins codec payload = true
 -- ---- what is written
 
 -- the payload of VP8 with the ids of the viewer's stream; other payloads as they are
-abbrev pub payload_for : Codec → Vp8Ids → List ℕ → List ℕ
-payload_for codecs.Vp8 ids payload = payload_as ids payload
-payload_for codec ids payload = payload
+abbrev pub payload_for : Codec → IdOffsets → List ℕ → List ℕ
+payload_for codecs.Vp8 offsets payload = payload_as offsets payload
+payload_for codec offsets payload = payload
 
 -- the packet received, with the viewer's SSRC and payload type, this number and this time, without CSRCs and extension
 abbrev pub packet_under : ForwardSettings → (number time : ℕ) → Packet → Packet
@@ -88,8 +88,8 @@ packet_under s number time p = record {
 }
 
 -- the same, with the payload for the viewer
-abbrev pub sent_packet : ForwardSettings → Vp8Ids → (number time : ℕ) → Packet → Packet
-sent_packet s ids number time p = packet_under s number time (record p { payload = payload_for s.codec ids p.payload })
+abbrev pub sent_packet : ForwardSettings → IdOffsets → (number time : ℕ) → Packet → Packet
+sent_packet s offsets number time p = packet_under s number time (record p { payload = payload_for s.codec offsets p.payload })
 
 -- the number of a packet of the source, extended
 abbrev pub number_in : Forward → Packet → ℕ
@@ -100,37 +100,44 @@ abbrev pub ticks_between : Option ℕ → ℕ → ℕ
 ticks_between None now = 0
 ticks_between (Some last) now = min (max (now - last) 1) 2147483647
 
--- the packet of the source that is forwarded, as it is sent
+-- the packet with the number `n` of the source that is forwarded, as it is sent
+abbrev pub packet_for : Forward → (n sent : ℕ) → Packet → Packet
+packet_for f n sent p = sent_packet f.settings (offsets_at f.ids n) sent (time_as f.times p.header.timestamp) p
+
 abbrev pub next_packet : Forward → ℕ → Packet → Packet
-next_packet f sent p = sent_packet f.settings f.ids sent (time_as f.times p.header.timestamp) p
+next_packet f sent p = packet_for f (number_in f p) sent p
 
--- the map of ids after a packet, and after a switch
-abbrev pub ids_after : Codec → List ℕ → Vp8Ids → Vp8Ids
-ids_after codecs.Vp8 payload ids = after_picture payload ids
-ids_after codec payload ids = ids
+-- the map of ids after a packet, after one that is left out, and after a switch
+abbrev pub ids_after : Codec → ℕ → List ℕ → Ids → Ids
+ids_after codecs.Vp8 n payload ids = after_picture (offsets_at ids n) payload ids
+ids_after codec n payload ids = ids
 
-abbrev pub ids_switched : Codec → List ℕ → Vp8Ids → Vp8Ids
+abbrev pub ids_left : Codec → ℕ → List ℕ → Ids → Ids
+ids_left codecs.Vp8 n payload ids = left_picture n payload ids
+ids_left codec n payload ids = ids
+
+abbrev pub ids_switched : Codec → List ℕ → Ids → Ids
 ids_switched codecs.Vp8 payload ids = switched_ids payload ids
 ids_switched codec payload ids = ids
 
 -- the first packet of another source: the number and the ids go on by one, the time by the ticks that passed
 abbrev pub first_packet : ℕ → Forward → Packet → Packet
-first_packet now f p = sent_packet f.settings (ids_switched f.settings.codec p.payload f.ids) (next_number f.numbers) ((f.times.highest + ticks_between f.written_at now) % 4294967296) p
+first_packet now f p = sent_packet f.settings (offsets_switched f.ids p.payload) (next_number f.numbers) ((f.times.highest + ticks_between f.written_at now) % 4294967296) p
 
 -- ---- the forwarder after it
 
 abbrev pub written_when : Bool → ℕ → Option ℕ → Option ℕ
 written_when ahead now last = if ahead then Some now else last
 
-abbrev pub ids_when : Bool → Codec → List ℕ → Vp8Ids → Vp8Ids
-ids_when ahead codec payload ids = if ahead then ids_after codec payload ids else ids
+abbrev pub ids_when : Bool → Codec → ℕ → List ℕ → Ids → Ids
+ids_when ahead codec n payload ids = if ahead then ids_after codec n payload ids else ids
 
 -- a packet was written under its number
 abbrev pub after_written : (now number : ℕ) → Packet → Forward → Forward
 after_written now number p f = record f {
   numbers = after_packet number true f.numbers;
   times = after_time p.header.timestamp f.times;
-  ids = ids_when (nat_lt f.numbers.highest number) f.settings.codec p.payload f.ids;
+  ids = ids_when (nat_lt f.numbers.highest number) f.settings.codec number p.payload f.ids;
   written_at = written_when (nat_lt f.numbers.highest number) now f.written_at;
 }
 
@@ -174,12 +181,13 @@ Forwards now p f answers.Filled bytes t = ⊥
 abbrev pub padding_packet : Forward → ℕ → Packet → Packet
 padding_packet f sent p = packet_under f.settings sent (time_as f.times p.header.timestamp) (record p { payload = []; padding = 1 })
 
--- What is done with a packet that is left out: above all others it takes no number; if it comes late, its number is filled
+-- What is done with a packet that is left out: above all others it takes no number, and VP8's picture ids close up too; if it comes
+-- late, its number is filled
 abbrev pub Leaves : Packet → Forward → Forwarded → List ℕ → Forward → Type 0
 Leaves p f answers.LeftOut bytes t =
     (is_source f.source p.header.ssrc ≡ true) × (bytes ≡ [])
     × (((placed f.numbers (number_in f p) true ≡ places.LeftOut) × (t ≡ f))
-    ⊎ ((f.numbers.highest < number_in f p) × (t ≡ record f { numbers = after_packet (number_in f p) false f.numbers })))
+    ⊎ ((f.numbers.highest < number_in f p) × (t ≡ record f { numbers = after_packet (number_in f p) false f.numbers; ids = ids_left f.settings.codec (number_in f p) p.payload f.ids })))
 Leaves p f answers.Filled bytes t =
     (is_source f.source p.header.ssrc ≡ true) × (number_in f p ≤ f.numbers.highest)
     × ((sent : ℕ) × (placed f.numbers (number_in f p) true ≡ places.Sent sent) × IsWritten (padding_packet f sent p) bytes) × (t ≡ f)
@@ -257,4 +265,4 @@ time_for f ssrc time = if is_source f.source ssrc then Some (time_as f.times tim
 abbrev pub RepeatsWhatWasSent : Type 0
 RepeatsWhatWasSent =
     (f : Forward) (now m n sent : ℕ) (p q : Packet)
-    → (sent_as (after_written now m q f).numbers n ≡ sent_as f.numbers n) × (next_packet (after_written now m q f) sent p ≡ next_packet f sent p)
+    → (sent_as (after_written now m q f).numbers n ≡ sent_as f.numbers n) × (packet_for (after_written now m q f) n sent p ≡ packet_for f n sent p)

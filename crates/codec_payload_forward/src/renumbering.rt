@@ -59,7 +59,7 @@ impl Model for Renumbering {
 }
 
 /// Returns how many of the numbers are above that one. It is also the place of that one, if it is among them.
-fn count_above(numbers: &VecDeque<u64>, number: u64) -> usize
+pub(crate) fn count_above(numbers: &VecDeque<u64>, number: u64) -> usize
     requires { Falls numbers.now.items }
     ensures value { result ≡ above number numbers.now.items }
     ensures few { result ≤ length numbers.now.items }
@@ -96,7 +96,7 @@ fn source_at(left_out: &VecDeque<u64>, place: u64) -> u64
 }
 
 /// Puts a number in front of the others, and returns the last one, which leaves.
-fn replace_last(numbers: &mut VecDeque<u64>, number: u64) -> u64
+pub(crate) fn replace_last(numbers: &mut VecDeque<u64>, number: u64) -> u64
     requires full { length numbers.old.items ≡ 4096 }
     requires falls { AllBelow number numbers.old.items }
     ensures last { result ≡ get_or numbers.old.items 4095 0 }

@@ -4,7 +4,7 @@
 
 use crate::forward::renumbering::{Placed, Renumbering};
 use crate::forward::times::Retiming;
-use crate::forward::vp8_ids::Vp8Ids;
+use crate::forward::vp8_ids::{IdOffsets, Vp8Ids};
 use crate::history::retransmission::{History, RetransmissionStream};
 use crate::memory::{AllocError, TryVec};
 use crate::rtp::packet::{PacketHeader, RtpPacket};
@@ -172,23 +172,36 @@ fn ticks_between(last: Option<u64>, now: u64) -> u32 {
     }
 }
 
-/// Returns the map of ids after a packet with this payload was sent.
-fn ids_after(codec: Codec, ids: Vp8Ids, payload: &[u8]) -> Vp8Ids {
-    let mut ids = ids;
+/// Records in the map of ids that the packet with this number and payload was sent.
+fn record_ids(codec: Codec, ids: &mut Vp8Ids, number: u64, payload: &[u8]) {
     match codec {
-        Codec::Vp8 => {
-            ids.record(payload);
-            ids
-        }
-        _ => ids,
+        Codec::Vp8 => ids.record(number, payload),
+        _ => {}
     }
 }
 
-/// Returns the map of ids after a switch to a source whose first payload this is.
-fn ids_switched(codec: Codec, ids: Vp8Ids, payload: &[u8]) -> Vp8Ids {
+/// Goes over to a source whose first payload this is, in the map of ids.
+fn switch_ids(codec: Codec, ids: &mut Vp8Ids, payload: &[u8]) {
     match codec {
-        Codec::Vp8 => ids.switched(payload),
-        _ => ids,
+        Codec::Vp8 => ids.switch(payload),
+        _ => {}
+    }
+}
+
+/// Leaves out the packet with this number and payload, which is above all others, in both maps.
+fn leave_out_of(
+    codec: Codec,
+    numbers: &mut Renumbering,
+    ids: &mut Vp8Ids,
+    number: u64,
+    payload: &[u8],
+) -> Result<(), AllocError> {
+    match codec {
+        Codec::Vp8 => ids.leave_out(numbers, number, payload),
+        _ => {
+            numbers.place(number, false)?;
+            Ok(())
+        }
     }
 }
 
@@ -262,7 +275,7 @@ impl Forwarder {
             wanted: None,
             numbers: Renumbering::new(0, settings.first_number.wrapping_sub(1)),
             times: Retiming::new(0, settings.first_time),
-            ids: Vp8Ids::default(),
+            ids: Vp8Ids::new(),
             next: first_of(settings.retransmissions),
             written_at: None,
             payload: Vec::new(),
@@ -354,23 +367,23 @@ impl Forwarder {
     fn record(&mut self, now: u64, number: u64, packet: &RtpPacket<'_>) {
         if number > self.numbers.highest() {
             self.written_at = Some(now);
-            self.ids = ids_after(self.settings.codec, self.ids, packet.payload);
+            record_ids(self.settings.codec, &mut self.ids, number, packet.payload);
         }
         self.numbers.record(number);
         self.times.record(packet.header.timestamp);
     }
 
-    /// Writes a packet with these ids, under this number and time.
+    /// Writes a packet with ids by these offsets, under this number and time.
     fn write_as(
         &mut self,
-        ids: Vp8Ids,
+        offsets: IdOffsets,
         place: Place,
         packet: &RtpPacket<'_>,
         out: &mut Vec<u8>,
     ) -> Result<(), AllocError> {
         match self.settings.codec {
             Codec::Vp8 => {
-                ids.rewrite(packet.payload, &mut self.payload)?;
+                offsets.rewrite(packet.payload, &mut self.payload)?;
                 let rewritten = RtpPacket {
                     header: packet.header,
                     payload: &self.payload,
@@ -382,6 +395,12 @@ impl Forwarder {
         }
     }
 
+    /// Returns what is added to the ids in a packet of the source that is forwarded.
+    fn offsets_of(&self, packet: &RtpPacket<'_>) -> IdOffsets {
+        let number = extended(self.numbers.highest(), packet.header.sequence_number);
+        self.ids.offsets(number)
+    }
+
     /// Writes a packet of the source that is forwarded, under this number.
     fn write_again_as(
         &mut self,
@@ -390,7 +409,7 @@ impl Forwarder {
         out: &mut Vec<u8>,
     ) -> Result<(), AllocError> {
         let time = self.times.sent_as(packet.header.timestamp);
-        self.write_as(self.ids, Place { number, time }, packet, out)
+        self.write_as(self.offsets_of(packet), Place { number, time }, packet, out)
     }
 
     /// Goes over to the source of a packet, and writes the packet.
@@ -404,9 +423,9 @@ impl Forwarder {
         let ticks = ticks_between(self.written_at, now);
         let number = self.numbers.next_number();
         let time = self.times.next_time(ticks);
-        let ids = ids_switched(self.settings.codec, self.ids, packet.payload);
-        self.write_as(ids, Place { number, time }, packet, out)?;
-        self.ids = ids;
+        let offsets = self.ids.offsets_switched(packet.payload);
+        self.write_as(offsets, Place { number, time }, packet, out)?;
+        switch_ids(self.settings.codec, &mut self.ids, packet.payload);
         self.numbers
             .switch(65_536 + u64::from(header.sequence_number));
         self.times.switch(header.timestamp, ticks);
@@ -420,8 +439,9 @@ impl Forwarder {
     /// packet that comes late, `out` has a packet of padding under its number ([`Forwarded::Filled`]). With any other answer `out`
     /// is empty.
     ///
-    /// Ids in payloads do not close up: use it for codecs without picture ids, such as AV1 and audio. It takes 8 bytes for each
-    /// packet left out, at most 32,768 bytes.
+    /// In VP8, PictureIDs close up behind each picture that is left out. Leave out all packets of a picture, or none. The id of a
+    /// picture all of whose packets come late stays unused. PictureIDs of VP9 do not close up. It takes 8 bytes for each packet left
+    /// out, and for VP8 8 bytes for each picture, at most 65,536 bytes.
     ///
     /// # Errors
     ///
@@ -452,7 +472,13 @@ impl Forwarder {
         out: &mut Vec<u8>,
     ) -> Result<Forwarded, AllocError> {
         if number > self.numbers.highest() {
-            self.numbers.place(number, false)?;
+            leave_out_of(
+                self.settings.codec,
+                &mut self.numbers,
+                &mut self.ids,
+                number,
+                packet.payload,
+            )?;
             return Ok(Forwarded::LeftOut);
         }
         let time = self.times.sent_as(packet.header.timestamp);
@@ -569,7 +595,8 @@ impl Forwarder {
         };
         match self.settings.codec {
             Codec::Vp8 => {
-                self.ids.rewrite(packet.payload, &mut self.payload)?;
+                let offsets = self.offsets_of(packet);
+                offsets.rewrite(packet.payload, &mut self.payload)?;
                 write_behind_number(header, number, &self.payload, out)
             }
             _ => write_behind_number(header, number, packet.payload, out),

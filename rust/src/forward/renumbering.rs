@@ -46,7 +46,7 @@ pub struct Renumbering {
 }
 
 /// Returns how many of the numbers are above that one. It is also the place of that one, if it is among them.
-fn count_above(numbers: &VecDeque<u64>, number: u64) -> usize {
+pub(crate) fn count_above(numbers: &VecDeque<u64>, number: u64) -> usize {
     for place in 0..numbers.len() {
         if numbers[place] <= number {
             return place;
@@ -73,7 +73,7 @@ fn source_at(left_out: &VecDeque<u64>, place: u64) -> u64 {
 }
 
 /// Puts a number in front of the others, and returns the last one, which leaves.
-fn replace_last(numbers: &mut VecDeque<u64>, number: u64) -> u64 {
+pub(crate) fn replace_last(numbers: &mut VecDeque<u64>, number: u64) -> u64 {
     let last = numbers.pop_back().unwrap();
     numbers.push_front(number);
     last

@@ -1,4 +1,4 @@
-use Rattle.std.proofs.Common.{◌≡◌, rules}
+use Rattle.std.proofs.Common.{rules}
 use Rattle.codec_payload_rtp.specs.RtpValues.{packet_of}
 use Rattle.codec_payload_forward.specs.Forwarding.{IsNotRequested}
 use Rattle.codec_payload_forward.proofs.RequestLemmas.{not_kept, of_another}

@@ -4,4 +4,4 @@ use Rattle.codec_payload_forward.proofs.forwarder.Forwarder.write_again_as.Goals
 
 pub returns-clause-size : goal.returns-clause-size
 returns-clause-size c =
-    on_written c.write_as-2.result c.args.self.now.settings c.write_as.inside.ids c.args.number c.sent_as-time.result (packet_of c.args.packet.now) c.write_as-2.new.out.items c.write_as-2.ensures.ok
+    on_written c.write_as.result c.args.self.now.settings c.offsets_of.result c.args.number c.sent_as-time.result (packet_of c.args.packet.now) c.write_as.new.out.items c.write_as.ensures.ok
