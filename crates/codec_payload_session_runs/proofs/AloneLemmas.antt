@@ -1,13 +1,13 @@
 -- Runs of a receiver alone, and projections of runs to it.
-use Rattle.std.proofs.Common.{◌≡◌, ◌∙◌, refl, sym, ap, subst, ℕ, ◌+◌, Bool, true, false, List, [], ◌∷◌, ◌++◌, append_assoc, append-nil, arith}
+use Rattle.std.proofs.Common.{◌≡◌, ◌∙◌, refl, sym, ap, subst, ℕ, ◌+◌, Bool, true, false, List, [], ◌∷◌, ◌++◌, append_assoc, append-nil, Option, arith}
 use Rattle.codec_payload_base.specs.declared.wire.Ticks.{Ticks}
 use Rattle.codec_payload_stream.specs.Sessions.{Session as Receiver}
 use Rattle.codec_payload_session.specs.declared.session.Event.{Event}
 use Rattle.codec_payload_session.specs.declared.session.Event.TheVariants as events
-use Rattle.codec_payload_session_runs.specs.Lives.{AreInOrder, AreMadeBy, AreOfOne, HasNoPair, IsMadeBy, IsPairFirst, IsPart, Projects, ReceiverCall, RunsAlone, events_in, events_of, finishes, is_pair, is_pop, is_shown, many_pops, one_more, pairs, pops, receives, reports, shown, shown_in, shown_of, waits, with_shown}
+use Rattle.codec_payload_session_runs.specs.Lives.{AreInOrder, AreMadeBy, AreOfOne, HasNoPair, IsMadeBy, IsPairFirst, IsPart, Projects, ReceiverCall, RunsAlone, events_in, events_of, finishes, follows, is_finish, is_pair, is_pop, is_shown, many_finishes, many_pops, one_more, pairs, pops, receives, reports, shown, shown_in, shown_of, waits, with_shown}
 use Rattle.codec_payload_session_runs.specs.SessionRuns.{Call}
-use Rattle.codec_payload_session_runs.specs.declared.run.SessionStep.{SessionStep}
 use Rattle.codec_payload_session_runs.specs.declared.run.SessionStep.TheVariants as steps
+use Rattle.codec_payload_session_runs.specs.declared.run.StepAnswer.TheVariants as answers
 
 -- ---- calls of a receiver
 
@@ -31,26 +31,35 @@ pub pops_append : (cs ds : List ReceiverCall) → many_pops (cs ++ ds) ≡ many_
 pops_append [] ds = omega arith
 pops_append (c ∷ cs) ds = ap (λ (n : ℕ). one_more (is_pop c) n) (pops_append cs ds) ∙ one_more_plus (is_pop c) (many_pops cs) (many_pops ds)
 
-pub made_append : (step : SessionStep) (cs ds : List ReceiverCall) → AreMadeBy step cs → AreMadeBy step ds → AreMadeBy step (cs ++ ds)
-made_append step [] ds a b = b
-made_append step (c ∷ cs) ds a b = (a.0, made_append step cs ds a.1 b)
+pub finishes_append : (cs ds : List ReceiverCall) → many_finishes (cs ++ ds) ≡ many_finishes cs + many_finishes ds
+finishes_append [] ds = omega arith
+finishes_append (c ∷ cs) ds = ap (λ (n : ℕ). one_more (is_finish c) n) (finishes_append cs ds) ∙ one_more_plus (is_finish c) (many_finishes cs) (many_finishes ds)
+
+pub made_append : (ssrc payload_type : ℕ) (call : Call) (cs ds : List ReceiverCall) → AreMadeBy ssrc payload_type call cs → AreMadeBy ssrc payload_type call ds → AreMadeBy ssrc payload_type call (cs ++ ds)
+made_append ssrc payload_type call [] ds a b = b
+made_append ssrc payload_type call (c ∷ cs) ds a b = (a.0, made_append ssrc payload_type call cs ds a.1 b)
+
+-- the call of a poll
+abbrev pub poll_of : Ticks → Option Event → Call
+poll_of now event = record { step = steps.Poll now; answer = answers.Polled event }
 
 -- a poll makes no pair known
-polled_is : (now : Ticks) (c : ReceiverCall) → IsMadeBy (steps.Poll now) c → is_pair c ≡ false
-polled_is now (receives at bytes answer) made = refl
-polled_is now (pops at answer) made = refl
-polled_is now finishes made = refl
-polled_is now (waits limits) made = refl
-polled_is now (pairs retransmission) made = absurd made
-polled_is now reports made = refl
+polled_is : (ssrc payload_type : ℕ) (now : Ticks) (event : Option Event) (c : ReceiverCall) → IsMadeBy ssrc payload_type (poll_of now event) c → is_pair c ≡ false
+polled_is ssrc payload_type now event (receives at bytes answer) made = refl
+polled_is ssrc payload_type now event (pops at answer) made = refl
+polled_is ssrc payload_type now event finishes made = refl
+polled_is ssrc payload_type now event (waits limits) made = refl
+polled_is ssrc payload_type now event (follows wait) made = refl
+polled_is ssrc payload_type now event (pairs retransmission) made = absurd made
+polled_is ssrc payload_type now event reports made = refl
 
-polled_none : (now : Ticks) (cs : List ReceiverCall) → AreMadeBy (steps.Poll now) cs → HasNoPair cs
-polled_none now [] made = tt
-polled_none now (c ∷ cs) made = (polled_is now c made.0, polled_none now cs made.1)
+polled_none : (ssrc payload_type : ℕ) (now : Ticks) (event : Option Event) (cs : List ReceiverCall) → AreMadeBy ssrc payload_type (poll_of now event) cs → HasNoPair cs
+polled_none ssrc payload_type now event [] made = tt
+polled_none ssrc payload_type now event (c ∷ cs) made = (polled_is ssrc payload_type now event c made.0, polled_none ssrc payload_type now event cs made.1)
 
-pub polled_first : (now : Ticks) (cs : List ReceiverCall) → AreMadeBy (steps.Poll now) cs → IsPairFirst cs
-polled_first now [] made = tt
-polled_first now (c ∷ cs) made = polled_none now cs made.1
+pub polled_first : (ssrc payload_type : ℕ) (now : Ticks) (event : Option Event) (cs : List ReceiverCall) → AreMadeBy ssrc payload_type (poll_of now event) cs → IsPairFirst cs
+polled_first ssrc payload_type now event [] made = tt
+polled_first ssrc payload_type now event (c ∷ cs) made = polled_none ssrc payload_type now event cs made.1
 
 -- ---- projections
 

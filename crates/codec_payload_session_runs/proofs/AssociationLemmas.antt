@@ -15,7 +15,7 @@ use Rattle.codec_payload_stream.specs.declared.receiver.Retransmission.{Retransm
 use Rattle.codec_payload_session.specs.Arrivals.{Arrives, Feeds, FeedsIf, Port, TakesIn, TakesInAs, arrival_of}
 use Rattle.codec_payload_session.specs.Associations.{owner_of, pair_at, pair_of, pair_with, unpaired_at, unpaired_by, unpaired_rtp}
 use Rattle.codec_payload_session.specs.Formats.{has_type, resends, retransmission_for, retransmission_of, role_by, stream_of}
-use Rattle.codec_payload_session.specs.Pairs.{is_apart, paired_if, paired_when, paired_where, with_pair}
+use Rattle.codec_payload_session.specs.Pairs.{is_apart, paired_if, paired_when, paired_where, with_pair, without_pair}
 use Rattle.codec_payload_session.specs.Requests.{original_number}
 use Rattle.codec_payload_session.specs.Sorting.{sorted_at, sorted_by, sorted_retransmission, sorted_rtcp, sorted_rtp}
 use Rattle.codec_payload_session.specs.Streams.{Takes, is_no_memory, is_of}
@@ -28,7 +28,7 @@ use Rattle.codec_payload_session.specs.declared.stream.StreamState.{StreamState}
 use Rattle.codec_payload_session_runs.proofs.CallLemmas.{IsAboutPair, NamesNone, given_other, paired_goes, pairs_evolve}
 use Rattle.codec_payload_session_runs.proofs.FateLemmas.{AreApart, Evolves, GoAll, absent_at, evolves_all, of_same, same_sym}
 use Rattle.codec_payload_session_runs.proofs.StreamLemmas.{Goes, call_of, paired_fed_goes}
-use Rattle.codec_payload_session_runs.specs.Lives.{HasSsrcOf, IsAbsent, is_same}
+use Rattle.codec_payload_session_runs.specs.Lives.{HasSsrc, HasSsrcOf, IsAbsent, is_same}
 use Rattle.codec_payload_session_runs.specs.SessionRuns.{Call}
 use Rattle.codec_payload_session_runs.specs.declared.run.SessionStep.TheVariants as calls
 
@@ -136,12 +136,45 @@ named_last pair payload_type (p ∷ ps) = by_test (p.ssrc == pair.ssrc) (p.retra
 
 pub gets_ssrc : (s : SessionSettings) (now : Ticks) (datagram : Vec ℕ) (pair : SsrcPair) (ps : List SsrcPair) → IsFound s datagram.items pair.retransmission
     → IsAboutPair (calls.Receive now datagram) pair.ssrc (with_pair pair ps)
-gets_ssrc s now datagram pair ps found = λ x is.
+gets_ssrc s now datagram pair ps found = λ x given is.
     subst (λ (n : ℕ). HasSsrcOf datagram.items (retransmission_for n x.format.retransmission (with_pair pair ps))) (sym (eqb-true x.ssrc pair.ssrc is)) (by_type x.format.retransmission)
   where
     by_type : (o : Option ℕ) → HasSsrcOf datagram.items (retransmission_for pair.ssrc o (with_pair pair ps))
     by_type None = tt
     by_type (Some payload_type) = subst (λ (o : Option Retransmission). HasSsrcOf datagram.items o) (sym (named_last pair payload_type ps)) (found.packet, found.reads, found.own)
+
+-- a pair that the caller adds
+pub added_pair : (ssrc retransmission : ℕ) (ps : List SsrcPair) → IsAboutPair (calls.AddPair ssrc retransmission) ssrc (with_pair (record { ssrc = ssrc; retransmission = retransmission }) ps)
+added_pair ssrc retransmission ps = λ x given is. (
+  sym (eqb-true x.ssrc ssrc is),
+  subst (λ (n : ℕ). HasSsrc retransmission (retransmission_for n x.format.retransmission (with_pair pair ps))) (sym (eqb-true x.ssrc ssrc is)) (by_type x.format.retransmission),
+)
+  where
+    pair : SsrcPair
+    pair = record { ssrc = ssrc; retransmission = retransmission }
+
+    by_type : (o : Option ℕ) → HasSsrc retransmission (retransmission_for ssrc o (with_pair pair ps))
+    by_type None = tt
+    by_type (Some payload_type) = subst (λ (o : Option Retransmission). HasSsrc retransmission o) (sym (named_last pair payload_type ps)) refl
+
+-- pairs that the caller removes
+named_none : (ssrc payload_type : ℕ) (ps : List SsrcPair) → retransmission_of ssrc payload_type (without_pair ssrc ps) ≡ None
+named_none ssrc payload_type [] = refl
+named_none ssrc payload_type (p ∷ ps) = by_test (p.ssrc == ssrc) refl (named_none ssrc payload_type ps)
+  where
+    by_test : (a : Bool) → (p.ssrc == ssrc) ≡ a → retransmission_of ssrc payload_type (without_pair ssrc ps) ≡ None → retransmission_of ssrc payload_type (without_pair ssrc (p ∷ ps)) ≡ None
+    by_test true own later = rw own later
+    by_test false own later = rw own (rw own later)
+
+pub removed_pair : (ssrc : ℕ) (ps : List SsrcPair) → IsAboutPair (calls.RemovePair ssrc) ssrc (without_pair ssrc ps)
+removed_pair ssrc ps = λ x given is. (
+  sym (eqb-true x.ssrc ssrc is),
+  ap (λ (n : ℕ). retransmission_for n x.format.retransmission (without_pair ssrc ps)) (eqb-true x.ssrc ssrc is) ∙ by_type x.format.retransmission,
+)
+  where
+    by_type : (o : Option ℕ) → retransmission_for ssrc o (without_pair ssrc ps) ≡ None
+    by_type None = refl
+    by_type (Some payload_type) = named_none ssrc payload_type ps
 
 -- ---- the streams: they get the pair, and at most one of them receives the datagram
 
@@ -195,7 +228,7 @@ feeds_paired given probation place now datagram ssrc named ss p answer q is abou
     (evolves_all given c ss (slice_set (paired_where ssrc named ss) place got.after) (λ s t. refl)
     (one_paired c ssrc named ss place x got.after there apart
     (λ (z : StreamState) (e : paired_if ssrc named z ≡ x).
-    paired_fed_goes now datagram probation named (z.ssrc == ssrc) z got.told got.after answer (about z)
+    paired_fed_goes now datagram probation named (z.ssrc == ssrc) z got.told got.after answer (about z [])
     (subst (λ (w : StreamState). Takes now probation datagram.items w got.told got.after) (sym e) got.takes)
     (subst (λ (w : StreamState). Arrives (is_no_memory got.told) (arrival_of w.ssrc w.format.payload_type got.told) answer) (sym e) got.arrives))
     (λ (z : StreamState) (other : is_same z.ssrc z.format.payload_type x.ssrc x.format.payload_type ≡ false).

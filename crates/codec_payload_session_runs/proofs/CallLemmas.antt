@@ -1,5 +1,5 @@
 -- What each call of a session makes of its streams.
-use Rattle.std.proofs.Common.{◌≡◌, ◌<◌, ◌∙◌, inl, inr, refl, sym, ap, ap₂, subst, subst₂, ℕ, zero, suc, ◌+◌, ◌-◌, ◌^◌, ◌==◌, ◌&&◌, ◌||◌, min, Bool, true, false, cond, List, [], ◌∷◌, ◌++◌, map, Option, Some, None, Result, Ok, Err, is_ok, append-nil, slice_set, length, get_or, nat_lt, arith}
+use Rattle.std.proofs.Common.{◌≡◌, ◌<◌, ◌∙◌, inl, inr, refl, sym, ap, ap₂, subst, subst₂, ℕ, zero, suc, ◌+◌, ◌-◌, ◌^◌, ◌==◌, ◌&&◌, ◌||◌, min, Bool, true, false, cond, List, [], ◌∷◌, ◌++◌, map, Option, Some, None, Result, Ok, Err, is_ok, append-nil, slice_get, slice_set, length, get_or, nat_lt, arith}
 use Rattle.std.specs.Prelude.{IsErr}
 use Rattle.std.specs.List.{position, remove}
 use Rattle.std.specs.Global.{Vec}
@@ -37,10 +37,10 @@ use Rattle.codec_payload_session.specs.declared.session.Event.TheVariants as eve
 use Rattle.codec_payload_session.specs.declared.stream.Ending.{Ending}
 use Rattle.codec_payload_session.specs.declared.stream.Ending.TheVariants as endings
 use Rattle.codec_payload_session.specs.declared.stream.StreamState.{StreamState}
-use Rattle.codec_payload_session_runs.proofs.AloneLemmas.{made_append, polled_first, pops_append, runs_append, shown_append}
-use Rattle.codec_payload_session_runs.proofs.FateLemmas.{AreApart, AreFates, AreKnown, BeginsNow, Evolves, GoAll, IsFate, IsSilent, ShowsNothing, absent_middle, all_fates, all_stay, evolves_all, evolves_map, evolves_same, fates_append, found_none, mapped_all, one_goes, others_go, present, present_all, present_append}
+use Rattle.codec_payload_session_runs.proofs.AloneLemmas.{finishes_append, made_append, poll_of, polled_first, pops_append, runs_append, shown_append}
+use Rattle.codec_payload_session_runs.proofs.FateLemmas.{AreApart, AreFates, AreKnown, BeginsNow, Evolves, GoAll, IsFate, IsSilent, ShowsNothing, absent_middle, all_fates, all_stay, evolves_all, evolves_map, evolves_same, fates_append, found_none, mapped_all, one_goes, others_go, present, present_all, present_append, same_sym}
 use Rattle.codec_payload_session_runs.proofs.StreamLemmas.{Goes, HasPart, IsKnown, Keeps, Kind, Stepped, call_of, fed_goes, given_arrival, given_is, keeps_left, silent_goes, steps_stepped}
-use Rattle.codec_payload_session_runs.specs.Lives.{AreMadeBy, AreOfOne, IsAbsent, IsMadeBy, StartsWithDatagram, events_by, events_in, given_by, is_same, one_call, pairs, receives, released_by, reports, shown, shown_in, waits}
+use Rattle.codec_payload_session_runs.specs.Lives.{AreMadeBy, AreOfOne, IsAbsent, IsMadeAs, ReceiverCall, StartsWithDatagram, events_by, events_in, given_by, is_same, one_call, pairs, receives, released_by, reports, shown, shown_in, waits}
 use Rattle.codec_payload_session_runs.specs.SessionRuns.{Call}
 use Rattle.codec_payload_session_runs.specs.declared.run.SessionStep.{SessionStep}
 use Rattle.codec_payload_session_runs.specs.declared.run.SessionStep.TheVariants as calls
@@ -273,9 +273,6 @@ failed_evolves settings now datagram (Err e) ss fails = evolves_same settings (c
 
 -- ---- poll
 
-abbrev poll_of : Ticks → Option Event → Call
-poll_of now event = record { step = calls.Poll now; answer = answers.Polled event }
-
 -- the event is not of the stream
 abbrev IsOther : Ticks → Option Event → StreamState → Type 0
 IsOther now event x = (events_by x.ssrc x.format.payload_type event ≡ []) × (released_by x.ssrc x.format.payload_type now event ≡ [])
@@ -283,7 +280,7 @@ IsOther now event x = (events_by x.ssrc x.format.payload_type event ≡ []) × (
 -- a stream that was asked and has no event
 quiet_goes : (now : Ticks) (event : Option Event) (kept : List StreamState → List StreamState) (x y : StreamState) → IsOther now event x → Stepped now x None kept y → Goes (poll_of now event) x y
 quiet_goes now event kept x y other s = record {
-  has = record { ssrc_is = s.ssrc_is; format = s.format; part = s.part; alone = s.alone; is_part = record { made = s.made; one_pop = s.one_pop; pair_first = polled_first now s.part s.made; shows = s.shows ∙ sym other.1 } };
+  has = record { ssrc_is = s.ssrc_is; format = s.format; part = s.part; alone = s.alone; is_part = record { made = s.made x.ssrc x.format.payload_type event; one_pop = s.one_pop; one_end = s.one_end; pair_first = polled_first x.ssrc x.format.payload_type now event s.part (s.made x.ssrc x.format.payload_type event); shows = s.shows ∙ sym other.1 } };
   tells = by_kind s.kind;
   known = s.known;
 }
@@ -310,7 +307,8 @@ reported_goes now event x y true goes = record {
     is_part = record {
       made = made;
       one_pop = omega (arith, pops_append goes.has.part (reports ∷ []), goes.has.is_part.one_pop);
-      pair_first = polled_first now (goes.has.part ++ reports ∷ []) made;
+      one_end = omega (arith, finishes_append goes.has.part (reports ∷ []), goes.has.is_part.one_end);
+      pair_first = polled_first x.ssrc x.format.payload_type now event (goes.has.part ++ reports ∷ []) made;
       shows = shown_append goes.has.part (reports ∷ []) ∙ (append-nil (shown goes.has.part) ∙ goes.has.is_part.shows);
     };
   };
@@ -318,8 +316,8 @@ reported_goes now event x y true goes = record {
   known = goes.known;
 }
   where
-    made : AreMadeBy (calls.Poll now) (goes.has.part ++ reports ∷ [])
-    made = made_append (calls.Poll now) goes.has.part (reports ∷ []) goes.has.is_part.made (tt, tt)
+    made : AreMadeBy x.ssrc x.format.payload_type (poll_of now event) (goes.has.part ++ reports ∷ [])
+    made = made_append x.ssrc x.format.payload_type (poll_of now event) goes.has.part (reports ∷ []) goes.has.is_part.made (tt, tt)
 
 pub reported_go : (now : Ticks) (event : Option Event) (xs ys : List StreamState) → GoAll (poll_of now event) xs ys → GoAll (poll_of now event) xs (all_reported ys)
 reported_go now event [] [] go = tt
@@ -349,7 +347,7 @@ fate_of : (now : Ticks) (event : Event) (kept : List StreamState → List Stream
 fate_of now event kept x y s = by_kind s.kind
   where
     has : HasPart (poll_of now (Some event)) x y
-    has = record { ssrc_is = s.ssrc_is; format = s.format; part = s.part; alone = s.alone; is_part = record { made = s.made; one_pop = s.one_pop; pair_first = polled_first now s.part s.made; shows = s.shows } }
+    has = record { ssrc_is = s.ssrc_is; format = s.format; part = s.part; alone = s.alone; is_part = record { made = s.made x.ssrc x.format.payload_type (Some event); one_pop = s.one_pop; one_end = s.one_end; pair_first = polled_first x.ssrc x.format.payload_type now (Some event) s.part (s.made x.ssrc x.format.payload_type (Some event)); shows = s.shows } }
 
     by_kind : Kind x.told y.told x.ssrc x.format.payload_type (Some event) kept y
         → (f : Option StreamState) × IsFate (poll_of now (Some event)) x f × ((rest : List StreamState) → kept rest ≡ present (f ∷ all_stay rest))
@@ -406,15 +404,15 @@ pub finish_evolves : (given : SessionSettings) (now : Ticks) (who : ℕ → Bool
 finish_evolves given now who ss =
     left_evolves given (plain_call (calls.Finish now) answers.Done) who endings.Told now.0 ss ss (evolves_same given (plain_call (calls.Finish now) answers.Done) ss (λ s t. refl) (λ s t. refl))
 
-waiting_goes : (ssrc payload_type : ℕ) (limits : WaitLimits) (b : Bool) (s : StreamState) → Goes (plain_call (calls.SetWaitLimits ssrc payload_type limits) answers.Done) s (waiting_when b limits s)
-waiting_goes ssrc payload_type limits false s = silent_goes (plain_call (calls.SetWaitLimits ssrc payload_type limits) answers.Done) s refl refl
-waiting_goes ssrc payload_type limits true s = record {
+waiting_goes : (ssrc payload_type : ℕ) (limits : WaitLimits) (b : Bool) (s : StreamState) → is_of ssrc payload_type s ≡ b → Goes (plain_call (calls.SetWaitLimits ssrc payload_type limits) answers.Done) s (waiting_when b limits s)
+waiting_goes ssrc payload_type limits false s is = silent_goes (plain_call (calls.SetWaitLimits ssrc payload_type limits) answers.Done) s refl refl
+waiting_goes ssrc payload_type limits true s is = record {
   has = record {
     ssrc_is = refl;
     format = refl;
     part = waits limits ∷ [];
     alone = ((waiting_when true limits s).receiver, refl, refl);
-    is_part = record { made = (refl, tt); one_pop = omega arith; pair_first = tt; shows = refl };
+    is_part = record { made = ((same_sym s.ssrc s.format.payload_type ssrc payload_type ∙ is, refl), tt); one_pop = omega arith; one_end = omega arith; pair_first = tt; shows = refl };
   };
   tells = refl;
   known = λ known. known;
@@ -425,11 +423,12 @@ pub waits_evolve : (given : SessionSettings) (ssrc payload_type : ℕ) (limits :
 waits_evolve given ssrc payload_type limits ss =
     let c : Call = plain_call (calls.SetWaitLimits ssrc payload_type limits) answers.Done in
     evolves_all given c ss (map (waiting_if ssrc payload_type limits) ss) (λ s t. refl)
-    (mapped_all c (waiting_if ssrc payload_type limits) ss (λ (s : StreamState). waiting_goes ssrc payload_type limits (is_of ssrc payload_type s) s))
+    (mapped_all c (waiting_if ssrc payload_type limits) ss (λ (s : StreamState). waiting_goes ssrc payload_type limits (is_of ssrc payload_type s) s refl))
 
 -- a call that gives the streams of an SSRC their retransmissions by these pairs
 abbrev pub IsAboutPair : SessionStep → ℕ → List SsrcPair → Type 0
-IsAboutPair step ssrc named = (s : StreamState) → (s.ssrc == ssrc) ≡ true → IsMadeBy step (pairs (retransmission_for s.ssrc s.format.retransmission named))
+IsAboutPair step ssrc named =
+    (s : StreamState) (given : List ReceiverCall) → (s.ssrc == ssrc) ≡ true → IsMadeAs s.ssrc s.format.payload_type step given (pairs (retransmission_for s.ssrc s.format.retransmission named))
 
 pub paired_goes : (c : Call) (ssrc : ℕ) (named : List SsrcPair) (b : Bool) (s : StreamState) → (s.ssrc == ssrc) ≡ b → IsAboutPair c.step ssrc named → events_in s.ssrc s.format.payload_type c.answer ≡ []
     → shown_in s.ssrc s.format.payload_type c ≡ [] → Goes c s (paired_when b named s)
@@ -440,7 +439,7 @@ paired_goes c ssrc named true s is about silent nothing = record {
     format = refl;
     part = pairs (paired_when true named s).receiver.stream.retransmission ∷ [];
     alone = ((paired_when true named s).receiver, refl, refl);
-    is_part = record { made = (about s is, tt); one_pop = omega arith; pair_first = tt; shows = sym nothing };
+    is_part = record { made = (about s (shown_in s.ssrc s.format.payload_type c) is, tt); one_pop = omega arith; one_end = omega arith; pair_first = tt; shows = sym nothing };
   };
   tells = subst (λ (es : List Event). AreOfOne s.told es s.told) (sym silent) refl;
   known = λ known. known;
@@ -450,30 +449,38 @@ pub pairs_evolve : (given : SessionSettings) (c : Call) (ssrc : ℕ) (named : Li
 pairs_evolve given c ssrc named ss about silent nothing =
     evolves_all given c ss (map (paired_if ssrc named) ss) silent (mapped_all c (paired_if ssrc named) ss (λ (s : StreamState). paired_goes c ssrc named (s.ssrc == ssrc) s refl about (silent s.ssrc s.format.payload_type) (nothing s.ssrc s.format.payload_type)))
 
+-- the stream at a place
+at_place : (ss : List StreamState) (place : ℕ) (s d : StreamState) → slice_get ss place ≡ Some s → get_or ss place d ≡ s
+at_place [] place s d there = absurd (cc)
+at_place (x ∷ xs) zero s d there = cc
+at_place (x ∷ xs) (suc i) s d there = at_place xs i s d there
+
 abbrev report_call : Ticks → ℕ → ℕ → Option ReportBlock → Call
 report_call now ssrc payload_type block = plain_call (calls.Report now ssrc payload_type) (answers.Reported block)
 
-one_reported : (now : Ticks) (ssrc payload_type : ℕ) (block : Option ReportBlock) (s : StreamState) → Goes (report_call now ssrc payload_type block) s (reported_by s)
-one_reported now ssrc payload_type block s = record {
+one_reported : (now : Ticks) (ssrc payload_type : ℕ) (block : Option ReportBlock) (s : StreamState) → is_of ssrc payload_type s ≡ true → Goes (report_call now ssrc payload_type block) s (reported_by s)
+one_reported now ssrc payload_type block s is = record {
   has = record {
     ssrc_is = refl;
     format = refl;
     part = reports ∷ [];
     alone = ((reported_by s).receiver, refl, refl);
-    is_part = record { made = (tt, tt); one_pop = omega arith; pair_first = tt; shows = refl };
+    is_part = record { made = (same_sym s.ssrc s.format.payload_type ssrc payload_type ∙ is, tt); one_pop = omega arith; one_end = omega arith; pair_first = tt; shows = refl };
   };
   tells = refl;
   known = λ known. known;
 }
 
 pub report_evolves : (o : Option ℕ) (given : SessionSettings) (now : Ticks) (ssrc payload_type tick_rate : ℕ) (p : Port) (block : Option ReportBlock) (q : Port) → AreApart p.streams
-    → ReportsIf o tick_rate now.0 p block q → Evolves given (report_call now ssrc payload_type block) p.streams q.streams
-report_evolves None given now ssrc payload_type tick_rate p block q apart got =
+    → position (is_of ssrc payload_type) p.streams ≡ o → ReportsIf o tick_rate now.0 p block q → Evolves given (report_call now ssrc payload_type block) p.streams q.streams
+report_evolves None given now ssrc payload_type tick_rate p block q apart found got =
     subst (λ (o : Port). Evolves given (report_call now ssrc payload_type block) p.streams o.streams) (sym got.1)
     (evolves_same given (report_call now ssrc payload_type block) p.streams (λ s t. refl) (λ s t. refl))
-report_evolves (Some place) given now ssrc payload_type tick_rate p block q apart got =
+report_evolves (Some place) given now ssrc payload_type tick_rate p block q apart found got =
     let c : Call = report_call now ssrc payload_type block in
+    let here = position-Some (is_of ssrc payload_type) p.streams place got.stream found in
+    let is : is_of ssrc payload_type got.stream ≡ true = subst (λ (s : StreamState). is_of ssrc payload_type s ≡ true) (at_place p.streams place got.stream got.stream got.there) here.1 in
     subst (λ (o : Port). Evolves given c p.streams o.streams) (sym got.left)
     (evolves_all given c p.streams (slice_set p.streams place (reported_by got.stream)) (λ s t. refl)
-    (one_goes c p.streams place got.stream (reported_by got.stream) got.there apart (one_reported now ssrc payload_type block got.stream)
+    (one_goes c p.streams place got.stream (reported_by got.stream) got.there apart (one_reported now ssrc payload_type block got.stream is)
     (λ (z : StreamState) (other : is_same z.ssrc z.format.payload_type got.stream.ssrc got.stream.format.payload_type ≡ false). silent_goes c z refl refl)))

@@ -23,12 +23,12 @@ use Rattle.codec_payload_session.specs.declared.session.Event.TheVariants as eve
 use Rattle.codec_payload_session.specs.declared.stream.Ending.{Ending}
 use Rattle.codec_payload_session.specs.declared.stream.StreamState.{StreamState}
 use Rattle.codec_payload_session_runs.proofs.AloneLemmas.{events_more, one_append, order_append, projects_more, projects_shown, runs_append}
-use Rattle.codec_payload_session_runs.proofs.AssociationLemmas.{IsFound, failed_paired, found_pair, paired_evolves}
+use Rattle.codec_payload_session_runs.proofs.AssociationLemmas.{IsFound, added_pair, failed_paired, found_pair, paired_evolves, removed_pair}
 use Rattle.codec_payload_session_runs.proofs.CallLemmas.{end_evolves, failed_evolves, finish_evolves, pairs_evolve, quiet_evolves, receive_evolves, report_evolves, reported_evolves, tells_evolve, waits_evolve}
 use Rattle.codec_payload_session_runs.proofs.FateLemmas.{AreApart, AreFates, AreFresh, AreKnown, BeginsNow, Evolves, IsFate, apart_fates, apart_more, absent_fates, evolves_same, known_fates, known_more, of_is, order_evolves, present, same_sym}
 use Rattle.codec_payload_session_runs.proofs.RunLemmas.{runs_more}
 use Rattle.codec_payload_session_runs.proofs.StreamLemmas.{HasPart, same_is}
-use Rattle.codec_payload_session_runs.specs.Lives.{AreInOrder, AreOfOne, EachEndedAlone, EachIsAlone, EndedAlone, IsAbsent, IsAlone, IsPart, Projects, StartsWithDatagram, TellsInOrder, ending_poll, events_in, events_of, is_announced, is_same, one_event}
+use Rattle.codec_payload_session_runs.specs.Lives.{AreInOrder, AreMadeBy, AreOfOne, EachEndedAlone, EachIsAlone, EndedAlone, IsAbsent, IsAlone, IsPart, Projects, StartsWithDatagram, TellsInOrder, ending_poll, events_in, events_of, is_announced, is_same, one_event}
 use Rattle.codec_payload_session_runs.specs.SessionRuns.{AddsPair, Call, Does, Runs}
 use Rattle.codec_payload_session_runs.specs.declared.run.SessionStep.{SessionStep}
 use Rattle.codec_payload_session_runs.specs.declared.run.SessionStep.TheVariants as calls
@@ -147,7 +147,7 @@ added_moves : (ssrc retransmission : ℕ) (s : Session) (added : Result Unit All
     → Moves (call_of (calls.AddPair ssrc retransmission) (answers.PairAdded added)) s t
 added_moves ssrc retransmission s (Ok u) t got =
     pair_moves (calls.AddPair ssrc retransmission) (answers.PairAdded (Ok u)) ssrc _ s t
-    (pairs_evolve s.settings (call_of (calls.AddPair ssrc retransmission) (answers.PairAdded (Ok u))) ssrc _ s.port.streams (λ x is. tt) (λ a b. refl) (λ a b. refl)) got.0
+    (pairs_evolve s.settings (call_of (calls.AddPair ssrc retransmission) (answers.PairAdded (Ok u))) ssrc _ s.port.streams (added_pair ssrc retransmission s.settings.pairs.items) (λ a b. refl) (λ a b. refl)) got.0
 added_moves ssrc retransmission s (Err e) t got =
     subst (λ (z : Session). Moves (call_of (calls.AddPair ssrc retransmission) (answers.PairAdded (Err e))) s z) (sym got.1)
     (record { evolves = evolves_same s.settings _ s.port.streams (λ a b. refl) (λ a b. refl); others = refl })
@@ -168,13 +168,13 @@ moves (calls.SetWaitLimits ssrc payload_type limits) answer s t apart known got 
     (record { evolves = waits_evolve s.settings ssrc payload_type limits s.port.streams; others = refl })
 moves (calls.Report now ssrc payload_type) answer s t apart known got =
     subst₂ (λ (a : StepAnswer) (z : Session). Moves (call_of (calls.Report now ssrc payload_type) a) s z) (sym got.1) (sym got.2.left)
-    (record { evolves = report_evolves (position (is_of ssrc payload_type) s.port.streams) s.settings now ssrc payload_type s.settings.tick_rate s.port got.0 got.2.port apart got.2.reports; others = refl })
+    (record { evolves = report_evolves (position (is_of ssrc payload_type) s.port.streams) s.settings now ssrc payload_type s.settings.tick_rate s.port got.0 got.2.port apart refl got.2.reports; others = refl })
 moves (calls.AddPair ssrc retransmission) answer s t apart known got =
     subst (λ (a : StepAnswer). Moves (call_of (calls.AddPair ssrc retransmission) a) s t) (sym got.1) (added_moves ssrc retransmission s got.0 t got.2)
 moves (calls.RemovePair ssrc) answer s t apart known got =
     subst (λ (a : StepAnswer). Moves (call_of (calls.RemovePair ssrc) a) s t) (sym got.0)
     (pair_moves (calls.RemovePair ssrc) answers.Done ssrc _ s t
-    (pairs_evolve s.settings (call_of (calls.RemovePair ssrc) answers.Done) ssrc _ s.port.streams (λ x is. tt) (λ a b. refl) (λ a b. refl)) got.1)
+    (pairs_evolve s.settings (call_of (calls.RemovePair ssrc) answers.Done) ssrc _ s.port.streams (removed_pair ssrc s.settings.pairs.items) (λ a b. refl) (λ a b. refl)) got.1)
 
 -- ---- streams alone
 
@@ -323,8 +323,9 @@ ended_fate settings before now ssrc payload_type why x None (inr ends) is alone 
       last = ends.after.receiver;
       part = ends.has.part;
       run = ends.has.alone;
-      made = ends.has.is_part.made;
+      made = subst₂ (λ (s p : ℕ). AreMadeBy s p (ending_poll now ssrc payload_type why) ends.has.part) ids.0 ids.1 ends.has.is_part.made;
       one_pop = ends.has.is_part.one_pop;
+      one_end = ends.has.is_part.one_end;
       no_unit = ends.has.is_part.shows;
     }
 

@@ -25,8 +25,8 @@ use Rattle.codec_payload_session.specs.declared.stream.Ending.{Ending}
 use Rattle.codec_payload_session.specs.declared.stream.Stage.{Stage}
 use Rattle.codec_payload_session.specs.declared.stream.Stage.TheVariants as stages
 use Rattle.codec_payload_session.specs.declared.stream.StreamState.{StreamState}
-use Rattle.codec_payload_session_runs.proofs.AloneLemmas.{made_append, pops_append, runs_append, shown_append}
-use Rattle.codec_payload_session_runs.specs.Lives.{AreMadeBy, AreOfOne, HasNoPair, HasSsrcOf, IsPart, ReceiverCall, RunsAlone, events_by, events_in, finishes, given_by, is_same, many_pops, one_call, one_event, pairs, pops, receives, released_by, shown, shown_in, waits, with_shown}
+use Rattle.codec_payload_session_runs.proofs.AloneLemmas.{finishes_append, made_append, poll_of, pops_append, runs_append, shown_append}
+use Rattle.codec_payload_session_runs.specs.Lives.{AreMadeBy, AreOfOne, HasNoPair, HasSsrcOf, IsGiven, IsPart, ReceiverCall, RunsAlone, events_by, events_in, finishes, follows, given_by, is_same, many_finishes, many_pops, one_call, one_event, pairs, pops, receives, released_by, shown, shown_in, with_shown}
 use Rattle.codec_payload_session_runs.specs.SessionRuns.{Call}
 use Rattle.codec_payload_session_runs.specs.declared.run.SessionStep.TheVariants as calls
 use Rattle.codec_payload_session_runs.specs.declared.run.StepAnswer.TheVariants as answers
@@ -53,7 +53,7 @@ pub record Goes (c : Call) (x y : StreamState) : Type 0 where
 
 pub silent_goes : (c : Call) (x : StreamState) → shown_in x.ssrc x.format.payload_type c ≡ [] → events_in x.ssrc x.format.payload_type c.answer ≡ [] → Goes c x x
 silent_goes c x shows tells = record {
-  has = record { ssrc_is = refl; format = refl; part = []; alone = refl; is_part = record { made = tt; one_pop = omega arith; pair_first = tt; shows = sym shows } };
+  has = record { ssrc_is = refl; format = refl; part = []; alone = refl; is_part = record { made = tt; one_pop = omega arith; one_end = omega arith; pair_first = tt; shows = sym shows } };
   tells = subst (λ (es : List Event). AreOfOne x.told es x.told) (sym tells) refl;
   known = λ known. known;
 }
@@ -97,40 +97,46 @@ same_is ssrc payload_type =
     let b : (payload_type == payload_type) ≡ true = grind (arith, nat_tests) in
     ap (λ (x : Bool). x && (payload_type == payload_type)) a ∙ b
 
+-- after a datagram that the stream accepted, its waits may follow the round trip
+abbrev IsMore : Bool → List ReceiverCall → Type 0
+IsMore accepted more = (more ≡ []) ⊎ ((accepted ≡ true) × (wait : ℕ) × (more ≡ follows wait ∷ []))
+
 -- what a datagram makes of a stream, after its receiver received it
-record Heard (now : Ticks) (datagram : Vec ℕ) (ssrc : ℕ) (f : Format) (told : Bool) (stage : Stage) (r : Receiver) (y : StreamState) : Type 0 where
+record Heard (accepted : Bool) (ssrc : ℕ) (f : Format) (told : Bool) (stage : Stage) (r : Receiver) (y : StreamState) : Type 0 where
   ssrc_is : y.ssrc ≡ ssrc
   format : y.format ≡ f
   told_is : y.told ≡ told
   stage_is : is_probation stage ≡ false → is_probation y.stage ≡ false
   more : List ReceiverCall
   run : RunsAlone more r y.receiver
-  made : AreMadeBy (calls.Receive now datagram) more
+  is_more : IsMore accepted more
   no_pop : many_pops more ≡ 0
+  no_end : many_finishes more ≡ 0
   no_pair : HasNoPair more
   hidden : shown more ≡ []
 
-waiting_heard : (now : Ticks) (datagram : Vec ℕ) (o : Option ℕ) (s : StreamState) → Heard now datagram s.ssrc s.format s.told s.stage s.receiver (waiting_for o s)
-waiting_heard now datagram None s = record { ssrc_is = refl; format = refl; told_is = refl; stage_is = λ is. is; more = []; run = refl; made = tt; no_pop = refl; no_pair = tt; hidden = refl }
-waiting_heard now datagram (Some wait) s = record {
+waiting_heard : (o : Option ℕ) (s : StreamState) → Heard true s.ssrc s.format s.told s.stage s.receiver (waiting_for o s)
+waiting_heard None s = record { ssrc_is = refl; format = refl; told_is = refl; stage_is = λ is. is; more = []; run = refl; is_more = inl refl; no_pop = refl; no_end = refl; no_pair = tt; hidden = refl }
+waiting_heard (Some wait) s = record {
   ssrc_is = refl;
   format = refl;
   told_is = refl;
   stage_is = λ is. is;
-  more = waits (record s.receiver.packets.wait_limits { max_wait = Some wait }) ∷ [];
+  more = follows wait ∷ [];
   run = ((waiting_for (Some wait) s).receiver, refl, refl);
-  made = (tt, tt);
+  is_more = inr (refl, wait, refl);
   no_pop = refl;
+  no_end = refl;
   no_pair = (refl, tt);
   hidden = refl;
 }
 
 received_heard : (accepted : Bool) (now : Ticks) (datagram : Vec ℕ) (r : Receiver) (s : StreamState)
-    → Heard now datagram s.ssrc s.format s.told s.stage r (received now.0 datagram.items accepted r s)
+    → Heard accepted s.ssrc s.format s.told s.stage r (received now.0 datagram.items accepted r s)
 received_heard true now datagram r s =
-    waiting_heard now datagram (wait_by (heard_by now.0 (number_at s.format datagram.items) s.feedback))
+    waiting_heard (wait_by (heard_by now.0 (number_at s.format datagram.items) s.feedback))
     (record s { receiver = r; feedback = heard_by now.0 (number_at s.format datagram.items) s.feedback })
-received_heard false now datagram r s = record { ssrc_is = refl; format = refl; told_is = refl; stage_is = λ is. is; more = []; run = refl; made = tt; no_pop = refl; no_pair = tt; hidden = refl }
+received_heard false now datagram r s = record { ssrc_is = refl; format = refl; told_is = refl; stage_is = λ is. is; more = []; run = refl; is_more = inl refl; no_pop = refl; no_end = refl; no_pair = tt; hidden = refl }
 
 stage_after_is : (probation accepted : ℕ) (stage : Stage) → is_probation stage ≡ false → is_probation (stage_after probation accepted stage) ≡ false
 stage_after_is probation accepted stages.Probation is = absurd (cc)
@@ -138,27 +144,28 @@ stage_after_is probation accepted stages.Playing is = refl
 stage_after_is probation accepted (stages.Leaving why at) is = refl
 stage_after_is probation accepted (stages.Draining why) is = refl
 
-unless_heard : (b : Bool) (now : Ticks) (datagram : Vec ℕ) (probation : ℕ) (accepted : Bool) (ssrc : ℕ) (f : Format) (told : Bool) (stage : Stage) (r : Receiver) (s : StreamState)
-    → Heard now datagram ssrc f told stage r s → Heard now datagram ssrc f told stage r (heard_unless b now.0 probation accepted s)
-unless_heard true now datagram probation accepted ssrc f told stage r s got = got
-unless_heard false now datagram probation accepted ssrc f told stage r s got = record {
+unless_heard : (b : Bool) (now : Ticks) (probation : ℕ) (accepted : Bool) (ssrc : ℕ) (f : Format) (told : Bool) (stage : Stage) (r : Receiver) (s : StreamState)
+    → Heard accepted ssrc f told stage r s → Heard accepted ssrc f told stage r (heard_unless b now.0 probation accepted s)
+unless_heard true now probation accepted ssrc f told stage r s got = got
+unless_heard false now probation accepted ssrc f told stage r s got = record {
   ssrc_is = got.ssrc_is;
   format = got.format;
   told_is = got.told_is;
   stage_is = λ is. stage_after_is probation (accepted_after accepted s.accepted) s.stage (got.stage_is is);
   more = got.more;
   run = got.run;
-  made = got.made;
+  is_more = got.is_more;
   no_pop = got.no_pop;
+  no_end = got.no_end;
   no_pair = got.no_pair;
   hidden = got.hidden;
 }
 
 takes_heard : (now : Ticks) (datagram : Vec ℕ) (probation : ℕ) (x : StreamState) (told : Result Outcome ReceiveError) (y : StreamState) → (got : Takes now probation datagram.items x told y)
-    → Heard now datagram x.ssrc x.format x.told x.stage got.0 y
+    → Heard (is_accepted told) x.ssrc x.format x.told x.stage got.0 y
 takes_heard now datagram probation x told y got =
-    subst (λ (z : StreamState). Heard now datagram x.ssrc x.format x.told x.stage got.0 z) (sym got.2)
-    (unless_heard (is_no_memory told) now datagram probation (is_accepted told) x.ssrc x.format x.told x.stage got.0 (received now.0 datagram.items (is_accepted told) got.0 x)
+    subst (λ (z : StreamState). Heard (is_accepted told) x.ssrc x.format x.told x.stage got.0 z) (sym got.2)
+    (unless_heard (is_no_memory told) now probation (is_accepted told) x.ssrc x.format x.told x.stage got.0 (received now.0 datagram.items (is_accepted told) got.0 x)
     (received_heard (is_accepted told) now datagram got.0 x))
 
 abbrev pub call_of : Ticks → Vec ℕ → Result Arrival AllocError → Call
@@ -179,10 +186,33 @@ given_is false now bytes ssrc payload_type told answer is =
 given_is true now bytes ssrc payload_type told (Ok arrival) is = absurd (cc)
 given_is true now bytes ssrc payload_type told (Err e) is = refl
 
+-- the answer names a stream that accepted the datagram
+accepted_memory : (told : Result Outcome ReceiveError) → is_accepted told ≡ true → is_no_memory told ≡ false
+accepted_memory (Ok outcome) is = refl
+accepted_memory (Err e) is = absurd (cc)
+
+given_there : (b : Bool) (c : ReceiverCall) (given : List ReceiverCall) → b ≡ false → with_shown (not b) c [] ≡ given → IsGiven given
+given_there true c given is same = absurd (cc)
+given_there false c given is same = subst IsGiven same tt
+
+more_made : (accepted : Bool) (ssrc payload_type : ℕ) (now : Ticks) (datagram : Vec ℕ) (answer : Result Arrival AllocError) (more : List ReceiverCall)
+    → (accepted ≡ true → IsGiven (shown_in ssrc payload_type (call_of now datagram answer))) → IsMore accepted more → AreMadeBy ssrc payload_type (call_of now datagram answer) more
+more_made accepted ssrc payload_type now datagram answer more given (inl none) =
+    subst (λ (cs : List ReceiverCall). AreMadeBy ssrc payload_type (call_of now datagram answer) cs) (sym none) tt
+more_made accepted ssrc payload_type now datagram answer more given (inr one) =
+    subst (λ (cs : List ReceiverCall). AreMadeBy ssrc payload_type (call_of now datagram answer) cs) (sym one.2) (given one.0, tt)
+
+heard_made : (now : Ticks) (datagram : Vec ℕ) (ssrc payload_type : ℕ) (told : Result Outcome ReceiveError) (answer : Result Arrival AllocError) (more : List ReceiverCall)
+    → IsMore (is_accepted told) more → Arrives (is_no_memory told) (arrival_of ssrc payload_type told) answer → AreMadeBy ssrc payload_type (call_of now datagram answer) more
+heard_made now datagram ssrc payload_type told answer more is arrives =
+    more_made (is_accepted told) ssrc payload_type now datagram answer more
+    (λ accepted. given_there (is_no_memory told) (receives now datagram.items told) (given_by ssrc payload_type now datagram.items answer) (accepted_memory told accepted)
+    (given_is (is_no_memory told) now datagram.items ssrc payload_type told answer arrives)) is
+
 pub fed_goes : (now : Ticks) (datagram : Vec ℕ) (probation : ℕ) (x : StreamState) (told : Result Outcome ReceiveError) (y : StreamState) (answer : Result Arrival AllocError)
     → Takes now probation datagram.items x told y → Arrives (is_no_memory told) (arrival_of x.ssrc x.format.payload_type told) answer → Goes (call_of now datagram answer) x y
 fed_goes now datagram probation x told y answer got arrives =
-    let h : Heard now datagram x.ssrc x.format x.told x.stage got.0 y = takes_heard now datagram probation x told y got in
+    let h : Heard (is_accepted told) x.ssrc x.format x.told x.stage got.0 y = takes_heard now datagram probation x told y got in
     record {
       has = record {
         ssrc_is = h.ssrc_is;
@@ -190,8 +220,9 @@ fed_goes now datagram probation x told y answer got arrives =
         part = receives now datagram.items told ∷ h.more;
         alone = (got.0, got.1, h.run);
         is_part = record {
-          made = ((refl, refl), h.made);
+          made = ((refl, refl), heard_made now datagram x.ssrc x.format.payload_type told answer h.more h.is_more arrives);
           one_pop = omega (arith, h.no_pop);
+          one_end = omega (arith, h.no_end);
           pair_first = h.no_pair;
           shows = ap (λ (cs : List ReceiverCall). with_shown (not (is_no_memory told)) (receives now datagram.items told) cs) h.hidden
               ∙ given_is (is_no_memory told) now datagram.items x.ssrc x.format.payload_type told answer arrives;
@@ -208,7 +239,7 @@ pub paired_fed_goes : (now : Ticks) (datagram : Vec ℕ) (probation : ℕ) (name
 paired_fed_goes now datagram probation named false x told y answer names got arrives = fed_goes now datagram probation x told y answer got arrives
 paired_fed_goes now datagram probation named true x told y answer names got arrives =
     let z : StreamState = paired named x in
-    let h : Heard now datagram x.ssrc x.format x.told x.stage got.0 y = takes_heard now datagram probation z told y got in
+    let h : Heard (is_accepted told) x.ssrc x.format x.told x.stage got.0 y = takes_heard now datagram probation z told y got in
     record {
       has = record {
         ssrc_is = h.ssrc_is;
@@ -216,8 +247,9 @@ paired_fed_goes now datagram probation named true x told y answer names got arri
         part = pairs z.receiver.stream.retransmission ∷ receives now datagram.items told ∷ h.more;
         alone = (z.receiver, refl, (got.0, got.1, h.run));
         is_part = record {
-          made = (names refl, ((refl, refl), h.made));
+          made = (names refl, ((refl, refl), heard_made now datagram x.ssrc x.format.payload_type told answer h.more h.is_more arrives));
           one_pop = omega (arith, h.no_pop);
+          one_end = omega (arith, h.no_end);
           pair_first = (refl, h.no_pair);
           shows = ap (λ (cs : List ReceiverCall). with_shown (not (is_no_memory told)) (receives now datagram.items told) cs) h.hidden
               ∙ given_is (is_no_memory told) now datagram.items x.ssrc x.format.payload_type told answer arrives;
@@ -246,8 +278,9 @@ pub record Stepped (now : Ticks) (x : StreamState) (event : Option Event) (kept 
   pub format : y.format ≡ x.format
   pub part : List ReceiverCall
   pub alone : RunsAlone part x.receiver y.receiver
-  pub made : AreMadeBy (calls.Poll now) part
+  pub made : (ssrc payload_type : ℕ) (told : Option Event) → AreMadeBy ssrc payload_type (poll_of now told) part
   pub one_pop : many_pops part ≤ 1
+  pub one_end : many_finishes part ≤ 1
   pub shows : shown part ≡ released_by x.ssrc x.format.payload_type now event
   pub own : IsOwn now x.ssrc x.format.payload_type event
   pub kind : Kind x.told y.told x.ssrc x.format.payload_type event kept y
@@ -260,15 +293,16 @@ record Drained (now : Ticks) (x y : StreamState) : Type 0 where
   stage_is : is_probation x.stage ≡ false → is_probation y.stage ≡ false
   part : List ReceiverCall
   alone : RunsAlone part x.receiver y.receiver
-  made : AreMadeBy (calls.Poll now) part
+  made : (ssrc payload_type : ℕ) (told : Option Event) → AreMadeBy ssrc payload_type (poll_of now told) part
   no_pop : many_pops part ≡ 0
+  one_end : many_finishes part ≤ 1
   hidden : shown part ≡ []
 
 drained : (now : Ticks) (o : Option Ending) (x y : StreamState) → Drains o x y → Drained now x y
 drained now None x y got = subst (λ (z : StreamState). Drained now x z) (sym got)
-    (record { ssrc_is = refl; format = refl; told_is = refl; stage_is = λ is. is; part = []; alone = refl; made = tt; no_pop = refl; hidden = refl })
+    (record { ssrc_is = refl; format = refl; told_is = refl; stage_is = λ is. is; part = []; alone = refl; made = λ s p told. tt; no_pop = refl; one_end = omega arith; hidden = refl })
 drained now (Some why) x y got = subst (λ (z : StreamState). Drained now x z) (sym got.2)
-    (record { ssrc_is = refl; format = refl; told_is = refl; stage_is = λ is. refl; part = finishes ∷ []; alone = (got.0, got.1, refl); made = (tt, tt); no_pop = refl; hidden = refl })
+    (record { ssrc_is = refl; format = refl; told_is = refl; stage_is = λ is. refl; part = finishes ∷ []; alone = (got.0, got.1, refl); made = λ s p told. (tt, tt); no_pop = refl; one_end = omega arith; hidden = refl })
 
 -- what follows a pop of an announced stream
 record Told (now : Ticks) (ssrc payload_type : ℕ) (popping : Option (Result (Popped Release) AllocError)) (event : Option Event) (kept : List StreamState → List StreamState) (y : StreamState) : Type 0 where
@@ -411,8 +445,9 @@ plays_stepped now idle x step y plays told got =
       format = format;
       part = d.part ++ own;
       alone = runs_append d.part own x.receiver got.0.receiver y.receiver d.alone (got.2.receiver, (got.2.pops, got.2.refused, got.2.large), f.receiver);
-      made = made_append (calls.Poll now) d.part own d.made (refl, tt);
+      made = λ s p told. made_append s p (poll_of now told) d.part own (d.made s p told) (refl, tt);
       one_pop = omega (arith, pops_append d.part own, d.no_pop);
+      one_end = omega (arith, finishes_append d.part own, d.one_end);
       shows = shown_append d.part own ∙ (ap (λ (cs : List ReceiverCall). cs ++ shown own) d.hidden ∙ tells.shows);
       own = tells.own;
       kind = subst₂ (λ (a b : Bool). Kind a b x.ssrc x.format.payload_type (event_of y step) (λ (rest : List StreamState). kept_after step y rest) y) (sym told) (sym told_after) tells.kind;
@@ -430,8 +465,9 @@ begun_stepped now x told stage_is =
       format = refl;
       part = [];
       alone = refl;
-      made = tt;
+      made = λ s p told. tt;
       one_pop = omega arith;
+      one_end = omega arith;
       shows = refl;
       own = λ s p other. (ap (λ (b : Bool). one_event b event) other, refl);
       kind = inl (subst (λ (b : Bool). AreOfOne x.told (one_event b event) true) (sym same) (told, refl), λ rest. refl);
@@ -444,8 +480,9 @@ still_stepped now x = record {
   format = refl;
   part = [];
   alone = refl;
-  made = tt;
+  made = λ s p told. tt;
   one_pop = omega arith;
+  one_end = omega arith;
   shows = refl;
   own = λ s p other. (refl, refl);
   kind = inl (refl, λ rest. refl);

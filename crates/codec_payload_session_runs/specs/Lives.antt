@@ -32,13 +32,14 @@ use Rattle.codec_payload_session_runs.specs.declared.run.StepAnswer.TheVariants 
 
 -- ---- a receiver alone
 
--- a call of a receiver, with its answer: a datagram, a pop, the end of the stream, other wait limits, another SSRC of
--- retransmissions, a report
+-- a call of a receiver, with its answer: a datagram, a pop, the end of the stream, other wait limits, another `max_wait` alone, another
+-- SSRC of retransmissions, a report
 pub data ReceiverCall : Type 0 where
   receives : Ticks → List ℕ → Result Outcome ReceiveError → ReceiverCall
   pops : Ticks → Option (Result (Popped Release) AllocError) → ReceiverCall
   finishes : ReceiverCall
   waits : WaitLimits → ReceiverCall
+  follows : ℕ → ReceiverCall
   pairs : Option Retransmission → ReceiverCall
   reports : ReceiverCall
 
@@ -47,6 +48,7 @@ DoesAlone (receives now bytes answer) r q = ReceivesBytes now bytes r answer q
 DoesAlone (pops now answer) r q = PopsGated now.0 r (answer_of answer) q × NamesFault answer × (is_too_large answer ≡ is_large r.bound.most (answer_of answer))
 DoesAlone finishes r q = Ends r q
 DoesAlone (waits limits) r q = q ≡ record r { packets = record r.packets { wait_limits = limits } }
+DoesAlone (follows wait) r q = q ≡ record r { packets = record r.packets { wait_limits = record r.packets.wait_limits { max_wait = Some wait } } }
 DoesAlone (pairs retransmission) r q = q ≡ record r { stream = record r.stream { retransmission = retransmission } }
 DoesAlone reports r q = q ≡ record r { reception = reported r.reception }
 
@@ -140,6 +142,7 @@ is_shown (receives now bytes answer) = not (is_no_memory answer)
 is_shown (pops now answer) = is_answer answer
 is_shown finishes = false
 is_shown (waits limits) = false
+is_shown (follows wait) = false
 is_shown (pairs retransmission) = false
 is_shown reports = false
 
@@ -158,31 +161,46 @@ abbrev pub HasSsrcOf : List ℕ → Option Retransmission → Type 0
 HasSsrcOf bytes None = Unit {0}
 HasSsrcOf bytes (Some retransmission) = (packet : Packet) × (rtp_at bytes ≡ Ok packet) × (retransmission.ssrc ≡ packet.header.ssrc)
 
--- a datagram is received at its time, and may change the wait limits by the round trip. If it is a retransmission whose stream is
--- found, the stream gets its SSRC. A poll pops at its time, and may end the stream first and report it afterwards. A call for the
--- wait limits, a report or a pair is passed on
-abbrev pub IsMadeBy : SessionStep → ReceiverCall → Type 0
-IsMadeBy (steps.Receive now datagram) (receives at bytes answer) = (at ≡ now) × (bytes ≡ datagram.items)
-IsMadeBy (steps.Receive now datagram) (waits limits) = Unit {0}
-IsMadeBy (steps.Receive now datagram) (pairs own) = HasSsrcOf datagram.items own
-IsMadeBy (steps.Poll now) (pops at answer) = at ≡ now
-IsMadeBy (steps.Poll now) finishes = Unit {0}
-IsMadeBy (steps.Poll now) reports = Unit {0}
-IsMadeBy (steps.SetWaitLimits s p limits) (waits own) = own ≡ limits
-IsMadeBy (steps.Report now s p) reports = Unit {0}
-IsMadeBy (steps.AddPair s retransmission) (pairs own) = Unit {0}
-IsMadeBy (steps.RemovePair s) (pairs own) = Unit {0}
-IsMadeBy _ _ = ⊥
+-- retransmissions with that SSRC, or none if the format of the stream has no type for them
+abbrev pub HasSsrc : ℕ → Option Retransmission → Type 0
+HasSsrc ssrc None = Unit {0}
+HasSsrc ssrc (Some retransmission) = retransmission.ssrc ≡ ssrc
 
-abbrev pub AreMadeBy : SessionStep → List ReceiverCall → Type 0
-AreMadeBy step [] = Unit {0}
-AreMadeBy step (c ∷ cs) = IsMadeBy step c × AreMadeBy step cs
+-- the answer of the call gives the stream a datagram
+abbrev pub IsGiven : List ReceiverCall → Type 0
+IsGiven [] = ⊥
+IsGiven (c ∷ cs) = Unit {0}
+
+-- What a call of the session, whose answer shows this of the stream with that SSRC and payload type, makes of the receiver of the
+-- stream. A datagram is received at its time. If the stream takes it, `max_wait` may follow the round trip. If it is a retransmission
+-- whose stream is found, the stream gets its SSRC. A poll pops at its time, and may end the stream first and report it afterwards. A
+-- call for the wait limits or a report is passed on to the stream that it names, and a pair to the streams of its SSRC
+abbrev pub IsMadeAs : (ssrc payload_type : ℕ) → SessionStep → List ReceiverCall → ReceiverCall → Type 0
+IsMadeAs ssrc payload_type (steps.Receive now datagram) given (receives at bytes answer) = (at ≡ now) × (bytes ≡ datagram.items)
+IsMadeAs ssrc payload_type (steps.Receive now datagram) given (follows wait) = IsGiven given
+IsMadeAs ssrc payload_type (steps.Receive now datagram) given (pairs own) = HasSsrcOf datagram.items own
+IsMadeAs ssrc payload_type (steps.Poll now) given (pops at answer) = at ≡ now
+IsMadeAs ssrc payload_type (steps.Poll now) given finishes = Unit {0}
+IsMadeAs ssrc payload_type (steps.Poll now) given reports = Unit {0}
+IsMadeAs ssrc payload_type (steps.SetWaitLimits s p limits) given (waits own) = (is_same ssrc payload_type s p ≡ true) × (own ≡ limits)
+IsMadeAs ssrc payload_type (steps.Report now s p) given reports = is_same ssrc payload_type s p ≡ true
+IsMadeAs ssrc payload_type (steps.AddPair s retransmission) given (pairs own) = (s ≡ ssrc) × HasSsrc retransmission own
+IsMadeAs ssrc payload_type (steps.RemovePair s) given (pairs own) = (s ≡ ssrc) × (own ≡ None)
+IsMadeAs ssrc payload_type _ given _ = ⊥
+
+abbrev pub IsMadeBy : (ssrc payload_type : ℕ) → Call → ReceiverCall → Type 0
+IsMadeBy ssrc payload_type c call = IsMadeAs ssrc payload_type c.step (shown_in ssrc payload_type c) call
+
+abbrev pub AreMadeBy : (ssrc payload_type : ℕ) → Call → List ReceiverCall → Type 0
+AreMadeBy ssrc payload_type c [] = Unit {0}
+AreMadeBy ssrc payload_type c (own ∷ rest) = IsMadeBy ssrc payload_type c own × AreMadeBy ssrc payload_type c rest
 
 abbrev pub is_pop : ReceiverCall → Bool
 is_pop (receives now bytes answer) = false
 is_pop (pops now answer) = true
 is_pop finishes = false
 is_pop (waits limits) = false
+is_pop (follows wait) = false
 is_pop (pairs retransmission) = false
 is_pop reports = false
 
@@ -194,11 +212,25 @@ abbrev pub many_pops : List ReceiverCall → ℕ
 many_pops [] = 0
 many_pops (c ∷ cs) = one_more (is_pop c) (many_pops cs)
 
+abbrev pub is_finish : ReceiverCall → Bool
+is_finish (receives now bytes answer) = false
+is_finish (pops now answer) = false
+is_finish finishes = true
+is_finish (waits limits) = false
+is_finish (follows wait) = false
+is_finish (pairs retransmission) = false
+is_finish reports = false
+
+abbrev pub many_finishes : List ReceiverCall → ℕ
+many_finishes [] = 0
+many_finishes (c ∷ cs) = one_more (is_finish c) (many_finishes cs)
+
 abbrev pub is_pair : ReceiverCall → Bool
 is_pair (receives now bytes answer) = false
 is_pair (pops now answer) = false
 is_pair finishes = false
 is_pair (waits limits) = false
+is_pair (follows wait) = false
 is_pair (pairs retransmission) = true
 is_pair reports = false
 
@@ -211,11 +243,12 @@ abbrev pub IsPairFirst : List ReceiverCall → Type 0
 IsPairFirst [] = Unit {0}
 IsPairFirst (c ∷ cs) = HasNoPair cs
 
--- what one call makes of the receiver of a stream: what its answer shows, at most one pop, at most one pair, in front of the rest,
--- and nothing that this call cannot make
+-- what one call makes of the receiver of a stream: what its answer shows, at most one pop, at most one end, at most one pair, in front
+-- of the rest, and nothing that this call cannot make of this stream
 pub record IsPart (ssrc payload_type : ℕ) (c : Call) (part : List ReceiverCall) : Type 0 where
-  pub made : AreMadeBy c.step part
+  pub made : AreMadeBy ssrc payload_type c part
   pub one_pop : many_pops part ≤ 1
+  pub one_end : many_finishes part ≤ 1
   pub pair_first : IsPairFirst part
   pub shows : shown part ≡ shown_in ssrc payload_type c
 
@@ -321,6 +354,10 @@ is_announced ssrc payload_type (s ∷ ss) = if is_of ssrc payload_type s then s.
 abbrev pub TellsInOrder : List Call → List StreamState → Type 0
 TellsInOrder calls ss = (ssrc payload_type : ℕ) → AreInOrder false (events_of ssrc payload_type calls) (is_announced ssrc payload_type ss)
 
+-- the poll whose event is the end of a stream
+abbrev pub ending_poll : Ticks → ℕ → ℕ → Ending → Call
+ending_poll now ssrc payload_type why = record { step = steps.Poll now; answer = answers.Polled (Some (events.Ended ssrc payload_type why)) }
+
 -- the stream that ended with the poll after these calls: until then it was alone, and the poll made no unit of it
 pub record EndedAlone (settings : SessionSettings) (before : List Call) (now : Ticks) (ssrc payload_type : ℕ) (why : Ending) : Type 0 where
   pub format : Format
@@ -330,13 +367,10 @@ pub record EndedAlone (settings : SessionSettings) (before : List Call) (now : T
   pub last : Receiver
   pub part : List ReceiverCall
   pub run : RunsAlone part receiver last
-  pub made : AreMadeBy (steps.Poll now) part
+  pub made : AreMadeBy ssrc payload_type (ending_poll now ssrc payload_type why) part
   pub one_pop : many_pops part ≤ 1
+  pub one_end : many_finishes part ≤ 1
   pub no_unit : shown part ≡ []
-
--- the poll whose event is the end of a stream
-abbrev pub ending_poll : Ticks → ℕ → ℕ → Ending → Call
-ending_poll now ssrc payload_type why = record { step = steps.Poll now; answer = answers.Polled (Some (events.Ended ssrc payload_type why)) }
 
 -- each stream whose end is an event of the run
 abbrev pub EachEndedAlone : SessionSettings → List Call → Type 0
