@@ -1,5 +1,5 @@
 -- Runs of a session, call by call.
-use Rattle.std.proofs.Common.{◌≡◌, refl, ap, subst, List, [], ◌∷◌, ◌++◌, Option, Some, None, Result, Ok, Err, length, arith}
+use Rattle.std.proofs.Common.{◌≡◌, refl, ap, subst, List, [], ◌∷◌, ◌++◌, Option, Some, None, Ok, Err, length, arith}
 use Rattle.codec_payload_session.specs.Ports.{Session, made_of, new_session}
 use Rattle.codec_payload_session.specs.declared.checks.SessionSettingsError.{SessionSettingsError}
 use Rattle.codec_payload_session.specs.declared.formats.SessionSettings.{SessionSettings as Settings}

@@ -1,4 +1,4 @@
-use Rattle.std.proofs.Common.{◌≡◌, subst}
+use Rattle.std.proofs.Common.{subst}
 use Rattle.codec_payload_session.specs.Checks.{fault_of}
 use Rattle.codec_payload_session.specs.Ports.{Session}
 use Rattle.codec_payload_session_runs.specs.SessionRuns.{Runs, calls_of}
