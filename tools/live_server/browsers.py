@@ -37,8 +37,12 @@ def require(holds, what):
         raise Failed(what)
 
 
-def wait_for(what, condition, limit=30):
+LIMIT = 30  # seconds that a test waits for something
+
+
+def wait_for(what, condition, limit=None):
     """Waits until a condition holds, and returns its value."""
+    limit = limit or LIMIT
     until = time.monotonic() + limit
     while time.monotonic() < until:
         if value := condition():

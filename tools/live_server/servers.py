@@ -13,7 +13,8 @@ import time
 import urllib.error
 import urllib.request
 
-from browsers import Chromium, Firefox, Page, require, wait_for
+from browsers import Chromium, Page, require, wait_for
+from relay import Relay
 
 HERE = pathlib.Path(__file__).resolve().parent
 
@@ -112,28 +113,33 @@ def viewer_of(it, query="watch", kind=Chromium, script=None):
     return page
 
 
-def call(codec, loss, seconds, *options, program="live_server", viewers=1, width=640):
-    """One call. Returns its figures."""
+def measured(sends, gets, seconds):
+    """What a publisher sends and a viewer shows from now on: frames, freezes, and kbit/s of video that the viewer gets."""
+    def now():
+        sent, got = sends.statistic("publish"), gets.statistic("watch")
+        counts = (got.get(name, 0) for name in ("framesDecoded", "freezeCount", "totalFreezesDuration", "bytesReceived"))
+        return time.monotonic(), sent.get("framesSent", 0), *counts
+
+    before = now()
+    time.sleep(seconds)
+    passed, sent, shown, freezes, frozen, size = (after - earlier for after, earlier in zip(now(), before))
+    return {"sent": sent, "shown": shown, "freezes": freezes, "frozen": frozen, "rate": size * 8 / 1000 / passed}
+
+
+def call(codec, loss, seconds, *options, relay_loss=None, program="live_server"):
+    """One call: its figures. The server loses packets, or with `relay_loss` a relay in front of it, for each of both browsers."""
     with Server("--loss", str(loss), *options, program=program) as it:
-        sends = publisher_of(it, f"publish=camera&codec={codec}&size={width}")
-        watch = [viewer_of(it) for _ in range(viewers)]
-        before, began = [page.frames() for page in watch], sends.statistic("publish").get("framesSent", 0)
-        time.sleep(seconds)
-        shown = [page.frames() - frames for page, frames in zip(watch, before)]
-        sent = sends.statistic("publish").get("framesSent", 0) - began
-        statistics, audio = [page.statistic("watch") for page in watch], watch[0].statistic("watch", "audio")
-        first = watch[0].report()["first"]
+        through = [relay_loss is not None and Relay(relay_loss, seed=seed).to_server(it.udp) for seed in (1, 2)]
+        sends = publisher_of(it, f"publish=camera&codec={codec}", script=through[0])
+        gets = viewer_of(it, script=through[1])
+        figures = measured(sends, gets, seconds)
+        audio, first = gets.statistic("watch", "audio"), gets.report()["first"]
         video, sound, resent = it.streams()[0], it.streams(kind="audio")[0], it.streams("viewers")[0]["resent"]
         sends.close()
         time.sleep(0.5)
-    figures = {
-        "sent": sent, "shown": min(shown), "freezes": max(each.get("freezeCount", 0) for each in statistics),
-        "frozen": max(each.get("totalFreezesDuration", 0) for each in statistics), "first": first, "resent": resent,
-        "concealed": 100 * audio.get("concealedSamples", 0) / max(1, audio.get("totalSamplesReceived", 1)),
-        "recorded": it.recordings[0].frames, "audio lost": sound["lost"], "audio recovered": sound["recovered"],
-    } | {name: video[name] for name in ("packets", "lost", "requested", "recovered", "undecodable", "frames", "longestWait")}
+    figures |= {name: video[name] for name in ("packets", "lost", "requested", "recovered", "undecodable", "frames", "longestWait")} | {
+        "first": first, "resent": resent, "audio lost": sound["lost"], "audio recovered": sound["recovered"],
+        "concealed": 100 * audio.get("concealedSamples", 0) / max(1, audio.get("totalSamplesReceived", 1)), "recorded": it.recordings[0].frames}
     require(it.recordings[0].faults == "", f"the recording: {it.recordings[0].faults}")
     require(abs(figures["recorded"] - video["frames"]) < 60, f"{figures['recorded']} of {video['frames']} frames are recorded")
     return figures
-
-

@@ -4,7 +4,7 @@
     ./soak.py 60        for sixty minutes; --program live_server-sanitized for that build
 
 Chromium publishes a small picture, and two pages watch it, over a network that loses 2 %, reorders 1 % and takes 20 ms each way. Each
-minute one of the viewers leaves and another one comes; each ten minutes the publisher loads its page again. A line a minute: what
+minute one of the viewers stops and watches again; each ten minutes the publisher stops, and publishes again. A line a minute: what
 the server holds. Fails unless the resident memory at the end is at most 5 % above that of the tenth minute, there are no more open
 files, and the viewer goes on. Needs Chromium, ffmpeg and ffprobe.
 """
@@ -14,6 +14,7 @@ import pathlib
 import sys
 import time
 
+import browsers
 from browsers import Failed, require, wait_for
 from servers import Server, publisher_of, viewer_of
 
@@ -31,6 +32,12 @@ def held_by(it, minute, viewer):
             shown.get("framesDecoded", 0), shown.get("freezeCount", 0))
 
 
+def again(page, button):
+    """Stops, and begins again."""
+    page.click(button)
+    page.click(button)
+
+
 def soak(minutes, program):
     """The lines of the table, printed as they come."""
     print(f"| {' | '.join(COLUMNS)} |\n{'|---' * len(COLUMNS)}|")
@@ -42,12 +49,11 @@ def soak(minutes, program):
             time.sleep(max(0, began + 60 * minute - time.monotonic()))
             lines.append(held_by(it, minute, stays))
             print(f"| {' | '.join(map(str, lines[-1]))} |", flush=True)
-            other.close()
-            other = viewer_of(it)
+            again(other, "watch")
             if minute % 10 == 5:
                 before = stays.frames()
-                sends.evaluate("(location.reload(), 0)")
-                wait_for("picture after the publisher came again", lambda: stays.frames() > before + 20, 60)
+                again(sends, "publish")
+                wait_for("picture after the publisher came again", lambda: stays.frames() > before + 20)
     require(all(each.faults == "" for each in it.recordings), [each.faults for each in it.recordings])
     return lines
 
@@ -57,6 +63,7 @@ def main():
     reader.add_argument("minutes", type=int)
     reader.add_argument("--program", default="live_server")
     arguments = reader.parse_args()
+    browsers.LIMIT = 300  # this may run beside other work
     try:
         lines = soak(arguments.minutes, arguments.program)
         first, last = lines[min(10, len(lines) - 1)], lines[-1]

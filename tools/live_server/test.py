@@ -60,11 +60,34 @@ def test_reordered():
     return f"{figures['shown']} of {figures['sent']} frames shown, longest wait {figures['longestWait']} ms"
 
 
-def test_viewers():
-    """Four viewers of one publisher see nearly all frames each. The picture is small: a browser decodes all four."""
-    figures = call("VP8", 2, 8, viewers=4, width=320)
-    require(figures["shown"] > 0.85 * figures["sent"], figures)
-    return f"at least {figures['shown']} of {figures['sent']} frames shown"
+def test_viewers(count=10, seconds=10):
+    """Ten viewers of one publisher show nearly all frames each. The picture is small: a browser decodes all ten."""
+    with Server("--loss", "2") as it:
+        sends = publisher_of(it, "publish=camera&size=160&fps=10")
+        watch = [viewer_of(it) for _ in range(count)]
+        sent, before = sends.statistic("publish")["framesSent"], [page.frames() for page in watch]
+        time.sleep(seconds)
+        shown = [page.frames() - frames for page, frames in zip(watch, before)]
+        sent, freezes = sends.statistic("publish")["framesSent"] - sent, [page.statistic("watch")["freezeCount"] for page in watch]
+    figures = f"{min(shown)} to {max(shown)} of {sent} frames shown, at most {max(freezes)} freezes"
+    require(min(shown) > 0.85 * sent, figures)
+    return figures
+
+
+def test_conference(count=10, seconds=10):
+    """A conference of ten: each publishes under a name of its own and watches the next one, without loss and without a freeze."""
+    with Server() as it:
+        pages = [it.page(f"publish=camera&size=160&fps=10&name=n{i}&watch=n{(i + 1) % count}") for i in range(count)]
+        wait_for("picture on each page", lambda: all(page.frames() > 10 for page in pages), 90)
+        before = [page.statistic("watch") for page in pages]
+        time.sleep(seconds)
+        after = [page.statistic("watch") for page in pages]
+        shown, freezes = ([late[name] - early[name] for late, early in zip(after, before)] for name in ("framesDecoded", "freezeCount"))
+        publishers, viewers = len(it.stats()["publishers"]), len(it.stats()["viewers"])
+    figures = f"{publishers} publishers, {viewers} viewers: {min(shown)} to {max(shown)} frames in {seconds} s, {sum(freezes)} freezes"
+    require(publishers == viewers == count and min(shown) > 8 * seconds and sum(freezes) == 0, figures)
+    require(len(it.recordings) == count and not any(each.faults for each in it.recordings), [each.faults for each in it.recordings])
+    return figures
 
 
 def test_feedback():
@@ -300,7 +323,7 @@ TESTS = {f"{codec}-{loss}": (lambda codec=codec, loss=loss: test_call(codec, los
 TESTS |= {f"firefox-{name}": (lambda words=words: test_firefox(*words)) for name, words in {
     "publishes": (Firefox, Chromium, "VP8", 0), "watches": (Chromium, Firefox, "VP8", 0), "VP8-5": (Firefox, Firefox, "VP8", 5),
     "VP9-2": (Firefox, Firefox, "VP9", 2), "AV1-2": (Firefox, Firefox, "AV1", 2)}.items()}
-TESTS |= {name: globals()[f"test_{name}"] for name in ("refusals", "token", "disk", "phone", "reordered", "viewers", "feedback", "layers", "reload", "damaged", "hostile")}
+TESTS |= {name: globals()[f"test_{name}"] for name in ("refusals", "token", "disk", "phone", "reordered", "viewers", "conference", "feedback", "layers", "reload", "damaged", "hostile")}
 
 
 def main():
