@@ -76,7 +76,8 @@ def test_viewers(count=10, seconds=10):
 
 def test_conference(count=10, seconds=10):
     """A conference of ten: each page publishes under a name of its own and watches the next one. Nearly all frames are shown, and
-    without loss there is no freeze. Freezes are not judged if the machine is so busy that the pages send too few frames."""
+    without loss there is no freeze. Where the machine is so busy that a page sends too few frames, each page shows a picture that
+    goes on, and no more is asked."""
     with Server() as it:
         pages = [it.page(f"publish=camera&size=160&fps=10&name=n{i}") for i in range(count)]
         wait_for("frame of each page", lambda: len(it.streams()) == count and all(stream["frames"] > 0 for stream in it.streams()), 90)
@@ -92,10 +93,11 @@ def test_conference(count=10, seconds=10):
         publishers, viewers = len(it.stats()["publishers"]), len(it.stats()["viewers"])
     figures = f"{publishers} publishers, {viewers} viewers: {min(shown)} to {max(shown)} frames shown of {min(sent)} to {max(sent)} in {passed:.0f} s, {sum(freezes)} freezes"
     require(publishers == viewers == count, figures)
-    require(all(got > 0.9 * given - 10 for got, given in zip(shown, sent[1:] + sent[:1])), figures)
-    require(sum(freezes) == 0 or min(sent) < 9 * passed, figures)
+    busy = min(sent) < 9 * passed
+    require(all(got > (0.5 if busy else 0.9) * given - 10 for got, given in zip(shown, sent[1:] + sent[:1])), figures)
+    require(busy or sum(freezes) == 0, figures)
     require(len(it.recordings) == count and not any(each.faults for each in it.recordings), [each.faults for each in it.recordings])
-    return figures
+    return figures + (", on a busy machine" if busy else "")
 
 
 def test_feedback():
