@@ -13,7 +13,7 @@ import time
 
 from browsers import wait_for
 from relay import direct_call
-from servers import Server, call, measured, publisher_of, viewer_of
+from servers import Server, call, measured, publisher_of
 
 CODECS, LOSSES = ("VP8", "VP9", "AV1"), (0, 2, 5, 10)
 COLUMNS = ("call", "frames sent", "shown", "freezes, s", "kbit/s", "direct: sent", "shown", "freezes, s", "kbit/s", "lost", "requested", "recovered",

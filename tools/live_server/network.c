@@ -35,9 +35,7 @@ static struct mmsghdr out_heads[BATCH];
 static unsigned out_len;
 
 /* Two queues of what is delayed: datagrams in their places, and those that others overtake. */
-static struct {
-    delayed *first, *last;
-} queues[2];
+static struct { delayed *first, *last; } queues[2];
 static size_t delayed_len;
 
 void network_start(void) {

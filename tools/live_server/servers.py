@@ -1,8 +1,6 @@
 """A server of the tests of live_server, with the browsers that use it, and calls over it."""
 
-import contextlib
 import json
-import os
 import pathlib
 import resource
 import signal

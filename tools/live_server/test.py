@@ -16,7 +16,6 @@ import hashlib
 import hmac
 import json
 import os
-import pathlib
 import random
 import re
 import shutil
