@@ -5,13 +5,15 @@
     ./measure.py rates [SECONDS]     the bitrates of Chromium by feedback and loss (docs/RTCP.md)
     ./measure.py shot FILE.webp      the picture of the page in docs/pictures
 
-A call of the tables lasts 20 s, if you name no other time. Run it on a machine with idle cores. Needs what test.py needs.
+A call of the tables lasts 20 s, if you name no other time. Run it on a machine with idle cores: of the table of losses a call whose
+browser sends too few frames is made again, and a row of which five calls were such ones is left out. Needs what test.py needs.
 """
 
+import contextlib
 import sys
 import time
 
-from browsers import wait_for
+from browsers import Failed, wait_for
 from relay import direct_call
 from servers import Server, call, measured, publisher_of
 
@@ -24,15 +26,32 @@ def seen(figures):
     return f"{figures['sent']} | {figures['shown']} | {figures['freezes']}, {figures['frozen']:.1f} | {figures['rate']:.0f}"
 
 
+def idle(figures):
+    """The figures of the first call of five for which the machine had time, or None."""
+    for _ in range(5):
+        with contextlib.suppress(Failed):
+            found = figures()
+            if not found["busy"]:
+                return found
+    return None
+
+
+def direct(codec, loss, seconds):
+    with Server() as server:
+        return measured(*direct_call(server, codec, loss), seconds)
+
+
 def losses(seconds):
     """The table of losses, as Markdown."""
     print(f"| {' | '.join(COLUMNS)} |\n{'|---' * len(COLUMNS)}|")
     for codec in CODECS:
         for loss in LOSSES:
-            it = call(codec, 0, seconds, relay_loss=loss)
-            with Server() as server:
-                direct = measured(*direct_call(server, codec, loss), seconds)
-            print(f"| {codec}, {loss} % | {seen(it)} | {seen(direct)} | {it['lost']} | {it['requested']} | {it['recovered']} | {it['resent']} | "
+            it = idle(lambda: call(codec, 0, seconds, relay_loss=loss))
+            other = it and idle(lambda: direct(codec, loss, seconds))
+            if not other:
+                print(f"{codec}, {loss} %: the machine is too busy", file=sys.stderr, flush=True)
+                continue
+            print(f"| {codec}, {loss} % | {seen(it)} | {seen(other)} | {it['lost']} | {it['requested']} | {it['recovered']} | {it['resent']} | "
                   f"{it['undecodable']} | {it['recorded']} | {it['audio lost']}, {it['audio recovered']} | {it['concealed']:.1f} % | {it['first']} |", flush=True)
 
 

@@ -111,17 +111,21 @@ def viewer_of(it, query="watch", kind=Chromium, script=None):
     return page
 
 
+CAMERA = 20  # frames a second of Chromium's fake camera
+
+
 def measured(sends, gets, seconds):
-    """What a publisher sends and a viewer shows from now on: frames, freezes, and kbit/s of video that the viewer gets."""
+    """What a publisher sends and a viewer shows from now on: frames, freezes, and kbit/s of video that the viewer gets. `busy`: the
+    machine let the publisher's browser send too few frames for the figures to say something about the network."""
     def now():
         sent, got = sends.statistic("publish"), gets.statistic("watch")
-        counts = (got.get(name, 0) for name in ("framesDecoded", "freezeCount", "totalFreezesDuration", "bytesReceived"))
-        return time.monotonic(), sent.get("framesSent", 0), *counts
+        counts = (got.get(name, 0) for name in ("timestamp", "framesDecoded", "freezeCount", "totalFreezesDuration", "bytesReceived"))
+        return sent.get("timestamp", 0), sent.get("framesSent", 0), *counts
 
     before = now()
     time.sleep(seconds)
-    passed, sent, shown, freezes, frozen, size = (after - earlier for after, earlier in zip(now(), before))
-    return {"sent": sent, "shown": shown, "freezes": freezes, "frozen": frozen, "rate": size * 8 / 1000 / passed}
+    sending, sent, watching, shown, freezes, frozen, size = (after - earlier for after, earlier in zip(now(), before))
+    return {"sent": sent, "shown": shown, "freezes": freezes, "frozen": frozen, "rate": size * 8 / watching, "busy": sent < 0.9 * CAMERA * sending / 1000}
 
 
 def call(codec, loss, seconds, *options, relay_loss=None, program="live_server"):
