@@ -1,9 +1,9 @@
 #!/usr/bin/env python3
 """The tables and the picture of the documents of live_server, by Chromium on this machine.
 
-    ./measure.py losses [SECONDS]    the table of losses of README.md, beside calls from Chromium to Chromium
-    ./measure.py rates [SECONDS]     the bitrates of Chromium by feedback and loss (docs/RTCP.md)
-    ./measure.py shot FILE.webp      the picture of the page in docs/pictures
+    ./measure.py losses [SECONDS [ROW..]]    the table of losses of README.md, beside calls from Chromium to Chromium; or its rows VP8-5, ..
+    ./measure.py rates [SECONDS]             the bitrates of Chromium by feedback and loss (docs/RTCP.md)
+    ./measure.py shot FILE.webp              the picture of the page in docs/pictures
 
 A call of the tables lasts 20 s, if you name no other time. Run it on a machine with idle cores: of the table of losses a call whose
 browser sends too few frames is made again, and a row of which five calls were such ones is left out. Needs what test.py needs.
@@ -41,11 +41,13 @@ def direct(codec, loss, seconds):
         return measured(*direct_call(server, codec, loss), seconds)
 
 
-def losses(seconds):
+def losses(seconds, *rows):
     """The table of losses, as Markdown."""
     print(f"| {' | '.join(COLUMNS)} |\n{'|---' * len(COLUMNS)}|")
     for codec in CODECS:
         for loss in LOSSES:
+            if rows and f"{codec}-{loss}" not in rows:
+                continue
             it = idle(lambda: call(codec, 0, seconds, relay_loss=loss))
             other = it and idle(lambda: direct(codec, loss, seconds))
             if not other:
@@ -95,7 +97,7 @@ def main():
     if words[:1] == ["shot"] and len(words) == 2:
         shot(words[1])
     elif words[:1] in (["losses"], ["rates"]):
-        {"losses": losses, "rates": rates}[words[0]](int(words[1]) if words[1:] else 20)
+        {"losses": losses, "rates": rates}[words[0]](int(words[1]) if words[1:] else 20, *words[2:])
     else:
         print(__doc__)
         return 2
