@@ -9,13 +9,12 @@ A call of the tables lasts 20 s, if you name no other time. Run it on a machine 
 browser sends too few frames is made again, and a row of which five calls were such ones is left out. Needs what test.py needs.
 """
 
-import contextlib
 import sys
 import time
 
-from browsers import Failed, wait_for
+from browsers import wait_for
 from relay import direct_call
-from servers import Server, call, measured, publisher_of
+from servers import Server, call, idle, measured, publisher_of
 
 CODECS, LOSSES = ("VP8", "VP9", "AV1"), (0, 2, 5, 10)
 COLUMNS = ("call", "frames sent", "shown", "freezes, s", "kbit/s", "direct: sent", "shown", "freezes, s", "kbit/s", "lost", "requested", "recovered",
@@ -24,16 +23,6 @@ COLUMNS = ("call", "frames sent", "shown", "freezes, s", "kbit/s", "direct: sent
 
 def seen(figures):
     return f"{figures['sent']} | {figures['shown']} | {figures['freezes']}, {figures['frozen']:.1f} | {figures['rate']:.0f}"
-
-
-def idle(figures):
-    """The figures of the first call of five for which the machine had time, or None."""
-    for _ in range(5):
-        with contextlib.suppress(Failed):
-            found = figures()
-            if not found["busy"]:
-                return found
-    return None
 
 
 def direct(codec, loss, seconds):

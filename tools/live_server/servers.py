@@ -1,5 +1,6 @@
 """A server of the tests of live_server, with the browsers that use it, and calls over it."""
 
+import contextlib
 import json
 import pathlib
 import resource
@@ -11,7 +12,7 @@ import time
 import urllib.error
 import urllib.request
 
-from browsers import Chromium, Page, require, wait_for
+from browsers import Chromium, Failed, Page, require, wait_for
 from relay import Relay
 
 HERE = pathlib.Path(__file__).resolve().parent
@@ -115,17 +116,18 @@ CAMERA = 20  # frames a second of Chromium's fake camera
 
 
 def measured(sends, gets, seconds):
-    """What a publisher sends and a viewer shows from now on: frames, freezes, and kbit/s of video that the viewer gets. `busy`: the
-    machine let the publisher's browser send too few frames for the figures to say something about the network."""
+    """What a publisher sends and a viewer shows from now on: frames, freezes, and kbit/s of video that is sent, without what is sent
+    again: for a loss, or to probe the network. `busy`: the machine let the publisher's browser send too few frames for the figures
+    to say something about the network."""
     def now():
         sent, got = sends.statistic("publish"), gets.statistic("watch")
-        counts = (got.get(name, 0) for name in ("timestamp", "framesDecoded", "freezeCount", "totalFreezesDuration", "bytesReceived"))
-        return sent.get("timestamp", 0), sent.get("framesSent", 0), *counts
+        size = sent.get("bytesSent", 0) - sent.get("retransmittedBytesSent", 0)
+        return sent.get("timestamp", 0), sent.get("framesSent", 0), size, *(got.get(name, 0) for name in ("framesDecoded", "freezeCount", "totalFreezesDuration"))
 
     before = now()
     time.sleep(seconds)
-    sending, sent, watching, shown, freezes, frozen, size = (after - earlier for after, earlier in zip(now(), before))
-    return {"sent": sent, "shown": shown, "freezes": freezes, "frozen": frozen, "rate": size * 8 / watching, "busy": sent < 0.9 * CAMERA * sending / 1000}
+    passed, sent, size, shown, freezes, frozen = (after - earlier for after, earlier in zip(now(), before))
+    return {"sent": sent, "shown": shown, "freezes": freezes, "frozen": frozen, "rate": size * 8 / passed, "busy": sent < 0.9 * CAMERA * passed / 1000}
 
 
 def call(codec, loss, seconds, *options, relay_loss=None, program="live_server"):
@@ -145,3 +147,13 @@ def call(codec, loss, seconds, *options, relay_loss=None, program="live_server")
     require(it.recordings[0].faults == "", f"the recording: {it.recordings[0].faults}")
     require(abs(figures["recorded"] - video["frames"]) < 60, f"{figures['recorded']} of {video['frames']} frames are recorded")
     return figures
+
+
+def idle(figures, tries=5):
+    """The figures of the first call for which the machine had time, or None."""
+    for _ in range(tries):
+        with contextlib.suppress(Failed):
+            found = figures()
+            if not found["busy"]:
+                return found
+    return None
