@@ -1,22 +1,24 @@
-/* SFU forwarding of VP8: switches between two simulcast layers and rewrites the packets so that the viewer sees one stream.
+/* SFU: a publisher sends two layers of VP8, a viewer gets one of them and switches, and packets are lost on both hops.
  *
  *     cc sfu.c $(pkg-config --cflags --libs codec-payload) && ./a.out
  *
  * The rules:
- * - Switch only where a keyframe of the wanted layer starts: `starts_keyframe` of cpay_vp8_fields. Ask for one with a PLI.
- * - After a switch, drop packets of the new layer that are older than that keyframe; drop the other layer.
- * - Rewrite SSRC, sequence number and timestamp in the RTP header, and PictureID and TL0PICIDX in the VP8 descriptor, each by an
- *   offset that is fixed until the next switch. Losses stay losses: a receiver sees the same gaps.
- * - cpay_vp8_patch keeps the width of a PictureID: use senders that send 15 bits (picture_id_bits of cpay_vp8_fields_info), or it
- *   returns CPAY_INVALID for ids above 127.
- * The network is simulated. The status is 0 if the viewer received one contiguous stream. */
+ * - A session receives from the publisher, and requests what is missing. A store for each layer keeps each packet once, for all
+ *   viewers. A forwarder for each viewer writes its packets.
+ * - A retransmission is the packet that it repeats: unwrap it, then treat it like any other.
+ * - A forwarder goes over to a layer at its next keyframe. Ask the publisher for one (PLI) when a viewer wants a layer, and when
+ *   the viewer itself asks, at most once in 500 ms. Packets of that keyframe may have come before its first one: pass them again.
+ * - Answer a viewer's NACK from the store of the layer that it gets.
+ * The network is simulated: 20 ms for a hop, with losses each way on both hops. The status is 0 if the viewer shows what it
+ * should. */
 #include "codec_payload.h"
 
 #include <stdio.h>
 #include <stdlib.h>
 #include <string.h>
 
-enum { LAYERS = 2, FRAMES = 300, INTERVAL = 33, SWITCH_EVERY = 70, ROOM = 1500, FRAME = 2500, VIEWER_SSRC = 99 };
+enum { LAYERS = 2, FRAMES = 240, INTERVAL = 50, SWITCH_EVERY = 60, ROOM = 1500, FRAME = 2500, HOP = 20, QUEUE = 256 };
+enum { VP8 = 96, RTX = 97, RTX_SSRC = 10, VIEWER = 99, VIEWER_RTX = 98, SFU = 50, KEYFRAME_INTERVAL = 500 };
 
 static void check(cpay_status status, const char *what) {
     if (status == CPAY_OK) return;
@@ -24,136 +26,293 @@ static void check(cpay_status status, const char *what) {
     exit(EXIT_FAILURE);
 }
 
-/* Passes a datagram that came from the network. One that is malformed is counted, and the stream continues. */
-static void take(cpay_receiver *receiver, uint64_t now, const uint8_t *datagram, size_t size) {
-    cpay_outcome outcome = CPAY_HELD;
-    cpay_status status = cpay_receiver_receive(receiver, now, datagram, size, &outcome);
-    if (status == CPAY_OUT_OF_MEMORY) check(status, "receive");
-}
-
 static void put(uint8_t *at, uint32_t value, int bytes) {
     for (int i = 0; i < bytes; i++) at[i] = (uint8_t)(value >> 8 * (bytes - 1 - i));
+}
+
+static uint16_t number_of(const uint8_t *packet) { return (uint16_t)(packet[2] << 8 | packet[3]); }
+
+/* ---- One direction of a hop of the network ---- */
+
+typedef struct {
+    uint64_t chance; /* of the next loss */
+    unsigned loss;   /* percent */
+    size_t first, len;
+    struct {
+        uint64_t due;
+        size_t size;
+        uint8_t bytes[ROOM];
+    } queue[QUEUE];
+} way;
+
+static void send(way *to, uint64_t now, const uint8_t *bytes, size_t size) {
+    to->chance = to->chance * 6364136223846793005u + 1442695040888963407u;
+    if ((to->chance >> 33) % 100 < to->loss || to->len == QUEUE || size > ROOM) return;
+    size_t place = (to->first + to->len++) % QUEUE;
+    to->queue[place].due = now + HOP;
+    to->queue[place].size = size;
+    memcpy(to->queue[place].bytes, bytes, size);
+}
+
+/* The next datagram that arrives until now, or NULL. */
+static const uint8_t *arrived(way *from, uint64_t now, size_t *size) {
+    size_t place = from->first;
+    if (from->len == 0 || from->queue[place].due > now) return NULL;
+    from->first = (place + 1) % QUEUE;
+    from->len--;
+    *size = from->queue[place].size;
+    return from->queue[place].bytes;
+}
+
+static way to_sfu, to_publisher, to_viewer, from_viewer;
+
+/* A request for a keyframe (RFC 4585, section 6.3.1). */
+static void send_pli(uint64_t now, uint32_t ssrc) {
+    uint8_t pli[12];
+    put(pli, 0x81ce0002, 4);
+    put(pli + 4, SFU, 4);
+    put(pli + 8, ssrc, 4);
+    send(&to_publisher, now, pli, sizeof pli);
 }
 
 /* ---- The recipe ---- */
 
 typedef struct {
-    uint32_t ssrc;          /* the layer that is forwarded; 0: none yet */
-    uint32_t wanted;        /* the layer to switch to at its next keyframe */
-    uint16_t first_number;  /* of the keyframe at which the layer began */
-    uint16_t number_offset; /* added to sequence numbers, and so on */
-    uint32_t time_offset;
-    uint16_t id_offset;
-    uint8_t tl0_offset;
-    uint16_t last_number; /* the highest that was sent, and so on */
-    uint32_t last_time;
-    uint16_t last_id;
-    uint8_t last_tl0;
-} forwarder;
+    cpay_session session;        /* receives from the publisher, and requests what is missing */
+    cpay_history stores[LAYERS]; /* the latest packets of each layer, for all viewers */
+    uint64_t next_pli[LAYERS];   /* from when on a keyframe may be requested */
+    cpay_forwarder viewer;       /* the stream of one viewer */
+} sfu;
 
-/* Whether a is after b, by 16 bits. */
-static bool is_after(uint16_t a, uint16_t b) { return a != b && (uint16_t)(a - b) < 0x8000; }
-
-static void switch_layer(forwarder *it, const cpay_rtp_info *packet, const cpay_vp8_fields_info *fields) {
-    it->ssrc = it->wanted;
-    it->first_number = packet->sequence_number;
-    it->number_offset = (uint16_t)(it->last_number + 1 - packet->sequence_number);
-    it->time_offset = it->last_time + 90 * INTERVAL - packet->timestamp;
-    it->id_offset = (uint16_t)(it->last_id + 1 - fields->picture_id);
-    it->tl0_offset = (uint8_t)(it->last_tl0 + 1 - fields->tl0_pic_idx);
+static void request_keyframe(sfu *it, uint64_t now, uint32_t ssrc) {
+    if (now < it->next_pli[ssrc - 1]) return;
+    it->next_pli[ssrc - 1] = now + KEYFRAME_INTERVAL;
+    send_pli(now, ssrc);
 }
 
-/* Rewrites a datagram of any layer in place. False: do not forward it. */
-static bool forward(forwarder *it, uint8_t *datagram, size_t size) {
+/* Passes a packet to the viewer. Returns whether it is the first one of another layer. */
+static bool forward(sfu *it, uint64_t now, const uint8_t *packet, size_t size) {
+    uint8_t out[ROOM];
+    size_t out_size = 0;
+    cpay_forwarded did = CPAY_FORWARDED_OTHER_SOURCE;
+    check(cpay_forwarder_write(&it->viewer, 90 * now, packet, size, out, ROOM, &out_size, &did), "forward");
+    if (out_size > 0) send(&to_viewer, now, out, out_size);
+    return did == CPAY_FORWARDED_BEGAN;
+}
+
+/* A datagram of the publisher. */
+static void receive(sfu *it, uint64_t now, const uint8_t *datagram, size_t size) {
+    uint8_t bytes[ROOM];
+    static cpay_arrival arrival;
     cpay_rtp_info packet = {0};
-    cpay_vp8_fields_info fields = {0};
-    bool starts_keyframe = false;
-    if (cpay_rtp_read(datagram, size, &packet) || packet.payload_len == 0) return false;
-    uint8_t *payload = datagram + packet.payload_at;
-    if (cpay_vp8_fields(payload, packet.payload_len, &fields, &starts_keyframe)) return false;
-    if (it->wanted != it->ssrc && packet.ssrc == it->wanted && starts_keyframe) switch_layer(it, &packet, &fields);
-    if (packet.ssrc != it->ssrc || is_after(it->first_number, packet.sequence_number)) return false;
-    uint16_t number = (uint16_t)(packet.sequence_number + it->number_offset);
-    uint32_t time = packet.timestamp + it->time_offset;
-    fields.has_key_idx = false; /* stays as it is */
-    fields.picture_id = (uint16_t)((fields.picture_id + it->id_offset) & 0x7fff);
-    fields.tl0_pic_idx = (uint8_t)(fields.tl0_pic_idx + it->tl0_offset);
-    if (cpay_vp8_patch(payload, packet.payload_len, &fields)) return false;
-    put(datagram + 2, number, 2);
-    put(datagram + 4, time, 4);
-    put(datagram + 8, VIEWER_SSRC, 4);
-    if (is_after(number, it->last_number)) {
-        it->last_number = number;
-        it->last_time = time;
-        it->last_id = fields.picture_id;
-        it->last_tl0 = fields.tl0_pic_idx;
+    cpay_kept_once seen = CPAY_KEPT_KNOWN;
+    cpay_resent found = CPAY_RESENT_NOT_KEPT;
+    check(cpay_session_receive(&it->session, now, datagram, size, &arrival), "receive");
+    if (arrival.kind != CPAY_ARRIVAL_STREAM || arrival.status || cpay_rtp_read(datagram, size, &packet)) return;
+    bool repeats = packet.payload_type != arrival.payload_type; /* a retransmission */
+    if (repeats && cpay_rtx_original(arrival.ssrc, arrival.payload_type, datagram, size, bytes, ROOM, &size)) return;
+    const uint8_t *it_is = repeats ? bytes : datagram;
+    cpay_history *store = &it->stores[arrival.ssrc - 1];
+    check(cpay_history_keep_once(store, it_is, size, &seen), "keep");
+    if (seen != CPAY_KEPT_NEW || !forward(it, now, it_is, size)) return;
+    for (uint16_t step = 1; step < 64; step++) { /* packets of the keyframe that came before its first one */
+        check(cpay_history_resend(store, 0, (uint16_t)(number_of(it_is) + step), bytes, ROOM, &size, &found), "find");
+        if (found == CPAY_RESENT_WRITTEN) (void)forward(it, now, bytes, size);
     }
-    return true;
 }
 
-/* ---- Two simulated layers, and a viewer ---- */
-
-static void put_vp8(uint8_t *frame, bool keyframe, uint8_t layer) {
-    static const uint8_t start[] = {0x9d, 0x01, 0x2a, 0x40, 0x01, 0xf0, 0x00};
-    memset(frame, layer, FRAME);
-    put(frame, (uint32_t)((keyframe ? 0x10 : 0x11) | (100u << 5 & 0xff)) << 16 | (100u >> 3) << 8, 3);
-    if (keyframe) memcpy(frame + 3, start, sizeof start);
+/* RTCP of the viewer. What is malformed requests nothing. */
+static void answer(sfu *it, uint64_t now, const uint8_t *rtcp, size_t rtcp_size) {
+    uint16_t numbers[512];
+    uint8_t out[ROOM];
+    uint32_t source = 0;
+    size_t count = 0, size = 0;
+    bool keyframe = false;
+    cpay_resent found = CPAY_RESENT_NOT_KEPT;
+    if (cpay_forwarder_source(&it->viewer, &source) ||
+        cpay_read_requests(rtcp, rtcp_size, VIEWER, false, numbers, 512, &count, &keyframe))
+        return;
+    for (size_t i = 0; i < count && i < 512; i++) {
+        check(cpay_forwarder_resend(&it->viewer, &it->stores[source - 1], numbers[i], out, ROOM, &size, &found), "resend");
+        if (found == CPAY_RESENT_WRITTEN) send(&to_viewer, now, out, size);
+    }
+    if (keyframe) request_keyframe(it, now, source);
 }
+
+/* What is due by the clock. Units of the session are for those who record or mix. */
+static void poll(sfu *it, uint64_t now) {
+    static uint8_t bytes[1 << 20];
+    static cpay_event event;
+    uint32_t source = 0, wanted = 0;
+    while (cpay_session_poll(&it->session, now, &event, bytes, sizeof bytes) == CPAY_OK)
+        if (event.kind == CPAY_EVENT_FEEDBACK || event.kind == CPAY_EVENT_REPORT) send(&to_publisher, now, bytes, event.bytes);
+    bool gets = cpay_forwarder_source(&it->viewer, &source) == CPAY_OK;
+    bool wants = cpay_forwarder_wanted(&it->viewer, &wanted) == CPAY_OK;
+    if (wants && !(gets && source == wanted)) request_keyframe(it, now, wanted);
+}
+
+/* ---- The simulated publisher ---- */
 
 typedef struct {
-    unsigned frames, gaps, switches, layer_before;
-} seen_frames;
+    cpay_sender sender;
+    cpay_history sent;
+    bool keyframe; /* the next frame is one */
+} layer;
 
-/* Pops the frames that are due, and counts gaps and switches. */
-static void watch(seen_frames *seen, cpay_receiver *viewer, uint64_t now) {
-    static uint8_t bytes[FRAME];
-    cpay_unit unit = {0};
-    cpay_status status;
-    while (!(status = cpay_receiver_pop(viewer, now, &unit, bytes, FRAME))) {
-        if (unit.fault || unit.bytes != FRAME) continue; /* a refused frame is lost */
-        uint8_t layer = bytes[FRAME - 1];
-        seen->frames++;
-        seen->gaps += !unit.contiguous;
-        seen->switches += layer != seen->layer_before && seen->layer_before != LAYERS;
-        seen->gaps += layer != seen->layer_before && bytes[0] & 1; /* a layer has to begin with a keyframe */
-        seen->layer_before = layer;
-    }
-    if (status != CPAY_NONE) check(status, "pop");
-}
-
-int main(void) {
+/* A frame whose last bytes have the time and the layer. */
+static void send_frame(layer *it, uint32_t ssrc, uint64_t now) {
+    static const uint8_t start[] = {0x9d, 0x01, 0x2a, 0x40, 0x01, 0xf0, 0x00};
     static uint8_t frame[FRAME], datagram[ROOM];
-    cpay_sender layers[LAYERS] = {CPAY_INIT, CPAY_INIT};
-    cpay_receiver viewer = CPAY_INIT;
-    cpay_receiver_settings settings;
-    forwarder it = {.wanted = 1, .last_number = 500, .last_time = 12345, .last_id = 200};
-    seen_frames seen = {.layer_before = LAYERS};
-    for (uint32_t i = 0; i < LAYERS; i++) {
-        cpay_spec spec = {.codec = CPAY_VP8, .rate = 90000, .first_id = (uint16_t)(1000 * (i + 1)), .vp8_ids = true};
-        cpay_sender_settings sends = {.spec = spec, .mtu = 1200, .ssrc = i + 1, .payload_type = 96};
-        sends.first_number = (uint16_t)(40000 * i);
-        check(cpay_sender_new(&layers[i], &sends), "sender");
+    size_t count = 0, size = 0;
+    memset(frame, 0, FRAME);
+    put(frame + FRAME - 5, (uint32_t)now, 4);
+    frame[FRAME - 1] = (uint8_t)ssrc;
+    put(frame, (uint32_t)((it->keyframe ? 0x10 : 0x11) | (100u << 5 & 0xff)) << 16 | (100u >> 3) << 8, 3);
+    if (it->keyframe) memcpy(frame + 3, start, sizeof start);
+    it->keyframe = false;
+    check(cpay_sender_send(&it->sender, 90 * now + 777777 * ssrc, false, frame, FRAME, &count), "send");
+    for (size_t place = 0; place < count; place++) {
+        check(cpay_sender_datagram(&it->sender, place, datagram, ROOM, &size), "datagram");
+        check(cpay_history_keep(&it->sent, datagram, size, NULL), "keep what was sent");
+        send(&to_sfu, now, datagram, size);
     }
-    cpay_receiver_settings_init(&settings, CPAY_VP8, 90000, 96, CPAY_FOR_LIVE);
-    check(cpay_receiver_new(&viewer, &settings, NULL, 0), "viewer");
-    for (uint32_t f = 0; f < FRAMES; f++) {
-        if (f > 0 && f % SWITCH_EVERY == 0) it.wanted = 3 - it.wanted; /* 1 and 2 in turn */
-        for (uint32_t i = 0; i < LAYERS; i++) {
-            size_t count = 0, size = 0;
-            put_vp8(frame, f % 25 == 10 * i, (uint8_t)i);
-            check(cpay_sender_send(&layers[i], 90 * INTERVAL * f + 777777 * i, false, frame, FRAME, &count), "send");
-            for (size_t place = 0; place < count; place++) {
-                check(cpay_sender_datagram(&layers[i], place, datagram, ROOM, &size), "datagram");
-                if (forward(&it, datagram, size))
-                    take(&viewer, f * INTERVAL, datagram, size);
-            }
-        }
-        watch(&seen, &viewer, f * INTERVAL);
-    }
-    check(cpay_receiver_finish(&viewer), "finish");
-    watch(&seen, &viewer, FRAMES * INTERVAL);
-    printf("%u frames, %u switches, %u gaps\n", seen.frames, seen.switches, seen.gaps);
-    for (int i = 0; i < LAYERS; i++) cpay_sender_free(&layers[i]);
-    cpay_receiver_free(&viewer);
-    return seen.gaps || seen.frames < FRAMES - 2 || seen.switches < 3 ? EXIT_FAILURE : EXIT_SUCCESS;
 }
+
+static void resend(layer *it, uint32_t ssrc, uint64_t now, const uint8_t *rtcp, size_t rtcp_size) {
+    uint16_t numbers[512];
+    uint8_t out[ROOM];
+    size_t count = 0, size = 0;
+    bool wants_keyframe = false;
+    cpay_resent found = CPAY_RESENT_NOT_KEPT;
+    check(cpay_read_requests(rtcp, rtcp_size, ssrc, false, numbers, 512, &count, &wants_keyframe), "requests");
+    it->keyframe |= wants_keyframe;
+    for (size_t i = 0; i < count && i < 512; i++) {
+        check(cpay_history_resend(&it->sent, now, numbers[i], out, ROOM, &size, &found), "resend");
+        if (found == CPAY_RESENT_WRITTEN) send(&to_sfu, now, out, size);
+    }
+}
+
+/* ---- The simulated viewer ---- */
+
+typedef struct {
+    unsigned shown, freezes, switches;
+    uint64_t frozen, before; /* ms; when the frame before was shown */
+    uint64_t intervals[30];  /* between the latest frames */
+    uint8_t latest[5];       /* the time and the layer of the frame before */
+} picture;
+
+/* Counts a frame. Two layers may have one of the same time, which counts once. A freeze is an interval of at least three average
+ * ones, and of 150 ms more than one (W3C's freezeCount). */
+static void show(picture *it, uint64_t now, const uint8_t *end) {
+    uint64_t sum = 0, interval = now - it->before, average;
+    bool again = it->shown > 0 && !memcmp(end, it->latest, 4);
+    it->switches += it->shown > 0 && it->latest[4] != end[4];
+    memcpy(it->latest, end, sizeof it->latest);
+    if (again) return;
+    for (unsigned i = 0; i < 30; i++) sum += it->intervals[i];
+    average = it->shown > 30 ? sum / 30 : INTERVAL;
+    if (it->shown > 0 && interval >= 3 * average && interval >= average + 150) {
+        it->freezes++;
+        it->frozen += interval;
+    }
+    it->intervals[it->shown++ % 30] = interval;
+    it->before = now;
+}
+
+static void watch(cpay_session *viewer, picture *it, uint64_t now) {
+    static uint8_t bytes[1 << 20];
+    static cpay_event event;
+    while (cpay_session_poll(viewer, now, &event, bytes, sizeof bytes) == CPAY_OK) {
+        if (event.kind == CPAY_EVENT_FEEDBACK || event.kind == CPAY_EVENT_REPORT) send(&from_viewer, now, bytes, event.bytes);
+        if (event.kind == CPAY_EVENT_UNIT && event.bytes == FRAME) show(it, now, bytes + FRAME - 5);
+    }
+}
+
+/* ---- All together ---- */
+
+static void begin_session(cpay_session *it, uint32_t own_ssrc, const cpay_ssrc_pair *pairs, size_t pairs_len) {
+    cpay_session_settings settings;
+    const cpay_spec spec = {.codec = CPAY_VP8, .rate = 90000};
+    const cpay_session_format format = {
+        .spec = spec, .payload_type = VP8, .rtx_payload_type = RTX, .has_rtx = true, .nack = true, .pli = true};
+    cpay_session_settings_init(&settings, CPAY_FOR_LIVE);
+    settings.from_keyframe = CPAY_KEYFRAME_DROP;
+    check(cpay_session_settings_feedback(&settings, own_ssrc, (const uint8_t *)"sfu", 3), "feedback");
+    check(cpay_session_new(it, &settings, &format, 1, NULL, 0, pairs, pairs_len), "session");
+}
+
+static void begin_sfu(sfu *it) {
+    static const cpay_ssrc_pair pairs[LAYERS] = {{1, RTX_SSRC + 1}, {2, RTX_SSRC + 2}};
+    const cpay_history_settings keeps = {.limit = 2048};
+    cpay_forwarder_settings settings;
+    begin_session(&it->session, SFU, pairs, LAYERS);
+    for (int i = 0; i < LAYERS; i++) {
+        check(cpay_history_new(&it->stores[i], &keeps), "store");
+    }
+    cpay_forwarder_settings_init(&settings, CPAY_VP8, VIEWER, VP8);
+    settings.has_rtx = true;
+    settings.rtx_ssrc = VIEWER_RTX;
+    settings.rtx_payload_type = RTX;
+    check(cpay_forwarder_new(&it->viewer, &settings), "forwarder");
+}
+
+static void begin_layer(layer *it, uint32_t ssrc) {
+    const cpay_spec spec = {.codec = CPAY_VP8, .rate = 90000, .first_id = (uint16_t)(1000 * ssrc), .vp8_ids = true};
+    const cpay_sender_settings sends = {
+        .spec = spec, .mtu = 1200, .ssrc = ssrc, .first_number = (uint16_t)(30000 * ssrc), .payload_type = VP8};
+    const cpay_history_settings keeps = {.limit = 512, .rtx_ssrc = RTX_SSRC + ssrc, .rtx_payload_type = RTX, .has_rtx = true};
+    check(cpay_sender_new(&it->sender, &sends), "sender");
+    check(cpay_history_new(&it->sent, &keeps), "history");
+    it->keyframe = true;
+}
+
+/* A millisecond of all three. */
+static void step(layer layers[LAYERS], sfu *it, cpay_session *viewer, picture *seen, uint64_t now) {
+    const uint8_t *bytes;
+    size_t size = 0;
+    static cpay_arrival arrival;
+    while ((bytes = arrived(&to_publisher, now, &size)))
+        for (uint32_t i = 0; i < LAYERS; i++) resend(&layers[i], i + 1, now, bytes, size);
+    if (now % INTERVAL == 0 && now < FRAMES * INTERVAL)
+        for (uint32_t i = 0; i < LAYERS; i++) send_frame(&layers[i], i + 1, now);
+    if (now % (SWITCH_EVERY * INTERVAL) == 0)
+        check(cpay_forwarder_want(&it->viewer, 1 + (uint32_t)(now / (SWITCH_EVERY * INTERVAL)) % 2), "want");
+    while ((bytes = arrived(&to_sfu, now, &size))) receive(it, now, bytes, size);
+    while ((bytes = arrived(&from_viewer, now, &size))) answer(it, now, bytes, size);
+    poll(it, now);
+    while ((bytes = arrived(&to_viewer, now, &size))) check(cpay_session_receive(viewer, now, bytes, size, &arrival), "watch");
+    watch(viewer, seen, now);
+}
+
+/* A run at a loss in percent. Returns whether it is as good as it should be. */
+static bool run(unsigned loss) {
+    static const cpay_ssrc_pair pair = {VIEWER, VIEWER_RTX};
+    way *ways[] = {&to_sfu, &to_publisher, &to_viewer, &from_viewer};
+    layer layers[LAYERS] = {{CPAY_INIT, CPAY_INIT, true}, {CPAY_INIT, CPAY_INIT, true}};
+    sfu it = {CPAY_INIT, {CPAY_INIT, CPAY_INIT}, {0, 0}, CPAY_INIT};
+    cpay_session viewer = CPAY_INIT;
+    picture seen = {0};
+    for (unsigned i = 0; i < 4; i++) {
+        memset(ways[i], 0, sizeof *ways[i]);
+        ways[i]->chance = i + 1;
+        ways[i]->loss = loss;
+    }
+    for (uint32_t i = 0; i < LAYERS; i++) begin_layer(&layers[i], i + 1);
+    begin_sfu(&it);
+    begin_session(&viewer, VIEWER + 1, &pair, 1);
+    for (uint64_t now = 0; now < FRAMES * INTERVAL + 1000; now++) step(layers, &it, &viewer, &seen, now);
+    printf("%u %%: %u of %d frames shown, %u switches, %u freezes, %u ms frozen\n", loss, seen.shown, FRAMES, seen.switches,
+           seen.freezes, (unsigned)seen.frozen);
+    for (int i = 0; i < LAYERS; i++) {
+        cpay_sender_free(&layers[i].sender);
+        cpay_history_free(&layers[i].sent);
+        cpay_history_free(&it.stores[i]);
+    }
+    cpay_session_free(&it.session);
+    cpay_session_free(&viewer);
+    cpay_forwarder_free(&it.viewer);
+    /* a ring of packets by hand shows 220 of 232 frames at 5 %, and is frozen for 1602 ms */
+    return seen.switches >= 3 && seen.shown * 232 >= 220 * FRAMES && seen.frozen <= (loss ? 1602 : 0);
+}
+
+int main(void) { return run(0) && run(2) && run(5) ? EXIT_SUCCESS : EXIT_FAILURE; }

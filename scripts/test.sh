@@ -116,6 +116,7 @@ runs scripts/allocations.sh
 runs scripts/bindings.sh
 runs scripts/documents.py
 runs scripts/examples.py
+runs scripts/forwarding.py
 runs scripts/hostile.py
 runs scripts/instructions.sh
 runs scripts/receiving.py

@@ -1,220 +1,448 @@
-//! SFU forwarding of VP8: switches between two simulcast layers, and rewrites the packets so that the viewer sees one stream. It fails
-//! unless the viewer receives whole frames without a gap, and each switch is at a keyframe:
+//! SFU: a publisher sends two layers of VP8, a viewer gets one of them and switches, and packets are lost on both hops. It fails
+//! unless the viewer shows what it should, and prints what it shows:
 //!
 //! ```sh
-//! cargo run --example sfu
+//! cargo run --release --example sfu
 //! ```
 //!
-//! - Switch only where a keyframe of the wanted layer starts: `detect_vp8_keyframe` of the payload. Ask for one with a PLI.
-//! - After a switch, drop packets of the new layer that are older than that keyframe, and drop the other layer.
-//! - Rewrite SSRC, sequence number and timestamp in the RTP header, and the picture id in the VP8 descriptor, each by an offset that
-//!   is fixed until the next switch. Losses stay losses: a receiver sees the same gaps.
-//! - `Vp8Patch` keeps the width of a picture id: use senders that send 15 bits.
+//! - A `Session` receives from the publisher, and requests what is missing. A `History` for each layer is a store: it keeps each
+//!   packet once, for all viewers. A `Forwarder` for each viewer writes its packets.
+//! - A retransmission is the packet that it repeats: unwrap it, then treat it like any other.
+//! - A forwarder goes over to a layer at its next keyframe. Ask the publisher for one (PLI) when a viewer wants a layer, and when
+//!   the viewer itself asks, at most once in 500 ms. Packets of that keyframe may have come before its first one: pass them again.
+//! - Answer a viewer's NACK from the store of the layer that it gets.
+//!
+//! The network is simulated: 20 ms for a hop, with losses each way on both hops.
 
-use codec_payload::rtp::{PacketHeader, RtpPacket};
+use codec_payload::forward::{ForwardSettings, Forwarded, Forwarder};
+use codec_payload::history::{KeptOnce, OriginalStream, Request, Resent, RetransmissionStream};
+use codec_payload::keyframes::FromKeyframe;
+use codec_payload::rtcp::{CompoundRule, PictureLoss};
+use codec_payload::rtp::RtpPacket;
 use codec_payload::{
-    Codec, CodecDepacketizer, CodecPacketizer, ExtensionValues, Frequency, MediaTime, Receiver,
-    ReceiverSettings, Sample, Sender, SenderSettings, Ticks, Vp8Descriptor, Vp8Packetizer,
-    detect_vp8_keyframe,
+    Arrival, Codec, CodecPacketizer, CodecSpec, Event, ExtensionValues, FeedbackSettings, Format,
+    Frequency, History, HistorySettings, MediaTime, Sample, Sender, SenderSettings, Session,
+    SessionSettings, SsrcPair, Ticks, Vp8Packetizer, read_requests,
 };
+use std::collections::VecDeque;
 use std::error::Error;
 
-const FRAMES: u32 = 300;
+const FRAMES: u64 = 240;
+const INTERVAL: u64 = 50;
+const SWITCH_EVERY: u64 = 60;
 const FRAME: usize = 2_500;
-const INTERVAL: u32 = 33;
-const SWITCH_EVERY: u32 = 70;
+const HOP: u64 = 20;
+const VP8: u8 = 96;
+const RTX: u8 = 97;
+const RTX_SSRC: u32 = 10;
 const VIEWER: u32 = 99;
+const VIEWER_RTX: u32 = 98;
+const SFU: u32 = 50;
+const KEYFRAME_INTERVAL: u64 = 500;
 
-/// Values of a packet's fields, or what is added to them.
-#[derive(Clone, Copy, Default)]
-struct Fields {
-    number: u16,
-    time: u32,
-    picture_id: u16,
+type Done = Result<(), Box<dyn Error>>;
+
+/// One direction of a hop of the network.
+struct Way {
+    chance: u64,
+    loss: u64,
+    queue: VecDeque<(u64, Vec<u8>)>,
 }
 
-#[derive(Default)]
-struct Forwarder {
-    /// The SSRC of the layer that is forwarded; 0: none yet.
-    ssrc: u32,
-    /// The layer to switch to at its next keyframe.
-    wanted: u32,
-    /// The sequence number of the keyframe at which the layer began.
-    first: u16,
-    offset: Fields,
-    last: Fields,
-}
-
-/// Whether `a` is after `b`, by 16 bits.
-fn is_after(a: u16, b: u16) -> bool {
-    a != b && a.wrapping_sub(b) < 0x8000
-}
-
-impl Forwarder {
-    fn switch(&mut self, packet: Fields) {
-        self.ssrc = self.wanted;
-        self.first = packet.number;
-        self.offset = Fields {
-            number: self.last.number.wrapping_add(1).wrapping_sub(packet.number),
-            time: self
-                .last
-                .time
-                .wrapping_add(90 * INTERVAL)
-                .wrapping_sub(packet.time),
-            picture_id: self
-                .last
-                .picture_id
-                .wrapping_add(1)
-                .wrapping_sub(packet.picture_id),
-        };
+impl Way {
+    fn new(chance: u64, loss: u64) -> Way {
+        let queue = VecDeque::new();
+        Way {
+            chance,
+            loss,
+            queue,
+        }
     }
 
-    /// The datagram for the viewer, or `None` for one that is not forwarded.
-    fn forward(&mut self, datagram: &[u8]) -> Result<Option<Vec<u8>>, Box<dyn Error>> {
-        let packet = RtpPacket::parse(datagram)?;
-        let descriptor = Vp8Descriptor::parse(packet.payload)?;
-        let Some(picture_id) = descriptor.picture_id() else {
-            return Err("no picture id".into());
+    fn send(&mut self, now: u64, datagram: &[u8]) {
+        self.chance = self
+            .chance
+            .wrapping_mul(6_364_136_223_846_793_005)
+            .wrapping_add(1_442_695_040_888_963_407);
+        if (self.chance >> 33) % 100 >= self.loss {
+            self.queue.push_back((now + HOP, datagram.to_vec()));
+        }
+    }
+
+    /// The next datagram that arrives until now.
+    fn arrived(&mut self, now: u64) -> Option<Vec<u8>> {
+        let is_due = self.queue.front().is_some_and(|(due, _)| *due <= now);
+        if is_due {
+            self.queue.pop_front().map(|(_, datagram)| datagram)
+        } else {
+            None
+        }
+    }
+}
+
+/// A request for a keyframe.
+fn send_pli(way: &mut Way, now: u64, ssrc: u32) -> Done {
+    let mut pli = Vec::new();
+    let (sender_ssrc, media_ssrc) = (SFU, ssrc);
+    PictureLoss {
+        sender_ssrc,
+        media_ssrc,
+    }
+    .write(&mut pli)?;
+    way.send(now, &pli);
+    Ok(())
+}
+
+/// The stream of a layer.
+fn layer_stream(ssrc: u32) -> OriginalStream {
+    let payload_type = VP8;
+    OriginalStream { ssrc, payload_type }
+}
+
+// ---- The recipe ----
+
+struct Sfu {
+    /// Receives from the publisher, and requests what is missing.
+    session: Session,
+    /// The latest packets of each layer, for all viewers.
+    stores: [History; 2],
+    /// From when on a keyframe of a layer may be requested.
+    next_pli: [u64; 2],
+    /// The stream of one viewer.
+    viewer: Forwarder,
+    to_publisher: Way,
+    to_viewer: Way,
+}
+
+impl Sfu {
+    fn request_keyframe(&mut self, now: u64, ssrc: u32) -> Done {
+        let next = &mut self.next_pli[ssrc as usize - 1];
+        if now < *next {
+            return Ok(());
+        }
+        *next = now + KEYFRAME_INTERVAL;
+        send_pli(&mut self.to_publisher, now, ssrc)
+    }
+
+    /// Passes a packet to the viewer. Returns whether it is the first one of another layer.
+    fn forward(&mut self, now: u64, datagram: &[u8]) -> Result<bool, Box<dyn Error>> {
+        let (packet, mut out) = (RtpPacket::parse(datagram)?, Vec::new());
+        let did = self.viewer.write(90 * now, &packet, &mut out)?;
+        if matches!(did, Forwarded::Began | Forwarded::Written) {
+            self.to_viewer.send(now, &out);
+        }
+        Ok(did == Forwarded::Began)
+    }
+
+    /// A datagram of the publisher.
+    fn receive(&mut self, now: u64, datagram: &[u8]) -> Done {
+        let Arrival::Stream { ssrc, .. } = self.session.receive(Ticks(now), datagram)? else {
+            return Ok(());
         };
-        let header = packet.header;
-        let fields = Fields {
-            number: header.sequence_number,
-            time: header.timestamp,
-            picture_id,
+        let (store, mut bytes) = (ssrc as usize - 1, datagram.to_vec());
+        if RtpPacket::parse(datagram)?.header.payload_type == RTX {
+            layer_stream(ssrc).write(datagram, &mut bytes)?; // the packet that it repeats
+        }
+        let is_new = self.stores[store].keep_once(&bytes)? == KeptOnce::New;
+        let first = RtpPacket::parse(&bytes)?.header.sequence_number;
+        if is_new && self.forward(now, &bytes)? {
+            // Packets of the keyframe that came before its first one.
+            for number in (1..64).map(|step| first.wrapping_add(step)) {
+                if self.stores[store].resend(Ticks(0), number, &mut bytes)? == Resent::Written {
+                    self.forward(now, &bytes)?;
+                }
+            }
+        }
+        Ok(())
+    }
+
+    /// RTCP of the viewer. What is malformed requests nothing.
+    fn answer(&mut self, now: u64, rtcp: &[u8]) -> Done {
+        let requests = read_requests(CompoundRule::ReducedSize, VIEWER, rtcp);
+        let (Some(source), Ok(requests)) = (self.viewer.source(), requests) else {
+            return Ok(());
         };
-        if self.wanted != self.ssrc
-            && header.ssrc == self.wanted
-            && detect_vp8_keyframe(packet.payload)
+        for request in requests {
+            match request {
+                Request::Packet(number) => self.resend(now, source, number)?,
+                _ => self.request_keyframe(now, source)?,
+            }
+        }
+        Ok(())
+    }
+
+    fn resend(&mut self, now: u64, source: u32, number: u16) -> Done {
+        let (store, mut out) = (&self.stores[source as usize - 1], Vec::new());
+        if let Some(packet) = self.viewer.requested(number, store)
+            && self.viewer.write_again(&packet, &mut out)?
         {
-            self.switch(fields);
+            self.to_viewer.send(now, &out);
         }
-        if header.ssrc != self.ssrc || is_after(self.first, header.sequence_number) {
-            return Ok(None);
+        Ok(())
+    }
+
+    /// What is due by the clock. Units of the session are for those who record or mix.
+    fn poll(&mut self, now: u64) -> Done {
+        while let Some(event) = self.session.poll(Ticks(now)) {
+            if let Event::Feedback { packet, .. } | Event::Report { packet } = event {
+                self.to_publisher.send(now, &packet?);
+            }
         }
-        let sent = Fields {
-            number: fields.number.wrapping_add(self.offset.number),
-            time: fields.time.wrapping_add(self.offset.time),
-            picture_id: picture_id.wrapping_add(self.offset.picture_id) & 0x7fff,
-        };
-        if is_after(sent.number, self.last.number) {
-            self.last = sent;
+        let waits = self.viewer.wanted() != self.viewer.source();
+        let wanted = self.viewer.wanted().filter(|_| waits);
+        wanted.map_or(Ok(()), |wanted| self.request_keyframe(now, wanted))
+    }
+}
+
+// ---- The simulated publisher ----
+
+struct Layer {
+    ssrc: u32,
+    sender: Sender,
+    sent: History,
+    /// The next frame is a keyframe.
+    keyframe: bool,
+}
+
+impl Layer {
+    fn new(ssrc: u32) -> Result<Layer, Box<dyn Error>> {
+        let place = ssrc as u16;
+        let packetizer = CodecPacketizer::Vp8(Vp8Packetizer::with_picture_id(1_000 * place));
+        let settings = SenderSettings::for_stream(VP8, ssrc, Frequency::NINETY_KHZ);
+        let first_number = 30_000 * place;
+        let stream = Some(retransmissions(RTX_SSRC + ssrc));
+        Ok(Layer {
+            ssrc,
+            sender: Sender::new(
+                packetizer,
+                SenderSettings {
+                    first_number,
+                    ..settings
+                },
+            )?,
+            sent: History::new(HistorySettings {
+                limit: 512,
+                interval: 0,
+                stream,
+            })?,
+            keyframe: true,
+        })
+    }
+
+    /// A frame whose last bytes have the time and the layer.
+    fn send(&mut self, now: u64, way: &mut Way) -> Done {
+        let mut frame = vec![0; FRAME];
+        let tag = u32::from(!self.keyframe) | 1 << 4 | 100 << 5; // shown; a first partition of 100 bytes
+        frame[..3].copy_from_slice(&tag.to_le_bytes()[..3]);
+        if self.keyframe {
+            frame[3..10].copy_from_slice(&[0x9d, 0x01, 0x2a, 0x40, 0x01, 0xf0, 0x00]); // start code, 320 x 240
         }
-        let mut payload = vec![0; packet.payload.len()];
-        descriptor
-            .patch()
-            .picture_id(sent.picture_id)
-            .build()?
-            .copy_to(packet.payload, &mut payload);
+        self.keyframe = false;
+        frame[FRAME - 5..FRAME - 1].copy_from_slice(&(now as u32).to_be_bytes());
+        frame[FRAME - 1] = self.ssrc as u8;
+        self.sender.send(&Sample {
+            rtp_time: MediaTime::from_90khz(90 * now + 777_777 * u64::from(self.ssrc)),
+            bytes: &frame,
+            start_of_talk_spurt: false,
+            ext_vals: ExtensionValues::default(),
+        })?;
+        for datagram in self.sender.datagrams() {
+            self.sent.keep(datagram)?;
+            way.send(now, datagram);
+        }
+        Ok(())
+    }
+
+    fn answer(&mut self, now: u64, rtcp: &[u8], way: &mut Way) -> Done {
         let mut out = Vec::new();
-        let header = PacketHeader {
-            sequence_number: sent.number,
-            timestamp: sent.time,
-            ssrc: VIEWER,
-            ..header
-        };
-        RtpPacket {
-            header,
-            payload: &payload,
-            padding: 0,
-        }
-        .write(&mut out)?;
-        Ok(Some(out))
-    }
-}
-
-/// A frame that says which layer it is of.
-fn frame(keyframe: bool, layer: u8) -> Vec<u8> {
-    let mut frame = vec![layer; FRAME];
-    let tag = u32::from(!keyframe) | 1 << 4 | 100 << 5; // shown; a first partition of 100 bytes
-    frame[..3].copy_from_slice(&tag.to_le_bytes()[..3]);
-    if keyframe {
-        frame[3..10].copy_from_slice(&[0x9d, 0x01, 0x2a, 0x40, 0x01, 0xf0, 0x00]); // start code, 320 x 240
-    }
-    frame
-}
-
-fn layer(place: u16) -> Result<Sender, Box<dyn Error>> {
-    let packetizer = CodecPacketizer::Vp8(Vp8Packetizer::with_picture_id(1_000 * (place + 1)));
-    let settings = SenderSettings::for_stream(96, u32::from(place) + 1, Frequency::NINETY_KHZ);
-    Ok(Sender::new(
-        packetizer,
-        SenderSettings {
-            first_number: 40_000 * place,
-            ..settings
-        },
-    )?)
-}
-
-/// What the viewer saw.
-#[derive(Default)]
-struct Seen {
-    frames: u32,
-    gaps: u32,
-    switches: u32,
-    before: Option<u8>,
-}
-
-impl Seen {
-    fn take(&mut self, viewer: &mut Receiver, now: Ticks) -> Result<(), Box<dyn Error>> {
-        for unit in viewer.units(now) {
-            let unit = unit?;
-            let layer = unit.bytes[FRAME - 1];
-            let is_delta = unit.bytes[0] & 1 == 1;
-            self.frames += 1;
-            self.switches += u32::from(self.before.is_some_and(|before| before != layer));
-            // A layer has to begin with a keyframe.
-            self.gaps +=
-                u32::from(!unit.contiguous) + u32::from(self.before != Some(layer) && is_delta);
-            self.before = Some(layer);
+        for request in read_requests(CompoundRule::ReducedSize, self.ssrc, rtcp)? {
+            match request {
+                Request::Packet(number) => {
+                    if self.sent.resend(Ticks(now), number, &mut out)? == Resent::Written {
+                        way.send(now, &out);
+                    }
+                }
+                _ => self.keyframe = true,
+            }
         }
         Ok(())
     }
 }
 
-fn main() -> Result<(), Box<dyn Error>> {
-    let mut layers = [layer(0)?, layer(1)?];
-    let depacketizer = CodecDepacketizer::try_from(Codec::Vp8)?;
-    let mut viewer = Receiver::new(
-        depacketizer,
-        ReceiverSettings::for_stream(96, Codec::Vp8, Frequency::NINETY_KHZ),
-    )?;
-    let last = Fields {
-        number: 500,
-        time: 12_345,
-        picture_id: 200,
-    };
-    let mut forwarder = Forwarder {
-        wanted: 1,
-        last,
-        ..Forwarder::default()
-    };
-    let mut seen = Seen::default();
-    for number in 0..FRAMES {
-        if number > 0 && number.is_multiple_of(SWITCH_EVERY) {
-            forwarder.wanted = 3 - forwarder.wanted;
+// ---- The simulated viewer ----
+
+/// What the viewer shows.
+#[derive(Default)]
+struct Picture {
+    shown: usize,
+    switches: u32,
+    freezes: u32,
+    /// In milliseconds.
+    frozen: u64,
+    /// When the frame before was shown.
+    before: u64,
+    /// Between the latest frames.
+    intervals: [u64; 30],
+    /// The time and the layer of the frame before.
+    latest: [u8; 5],
+}
+
+impl Picture {
+    /// Counts a frame. Two layers may have one of the same time, which counts once. A freeze is an interval of at least three average
+    /// ones, and of 150 ms more than one (W3C's freezeCount).
+    fn show(&mut self, now: u64, frame: &[u8]) {
+        let end = &frame[FRAME - 5..];
+        let again = self.shown > 0 && end[..4] == self.latest[..4];
+        self.switches += u32::from(self.shown > 0 && end[4] != self.latest[4]);
+        self.latest.copy_from_slice(end);
+        if again {
+            return;
         }
-        for (place, layer) in (0..).zip(&mut layers) {
-            let time = u64::from(90 * INTERVAL * number + 777_777 * place);
-            layer.send(&Sample {
-                rtp_time: MediaTime::from_90khz(time),
-                bytes: &frame(number % 25 == 10 * place, place as u8),
-                start_of_talk_spurt: false,
-                ext_vals: ExtensionValues::default(),
-            })?;
-            for datagram in layer.datagrams() {
-                if let Some(forwarded) = forwarder.forward(datagram)? {
-                    viewer.receive_any(Ticks(u64::from(number * INTERVAL)), &forwarded)?;
+        let interval = now - self.before;
+        let average = if self.shown > 30 {
+            self.intervals.iter().sum::<u64>() / 30
+        } else {
+            INTERVAL
+        };
+        if self.shown > 0 && interval >= 3 * average && interval >= average + 150 {
+            self.freezes += 1;
+            self.frozen += interval;
+        }
+        self.intervals[self.shown % 30] = interval;
+        self.shown += 1;
+        self.before = now;
+    }
+}
+
+fn watch(viewer: &mut Session, way: &mut Way, picture: &mut Picture, now: u64) -> Done {
+    while let Some(event) = viewer.poll(Ticks(now)) {
+        match event {
+            Event::Feedback { packet, .. } | Event::Report { packet } => way.send(now, &packet?),
+            Event::Unit { unit, .. } => {
+                let bytes = unit?.bytes;
+                if bytes.len() == FRAME {
+                    picture.show(now, &bytes);
                 }
             }
+            _ => {}
         }
-        seen.take(&mut viewer, Ticks(u64::from(number * INTERVAL)))?;
     }
-    viewer.finish()?;
-    seen.take(&mut viewer, Ticks(u64::from(FRAMES * INTERVAL)))?;
-    println!(
-        "{} frames, {} switches, {} gaps",
-        seen.frames, seen.switches, seen.gaps
-    );
-    assert!(seen.gaps == 0 && seen.frames >= FRAMES - 2 && seen.switches >= 3);
+    Ok(())
+}
+
+// ---- All together ----
+
+fn retransmissions(ssrc: u32) -> RetransmissionStream {
+    RetransmissionStream {
+        ssrc,
+        payload_type: RTX,
+        first_number: 0,
+    }
+}
+
+fn session(own_ssrc: u32, pairs: &[(u32, u32)]) -> Result<Session, Box<dyn Error>> {
+    let spec = CodecSpec {
+        codec: Codec::Vp8,
+        clock_rate: Frequency::NINETY_KHZ,
+        octet_align: false,
+    };
+    let mut settings = SessionSettings::live();
+    settings.formats.push(Format {
+        retransmission: Some(RTX),
+        nack: true,
+        pli: true,
+        ..Format::new(VP8, spec)
+    });
+    settings.pairs = pairs
+        .iter()
+        .map(|&(ssrc, retransmission)| SsrcPair {
+            ssrc,
+            retransmission,
+        })
+        .collect();
+    settings.from_keyframe = FromKeyframe::Drop;
+    settings.feedback = Some(FeedbackSettings::live(own_ssrc, b"sfu".to_vec()));
+    Ok(Session::new(settings)?)
+}
+
+fn sfu(loss: u64) -> Result<Sfu, Box<dyn Error>> {
+    let store = || {
+        History::new(HistorySettings {
+            limit: 2_048,
+            interval: 0,
+            stream: None,
+        })
+    };
+    let viewer = Forwarder::new(ForwardSettings {
+        codec: Codec::Vp8,
+        ssrc: VIEWER,
+        payload_type: VP8,
+        first_number: 0,
+        first_time: 0,
+        retransmissions: Some(retransmissions(VIEWER_RTX)),
+    })?;
+    Ok(Sfu {
+        session: session(SFU, &[(1, RTX_SSRC + 1), (2, RTX_SSRC + 2)])?,
+        stores: [store()?, store()?],
+        next_pli: [0; 2],
+        viewer,
+        to_publisher: Way::new(2, loss),
+        to_viewer: Way::new(3, loss),
+    })
+}
+
+/// A run at a loss in percent.
+fn run(loss: u64) -> Result<Picture, Box<dyn Error>> {
+    let (mut to_sfu, mut from_viewer) = (Way::new(1, loss), Way::new(4, loss));
+    let mut layers = [Layer::new(1)?, Layer::new(2)?];
+    let mut sfu = sfu(loss)?;
+    let mut viewer = session(VIEWER + 1, &[(VIEWER, VIEWER_RTX)])?;
+    let mut picture = Picture::default();
+    for now in 0..FRAMES * INTERVAL + 1_000 {
+        while let Some(rtcp) = sfu.to_publisher.arrived(now) {
+            for layer in &mut layers {
+                layer.answer(now, &rtcp, &mut to_sfu)?;
+            }
+        }
+        if now % INTERVAL == 0 && now < FRAMES * INTERVAL {
+            for layer in &mut layers {
+                layer.send(now, &mut to_sfu)?;
+            }
+        }
+        if now % (SWITCH_EVERY * INTERVAL) == 0 {
+            sfu.viewer
+                .want(1 + (now / (SWITCH_EVERY * INTERVAL)) as u32 % 2);
+        }
+        while let Some(datagram) = to_sfu.arrived(now) {
+            sfu.receive(now, &datagram)?;
+        }
+        while let Some(rtcp) = from_viewer.arrived(now) {
+            sfu.answer(now, &rtcp)?;
+        }
+        sfu.poll(now)?;
+        while let Some(datagram) = sfu.to_viewer.arrived(now) {
+            viewer.receive(Ticks(now), &datagram)?;
+        }
+        watch(&mut viewer, &mut from_viewer, &mut picture, now)?;
+    }
+    Ok(picture)
+}
+
+fn main() -> Done {
+    for loss in [0, 2, 5] {
+        let Picture {
+            shown,
+            switches,
+            freezes,
+            frozen,
+            ..
+        } = run(loss)?;
+        println!(
+            "{loss} %: {shown} of {FRAMES} frames shown, {switches} switches, {freezes} freezes, {frozen} ms frozen"
+        );
+        // A ring of packets by hand shows 220 of 232 frames at 5 %, and is frozen for 1,602 ms.
+        let most = if loss > 0 { 1_602 } else { 0 };
+        assert!(switches >= 3 && shown as u64 * 232 >= 220 * FRAMES && frozen <= most);
+    }
     Ok(())
 }

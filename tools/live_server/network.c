@@ -15,8 +15,9 @@ enum {
     OVERTAKEN = 30       /* ms that a datagram is behind its place */
 };
 
-typedef struct {
-    uint64_t due, order;
+typedef struct delayed {
+    struct delayed *next;
+    uint64_t due;
     struct sockaddr_in at;
     bool out;
     size_t size;
@@ -33,9 +34,9 @@ static struct sockaddr_in out_to[BATCH];
 static struct mmsghdr out_heads[BATCH];
 static unsigned out_len;
 
-/* A heap: the datagram that is due first is at 0, and each other one is not before the one at half its place. */
-static delayed *heap[MOST_DELAYED];
-static size_t heap_len;
+/* Two queues of what is delayed: datagrams in their places, and those that others overtake. */
+static struct { delayed *first, *last; } queues[2];
+static size_t delayed_len;
 
 void network_start(void) {
     struct sockaddr_in at = {.sin_family = AF_INET, .sin_port = htons(the.udp), .sin_addr.s_addr = htonl(INADDR_ANY)};
@@ -87,44 +88,21 @@ void network_receive(void (*take)(const struct sockaddr_in *from, uint8_t *bytes
 /* Whether something happens whose probability is this many percent. */
 static bool happens(double percent) { return percent > 0 && drand48() * 100 < percent; }
 
-static bool is_before(const delayed *a, const delayed *b) { return a->due < b->due || (a->due == b->due && a->order < b->order); }
-
-static void swap(size_t a, size_t b) {
-    delayed *it = heap[a];
-    heap[a] = heap[b];
-    heap[b] = it;
-}
-
-static void heap_add(delayed *it) {
-    size_t at = heap_len++;
-    heap[at] = it;
-    for (; at > 0 && is_before(heap[at], heap[(at - 1) / 2]); at = (at - 1) / 2) swap(at, (at - 1) / 2);
-}
-
-static delayed *heap_take(void) {
-    delayed *first = heap[0];
-    heap[0] = heap[--heap_len];
-    for (size_t at = 0, next; (next = 2 * at + 1) < heap_len; at = next) {
-        if (next + 1 < heap_len && is_before(heap[next + 1], heap[next])) next++;
-        if (!is_before(heap[next], heap[at])) break;
-        swap(at, next);
-    }
-    return first;
-}
-
 bool network_passes(bool out, const struct sockaddr_in *at, const uint8_t *bytes, size_t size) {
-    static uint64_t order;
-    unsigned delay = the.network.delay + (happens(the.network.reorder) ? OVERTAKEN : 0);
-    delayed *it;
+    bool overtaken = happens(the.network.reorder);
+    unsigned delay = the.network.delay + (overtaken ? OVERTAKEN : 0);
     if (happens(the.network.loss)) {
         network_dropped++;
         return false;
     }
     if (delay == 0) return true;
-    if (heap_len == MOST_DELAYED || !(it = malloc(sizeof *it + size))) return false;
-    *it = (delayed){.due = now_ms() + delay, .order = order++, .at = *at, .out = out, .size = size};
+    delayed *it = delayed_len < MOST_DELAYED ? malloc(sizeof *it + size) : NULL;
+    if (!it) return false;
+    *it = (delayed){.due = now_ms() + delay, .at = *at, .out = out, .size = size};
     memcpy(it->bytes, bytes, size);
-    heap_add(it);
+    *(queues[overtaken].first ? &queues[overtaken].last->next : &queues[overtaken].first) = it;
+    queues[overtaken].last = it;
+    delayed_len++;
     return false;
 }
 
@@ -132,17 +110,28 @@ void network_send_media(const struct sockaddr_in *to, size_t size) {
     if (network_passes(true, to, out_bytes[out_len], size)) network_send(to, size);
 }
 
+static void deliver(delayed *it) {
+    if (!it->out) {
+        take_media(&it->at, it->bytes, it->size);
+        return;
+    }
+    memcpy(network_room(), it->bytes, it->size);
+    network_send(&it->at, it->size);
+}
+
 void network_deliver(uint64_t now) {
-    while (heap_len > 0 && heap[0]->due <= now) {
-        delayed *it = heap_take();
-        if (it->out) {
-            memcpy(network_room(), it->bytes, it->size);
-            network_send(&it->at, it->size);
-        } else {
-            take_media(&it->at, it->bytes, it->size);
+    for (int i = 0; i < 2; i++) {
+        for (delayed *it; (it = queues[i].first) && it->due <= now; free(it)) {
+            queues[i].first = it->next;
+            delayed_len--;
+            deliver(it);
         }
-        free(it);
     }
 }
 
-uint64_t network_deadline(void) { return heap_len > 0 ? heap[0]->due : UINT64_MAX; }
+uint64_t network_deadline(void) {
+    uint64_t first = UINT64_MAX;
+    for (int i = 0; i < 2; i++)
+        if (queues[i].first && queues[i].first->due < first) first = queues[i].first->due;
+    return first;
+}

@@ -1,265 +1,43 @@
 #!/usr/bin/env python3
-"""A headless Chromium publishes to ./live_server and watches from it, over a network that the server makes worse.
+"""A browser without a screen publishes to ./live_server and watches from it, over a network that the server makes worse.
 
-    ./test.py                    all tests, some six minutes; the last line counts them
+    ./test.py                    all tests, some seven minutes; the last line counts them
     ./test.py VP8-5 layers       these tests
-    ./test.py --table            the table of losses of the README: calls of 20 s
-    ./test.py --rates            the bitrates of Chromium by feedback and loss, beside a call from Chromium to Chromium
-    ./test.py --shot FILE.webp   the picture of the page in docs/pictures
 
 A call fails unless its viewer shows nearly all frames that the publisher sent, its recording decodes without a word and has the
 frames that the library released, and the server ends without a message of a sanitizer. Needs chromium, ffmpeg, ffprobe and Python's
-standard library; only 127.0.0.1 is used. Chromium is driven over --remote-debugging-pipe. Without Chromium nothing is tested.
+standard library; the tests of Firefox are skipped where it is not installed. Only this machine is used. Without Chromium nothing is
+tested. measure.py has the tables and the picture of the documents, soak.py a call of an hour.
 """
 
 import argparse
-import base64
 import contextlib
 import hashlib
 import hmac
 import json
 import os
-import pathlib
 import random
 import re
-import resource
-import select
 import shutil
-import signal
 import socket
 import struct
 import subprocess
 import sys
-import tempfile
 import threading
 import time
-import urllib.error
-import urllib.request
 
-HERE = pathlib.Path(__file__).resolve().parent
+from browsers import Chromium, Failed, Firefox, firefox, require, wait_for
+from servers import HERE, Server, call, free_port, publisher_of, viewer_of
+
 sys.path.append(str(HERE.parent.parent / "scripts"))
 
 from peer_relay import STUN_COOKIE, attribute, with_length  # noqa: E402  (the folder is known only now)
 
-HTTP, UDP = 18080, 18081
-SWITCHES = [
-    "--headless=new", "--no-sandbox", "--disable-gpu", "--no-first-run", "--autoplay-policy=no-user-gesture-required",
-    "--use-fake-device-for-media-stream", "--use-fake-ui-for-media-stream", "--allow-loopback-in-peer-connection",
-    "--disable-background-timer-throttling", "--disable-backgrounding-occluded-windows", "--disable-renderer-backgrounding",
-    "--window-size=1100,1500", "--remote-debugging-pipe",
-]
 CODECS, LOSSES = ("VP8", "VP9", "AV1"), (0, 2, 5, 10)
 
 
-class Failed(Exception):
-    """A test does not hold."""
-
-
-def require(holds, what):
-    if not holds:
-        raise Failed(what)
-
-
-def wait_for(what, condition, limit=30):
-    """Waits until a condition holds, and returns its value."""
-    until = time.monotonic() + limit
-    while time.monotonic() < until:
-        if value := condition():
-            return value
-        time.sleep(0.1)
-    raise Failed(f"no {what} within {limit} s")
-
-
-# ---- the browser ----
-
-
-class Browser:
-    """Chromium with pages, over two pipes: messages of JSON, each with a 0 at its end."""
-
-    def __init__(self, folder):
-        theirs, self.out = os.pipe()
-        self.into, back = os.pipe()
-        words = ["bash", "-c", f'exec "$@" 3<&{theirs} 4>&{back}', "-", "chromium", *SWITCHES, f"--user-data-dir={folder}/profile", "about:blank"]
-        with open(f"{folder}/chromium.log", "wb") as log:
-            self.process = subprocess.Popen(words, pass_fds=(theirs, back), stdout=log, stderr=log, start_new_session=True)
-        os.close(theirs)
-        os.close(back)
-        self.number, self.rest = 0, b""
-
-    def call(self, method, session=None, limit=60, **parameters):
-        self.number += 1
-        message = {"id": self.number, "method": method, "params": parameters} | ({"sessionId": session} if session else {})
-        os.write(self.out, json.dumps(message).encode() + b"\0")
-        until = time.monotonic() + limit
-        while time.monotonic() < until:
-            while b"\0" in self.rest:
-                one, self.rest = self.rest.split(b"\0", 1)
-                answer = json.loads(one)
-                if answer.get("id") == self.number:
-                    require("error" not in answer, f"{method}: {answer.get('error')}")
-                    return answer["result"]
-            if select.select([self.into], [], [], 1)[0]:
-                more = os.read(self.into, 1 << 20)
-                require(more, "Chromium ended")
-                self.rest += more
-        raise Failed(f"Chromium does not answer {method}")
-
-    def close(self):
-        with contextlib.suppress(Failed, OSError):
-            self.call("Browser.close", limit=5)
-        try:
-            self.process.wait(10)
-        except subprocess.TimeoutExpired:
-            os.killpg(self.process.pid, signal.SIGKILL)  # the group that this script made
-            self.process.wait()
-        os.close(self.out)
-        os.close(self.into)
-
-
-class Page:
-    """A page of the browser."""
-
-    def __init__(self, browser, url):
-        self.browser = browser
-        self.target = browser.call("Target.createTarget", url=url)["targetId"]
-        self.session = browser.call("Target.attachToTarget", targetId=self.target, flatten=True)["sessionId"]
-
-    def evaluate(self, expression):
-        result = self.browser.call("Runtime.evaluate", self.session, expression=expression, awaitPromise=True, returnByValue=True)
-        return result["result"].get("value")
-
-    def report(self):
-        return self.evaluate("window.report ? window.report() : null") or {"publish": [], "watch": [], "first": None, "failed": None}
-
-    def statistic(self, key, kind="video"):
-        """What the browser counts of the stream that it sends (key publish) or gets (watch)."""
-        wanted = "outbound-rtp" if key == "publish" else "inbound-rtp"
-        return next((each for each in self.report()[key] if each["type"] == wanted and each["kind"] == kind), {})
-
-    def frames(self):
-        return self.statistic("watch").get("framesDecoded", 0)
-
-    def choose(self, field, value):
-        self.evaluate(f"document.getElementById('{field}').value = '{value}'; document.getElementById('{field}').onchange()")
-
-    def shot(self, path):
-        self.browser.call("Page.bringToFront", self.session)
-        time.sleep(1)
-        kind = {"format": "png"} if path.endswith(".png") else {"format": "webp", "quality": 60}
-        picture = self.browser.call("Page.captureScreenshot", self.session, captureBeyondViewport=True, **kind)
-        pathlib.Path(path).write_bytes(base64.b64decode(picture["data"]))
-
-    def close(self):
-        self.browser.call("Target.closeTarget", targetId=self.target)
-
-
-# ---- the server ----
-
-
-class Recording:
-    """A file as ffmpeg reads it."""
-
-    def __init__(self, path):
-        run = subprocess.run(["ffmpeg", "-v", "warning", "-xerror", "-i", path, "-fps_mode", "vfr", "-f", "null", "-"], capture_output=True, text=True)
-        probe = ["ffprobe", "-v", "error", "-count_frames", "-select_streams", "v", "-show_entries", "stream=nb_read_frames", "-of", "csv=p=0", path]
-        frames = subprocess.run(probe, capture_output=True, text=True).stdout.strip()
-        self.faults = run.stderr.strip() or ("" if run.returncode == 0 else f"status {run.returncode}")
-        self.frames = int(frames) if frames.isdigit() else 0
-
-
-class Server:
-    """A server and a browser, until the end of the block."""
-
-    def __init__(self, *options, program="live_server", largest_file=None):
-        self.options, self.program, self.largest_file = options, program, largest_file
-        self.log, self.recordings, self.browser = "", [], None
-
-    def __enter__(self):
-        self.folder = tempfile.TemporaryDirectory(ignore_cleanup_errors=True)
-        words = [HERE / self.program, "--http", str(HTTP), "--udp", str(UDP), "--folder", self.folder.name, "--page", HERE / "page.html", *self.options]
-        self.file = open(f"{self.folder.name}/server.log", "w+")
-        limit = self.largest_file and (lambda: resource.setrlimit(resource.RLIMIT_FSIZE, (self.largest_file, self.largest_file)))
-        self.process = subprocess.Popen(words, stdout=self.file, stderr=self.file, preexec_fn=limit)
-        wait_for("server", lambda: self.process.poll() is not None or b"http://" in pathlib.Path(self.file.name).read_bytes())
-        return self
-
-    def page(self, query):
-        self.browser = self.browser or Browser(self.folder.name)
-        return Page(self.browser, f"http://127.0.0.1:{HTTP}/?{query}")
-
-    def request(self, method, path, body="", headers=None):
-        """The status, the body and the headers of a reply."""
-        asked = urllib.request.Request(f"http://127.0.0.1:{HTTP}{path}", body.encode() or None, headers or {}, method=method)
-        try:
-            with urllib.request.urlopen(asked, timeout=10) as reply:
-                return reply.status, reply.read().decode(), reply.headers
-        except urllib.error.HTTPError as fault:
-            return fault.code, fault.read().decode(), fault.headers
-
-    def stats(self):
-        return json.loads(self.request("GET", "/stats")[1])
-
-    def streams(self, side="publishers", kind="video"):
-        return [stream for peer in self.stats()[side] for stream in peer["streams"] if stream["kind"] == kind]
-
-    def network(self, loss=0, reorder=0, delay=0):
-        require(self.request("PUT", "/network", f"loss={loss} reorder={reorder} delay={delay}")[0] == 200, "the network changes")
-
-    def __exit__(self, *failure):
-        if self.browser:
-            self.browser.close()
-        self.process.send_signal(signal.SIGTERM)
-        status = self.process.wait(60)
-        self.file.seek(0)
-        self.log = self.file.read()
-        self.file.close()
-        if failure[0]:
-            print(self.log[-3000:])
-        else:
-            self.recordings = [Recording(path) for path in sorted(pathlib.Path(self.folder.name).glob("*.webm"))]
-            require(status == 0, f"the server ends with status {status}: {self.log[-500:]}")
-            require("runtime error" not in self.log and "Sanitizer" not in self.log, self.log[-3000:])
-        self.folder.cleanup()
-
-
-# ---- calls ----
-
-
-def publisher_of(it, query="publish=camera"):
-    page = it.page(query)
-    wait_for("frame at the server", lambda: any(stream["frames"] > 0 for stream in it.streams()))
-    return page
-
-
-def viewer_of(it, query="watch"):
-    page = it.page(query)
-    wait_for("picture", page.frames)
-    return page
-
-
-def call(codec, loss, seconds, *options, program="live_server", viewers=1, width=640):
-    """One call. Returns its figures."""
-    with Server("--loss", str(loss), *options, program=program) as it:
-        sends = publisher_of(it, f"publish=camera&codec={codec}&size={width}")
-        watch = [viewer_of(it) for _ in range(viewers)]
-        before, began = [page.frames() for page in watch], sends.statistic("publish").get("framesSent", 0)
-        time.sleep(seconds)
-        shown = [page.frames() - frames for page, frames in zip(watch, before)]
-        sent = sends.statistic("publish").get("framesSent", 0) - began
-        statistics, audio = [page.statistic("watch") for page in watch], watch[0].statistic("watch", "audio")
-        first = watch[0].report()["first"]
-        video, sound, resent = it.streams()[0], it.streams(kind="audio")[0], it.streams("viewers")[0]["resent"]
-        sends.close()
-        time.sleep(0.5)
-    figures = {
-        "sent": sent, "shown": min(shown), "freezes": max(each.get("freezeCount", 0) for each in statistics),
-        "frozen": max(each.get("totalFreezesDuration", 0) for each in statistics), "first": first, "resent": resent,
-        "concealed": 100 * audio.get("concealedSamples", 0) / max(1, audio.get("totalSamplesReceived", 1)),
-        "recorded": it.recordings[0].frames, "audio lost": sound["lost"], "audio recovered": sound["recovered"],
-    } | {name: video[name] for name in ("packets", "lost", "requested", "recovered", "undecodable", "frames", "longestWait")}
-    require(it.recordings[0].faults == "", f"the recording: {it.recordings[0].faults}")
-    require(abs(figures["recorded"] - video["frames"]) < 60, f"{figures['recorded']} of {video['frames']} frames are recorded")
-    return figures
+class Skipped(Exception):
+    """What a test needs is not installed."""
 
 
 def test_call(codec, loss):
@@ -281,11 +59,44 @@ def test_reordered():
     return f"{figures['shown']} of {figures['sent']} frames shown, longest wait {figures['longestWait']} ms"
 
 
-def test_viewers():
-    """Four viewers of one publisher see nearly all frames each. The picture is small: a browser decodes all four."""
-    figures = call("VP8", 2, 8, viewers=4, width=320)
-    require(figures["shown"] > 0.85 * figures["sent"], figures)
-    return f"at least {figures['shown']} of {figures['sent']} frames shown"
+def test_viewers(count=10, seconds=10):
+    """Ten viewers of one publisher show nearly all frames each. The picture is small: a browser decodes all ten."""
+    with Server("--loss", "2") as it:
+        sends = publisher_of(it, "publish=camera&size=160&fps=10")
+        watch = [viewer_of(it) for _ in range(count)]
+        sent, before = sends.statistic("publish")["framesSent"], [page.frames() for page in watch]
+        time.sleep(seconds)
+        shown = [page.frames() - frames for page, frames in zip(watch, before)]
+        sent, freezes = sends.statistic("publish")["framesSent"] - sent, [page.statistic("watch")["freezeCount"] for page in watch]
+    figures = f"{min(shown)} to {max(shown)} of {sent} frames shown, at most {max(freezes)} freezes"
+    require(min(shown) > 0.85 * sent, figures)
+    return figures
+
+
+def test_conference(count=10, seconds=10):
+    """A conference of ten: each page publishes under a name of its own and watches the next one. Nearly all frames are shown, and
+    without loss there is no freeze. Where the machine is so busy that a page sends too few frames, each page shows a picture that
+    goes on, and no more is asked."""
+    with Server() as it:
+        pages = [it.page(f"publish=camera&size=160&fps=10&name=n{i}") for i in range(count)]
+        wait_for("frame of each page", lambda: len(it.streams()) == count and all(stream["frames"] > 0 for stream in it.streams()), 90)
+        for i, page in enumerate(pages):
+            page.evaluate(f"(document.getElementById('name').value = 'n{(i + 1) % count}', 0)")
+            page.click("watch")
+        wait_for("picture on each page", lambda: all(page.frames() > 10 for page in pages), 90)
+        began, before = time.monotonic(), [(page.statistic("publish"), page.statistic("watch")) for page in pages]
+        time.sleep(seconds)
+        passed, after = time.monotonic() - began, [(page.statistic("publish"), page.statistic("watch")) for page in pages]
+        sent = [late[0]["framesSent"] - early[0]["framesSent"] for late, early in zip(after, before)]
+        shown, freezes = ([late[1][name] - early[1][name] for late, early in zip(after, before)] for name in ("framesDecoded", "freezeCount"))
+        publishers, viewers = len(it.stats()["publishers"]), len(it.stats()["viewers"])
+    figures = f"{publishers} publishers, {viewers} viewers: {min(shown)} to {max(shown)} frames shown of {min(sent)} to {max(sent)} in {passed:.0f} s, {sum(freezes)} freezes"
+    require(publishers == viewers == count, figures)
+    busy = min(sent) < 9 * passed
+    require(all(got > (0.5 if busy else 0.9) * given - 10 for got, given in zip(shown, sent[1:] + sent[:1])), figures)
+    require(busy or sum(freezes) == 0, figures)
+    require(len(it.recordings) == count and not any(each.faults for each in it.recordings), [each.faults for each in it.recordings])
+    return figures + (", on a busy machine" if busy else "")
 
 
 def test_feedback():
@@ -293,6 +104,24 @@ def test_feedback():
     figures = call("VP8", 2, 6, "--feedback", "remb")
     require(figures["shown"] > 0.9 * figures["sent"], figures)
     return f"{figures['shown']} of {figures['sent']} frames shown"
+
+
+def test_firefox(publisher, viewer, codec, loss, seconds=8):
+    """A call with Firefox on one side or on both."""
+    if not firefox():
+        raise Skipped("Firefox is not installed")
+    with Server("--loss", str(loss)) as it:
+        sends = publisher_of(it, f"publish=camera&codec={codec}", publisher)
+        gets = viewer_of(it, "watch", viewer)
+        before, began = gets.frames(), it.streams()[0]["frames"]
+        time.sleep(seconds)
+        shown, released = gets.frames() - before, it.streams()[0]["frames"] - began
+        video, freezes = it.streams()[0], gets.statistic("watch").get("freezeCount", "no count of")
+        require(sends.report()["failed"] is None and gets.report()["failed"] is None, "a page fails")
+    figures = f"{shown} of {released} released frames shown, {freezes} freezes, {video['lost']} lost, {video['recovered']} recovered"
+    require(released > 8 * seconds and shown > 0.85 * released, figures)
+    require(it.recordings[0].faults == "" and it.recordings[0].frames > released, f"the recording: {it.recordings[0].faults}")
+    return figures
 
 
 def test_layers():
@@ -320,6 +149,29 @@ def test_layers():
     return f"switches within {widths} ms, frames of the temporal layers in 3 s {frames}, {counts['freezeCount']} freezes"
 
 
+def test_fits():
+    """With two layers a page gets the one that fits its window, and the small one where many packets are lost."""
+    with Server() as it:
+        it.page("publish=camera&layers")
+        wait_for("both layers", lambda: sum(stream["frames"] > 10 for stream in it.streams()) == 2)
+        viewer = viewer_of(it)
+
+        def gets(width, why):
+            wait_for(f"picture of a width of {width} {why}", lambda: viewer.statistic("watch").get("frameWidth") == width)
+
+        def window(width):
+            viewer.browser.call("Emulation.setDeviceMetricsOverride", viewer.place[1], width=width, height=900, deviceScaleFactor=1, mobile=False)
+
+        for width, picture in ((1100, 640), (400, 320), (1100, 640)):
+            window(width)
+            gets(picture, f"in a window of {width}")
+        it.network(loss=30)
+        gets(320, "at 30 % loss")
+        it.network()
+        gets(640, "without loss again")
+    return "by the window and by losses"
+
+
 def test_reload():
     """A viewer waits for a publisher, stays when its page is loaded again, and comes back for another codec. DELETE ends a call at once."""
     with Server() as it:
@@ -328,14 +180,14 @@ def test_reload():
         sends = publisher_of(it)
         wait_for("picture", lambda: viewer.frames() > 20)
         before = viewer.frames()
-        sends.evaluate("location.reload()")
+        sends.evaluate("(location.reload(), 0)")
         wait_for("picture of the loaded page", lambda: viewer.frames() > before + 30)
         require(len(it.stats()["publishers"]) == 1, "one publisher is left")
         sends.close()
         wait_for("end of the publisher", lambda: not it.stats()["publishers"], 20)
         other = publisher_of(it, "publish=camera&codec=VP9")
         wait_for("picture of VP9", lambda: viewer.frames() > 20 and "VP9" in json.dumps(it.streams("viewers")), 30)
-        other.evaluate("document.getElementById('publish').click()")
+        other.click("publish")
         wait_for("end by DELETE", lambda: not it.stats()["publishers"], 2)
     require(len(it.recordings) == 3 and not any(each.faults for each in it.recordings), f"{[each.faults for each in it.recordings]}")
     return f"{len(it.recordings)} recordings of {[each.frames for each in it.recordings]} frames"
@@ -361,8 +213,10 @@ def test_refusals():
             require(status == wanted or (wanted == 405 and status == 404), f"{request[0]} {request[1]}: {status} {text}, and not {wanted}")
         status, text, _ = it.request("POST", "/whip/live", OFFER.replace("{codec}", "H264"), SDP)
         require("H.264" in text, text)
-        used = subprocess.run([HERE / "live_server", "--http", str(HTTP), "--udp", str(UDP + 1), "--folder", it.folder.name], capture_output=True, text=True, cwd=HERE)
-        require(used.returncode == 1 and "--http" in used.stderr, used.stderr)
+        for option, http, udp in (("--http", it.http, free_port(socket.SOCK_DGRAM)), ("--udp", free_port(socket.SOCK_STREAM), it.udp)):
+            words = [HERE / "live_server", "--http", str(http), "--udp", str(udp), "--folder", it.folder.name]
+            used = subprocess.run(words, capture_output=True, text=True, cwd=HERE)
+            require(used.returncode == 1 and option in used.stderr, used.stderr)
         for _ in range(40):
             status, text, _ = it.request("POST", "/whip/live", offer, SDP)
         require(status == 503, f"the 40th publisher: {status}")
@@ -398,7 +252,7 @@ def test_phone():
     """The page fits a phone's screen, with streams of a publisher and of a viewer on it."""
     with Server() as it:
         page = it.page("publish=camera&size=320&watch")
-        it.browser.call("Emulation.setDeviceMetricsOverride", page.session, width=390, height=844, deviceScaleFactor=2, mobile=True)
+        page.browser.call("Emulation.setDeviceMetricsOverride", page.place[1], width=390, height=844, deviceScaleFactor=2, mobile=True)
         wait_for("picture", lambda: page.frames() > 20)
         width, cards = page.evaluate("[document.documentElement.scrollWidth, document.querySelectorAll('.card b:not(:empty)').length]")
     require(width <= 390, f"the page has a width of {width}")
@@ -457,9 +311,9 @@ class Strangers(threading.Thread):
                 status, answer, _ = self.it.request("POST", "/whip/stranger", OFFER.replace("{codec}", "VP8"), SDP)
                 if status == 201:
                     user, password = (re.search(rf"a=ice-{name}:(\S+)", answer)[1] for name in ("ufrag", "pwd"))
-                    to.sendto(stun_request(user, password), ("127.0.0.1", UDP))
+                    to.sendto(stun_request(user, password), ("127.0.0.1", self.it.udp))
             with contextlib.suppress(OSError):
-                to.sendto(self.some_datagram(user, password), ("127.0.0.1", UDP))
+                to.sendto(self.some_datagram(user, password), ("127.0.0.1", self.it.udp))
             self.datagrams += 1
             if self.datagrams % 50 == 0:
                 self.one_request()
@@ -497,144 +351,35 @@ def test_damaged():
     return f"{packets} packets of video"
 
 
-# ---- figures ----
-
-
-def table(seconds=20):
-    """The table of losses, as Markdown."""
-    print("| call | frames sent | shown | freezes, s | lost | requested | recovered | resent to the viewer | undecodable | recorded | audio lost, recovered | audio concealed | first picture, ms |")
-    print("|---|---|---|---|---|---|---|---|---|---|---|---|---|")
-    for codec in CODECS:
-        for loss in LOSSES:
-            it = call(codec, loss, seconds)
-            print(f"| {codec}, {loss} % | {it['sent']} | {it['shown']} | {it['freezes']}, {it['frozen']:.1f} | {it['lost']} | {it['requested']} | {it['recovered']} | "
-                  f"{it['resent']} | {it['undecodable']} | {it['recorded']} | {it['audio lost']}, {it['audio recovered']} | {it['concealed']:.1f} % | {it['first']} |", flush=True)
-
-
-def rate(loss, feedback, seconds):
-    """The bitrates that Chromium gives its encoder of video, in kbit/s: of each second."""
-    with Server("--loss", str(loss), "--feedback", feedback) as it:
-        page = publisher_of(it, "publish=camera&codec=VP8")
-        return measured(lambda: page.statistic("publish"), seconds)
-
-
-def measured(statistic, seconds):
-    """The bitrate that the encoder is given, each second: what it sends is less if the picture is simple."""
-    found = []
-    for _ in range(seconds):
-        time.sleep(1)
-        found.append(statistic().get("targetBitrate", 0) / 1000)
-    return found
-
-
-class Relay(threading.Thread):
-    """Two ports between two browsers: what comes to one goes out of the other. A part of the SRTP is lost."""
-
-    def __init__(self, loss):
-        super().__init__(daemon=True)
-        self.loss, self.chance, self.stopped, self.addresses = loss, random.Random(1), False, [None, None]
-        self.ports = [socket.socket(socket.AF_INET, socket.SOCK_DGRAM) for _ in range(2)]
-        for port in self.ports:
-            port.bind(("127.0.0.1", 0))
-
-    def run(self):
-        while not self.stopped:
-            for port in select.select(self.ports, [], [], 0.2)[0]:
-                data, self.addresses[self.ports.index(port)] = port.recvfrom(2048)
-                to = 1 - self.ports.index(port)
-                lost = 128 <= data[0] < 192 and self.chance.random() * 100 < self.loss
-                if self.addresses[to] and not lost:
-                    self.ports[to].sendto(data, self.addresses[to])
-
-    def description(self, side, text):
-        """The description of a side for the other one: with the port of the relay in place of its own, which the relay learns."""
-        port = next(port for address, port in re.findall(r"a=candidate:\S+ 1 udp \d+ (\S+) (\d+)", text) if address == "127.0.0.1")
-        self.addresses[side] = ("127.0.0.1", int(port))
-        text = re.sub(r"a=candidate:.*\r\n", "", text)
-        mine = self.ports[1 - side].getsockname()[1]
-        return re.sub(r"(a=ice-ufrag)", f"a=candidate:1 1 udp 2130706431 127.0.0.1 {mine} typ host\r\n\\1", text)
-
-
-GATHERED = "new Promise((done) => { const look = () => c.iceGatheringState === 'complete' ? done(c.localDescription.sdp) : setTimeout(look, 50); look(); })"
-SENDS = """(async () => {
-  const stream = await navigator.mediaDevices.getUserMedia({ video: { width: 640, height: 480 }, audio: true });
-  const c = window.c = new RTCPeerConnection({ bundlePolicy: "max-bundle" });
-  for (const track of stream.getTracks()) c.addTransceiver(track, { direction: "sendonly", streams: [stream] });
-  await c.setLocalDescription();
-  return GATHERED;
-})()""".replace("GATHERED", GATHERED)
-GETS = """(async () => {
-  await navigator.mediaDevices.getUserMedia({ audio: true }); // or its addresses are hidden
-  const c = window.c = new RTCPeerConnection({ bundlePolicy: "max-bundle" });
-  await c.setRemoteDescription({ type: "offer", sdp: OFFER });
-  await c.setLocalDescription();
-  return GATHERED;
-})()""".replace("GATHERED", GATHERED)
-COUNTS = "(async () => [...(await c.getStats()).values()].find(({ type, kind }) => type === 'outbound-rtp' && kind === 'video'))()"
-
-
-def direct_rate(loss, seconds):
-    """The same for a call from Chromium to Chromium over the same losses."""
-    with Server() as it:  # for its page
-        sends, gets, relay = it.page("name=a"), it.page("name=b"), Relay(loss)
-        wait_for("pages", lambda: all(page.evaluate("typeof window.report") == "function" for page in (sends, gets)))
-        offer = relay.description(0, sends.evaluate(SENDS))
-        answer = relay.description(1, gets.evaluate(GETS.replace("OFFER", json.dumps(offer))))
-        relay.start()
-        sends.evaluate(f"c.setRemoteDescription({{ type: 'answer', sdp: {json.dumps(answer)} }})")
-        wait_for("frame", lambda: (sends.evaluate(COUNTS) or {}).get("framesSent", 0) > 0)
-        found = measured(lambda: sends.evaluate(COUNTS), seconds)
-        relay.stopped = True
-    return found
-
-
-def rates(seconds=20):
-    """Which bitrate Chromium gives its encoder by the feedback that it gets: in the fourth to sixth second, and at the end."""
-    print("| loss | transport-wide | REMB | neither | Chromium to Chromium |\n|---|---|---|---|---|")
-    for loss in (0, 2, 5):
-        found = [rate(loss, feedback, seconds) for feedback in ("transport", "remb", "none")] + [direct_rate(loss, seconds)]
-        print(f"| {loss} % | " + " | ".join(f"{sum(each[3:6]) / 3:.0f}, {sum(each[-5:]) / 5:.0f}" for each in found) + " |", flush=True)
-
-
-def shot(path):
-    """A picture of a page that publishes and watches over a bad network."""
-    with Server() as it:
-        page = it.page("publish=pattern&layers&watch")
-        wait_for("picture", lambda: page.frames() > 60)
-        time.sleep(12)
-        it.network(loss=5, reorder=2, delay=40)
-        time.sleep(25)
-        page.shot(path)
-
-
 # ---- the tests ----
 
 TESTS = {f"{codec}-{loss}": (lambda codec=codec, loss=loss: test_call(codec, loss)) for codec in CODECS for loss in LOSSES}
-TESTS |= {name: globals()[f"test_{name}"] for name in ("refusals", "token", "disk", "phone", "reordered", "viewers", "feedback", "layers", "reload", "damaged", "hostile")}
+TESTS |= {f"firefox-{name}": (lambda words=words: test_firefox(*words)) for name, words in {
+    "publishes": (Firefox, Chromium, "VP8", 0), "watches": (Chromium, Firefox, "VP8", 0), "VP8-5": (Firefox, Firefox, "VP8", 5),
+    "VP9-2": (Firefox, Firefox, "VP9", 2), "AV1-2": (Firefox, Firefox, "AV1", 2)}.items()}
+TESTS |= {name: globals()[f"test_{name}"] for name in ("refusals", "token", "disk", "phone", "reordered", "viewers", "conference", "feedback", "layers", "fits", "reload", "damaged", "hostile")}
 
 
 def main():
     reader = argparse.ArgumentParser(description=__doc__, formatter_class=argparse.RawDescriptionHelpFormatter)
     reader.add_argument("names", nargs="*", choices=[[], *TESTS], default=[])
-    reader.add_argument("--table", action="store_true")
-    reader.add_argument("--rates", action="store_true")
-    reader.add_argument("--shot")
     arguments = reader.parse_args()
     missing = [name for name in ("chromium", "ffmpeg", "ffprobe") if not shutil.which(name)]
     if missing:
         print(f"skipped: {', '.join(missing)} not installed")
         return 0
-    if arguments.shot or arguments.table or arguments.rates:
-        _ = arguments.shot and shot(arguments.shot), arguments.table and table(), arguments.rates and rates()
-        return 0
-    failed = 0
+    passed = skipped = failed = 0
     for name in arguments.names or TESTS:
         try:
             print(f"{name}: {TESTS[name]()}", flush=True)
+            passed += 1
+        except Skipped as why:
+            skipped += 1
+            print(f"{name}: skipped: {why}", flush=True)
         except (Failed, OSError, KeyError, IndexError) as fault:
             failed += 1
             print(f"{name} FAILED: {type(fault).__name__} {fault}", flush=True)
-    print(f"{len(arguments.names or TESTS) - failed} passed, {failed} failed")
+    print(f"{passed} passed, {skipped} skipped, {failed} failed")
     return 1 if failed else 0
 
 
