@@ -3,7 +3,7 @@ use Rattle.codec_payload_rtp.specs.RtpValues.{packet_of}
 use Rattle.codec_payload_stream.specs.Choice.{Choosing, latest_after, origin_of}
 use Rattle.codec_payload_stream.specs.Kinds.{Datagram, WithMedia}
 use Rattle.codec_payload_stream.specs.SeenTimes.{Seen}
-use Rattle.codec_payload_stream.specs.Sessions.{Heard, Session, arrived_with, observed_in, ssrc_after}
+use Rattle.codec_payload_stream.specs.Sessions.{Heard, Session, arrived_with, reception_after, ssrc_after}
 use Rattle.codec_payload_stream.specs.Reports.{Reception}
 use Rattle.codec_payload_stream.proofs.SessionLemmas.{heard, takes_balanced}
 use Rattle.codec_payload_stream.proofs.receiver.Receiver.hear_media.Goals as goal
@@ -36,11 +36,11 @@ returns-clause-heard g c =
       ssrc = ssrc_after s.ssrc d;
       packets = after;
       arrived = arrived_with s.arrived d;
-      reception = observed_in s.reception c.args.now.0 d;
+      reception = reception_after c.in-Ok.outcome s.packets after s.reception c.args.now.0 d;
       choice = record s.choice { latest = latest_after s.choice.latest c.args.now.0 (origin_of d) };
       seen = seen;
     } =
     ap (λ (x : Reception). record s { ssrc = ssrc_after s.ssrc d; packets = after; arrived = arrived_with s.arrived d; reception = x; choice = c.note_at.new.self; seen = seen }) c.observe.ensures
-    ∙ ap (λ (x : Choosing). record s { ssrc = ssrc_after s.ssrc d; packets = after; arrived = arrived_with s.arrived d; reception = observed_in s.reception c.args.now.0 d; choice = x; seen = seen }) c.note_at.ensures in
+    ∙ ap (λ (x : Choosing). record s { ssrc = ssrc_after s.ssrc d; packets = after; arrived = arrived_with s.arrived d; reception = reception_after c.in-Ok.outcome s.packets after s.reception c.args.now.0 d; choice = x; seen = seen }) c.note_at.ensures in
     let made : Heard c.args.now d s (Ok c.in-Ok.outcome) t = heard c.args.now d s t c.in-Ok.outcome true after seen (Ok c.in-Ok.outcome) c.in-Ok.ensures.ok refl left in
     subst (λ (x : Session). Heard c.args.now d x (Ok c.in-Ok.outcome) t) c.self.view_is made
