@@ -1464,6 +1464,12 @@ typedef struct {
 CPAY_CHECKED cpay_status cpay_session_report(cpay_session *session, uint64_t now, uint32_t ssrc, uint8_t payload_type,
                                              cpay_report_block_info *block);
 
+/** Returns the block that cpay_session_report would return, and changes nothing: the next block starts its fraction where it would
+ * have. For statistics beside the reports that the session sends. CPAY_NONE: there is no such stream, or no packet of it arrived
+ * yet. Does not allocate. */
+CPAY_CHECKED cpay_status cpay_session_peek_report(cpay_session *session, uint64_t now, uint32_t ssrc, uint8_t payload_type,
+                                                  cpay_report_block_info *block);
+
 /** What the latest sender report about a stream says (RFC 3550, section 6.4.1): one moment by the wall clock of the sender and as
  * an RTP time. */
 typedef struct {
