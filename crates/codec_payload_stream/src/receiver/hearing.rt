@@ -89,7 +89,7 @@ impl<B: Depacketizer> Receiver<B> {
         };
         self.ssrc = Some(packet.header.ssrc);
         self.arrived.received = self.arrived.received.wrapping_add(1);
-        let found = found(outcome, restarts, self.packets.counters().restarts);
+        let found = found_by(outcome, restarts, self.packets.counters().restarts);
         observe_media(&mut self.statistics, now, packet, found);
         self.choice.note_at(now);
         Ok(outcome)
@@ -126,7 +126,7 @@ impl<B: Depacketizer> Receiver<B> {
         };
         self.ssrc = ssrc_after(self.ssrc, datagram);
         self.arrived = with_datagram(self.arrived, datagram);
-        let found = found(taken.outcome, restarts, self.packets.counters().restarts);
+        let found = found_by(taken.outcome, restarts, self.packets.counters().restarts);
         observe(&mut self.statistics, now, datagram, found);
         self.choice.note(now, datagram);
         answer_for(datagram, taken)
@@ -135,7 +135,7 @@ impl<B: Depacketizer> Receiver<B> {
 
 /// Returns what the jitter buffer found for a datagram with this outcome. `before` and `after` count the restarts.
 #[inline(always)]
-fn found(outcome: Outcome, before: u64, after: u64) -> Found
+fn found_by(outcome: Outcome, before: u64, after: u64) -> Found
     ensures suspect { result.is_suspect ≡ is_suspect outcome }
     ensures restarted { result.has_restarted ≡ not (after == before) }
 {
