@@ -201,18 +201,18 @@ one_more false time r mid t unseen counts seen rest = record {
   by_rule = subst (λ (s : Seen). AreStoredByRule s (map block_at rest.blocks)) seen rest.by_rule;
   seen = rest.seen ∙ ap (λ (s : Seen). seen_after s (map block_at rest.blocks)) seen;
   recovered = omega (arith, rest.recovered, counts.0);
-  restarts = rest.restarts ∙ counts.1.1;
-  running = λ is. rest.running (counts.1.0 ∙ is);
-  forgotten = λ before. rest.forgotten (same_forgotten r mid before seen counts.1.0);
+  restarts = rest.restarts ∙ counts.2;
+  running = λ is. rest.running (counts.1 ∙ is);
+  forgotten = λ before. rest.forgotten (same_forgotten r mid before seen counts.1);
 }
 one_more true time r mid t unseen counts seen rest = record {
   blocks = time ∷ rest.blocks;
   by_rule = (λ stored. unseen, subst (λ (s : Seen). AreStoredByRule s (map block_at rest.blocks)) seen rest.by_rule);
   seen = rest.seen ∙ ap (λ (s : Seen). seen_after s (map block_at rest.blocks)) seen;
   recovered = omega (arith, rest.recovered, counts.0);
-  restarts = rest.restarts ∙ counts.1.1;
-  running = λ is. rest.running counts.1.0;
-  forgotten = λ before. rest.forgotten (going_on mid counts.1.0);
+  restarts = rest.restarts ∙ counts.2;
+  running = λ is. rest.running counts.1;
+  forgotten = λ before. rest.forgotten (going_on mid counts.1);
 }
 
 one_then : (b : Bool) (a : Arrival) (r mid t : Holding) → is_seen a.header.timestamp r.seen.places ≡ b → RecoversUnseen b a r mid → Stored mid t → Stored r t
