@@ -624,6 +624,13 @@ cpay_status cpay_session_report(cpay_session *session, uint64_t now, uint32_t ss
     return proved_cpay_session_report(&session->handle, now, ssrc, payload_type, block);
 }
 
+cpay_status proved_cpay_session_peek_report(cpay_handle *session, uint64_t now, uint32_t ssrc, uint8_t payload_type,
+                                            cpay_report_block_info *block);
+cpay_status cpay_session_peek_report(cpay_session *session, uint64_t now, uint32_t ssrc, uint8_t payload_type,
+                                     cpay_report_block_info *block) {
+    return proved_cpay_session_peek_report(&session->handle, now, ssrc, payload_type, block);
+}
+
 cpay_status proved_cpay_session_sender_clock(cpay_handle *session, uint32_t ssrc, uint8_t payload_type,
                                              cpay_sender_clock_info *clock);
 cpay_status cpay_session_sender_clock(cpay_session *session, uint32_t ssrc, uint8_t payload_type,

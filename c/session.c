@@ -436,9 +436,15 @@ static void reports(void) {
     cpay_sender_clock_info clock = {.rtp_time = 99};
     cpay_arrival arrival = {0};
     CHECK(cpay_session_report(&session, 0, 1, AUDIO, &block) == CPAY_NONE && block.ssrc == 99);
+    CHECK(cpay_session_peek_report(&session, 0, 1, AUDIO, &block) == CPAY_NONE && block.ssrc == 99);
     opus(&session, 100000, 1, 10);
     opus(&session, 100040, 1, 12);
     opus(&session, 100040, 2, 10);
+    for (int again = 0; again < 2; again++) { /* looking changes nothing */
+        CHECK(cpay_session_peek_report(&session, 100041, 1, AUDIO, &block) == CPAY_OK && block.ssrc == 1);
+        CHECK(block.fraction_lost == 85 && block.cumulative_lost == 1 && block.highest == 12);
+    }
+    CHECK(cpay_session_peek_report(&session, 100041, 1, VIDEO, &block) == CPAY_NONE && block.ssrc == 1);
     CHECK(cpay_session_report(&session, 100041, 1, AUDIO, &block) == CPAY_OK && block.last_sender_report == 0);
     CHECK(block.fraction_lost == 85 && block.cumulative_lost == 1 && block.delay_since_sender_report == 0); /* 1 of 3 */
     CHECK(cpay_session_sender_clock(&session, 1, AUDIO, &clock) == CPAY_NONE && clock.rtp_time == 99);
@@ -779,6 +785,7 @@ static void handles(void) {
         CHECK(cpay_session_add_pair(&it.session, 1, 9) == status);
         CHECK(cpay_session_remove_pair(&it.session, 1) == status);
         CHECK(cpay_session_report(&it.session, 0, 1, AUDIO, &block) == status);
+        CHECK(cpay_session_peek_report(&it.session, 0, 1, AUDIO, &block) == status);
         CHECK(cpay_session_sender_clock(&it.session, 1, AUDIO, &clock) == status);
     }
     CHECK(block.ssrc == 7 && clock.rtp_time == 7);

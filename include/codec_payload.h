@@ -1211,7 +1211,8 @@ typedef struct {
     uint64_t shortest_retry;    /**< least time between two requests of a number once the round-trip time is known */
     uint64_t longest_retry;     /**< largest time between them; if it is below `shortest_retry`, it wins */
     uint64_t longest_wait;      /**< with has_longest_wait: `max_wait` of a stream becomes `first_wait` and four round trips: at
-                                     least its own value in the settings, and at most this time */
+                                     least its own value in the settings, and at most this time. Until the first answer to a
+                                     request, video with nack waits for this time, and all else as the settings say */
     uint64_t report_interval;   /**< with has_report_interval: time between two receiver reports of the session; 0 counts as 1. See
                                      CPAY_EVENT_REPORT */
     size_t capacity;            /**< how many missing numbers of a stream are followed at most: the lowest */
@@ -1256,7 +1257,7 @@ void cpay_session_settings_init(cpay_session_settings *settings, cpay_purpose pu
 /** Sets that the session sends feedback, as a sender of RTCP with this SSRC and this canonical name (RFC 3550, section 6.5.1). As
  * cpay_session_settings_init sets it, a missing number is requested after 10 ms and at most 6 times, and a keyframe at most once in
  * 500 ms, for 2 s after the latest datagram of the stream, if the format has `nack` and `pli`; waiting follows the round trip, up to
- * 500 ms; and a receiver report is sent each second. CPAY_INVALID: the name does not have 1 to 255 bytes. Does not allocate. */
+ * 800 ms; and a receiver report is sent each second. CPAY_INVALID: the name does not have 1 to 255 bytes. Does not allocate. */
 CPAY_CHECKED cpay_status cpay_session_settings_feedback(cpay_session_settings *settings, uint32_t ssrc, const uint8_t *cname,
                                                         size_t cname_len);
 
@@ -1464,6 +1465,12 @@ typedef struct {
  * there is no such stream, or no packet of it arrived yet. */
 CPAY_CHECKED cpay_status cpay_session_report(cpay_session *session, uint64_t now, uint32_t ssrc, uint8_t payload_type,
                                              cpay_report_block_info *block);
+
+/** Returns the block that cpay_session_report would return, and changes nothing: the next block starts its fraction where it would
+ * have. For statistics beside the reports that the session sends. CPAY_NONE: there is no such stream, or no packet of it arrived
+ * yet. Does not allocate. */
+CPAY_CHECKED cpay_status cpay_session_peek_report(cpay_session *session, uint64_t now, uint32_t ssrc, uint8_t payload_type,
+                                                  cpay_report_block_info *block);
 
 /** What the latest sender report about a stream says (RFC 3550, section 6.4.1): one moment by the wall clock of the sender and as
  * an RTP time. */

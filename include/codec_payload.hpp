@@ -357,6 +357,10 @@ public:
                                      cpay_report_block_info &block) noexcept {
         return cpay_session_report(get(), now, ssrc, payload_type, &block);
     }
+    [[nodiscard]] cpay_status peek_report(std::uint64_t now, std::uint32_t ssrc, std::uint8_t payload_type,
+                                          cpay_report_block_info &block) noexcept {
+        return cpay_session_peek_report(get(), now, ssrc, payload_type, &block);
+    }
     [[nodiscard]] cpay_status sender_clock(std::uint32_t ssrc, std::uint8_t payload_type,
                                            cpay_sender_clock_info &clock) noexcept {
         return cpay_session_sender_clock(get(), ssrc, payload_type, &clock);

@@ -28,7 +28,7 @@ const INTERVAL: u64 = 33;
 /// The bytes of a frame: three packets.
 const FRAME: usize = 3_000;
 /// How long a frame waits at most, whatever the round trip is.
-const LONGEST_WAIT: u64 = 500;
+const LONGEST_WAIT: u64 = 800;
 
 /// What the caller does about losses.
 #[derive(Clone, Copy, PartialEq)]

@@ -235,3 +235,67 @@ fn malformed_red() -> Result<(), Box<dyn Error>> {
     assert_eq!(answer, Err(ReceiveError::Red));
     Ok(())
 }
+
+/// How a restart is confirmed: by padding, or by RED around another payload type, as error correction has (RFC 5109).
+#[derive(Clone, Copy, Debug)]
+enum Confirmed {
+    Padding,
+    OtherType,
+}
+
+impl Confirmed {
+    fn datagram(self, number: u16) -> Vec<u8> {
+        match self {
+            Confirmed::Padding => padding(number, 777),
+            // The header of a primary block has one byte: its payload type (RFC 2198, section 3).
+            Confirmed::OtherType => datagram(RED, number, 777, &[OPUS + 1, 1, 2, 3]),
+        }
+    }
+}
+
+/// A frame with its RTP time.
+type Frame = (u8, u32);
+
+/// A sender restarts elsewhere, and the packet that confirms it has no media. Then this payload arrives.
+fn after_a_restart(confirmed: Confirmed, time: u32, payload: &[u8]) -> Result<Vec<u8>, Box<dyn Error>> {
+    let former: [Frame; 3] = [(1, 0), (2, STEP), (3, 2 * STEP)];
+    let mut red = red_sender(&[1]);
+    let mut receiver = receiver()?;
+    for (place, (frame, time)) in former.into_iter().enumerate() {
+        let payload = red.wrap(vec![frame; 9], time, 1_200)?;
+        // Frame 2 is lost, and its block arrives.
+        if frame != 2 {
+            receiver.receive(Ticks(0), &datagram(RED, 10 + place as u16, time, &payload))?;
+        }
+    }
+    assert_eq!(receiver.counters().packets.recovered, 1);
+    assert_eq!(units(&mut receiver, 1_000)?.len(), 3);
+    for number in [30_000, 30_001] {
+        receiver.receive(Ticks(1_000), &confirmed.datagram(number))?;
+    }
+    assert_eq!(receiver.counters().packets.restarts, 1);
+    receiver.receive(Ticks(1_020), &datagram(RED, 30_003, time, payload))?;
+    let units = units(&mut receiver, 2_000)?;
+    Ok(units.into_iter().map(|bytes| bytes[0]).collect())
+}
+
+/// No packet and no block of the new sender is dropped for a time of the former one (RFC 3550, section 5.1: the first RTP time is
+/// random, so a new sender's times say nothing about the former's).
+#[test]
+fn times_of_the_former_sender_are_forgotten() -> Result<(), Box<dyn Error>> {
+    for confirmed in [Confirmed::Padding, Confirmed::OtherType] {
+        // The packet has the time of the former sender's block.
+        let mut red = red_sender(&[1]);
+        let alone = red.wrap(vec![9; 9], STEP, 1_200)?;
+        assert_eq!(after_a_restart(confirmed, STEP, &alone)?, [9], "{confirmed:?}");
+        // Its block has the time of the former sender's first packet.
+        let mut red = red_sender(&[1]);
+        red.wrap(vec![8; 9], 0, 1_200)?;
+        let with_block = red.wrap(vec![9; 9], STEP, 1_200)?;
+        assert_eq!(after_a_restart(confirmed, STEP, &with_block)?, [8, 9], "{confirmed:?}");
+        // A time that the former sender did not have: nothing was dropped before, either.
+        let other = red_sender(&[1]).wrap(vec![9; 9], 5 * STEP, 1_200)?;
+        assert_eq!(after_a_restart(confirmed, 5 * STEP, &other)?, [9], "{confirmed:?}");
+    }
+    Ok(())
+}

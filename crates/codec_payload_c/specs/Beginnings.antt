@@ -85,7 +85,7 @@ pub record IsFeedback (f : SessionFeedback) : Type 0 where
   pub retry : f.retry ≡ 100
   pub shortest_retry : f.shortest_retry ≡ 20
   pub longest_retry : f.longest_retry ≡ 400
-  pub longest_wait : f.longest_wait ≡ 500
+  pub longest_wait : f.longest_wait ≡ 800
   pub report_interval : f.report_interval ≡ 1000
   pub capacity : f.capacity ≡ 1024
   pub tries : f.tries ≡ 6

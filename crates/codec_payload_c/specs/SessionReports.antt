@@ -5,7 +5,7 @@ use Rattle.codec_payload_handle.specs.declared.object.PortSession.{PortSession}
 use Rattle.codec_payload_rtcp.specs.declared.items.ReportBlock.{ReportBlock}
 use Rattle.codec_payload_session.specs.Arrivals.{Port}
 use Rattle.codec_payload_session.specs.Ports.{ReportsIf}
-use Rattle.codec_payload_session.specs.Reports.{clock_among}
+use Rattle.codec_payload_session.specs.Reports.{block_among, clock_among}
 use Rattle.codec_payload_session.specs.Streams.{is_of}
 use Rattle.codec_payload_session.specs.declared.reports.SenderClock.{SenderClock}
 use Rattle.codec_payload_c.specs.declared.session_reports.ReportBlockInfo.{ReportBlockInfo}
@@ -36,6 +36,11 @@ pub record TellsBlockOf (ssrc payload_type now : ℕ) (r : PortSession) (status 
   pub reports : ReportsIf (position (is_of ssrc payload_type) r.session.port.streams) r.session.settings.tick_rate now r.session.port answer port
   pub left : s ≡ record r { session = record r.session { port = port } }
   pub tells : TellsBlock answer status before after
+
+-- the block that the next report about the stream with this SSRC and payload type would have now
+abbrev pub block_told_by : (ssrc payload_type now : ℕ) → PortSession → Option ReportBlock
+block_told_by ssrc payload_type now r =
+    block_among (position (is_of ssrc payload_type) r.session.port.streams) r.session.settings.tick_rate now r.session.port.streams
 
 -- ---- the clock of a sender
 

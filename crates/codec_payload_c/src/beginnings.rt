@@ -200,7 +200,7 @@ fn unnamed_feedback() -> SessionFeedback
         retry: 100,
         shortest_retry: 20,
         longest_retry: 400,
-        longest_wait: 500,
+        longest_wait: 800,
         report_interval: 1_000,
         capacity: 1_024,
         tries: 6,

@@ -2,7 +2,7 @@
 
 ghost use Rattle.std.specs.Prelude.{◌≡◌, ◌≢◌};
 ghost use Rattle.codec_payload_handle.specs.Kinds.{OnPortSession, Refuses, is_port_session};
-ghost use Rattle.codec_payload_c.specs.SessionReports.{TellsBlockOf, TellsClock, block_info, clock_told_by};
+ghost use Rattle.codec_payload_c.specs.SessionReports.{TellsBlock, TellsBlockOf, TellsClock, block_info, block_told_by, clock_told_by};
 
 use codec_payload_base::wire::Ticks;
 use codec_payload_handle::handle::Handle;
@@ -70,6 +70,20 @@ fn report(port: &mut PortSession, now: u64, of: (u32, u8), block: &mut ReportBlo
     }
 }
 
+/// Writes the block about a stream, and changes nothing else.
+fn peek_report(port: &PortSession, now: u64, of: (u32, u8), block: &mut ReportBlockInfo) -> u32
+    ensures tells { TellsBlock (block_told_by of.0 of.1 now port.now) result block.old block.new }
+    ensures unchanged { result ≢ 0 → block.new ≡ block.old }
+{
+    match port.session.peek_report(Ticks(now), of.0, of.1) {
+        Some(told) => {
+            *block = block_info(told);
+            status::OK
+        }
+        None => status::NONE,
+    }
+}
+
 /// Writes what the latest sender report about a stream says.
 fn sender_clock(port: &PortSession, ssrc: u32, payload_type: u8, clock: &mut SenderClockInfo) -> u32
     ensures tells { TellsClock (clock_told_by ssrc payload_type port.now) result clock.old clock.new }
@@ -107,6 +121,31 @@ pub extern "C" fn cpay_session_report(
     };
     let answer = match &mut *object {
         Object::PortSession(port) => report(port, now, (ssrc, payload_type), block),
+        _ => status::OTHER_KIND,
+    };
+    handle.put(object);
+    answer
+}
+
+/// Returns the block that `cpay_session_report` would return, and changes nothing in the session.
+#[unsafe(no_mangle)]
+pub extern "C" fn cpay_session_peek_report(
+    alloc: Global,
+    handle: &mut Handle,
+    now: u64,
+    ssrc: u32,
+    payload_type: u8,
+    block: &mut ReportBlockInfo,
+) -> u32
+    ensures tells { OnPortSession handle.old.place.value (λ r s. (s ≡ r) × TellsBlock (block_told_by ssrc payload_type now r) result block.old block.new) handle.new.place.value }
+    ensures refused { Refuses is_port_session handle.old.place.value result handle.new.place.value }
+    ensures unchanged { result ≢ 0 → block.new ≡ block.old }
+{
+    let Some(mut object) = handle.take(alloc) else {
+        return status::EMPTY;
+    };
+    let answer = match &mut *object {
+        Object::PortSession(port) => peek_report(port, now, (ssrc, payload_type), block),
         _ => status::OTHER_KIND,
     };
     handle.put(object);

@@ -170,5 +170,5 @@ pub record IsLiveFeedback (ssrc : ℕ) (name : List ℕ) (f : FeedbackSettings) 
   pub nack : f.nack ≡ live_nack
   pub keyframe_interval : f.keyframe_interval ≡ 500
   pub silence : f.silence ≡ 2000
-  pub longest_wait : f.longest_wait ≡ Some 500
+  pub longest_wait : f.longest_wait ≡ Some 800
   pub report_interval : f.report_interval ≡ Some 1000

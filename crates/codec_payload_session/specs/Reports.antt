@@ -126,6 +126,15 @@ block_about ssrc clock tick_rate now r = record {
 abbrev pub block_of : ℕ → ℕ → StreamState → Option ReportBlock
 block_of tick_rate now s = option_map (block_about s.ssrc s.sender_clock tick_rate now) (report_of s.receiver.reception)
 
+-- the block about the stream at a place
+abbrev pub block_in : (tick_rate now : ℕ) → Option StreamState → Option ReportBlock
+block_in tick_rate now None = None
+block_in tick_rate now (Some s) = block_of tick_rate now s
+
+abbrev pub block_among : Option ℕ → (tick_rate now : ℕ) → List StreamState → Option ReportBlock
+block_among None tick_rate now ss = None
+block_among (Some place) tick_rate now ss = block_in tick_rate now (slice_get ss place)
+
 -- the next report starts its fraction here
 abbrev pub reported_by : StreamState → StreamState
 reported_by s = record s { receiver = record s.receiver { reception = reported s.receiver.reception } }

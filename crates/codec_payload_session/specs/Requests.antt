@@ -11,7 +11,7 @@ use Rattle.codec_payload_rtp.specs.RtpPackets.{Packet}
 use Rattle.codec_payload_rtp.specs.RtpReading.{rtp_at}
 use Rattle.codec_payload_rtp.specs.declared.rtp.RtpError.{RtpError}
 use Rattle.codec_payload_stream.specs.Sessions.{Session as Receiver}
-use Rattle.codec_payload_session.specs.Formats.{resends}
+use Rattle.codec_payload_session.specs.Formats.{is_video, resends}
 use Rattle.codec_payload_session.specs.declared.formats.FeedbackSettings.{FeedbackSettings}
 use Rattle.codec_payload_session.specs.declared.formats.Format.{Format}
 use Rattle.codec_payload_session.specs.declared.requests.WaitRange.{WaitRange}
@@ -33,13 +33,17 @@ abbrev pub source_for : FeedbackSettings → Source
 source_for f = record { ssrc = f.ssrc; cname = take 255 f.cname.items; has_report = f.has_report }
 
 -- waiting follows the round trip between the stream's own limit and the longest wait
-abbrev pub range_by : ℕ → Option ℕ → Option ℕ → Option WaitRange
-range_by first None least = None
-range_by first (Some most) None = None
-range_by first (Some most) (Some least) = Some (record { first = first; least = least; most = most })
+abbrev pub range_by : ℕ → Option ℕ → (is_patient : Bool) → Option ℕ → Option WaitRange
+range_by first None patient least = None
+range_by first (Some most) patient None = None
+range_by first (Some most) patient (Some least) = Some (record { first = first; least = least; most = most; is_patient = patient })
 
-abbrev pub range_for : FeedbackSettings → Option ℕ → Option WaitRange
-range_for f max_wait = range_by f.nack.first_wait f.longest_wait max_wait
+abbrev pub range_for : FeedbackSettings → (is_patient : Bool) → Option ℕ → Option WaitRange
+range_for f patient max_wait = range_by f.nack.first_wait f.longest_wait patient max_wait
+
+-- video whose missing packets are requested waits for the first answer
+abbrev pub is_patient : Format → Bool
+is_patient f = f.nack && is_video f.spec.codec
 
 -- two requests of a number are at least one tick apart, so that a loop of polls at one moment ends
 abbrev pub spaced : NackSettings → NackSettings
@@ -52,7 +56,7 @@ asking_for f ssrc format max_wait = record {
   most = if format.nack then f.nack.capacity else 0;
   pli = format.pli;
   silence = f.silence;
-  waits = range_for f max_wait;
+  waits = range_for f (is_patient format) max_wait;
 }
 
 -- a stream whose sender answers no requests has none
@@ -142,10 +146,11 @@ wait_within range round_trip = max (min (round_trip * 4 + range.first) range.mos
 
 abbrev pub wait_for : Option WaitRange → Option ℕ → Option ℕ
 wait_for None round_trip = None
-wait_for (Some range) None = None
+wait_for (Some range) None = if range.is_patient then Some (max range.most range.least) else None
 wait_for (Some range) (Some round_trip) = Some (wait_within range round_trip)
 
--- how long a frame may wait, once the round trip is known
+-- how long a frame may wait: by the round trip once it is known, and until then the longest wait in a stream that waits for the
+-- first answer
 abbrev pub wait_of : Asking → Option ℕ
 wait_of a = wait_for a.waits (option_map (λ eighths. eighths / 8) a.requests.nack.round_trip)
 

@@ -84,7 +84,7 @@ impl Streams {
 
 impl StreamState {
     /// Returns the block that a report about the stream's sender has now, and changes nothing.
-    fn peek_report(&self, now: Ticks, tick_rate: Frequency) -> Option<ReportBlock>
+    pub(crate) fn peek_report(&self, now: Ticks, tick_rate: Frequency) -> Option<ReportBlock>
         ensures value { result ≡ block_of tick_rate now.0 self.now }
         ensures fits { IfSome result (λ block. block.cumulative_lost < 16777216) }
     {

@@ -3,9 +3,9 @@
 ghost use Rattle.std.specs.Prelude.{◌≡◌, ◌<◌, ℕ, IfOk, OnOk, Option};
 ghost use Rattle.codec_payload_jitter.specs.Missing.{missing_numbers};
 ghost use Rattle.codec_payload_session.specs.Quiet.{MayRest, is_calm};
-ghost use Rattle.codec_payload_session.specs.Requests.{Asks, Refreshes, after_number, feedback_by, has_requested, heard_by, is_heard, number_at, original_number, requests_due, range_for, round_trip_of, source_for, spaced, wait_by, wait_of, wait_within};
+ghost use Rattle.codec_payload_session.specs.Requests.{Asks, Refreshes, after_number, feedback_by, has_requested, heard_by, is_heard, is_patient, number_at, original_number, requests_due, range_for, round_trip_of, source_for, spaced, wait_by, wait_for, wait_of, wait_within};
 
-use crate::formats::{FeedbackSettings, Format};
+use crate::formats::{FeedbackSettings, Format, is_video};
 use codec_payload_base::wire::Ticks;
 use codec_payload_feedback::requests::{FeedbackSource, StreamRequests};
 use codec_payload_requests::nack::NackSettings;
@@ -41,6 +41,8 @@ pub(crate) struct WaitRange {
     first: u64,
     least: u64,
     most: u64,
+    /// Whether frames wait for `most` until the round trip is known.
+    is_patient: bool,
 }
 
 impl Model for Feedback {
@@ -81,7 +83,7 @@ impl Feedback {
                     most,
                     pli: format.pli,
                     silence: settings.silence,
-                    waits: wait_range(settings, max_wait),
+                    waits: wait_range(settings, is_patient(format), max_wait),
                     missing: Vec::new(alloc),
                 }))
             }
@@ -102,9 +104,9 @@ impl Feedback {
     fn wait(&self) -> Option<u64>
         ensures { result ≡ wait_of self.now }
     {
-        match (self.waits, self.requests.round_trip()) {
-            (Some(range), Some(round_trip)) => Some(wait_within(range, round_trip)),
-            _ => None,
+        match self.waits {
+            Some(range) => wait_for(range, self.requests.round_trip()),
+            None => None,
         }
     }
 
@@ -228,17 +230,41 @@ pub(crate) fn wait_by(feedback: &Option<Feedback>) -> Option<u64>
     }
 }
 
+/// Returns whether a stream of the format waits for the first answer: it is video, and requests missing packets. A keyframe that is
+/// dropped before that costs all frames up to the next one.
+fn is_patient(format: &Format) -> bool
+    ensures { result ≡ is_patient format.now }
+{
+    format.nack && is_video(format.spec.codec)
+}
+
 /// Returns how waiting follows the round trip, if it does.
-fn wait_range(settings: &FeedbackSettings, max_wait: Option<u64>) -> Option<WaitRange>
-    ensures { result ≡ range_for settings.now max_wait }
+fn wait_range(
+    settings: &FeedbackSettings,
+    is_patient: bool,
+    max_wait: Option<u64>,
+) -> Option<WaitRange>
+    ensures { result ≡ range_for settings.now is_patient max_wait }
 {
     match (settings.longest_wait, max_wait) {
         (Some(most), Some(least)) => Some(WaitRange {
             first: settings.nack.first_wait,
             least,
             most,
+            is_patient,
         }),
         _ => None,
+    }
+}
+
+/// Returns how long a frame may wait, by the round trip if it is known. `None`: the wait limits stay.
+fn wait_for(range: WaitRange, round_trip: Option<u64>) -> Option<u64>
+    ensures { result ≡ wait_for (Option.Some range) round_trip }
+{
+    match round_trip {
+        Some(round_trip) => Some(wait_within(range, round_trip)),
+        None if range.is_patient => Some(range.most.max(range.least)),
+        None => None,
     }
 }
 

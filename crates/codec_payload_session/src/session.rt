@@ -8,7 +8,7 @@ ghost use Rattle.codec_payload_session.specs.Associations.{Associates};
 ghost use Rattle.codec_payload_session.specs.Checks.{fault_of};
 ghost use Rattle.codec_payload_session.specs.Idle.{IsIdle, held_in, next_of};
 ghost use Rattle.codec_payload_session.specs.Ports.{IsSum, MatchInfo, ReportsIf, counted, counted_if, ends_all, ends_of, made_of, no_counts, receiver_among, taken_in, told_counts, waits_of};
-ghost use Rattle.codec_payload_session.specs.Reports.{clock_among};
+ghost use Rattle.codec_payload_session.specs.Reports.{block_among, clock_among};
 ghost use Rattle.codec_payload_session.specs.Polls.{Polls, SendsReport, TurnsOrReports, report_event};
 ghost use Rattle.codec_payload_session.specs.Streams.{is_of};
 ghost use Rattle.codec_payload_session.specs.Pairs.{Pairs, with_pair, without_pair};
@@ -387,6 +387,22 @@ impl Session {
     {
         self.streams
             .report(now, self.settings.tick_rate, (ssrc, payload_type))
+    }
+
+    /// Returns the block that [`Session::report`] would return now, and changes nothing: the next block starts its fraction where it
+    /// would have. For those who look at jitter and losses beside the reports that the session sends
+    /// ([`FeedbackSettings::report_interval`]). The round trip is in [`StreamInfo::round_trip`]. Allocates nothing.
+    ///
+    /// [`FeedbackSettings::report_interval`]: crate::formats::FeedbackSettings::report_interval
+    /// [`StreamInfo::round_trip`]: crate::stream::StreamInfo::round_trip
+    pub fn peek_report(&self, now: Ticks, ssrc: u32, payload_type: u8) -> Option<ReportBlock>
+        ensures value { result ≡ block_among (position (is_of ssrc payload_type) self.now.port.streams) self.now.settings.tick_rate now.0 self.now.port.streams }
+        ensures fits { IfSome result (λ block. block.cumulative_lost < 16777216) }
+    {
+        match place_of(&self.streams.list, ssrc, payload_type) {
+            Some(place) => self.streams.list[place].peek_report(now, self.settings.tick_rate),
+            None => None,
+        }
     }
 
     /// Returns what the latest sender report about the stream with this SSRC and payload type says. `None`: there is no such

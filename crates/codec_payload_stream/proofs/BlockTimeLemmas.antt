@@ -4,7 +4,7 @@ use Rattle.std.specs.Prelude.{replicate}
 use Rattle.codec_payload_jitter.specs.declared.outcome.Outcome.{Outcome}
 use Rattle.codec_payload_stream.specs.RedOnce.{HasNoBlock}
 use Rattle.codec_payload_stream.specs.SeenTimes.{Seen, has_block, none_seen, seen_with}
-use Rattle.codec_payload_stream.specs.Sessions.{is_restart, packet_seen}
+use Rattle.codec_payload_stream.specs.Sessions.{is_restart, packet_seen, seen_past}
 use Rattle.codec_payload_stream.specs.declared.seen_times.SeenTime.{SeenTime}
 
 pub and_false : (b : Bool) → (b && false) ≡ false
@@ -48,3 +48,8 @@ packet_has_no_block true outcome at seen none time = by_restart (is_restart outc
     by_restart : (b : Bool) → has_block time (seen_with (packet_at at) (cond b none_seen seen)).places ≡ false
     by_restart true = none_with time at none_seen.places none_seen.next (new_has_no_block time)
     by_restart false = none_with time at seen.places seen.next (none time)
+
+-- a number without media adds none
+pub past_has_no_block : (restarted : Bool) (seen : Seen) → HasNoBlock seen → HasNoBlock (seen_past restarted seen)
+past_has_no_block true seen none = new_has_no_block
+past_has_no_block false seen none = none

@@ -1,5 +1,5 @@
 -- A receiver of RED stores packets and blocks by the rule of RedOnce, and remembers their times.
-use Rattle.std.proofs.Common.{◌≡◌, ◌⊎◌, ◌∙◌, refl, sym, ap, subst, cond, inl, inr, ℕ, ◌+◌, ◌%◌, ◌^◌, ◌&&◌, ◌||◌, not, Bool, true, false, List, [], ◌∷◌, length, Option, Some, None, arith}
+use Rattle.std.proofs.Common.{◌≡◌, ◌⊎◌, ◌∙◌, refl, sym, ap, subst, cond, inl, inr, ℕ, ◌+◌, ◌%◌, ◌^◌, ◌==◌, ◌&&◌, ◌||◌, not, Bool, true, false, List, [], ◌∷◌, length, Option, Some, None, arith}
 use Rattle.std.specs.Prelude.{map, nat_lt}
 use Rattle.std.specs.Option.{is_some}
 use Rattle.codec_payload_base.specs.declared.wire.RtpHeader.{RtpHeader}
@@ -11,11 +11,11 @@ use Rattle.codec_payload_jitter.specs.declared.numbers.Extended.TheVariants as e
 use Rattle.codec_payload_jitter.specs.declared.outcome.Outcome.{Outcome}
 use Rattle.codec_payload_jitter.specs.declared.outcome.Outcome.TheVariants as outcomes
 use Rattle.codec_payload_stream.specs.Kinds.{Kinds, Carrier, RtcpPacket, Malformed, OfOthers, WithoutMedia, WithMedia, InRed, Again, AgainInRed, AgainEmpty, header_for, original_header}
-use Rattle.codec_payload_stream.specs.RedOnce.{AreListed, AreStoredByRule, HasNoBlock, IsForgotten, ReceivesByRule, block_at, packet_with, repeats, seen_after, seen_since}
+use Rattle.codec_payload_stream.specs.RedOnce.{AreListed, AreStoredByRule, HasNoBlock, IsForgotten, ReceivesByRule, block_at, packet_with, repeats, seen_after, seen_since, times_since}
 use Rattle.codec_payload_stream.specs.SeenTimes.{Seen, has_block, is_seen, none_seen}
-use Rattle.codec_payload_stream.specs.Sessions.{Holding, NotesAgain, block_seen, RecoversAll, RecoversUnless, RecoversUnseen, TakesAgain, TakesDatagram, TakesMedia, TakesPrimaryAgain, TakesPrimaryIf, all_carried, is_own_media, is_repeat, is_restart, is_suspect, packet_seen}
-use Rattle.codec_payload_stream.proofs.BlockTimeLemmas.{new_has_no_block, packet_has_no_block}
-use Rattle.codec_payload_stream.proofs.SessionLemmas.{Balance, accepts_balance, media_balance, primary_again_balance, primary_balance, sent_again_balance}
+use Rattle.codec_payload_stream.specs.Sessions.{Holding, NotesAgain, block_seen, has_restarted, RecoversAll, RecoversUnless, RecoversUnseen, TakesAgain, TakesDatagram, TakesMedia, TakesPrimaryAgain, TakesPrimaryIf, all_carried, is_own_media, is_repeat, is_restart, is_suspect, packet_seen, primary_seen, seen_past}
+use Rattle.codec_payload_stream.proofs.BlockTimeLemmas.{new_has_no_block, packet_has_no_block, past_has_no_block}
+use Rattle.codec_payload_stream.proofs.SessionLemmas.{Balance, accepts_balance, accepts_restarts, media_balance, primary_again_balance, primary_balance, sent_again_balance}
 
 -- Truth values
 
@@ -152,37 +152,43 @@ pub record Stored (r t : Holding) : Type 0 where
   pub by_rule : AreStoredByRule r.seen (map block_at blocks)
   pub seen : t.seen ≡ seen_after r.seen (map block_at blocks)
   pub recovered : t.packets.counters.recovered % 2 ^ 64 ≡ (r.packets.counters.recovered + length blocks) % 2 ^ 64
+  pub restarts : t.packets.counters.restarts ≡ r.packets.counters.restarts
   pub running : r.packets.is_restarting ≡ false → t.packets.is_restarting ≡ false
   pub forgotten : IsForgotten r → IsForgotten t
 
-none_stored : (r t : Holding) → t.seen ≡ r.seen → t.packets.counters.recovered ≡ r.packets.counters.recovered → t.packets.is_restarting ≡ r.packets.is_restarting → Stored r t
-none_stored r t seen recovered running = record {
+none_stored : (r t : Holding) → t.seen ≡ r.seen → t.packets.counters.recovered ≡ r.packets.counters.recovered → t.packets.counters.restarts ≡ r.packets.counters.restarts
+    → t.packets.is_restarting ≡ r.packets.is_restarting → Stored r t
+none_stored r t seen recovered restarts running = record {
   blocks = [];
   by_rule = tt;
   seen = seen;
   recovered = omega (arith, recovered);
+  restarts = restarts;
   running = λ is. running ∙ is;
   forgotten = λ before. same_forgotten r t before seen running;
 }
 
 nothing_stored : (r t : Holding) → t ≡ r → Stored r t
 nothing_stored r t same =
-    none_stored r t (ap (λ (x : Holding). x.seen) same) (ap (λ (x : Holding). x.packets.counters.recovered) same) (ap (λ (x : Holding). x.packets.is_restarting) same)
+    none_stored r t (ap (λ (x : Holding). x.seen) same) (ap (λ (x : Holding). x.packets.counters.recovered) same)
+    (ap (λ (x : Holding). x.packets.counters.restarts) same) (ap (λ (x : Holding). x.packets.is_restarting) same)
 
 -- the header and payload of a packet from a redundant block
 abbrev pub CountsOne : Bool → Receiving → Receiving → Type 0
-CountsOne true r t = (t.counters.recovered ≡ next r.counters.recovered) × (t.is_restarting ≡ false)
-CountsOne false r t = (t.counters.recovered ≡ r.counters.recovered) × (t.is_restarting ≡ r.is_restarting)
+CountsOne true r t = (t.counters.recovered ≡ next r.counters.recovered) × (t.is_restarting ≡ false) × (t.counters.restarts ≡ r.counters.restarts)
+CountsOne false r t = (t.counters.recovered ≡ r.counters.recovered) × (t.is_restarting ≡ r.is_restarting) × (t.counters.restarts ≡ r.counters.restarts)
 
 unchanged : (r t : Receiving) (went_in : Bool) → went_in ≡ false → t ≡ r → CountsOne went_in r t
-unchanged r t went_in is same = subst (λ (b : Bool). CountsOne b r t) (sym is) (ap (λ (x : Receiving). x.counters.recovered) same, ap (λ (x : Receiving). x.is_restarting) same)
+unchanged r t went_in is same = subst (λ (b : Bool). CountsOne b r t) (sym is)
+    (ap (λ (x : Receiving). x.counters.recovered) same, ap (λ (x : Receiving). x.is_restarting) same, ap (λ (x : Receiving). x.counters.restarts) same)
 
 counts_if : (b : Bool) (n : ℕ) (a : Arrival) (r t : Receiving) (went_in : Bool) → RecoversIf b n a r went_in t → CountsOne went_in r t
 counts_if false n a r t went_in got = unchanged r t went_in got.0 got.1
 counts_if true n a r t went_in got =
     let mid : got.1.counters.recovered ≡ r.counters.recovered = ap (λ (b : Balance). b.recovered) (accepts_balance a n r got.1 got.0 got.2) in
     let one : t.counters.recovered ≡ next r.counters.recovered = ap (λ (x : Receiving). x.counters.recovered) got.4 ∙ ap next mid in
-    subst (λ (b : Bool). CountsOne b r t) (sym got.3) (one, ap (λ (x : Receiving). x.is_restarting) got.4)
+    let restarts : t.counters.restarts ≡ r.counters.restarts = ap (λ (x : Receiving). x.counters.restarts) got.4 ∙ accepts_restarts a n r got.1 got.0 got.2 in
+    subst (λ (b : Bool). CountsOne b r t) (sym got.3) (one, ap (λ (x : Receiving). x.is_restarting) got.4, restarts)
 
 counts_as : (number : Option ℕ) (a : Arrival) (r t : Receiving) (went_in : Bool) → RecoversAs number a r went_in t → CountsOne went_in r t
 counts_as None a r t went_in got = unchanged r t went_in got.0 got.1
@@ -195,6 +201,7 @@ one_more false time r mid t unseen counts seen rest = record {
   by_rule = subst (λ (s : Seen). AreStoredByRule s (map block_at rest.blocks)) seen rest.by_rule;
   seen = rest.seen ∙ ap (λ (s : Seen). seen_after s (map block_at rest.blocks)) seen;
   recovered = omega (arith, rest.recovered, counts.0);
+  restarts = rest.restarts ∙ counts.2;
   running = λ is. rest.running (counts.1 ∙ is);
   forgotten = λ before. rest.forgotten (same_forgotten r mid before seen counts.1);
 }
@@ -203,6 +210,7 @@ one_more true time r mid t unseen counts seen rest = record {
   by_rule = (λ stored. unseen, subst (λ (s : Seen). AreStoredByRule s (map block_at rest.blocks)) seen rest.by_rule);
   seen = rest.seen ∙ ap (λ (s : Seen). seen_after s (map block_at rest.blocks)) seen;
   recovered = omega (arith, rest.recovered, counts.0);
+  restarts = rest.restarts ∙ counts.2;
   running = λ is. rest.running counts.1;
   forgotten = λ before. rest.forgotten (going_on mid counts.1);
 }
@@ -285,6 +293,10 @@ again_listed s low a r t o red forgotten at got seen =
 
 -- the primary block of a RED packet
 
+-- the blocks beside it confirm no restart
+past_is : (r : Holding) (mid : Receiving) (t : Holding) → t.packets.counters.restarts ≡ mid.counters.restarts → seen_past (has_restarted r.packets t.packets) r.seen ≡ seen_past (has_restarted r.packets mid) r.seen
+past_is r mid t same = ap (λ (n : ℕ). seen_past (not (n == r.packets.counters.restarts)) r.seen) same
+
 primary_running : (b : Bool) (s : Kinds) (now : Ticks) (c : Carrier) (r t : Receiving) (o : Outcome) → TakesPrimaryIf b s now c r o t → t.is_restarting ≡ false
 primary_running true s now c r t o got = ap (λ (x : Receiving). x.is_restarting) got.2
 primary_running false s now c r t o got = ap (λ (x : Receiving). x.is_restarting) got.1.2
@@ -303,7 +315,7 @@ red_listed : (s : Kinds) (now : Ticks) (c : Carrier) (r t : Holding) (o : Outcom
 red_listed s now c r t o whole red forgotten got = by_media (is_own_media s c) got.1 got.2
   where
     by_media : (own : Bool) → TakesPrimaryIf (own && not (is_repeat s r.seen r.packets c.header.timestamp c.header.sequence_number)) s now c r.packets o got.0
-        → RecoversUnless (is_suspect o) whole (all_carried s now c) (record { packets = got.0; seen = packet_seen own o c.header.timestamp r.seen }) t
+        → RecoversUnless (is_suspect o) whole (all_carried s now c) (record { packets = got.0; seen = primary_seen own o c.header.timestamp (has_restarted r.packets got.0) r.seen }) t
         → IsForgotten t × AreListed own o c.header.timestamp r t
     by_media true primary blocks =
         let mid : Holding = record { packets = got.0; seen = packet_seen true o c.header.timestamp r.seen } in
@@ -315,9 +327,9 @@ red_listed s now c r t o whole red forgotten got = by_media (is_own_media s c) g
               (ap (λ (b : Balance). b.recovered) (primary_balance (not repeated) s now c r.packets got.0 o primary)) rest,
         )
     by_media false primary blocks =
-        let mid : Holding = record { packets = got.0; seen = r.seen } in
+        let mid : Holding = record { packets = got.0; seen = seen_past (has_restarted r.packets got.0) r.seen } in
         let rest : Stored mid t = unless_stored (is_suspect o) whole (all_carried s now c) mid t blocks in
-        let since : seen_since o r.seen ≡ r.seen = ap (λ (x : Outcome). seen_since x r.seen) primary.0 in
+        let since : times_since false o r t ≡ mid.seen = past_is r got.0 t rest.restarts in
         let same : got.0.counters.recovered ≡ r.packets.counters.recovered = ap (λ (b : Balance). b.recovered) (primary_balance false s now c r.packets got.0 o primary) in (
           going_on t (rest.running (primary_running false s now c r.packets got.0 o primary)),
           record {
@@ -335,23 +347,19 @@ notes_again_running true low r t o got running = ap (λ (x : Receiving). x.is_re
 notes_again_running false low r t o got running = ap (λ (x : Receiving). x.is_restarting) got.1 ∙ running
 
 -- without media no time is noted
-notes_again_forgotten : (b : Bool) (low : ℕ) (r t : Holding) (o : Outcome) → IsForgotten r → NotesAgain b low r.packets o t.packets → t.seen ≡ r.seen → IsForgotten t
-notes_again_forgotten b low r t o forgotten got seen = by_test r.packets.is_restarting refl
+notes_again_forgotten : (b : Bool) (low : ℕ) (r t : Holding) (o : Outcome) → IsForgotten r → NotesAgain b low r.packets o t.packets → (HasNoBlock r.seen → HasNoBlock t.seen) → IsForgotten t
+notes_again_forgotten b low r t o forgotten got none = by_test r.packets.is_restarting refl
   where
     by_test : (restarting : Bool) → r.packets.is_restarting ≡ restarting → IsForgotten t
-    by_test true is = λ still time. ap (λ (x : Seen). has_block time x.places) seen ∙ forgotten is time
+    by_test true is = λ still. none (forgotten is)
     by_test false is = going_on t (notes_again_running b low r.packets t.packets o got is)
-
-notes_again_is : (b : Bool) (low : ℕ) (r t : Receiving) (o : Outcome) → NotesAgain b low r o t → o ≡ outcomes.NoMedia
-notes_again_is true low r t o got = got.0
-notes_again_is false low r t o got = got.0
 
 red_again_listed : (s : Kinds) (now : Ticks) (c : Carrier) (r t : Holding) (o : Outcome) (whole : Bool) → is_some s.red ≡ true → IsForgotten r → TakesDatagram s now (AgainInRed c) r o whole t
     → IsForgotten t × AreListed (is_own_media s c) o c.header.timestamp r t
 red_again_listed s now c r t o whole red forgotten got = by_media (is_own_media s c) got.1 got.2
   where
     by_media : (own : Bool) → TakesPrimaryAgain own s now c r.seen r.packets o got.0
-        → RecoversAll whole (all_carried s now c) (record { packets = got.0; seen = packet_seen own o c.header.timestamp r.seen }) t
+        → RecoversAll whole (all_carried s now c) (record { packets = got.0; seen = primary_seen own o c.header.timestamp (has_restarted r.packets got.0) r.seen }) t
         → IsForgotten t × AreListed own o c.header.timestamp r t
     by_media true primary blocks =
         let a : Arrival = record { now = now; header = header_for s c.header; bytes = c.primary.payload } in
@@ -366,13 +374,12 @@ red_again_listed s now c r t o whole red forgotten got = by_media (is_own_media 
               (ap (λ (b : Balance). b.recovered) (sent_again_balance repeated a r.packets got.0 o primary)) rest,
         )
     by_media false primary blocks =
-        let mid : Holding = record { packets = got.0; seen = r.seen } in
+        let mid : Holding = record { packets = got.0; seen = seen_past (has_restarted r.packets got.0) r.seen } in
         let rest : Stored mid t = all_stored whole (all_carried s now c) mid t blocks in
         let would : Bool = would_store r.packets c.header.sequence_number in
-        let none : o ≡ outcomes.NoMedia = notes_again_is would c.header.sequence_number r.packets got.0 o primary in
-        let since : seen_since o r.seen ≡ r.seen = ap (λ (x : Outcome). seen_since x r.seen) none in
+        let since : times_since false o r t ≡ mid.seen = past_is r got.0 t rest.restarts in
         let same : got.0.counters.recovered ≡ r.packets.counters.recovered = ap (λ (b : Balance). b.recovered) (primary_again_balance false s now c r.seen r.packets got.0 o primary) in (
-          rest.forgotten (notes_again_forgotten would c.header.sequence_number r mid o forgotten primary refl),
+          rest.forgotten (notes_again_forgotten would c.header.sequence_number r mid o forgotten primary (past_has_no_block (has_restarted r.packets got.0) r.seen)),
           record {
             blocks = rest.blocks;
             by_rule = subst (λ (x : Seen). AreStoredByRule x (map block_at rest.blocks)) (sym since) rest.by_rule;

@@ -12,7 +12,7 @@ use Rattle.codec_payload_stream.specs.Choice.{latest_after, origin_of}
 use Rattle.codec_payload_stream.specs.Kinds.{Kinds, Carrier, Datagram, RtcpPacket, Malformed, OfOthers, WithoutMedia, WithMedia, InRed, Again, AgainInRed, AgainEmpty}
 use Rattle.codec_payload_stream.specs.SeenTimes.{Seen, is_seen}
 use Rattle.codec_payload_stream.specs.Sessions.{Holding, NotesAgain, Session, TakesAgain, TakesDatagram, TakesMedia, TakesPrimaryAgain, TakesPrimaryIf, RecoversOne, RecoversUnseen, RecoversAll, RecoversUnless, AnswersFor}
-use Rattle.codec_payload_stream.specs.Sessions.{Heard, IsSorted, all_carried, arrived_with, ssrc_after, is_own_media, is_repeat, is_suspect, error_of, observed_in, told_of_red}
+use Rattle.codec_payload_stream.specs.Sessions.{Heard, IsSorted, all_carried, arrived_with, ssrc_after, is_own_media, is_repeat, is_suspect, error_of, reception_after, told_of_red}
 use Rattle.codec_payload_stream.specs.declared.datagram.Malformation.{Malformation}
 use Rattle.codec_payload_stream.specs.declared.datagram.Malformation.TheVariants as malformations
 use Rattle.codec_payload_stream.specs.declared.receiver.Arrived.{Arrived}
@@ -68,6 +68,22 @@ counted_balance c outcomes.Rtcp = refl
 
 pub accepts_balance : (a : Arrival) (n : ℕ) (r t : Receiving) (o : Outcome) → Accepts a n r o t → balance_of t ≡ one_pushed (balance_of r)
 accepts_balance a n r t o got = ap balance_of got.3 ∙ counted_balance r.counters o
+
+-- no restart is counted
+count_restarts : (c : PacketCounters) (o : Outcome) → (counted c o).restarts ≡ c.restarts
+count_restarts c outcomes.Held = refl
+count_restarts c outcomes.HeldAndEvicted = refl
+count_restarts c outcomes.Duplicate = refl
+count_restarts c outcomes.Late = refl
+count_restarts c outcomes.Suspect = refl
+count_restarts c (outcomes.Restarted with_kept) = refl
+count_restarts c outcomes.NoMedia = refl
+count_restarts c outcomes.OtherStream = refl
+count_restarts c outcomes.Undecided = refl
+count_restarts c outcomes.Rtcp = refl
+
+pub accepts_restarts : (a : Arrival) (n : ℕ) (r t : Receiving) (o : Outcome) → Accepts a n r o t → t.counters.restarts ≡ r.counters.restarts
+accepts_restarts a n r t o got = ap (λ (x : Receiving). x.counters.restarts) got.3 ∙ count_restarts r.counters o
 
 goes_on_balance : (n : ℕ) (a : Arrival) (r t : Receiving) (o : Outcome) → GoesOn n a r o t → balance_of t ≡ one_pushed (balance_of r)
 goes_on_balance n a r t o got = ap balance_of got.2 ∙ accepts_balance a n r got.0 o got.1
@@ -218,7 +234,7 @@ pub heard : (now : Ticks) (d : Datagram) (s t : Session) (o : Outcome) (whole : 
       ssrc = ssrc_after s.ssrc d;
       packets = packets;
       arrived = arrived_with s.arrived d;
-      reception = observed_in s.reception now.0 d;
+      reception = reception_after o s.packets packets s.reception now.0 d;
       choice = record s.choice { latest = latest_after s.choice.latest now.0 (origin_of d) };
       seen = seen;
     }

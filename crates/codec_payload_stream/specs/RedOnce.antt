@@ -6,7 +6,7 @@ use Rattle.codec_payload_jitter.specs.Receiving.{is_stored}
 use Rattle.codec_payload_jitter.specs.declared.outcome.Outcome.{Outcome}
 use Rattle.codec_payload_stream.specs.Kinds.{Kinds, Datagram, RtcpPacket, Malformed, OfOthers, WithoutMedia, WithMedia, InRed, Again, AgainInRed, AgainEmpty}
 use Rattle.codec_payload_stream.specs.SeenTimes.{Seen, has_block, is_seen, none_seen, seen_with}
-use Rattle.codec_payload_stream.specs.Sessions.{Holding, TakesDatagram, is_own_media, is_restart}
+use Rattle.codec_payload_stream.specs.Sessions.{Holding, TakesDatagram, has_restarted, is_own_media, is_restart, seen_past}
 use Rattle.codec_payload_stream.specs.declared.seen_times.SeenTime.{SeenTime}
 
 -- a packet or a block that was received after the latest restart: its RTP time, and whether it was stored
@@ -43,6 +43,11 @@ seen_after s (x ∷ more) = seen_after (seen_with x.seen s) more
 abbrev pub seen_since : Outcome → Seen → Seen
 seen_since o s = if is_restart o then none_seen else s
 
+-- the same for a packet that may have no media: then a restart that it confirms is counted
+abbrev pub times_since : (has_media : Bool) → Outcome → Holding → Holding → Seen
+times_since true o r t = seen_since o r.seen
+times_since false o r t = seen_past (has_restarted r.packets t.packets) r.seen
+
 -- a packet with media, and whether it was stored
 abbrev pub packet_with : Outcome → ℕ → Received
 packet_with o time = record { seen = record { time = time; is_block = false }; is_stored = is_stored o || is_restart o }
@@ -59,8 +64,8 @@ listed false o time blocks = map block_at blocks
 -- the times of the stored blocks of a packet; packet and blocks are stored by the rule, and each block counts as recovered
 pub record AreListed (has_media : Bool) (o : Outcome) (time : ℕ) (r t : Holding) : Type 0 where
   pub blocks : List ℕ
-  pub by_rule : AreStoredByRule (seen_since o r.seen) (listed has_media o time blocks)
-  pub seen : t.seen ≡ seen_after (seen_since o r.seen) (listed has_media o time blocks)
+  pub by_rule : AreStoredByRule (times_since has_media o r t) (listed has_media o time blocks)
+  pub seen : t.seen ≡ seen_after (times_since has_media o r t) (listed has_media o time blocks)
   pub recovered : t.packets.counters.recovered % 2 ^ 64 ≡ (r.packets.counters.recovered + length blocks) % 2 ^ 64
 
 abbrev pub FollowsRule : Kinds → Datagram → Outcome → Holding → Holding → Type 0
@@ -71,7 +76,7 @@ FollowsRule s (AgainInRed c) o r t = AreListed (is_own_media s c) o c.header.tim
 FollowsRule s RtcpPacket o r t = t.seen ≡ r.seen
 FollowsRule s (Malformed e) o r t = t.seen ≡ r.seen
 FollowsRule s OfOthers o r t = t.seen ≡ r.seen
-FollowsRule s (WithoutMedia h) o r t = t.seen ≡ r.seen
+FollowsRule s (WithoutMedia h) o r t = t.seen ≡ seen_past (has_restarted r.packets t.packets) r.seen
 FollowsRule s AgainEmpty o r t = t.seen ≡ r.seen
 
 -- no block is remembered

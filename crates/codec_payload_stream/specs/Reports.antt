@@ -1,5 +1,5 @@
 -- The fields of a receiver report (RFC 3550, sections 6.4.1, A.3 and A.8).
-use Rattle.std.specs.Prelude.{◌≡◌, ℕ, ◌+◌, ◌-◌, ◌*◌, ◌/◌, ◌%◌, ◌^◌, ◌==◌, nat_le, min, if◌then◌else◌, Option, Some, None, refl}
+use Rattle.std.specs.Prelude.{◌≡◌, ℕ, ◌+◌, ◌-◌, ◌*◌, ◌/◌, ◌%◌, ◌^◌, ◌==◌, nat_le, min, if◌then◌else◌, Bool, true, false, Option, Some, None, refl}
 use Rattle.std.specs.Option.{option_map}
 use lib.IntN.{ℤ, pos, neg_ℤ}
 use Rattle.codec_payload_base.specs.Time.{rebased}
@@ -85,6 +85,11 @@ observed_as extended.Spent greatest r transit = r
 abbrev pub observed : Reception → ℕ → ℕ → ℕ → Reception
 observed r now number timestamp =
     observed_as (answer_for r.numbering number) r.numbering.greatest (record r { numbering = numbering_after r.numbering number }) (transit_of r now timestamp)
+
+-- a restart begins them anew, with the packet that confirms it (A.1); its jitter is that of the new sender alone
+abbrev pub reception_since : (has_restarted : Bool) → Reception → Reception
+reception_since true r = reception_anew r
+reception_since false r = r
 
 -- Reports
 

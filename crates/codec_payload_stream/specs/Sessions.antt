@@ -25,7 +25,7 @@ use Rattle.codec_payload_keyframes.specs.UnitGates.{Gating, new_gating, with_ski
 use Rattle.codec_payload_stream.specs.Choice.{Choosing, IsCandidate, is_silent, latest_after, leaving, no_choice, origin_of, verdict_of, waiting_with}
 use Rattle.codec_payload_stream.specs.Kinds.{Kinds, Carrier, Datagram, RtcpPacket, Malformed, OfOthers, WithoutMedia, WithMedia, InRed, Again, AgainInRed, AgainEmpty, block_header, datagram_at, header_for, original_header, takes_memory}
 use Rattle.codec_payload_stream.specs.SeenTimes.{Seen, has_block, is_seen, none_seen, seen_with}
-use Rattle.codec_payload_stream.specs.Reports.{Reception, no_reception, observed, reception_anew}
+use Rattle.codec_payload_stream.specs.Reports.{Reception, no_reception, observed, reception_anew, reception_since}
 use Rattle.codec_payload_stream.specs.Bounds.{new_bound}
 use Rattle.codec_payload_stream.specs.declared.blocks.BlockCopy.{BlockCopy}
 use Rattle.codec_payload_stream.specs.declared.bound.UnitBound.{UnitBound}
@@ -169,6 +169,20 @@ abbrev pub packet_seen : Bool → Outcome → ℕ → Seen → Seen
 packet_seen false outcome time seen = seen
 packet_seen true outcome time seen = seen_with (record { time = time; is_block = false }) (if is_restart outcome then none_seen else seen)
 
+-- between these two states of the jitter buffer a restart was confirmed: the restarts are counted
+abbrev pub has_restarted : (before after : Receiving) → Bool
+has_restarted before after = not (after.counters.restarts == before.counters.restarts)
+
+-- a number without media is not noted, and a restart that it confirms forgets all earlier times
+abbrev pub seen_past : (has_restarted : Bool) → Seen → Seen
+seen_past true seen = none_seen
+seen_past false seen = seen
+
+-- the primary block of a RED packet, which may have no media of the stream
+abbrev pub primary_seen : (is_media : Bool) → Outcome → ℕ → (has_restarted : Bool) → Seen → Seen
+primary_seen true outcome time restarted seen = packet_seen true outcome time seen
+primary_seen false outcome time restarted seen = seen_past restarted seen
+
 -- the primary block of a packet is stored, if it is media of the stream and repeats no block
 abbrev pub TakesPrimaryIf : Bool → Kinds → Ticks → Carrier → Receiving → Outcome → Receiving → Type 0
 TakesPrimaryIf true s now c r outcome t = Receives (record { now = now; header = header_for s c.header; bytes = c.primary.payload }) r outcome t
@@ -210,7 +224,7 @@ RecoversUnless false whole all r t = RecoversAll whole all r t
 abbrev pub TakesRed : Kinds → Ticks → Carrier → Holding → Outcome → Bool → Holding → Type 0
 TakesRed s now c r outcome whole t =
     (mid : Receiving) × TakesPrimary s now c r.seen r.packets outcome mid
-    × RecoversUnless (is_suspect outcome) whole (all_carried s now c) (record { packets = mid; seen = packet_seen (is_own_media s c) outcome c.header.timestamp r.seen }) t
+    × RecoversUnless (is_suspect outcome) whole (all_carried s now c) (record { packets = mid; seen = primary_seen (is_own_media s c) outcome c.header.timestamp (has_restarted r.packets mid) r.seen }) t
 
 -- the number of a retransmission without media is noted, unless a packet with it would not be stored: it is late, held, or
 -- outside of the windows
@@ -229,14 +243,14 @@ TakesPrimaryAgain false s now c seen r outcome t = NotesAgain (would_store r c.h
 abbrev pub TakesRedAgain : Kinds → Ticks → Carrier → Holding → Outcome → Bool → Holding → Type 0
 TakesRedAgain s now c r outcome whole t =
     (mid : Receiving) × TakesPrimaryAgain (is_own_media s c) s now c r.seen r.packets outcome mid
-    × RecoversAll whole (all_carried s now c) (record { packets = mid; seen = packet_seen (is_own_media s c) outcome c.header.timestamp r.seen }) t
+    × RecoversAll whole (all_carried s now c) (record { packets = mid; seen = primary_seen (is_own_media s c) outcome c.header.timestamp (has_restarted r.packets mid) r.seen }) t
 
 -- the jitter buffer stores a datagram of its stream; whole: memory did not run out for a redundant block
 abbrev pub TakesDatagram : Kinds → Ticks → Datagram → Holding → Outcome → Bool → Holding → Type 0
 TakesDatagram s now RtcpPacket r outcome whole t = (outcome ≡ outcomes.Rtcp) × (t ≡ r)
 TakesDatagram s now (Malformed e) r outcome whole t = t ≡ r
 TakesDatagram s now OfOthers r outcome whole t = (outcome ≡ outcomes.OtherStream) × (t ≡ r)
-TakesDatagram s now (WithoutMedia h) r outcome whole t = (outcome ≡ outcomes.NoMedia) × Notes h.sequence_number r.packets t.packets × (t.seen ≡ r.seen)
+TakesDatagram s now (WithoutMedia h) r outcome whole t = (outcome ≡ outcomes.NoMedia) × Notes h.sequence_number r.packets t.packets × (t.seen ≡ seen_past (has_restarted r.packets t.packets) r.seen)
 TakesDatagram s now (WithMedia p) r outcome whole t =
     TakesMedia (is_repeat s r.seen r.packets p.header.timestamp p.header.sequence_number) (record { now = now; header = header_for s p.header; bytes = p.payload }) r.packets outcome t.packets
     × (t.seen ≡ packet_seen (is_some s.red) outcome p.header.timestamp r.seen)
@@ -282,6 +296,15 @@ observed_in r now (Again o) = r
 observed_in r now (AgainInRed c) = r
 observed_in r now AgainEmpty = r
 
+-- a suspect packet is not counted (RFC 3550, appendix A.1), nor a packet that is stored later with the one that confirms a restart
+abbrev pub observed_unless : (is_suspect : Bool) → Reception → ℕ → Datagram → Reception
+observed_unless true r now d = r
+observed_unless false r now d = observed_in r now d
+
+-- the statistics after a datagram with this outcome: they begin anew with the packet that confirms a restart
+abbrev pub reception_after : Outcome → (before after : Receiving) → Reception → ℕ → Datagram → Reception
+reception_after outcome before after r now d = observed_unless (is_suspect outcome) (reception_since (has_restarted before after) r) now d
+
 -- a datagram is received, and its outcome reported
 pub record Hears (now : Ticks) (d : Datagram) (s : Session) (answer : Result Outcome ReceiveError) (t : Session) : Type 0 where
   pub outcome : Outcome
@@ -294,7 +317,7 @@ pub record Hears (now : Ticks) (d : Datagram) (s : Session) (answer : Result Out
     ssrc = ssrc_after s.ssrc d;
     packets = packets;
     arrived = arrived_with s.arrived d;
-    reception = observed_in s.reception now.0 d;
+    reception = reception_after outcome s.packets packets s.reception now.0 d;
     choice = record s.choice { latest = latest_after s.choice.latest now.0 (origin_of d) };
     seen = seen;
   }

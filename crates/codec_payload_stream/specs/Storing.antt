@@ -7,7 +7,7 @@ use Rattle.codec_payload_jitter.specs.Receiving.{Arrival, Receives, ReceivesAgai
 use Rattle.codec_payload_jitter.specs.declared.outcome.Outcome.{Outcome}
 use Rattle.codec_payload_stream.specs.Kinds.{Carrier, Kinds, header_for}
 use Rattle.codec_payload_stream.specs.SeenTimes.{Seen}
-use Rattle.codec_payload_stream.specs.Sessions.{Holding, NotesAgain, RecoversUnless, is_own_media, is_repeat, is_suspect, packet_seen}
+use Rattle.codec_payload_stream.specs.Sessions.{Holding, NotesAgain, RecoversUnless, has_restarted, is_own_media, is_repeat, is_suspect, primary_seen}
 use Rattle.codec_payload_stream.specs.declared.brought.Brought.{Brought as LentBrought}
 
 -- a packet: its header, in which a retransmission has the original number and SSRC, its payload, whether it is media of the stream,
@@ -46,4 +46,4 @@ Stores s now b seen r outcome t =
 abbrev pub TakesBrought : Kinds → Ticks → Brought → List Arrival → Holding → Outcome → Bool → Holding → Type 0
 TakesBrought s now b all r outcome whole t =
     (mid : Receiving) × Stores s now b r.seen r.packets outcome mid
-    × RecoversUnless (not b.is_again && is_suspect outcome) whole all (record { packets = mid; seen = packet_seen b.is_media outcome b.header.timestamp r.seen }) t
+    × RecoversUnless (not b.is_again && is_suspect outcome) whole all (record { packets = mid; seen = primary_seen b.is_media outcome b.header.timestamp (has_restarted r.packets mid) r.seen }) t

@@ -6,7 +6,8 @@ ghost use Rattle.codec_payload_base.specs.declared.error.PacketError.TheVariants
 ghost use Rattle.codec_payload_red.specs.RedReading.{red_at};
 ghost use Rattle.codec_payload_rtp.specs.RtpValues.{header_of, packet_of};
 ghost use Rattle.codec_payload_stream.specs.Kinds.{WithMedia, again_kind, carrier_of, carrier_with, datagram_at, datagram_of, first_kind, is_among, is_other, is_padding_only, is_sent_again, is_the_type, kind_for, media_kind, red_again_kind, red_again_of, red_kind, red_of, repeated_header, retransmitted_under, ssrc_or, under, takes_memory};
-ghost use Rattle.codec_payload_stream.specs.Sessions.{observed_in, ssrc_after};
+ghost use Rattle.codec_payload_stream.specs.Reports.{reception_since};
+ghost use Rattle.codec_payload_stream.specs.Sessions.{observed_unless, ssrc_after};
 
 use crate::parsed::ParsedDatagram;
 use crate::receiver::Retransmission;
@@ -426,11 +427,30 @@ pub(crate) fn ssrc_after(ssrc: Option<u32>, datagram: &Datagram<'_>) -> Option<u
     }
 }
 
-/// Passes a packet of the stream's sender to the statistics.
+/// What the jitter buffer found for a datagram, as far as the statistics are concerned.
+#[derive(Clone, Copy, Debug)]
+pub(crate) struct Found {
+    /// It confirmed a restart.
+    pub(crate) has_restarted: bool,
+    /// It is suspect.
+    pub(crate) is_suspect: bool,
+}
+
+/// Passes a packet of the stream's sender to the statistics, unless it is suspect. With a packet that confirms a restart they begin
+/// again.
 #[inline(always)]
-pub(crate) fn observe(statistics: &mut ReceptionStatistics, now: Ticks, datagram: &Datagram<'_>)
-    ensures { statistics.new ≡ observed_in statistics.old now.0 (datagram_of datagram.now) }
+pub(crate) fn observe(
+    statistics: &mut ReceptionStatistics,
+    now: Ticks,
+    datagram: &Datagram<'_>,
+    found: Found,
+)
+    ensures { statistics.new ≡ observed_unless found.is_suspect (reception_since found.has_restarted statistics.old) now.0 (datagram_of datagram.now) }
 {
+    statistics.begin_if(found.has_restarted);
+    if found.is_suspect {
+        return;
+    }
     match datagram {
         Datagram::NoMedia(packet) | Datagram::Media(packet) => {
             let header = &packet.header;
@@ -441,5 +461,22 @@ pub(crate) fn observe(statistics: &mut ReceptionStatistics, now: Ticks, datagram
             statistics.observe(now, header.sequence_number, header.timestamp);
         }
         _ => {}
+    }
+}
+
+/// Does the same for a packet with media.
+#[inline(always)]
+pub(crate) fn observe_media(
+    statistics: &mut ReceptionStatistics,
+    now: Ticks,
+    packet: &RtpPacket<'_>,
+    found: Found,
+)
+    ensures { statistics.new ≡ observed_unless found.is_suspect (reception_since found.has_restarted statistics.old) now.0 (WithMedia (packet_of packet.now)) }
+{
+    statistics.begin_if(found.has_restarted);
+    if !found.is_suspect {
+        let (number, time) = (packet.header.sequence_number, packet.header.timestamp);
+        statistics.observe(now, number, time);
     }
 }

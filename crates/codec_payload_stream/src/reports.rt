@@ -2,7 +2,7 @@
 
 ghost use Rattle.std.specs.Prelude.{◌≡◌, ◌≤◌, ◌^◌, ◌/◌};
 ghost use Rattle.codec_payload_base.specs.Time.{rebased};
-ghost use Rattle.codec_payload_stream.specs.Reports.{arrival_of, begun, distance, expected_of, fraction_of, gone_on, highest_of, jitter_after, lost_of, no_reception, observed, observed_as, reception_anew, report_of, reported, transit_change};
+ghost use Rattle.codec_payload_stream.specs.Reports.{arrival_of, begun, distance, expected_of, fraction_of, gone_on, highest_of, jitter_after, lost_of, no_reception, observed, observed_as, reception_anew, reception_since, report_of, reported, transit_change};
 
 use crate::receiver::Receiver;
 use codec_payload_base::wire::{Frequency, MediaTime, Ticks};
@@ -107,6 +107,16 @@ impl ReceptionStatistics {
         ensures { result ≡ reception_anew self.now }
     {
         ReceptionStatistics::over(self.numbers.anew(), self.tick_rate, self.clock_rate)
+    }
+
+    /// Begins again if the sender has restarted. The next packet is the first one then.
+    #[inline(always)]
+    pub(crate) fn begin_if(&mut self, has_restarted: bool)
+        ensures { self.new ≡ reception_since has_restarted self.old }
+    {
+        if has_restarted {
+            *self = self.anew();
+        }
     }
 
     /// Counts a packet with this number and RTP time that arrived at `now`.

@@ -2,6 +2,7 @@
 
 ghost use Rattle.std.specs.Prelude.{◌≡◌, ◌<◌, IfOk, None, OnErr, Some, length, slice_index_or};
 ghost use Rattle.codec_payload_stream.specs.SeenTimes.{has_block, is_seen, none_seen, seen_at, seen_with};
+ghost use Rattle.codec_payload_stream.specs.Sessions.{seen_past};
 
 use std::alloc::{AllocError, Global};
 use std::marker::Model;
@@ -148,6 +149,15 @@ impl LazySeenTimes {
         match self.times.take() {
             Some(times) => Ok(times),
             None => Ok(Box::new(alloc, SeenTimes::none())?),
+        }
+    }
+
+    /// Forgets all times, if the sender has restarted. Allocates nothing.
+    pub(crate) fn forget_if(&mut self, has_restarted: bool)
+        ensures { self.new ≡ seen_past has_restarted self.old }
+    {
+        if has_restarted {
+            *self = LazySeenTimes::none();
         }
     }
 

@@ -4,9 +4,10 @@ ghost use Rattle.std.specs.Prelude.{◌≡◌, ◌||◌, not, map, IfOk, OnErr, 
 ghost use Rattle.codec_payload_rtp.specs.RtpValues.{header_of, packet_of};
 ghost use Rattle.codec_payload_codec.specs.Depacketizers.{is_built_in_depacketizer};
 ghost use Rattle.codec_payload_jitter.specs.OwnReceiving.{OwnStores};
-ghost use Rattle.codec_payload_jitter.specs.Receiving.{Receives, ReceivesAgain, would_store};
+ghost use Rattle.codec_payload_jitter.specs.Receiving.{Notes, Receives, ReceivesAgain, would_store};
+ghost use Rattle.codec_payload_jitter.specs.declared.outcome.Outcome.TheVariants as outcomes;
 ghost use Rattle.codec_payload_stream.specs.Kinds.{Again, WithMedia, datagram_of, header_for, original_of, takes_memory};
-ghost use Rattle.codec_payload_stream.specs.Sessions.{NotesAgain, TakesDatagram, copied, packet_seen};
+ghost use Rattle.codec_payload_stream.specs.Sessions.{NotesAgain, TakesDatagram, copied, has_restarted, packet_seen, primary_seen, seen_past};
 ghost use Rattle.codec_payload_stream.specs.Storing.{Stores, TakesBrought, brought_of};
 
 use crate::blocks::recover_all;
@@ -143,15 +144,17 @@ impl StreamKinds {
         ensures own { is_built_in_depacketizer packets.old.buffer.depacketizer ≡ false → OwnStores B.is_head B.is_tail packets.old.buffer packets.new.buffer }
     {
         let mut times = seen.take(self.alloc)?;
+        let restarts = packets.counters().restarts;
         let Ok(outcome) = self.store_packet(packets, &times, now, &brought) else {
             seen.put(times);
             return Err(AllocError);
         };
-        note_packet(
+        note_primary(
             &mut times,
             brought.is_media,
             outcome,
             brought.header.timestamp,
+            packets.counters().restarts != restarts,
         );
         if !brought.is_again && outcome == Outcome::Suspect {
             seen.put(times);
@@ -229,7 +232,7 @@ impl StreamKinds {
             Datagram::Rtcp | Datagram::Malformed(_) => Outcome::Rtcp,
             Datagram::OtherStream => Outcome::OtherStream,
             Datagram::NoMedia(packet) => {
-                note_number(packets, packet.header.sequence_number, false)?
+                note_without_media(packets, seen, packet.header.sequence_number)?
             }
             Datagram::Nothing => {
                 packets.push_nothing();
@@ -274,13 +277,43 @@ fn note_number<B: Depacketizer>(
     Ok(Outcome::NoMedia)
 }
 
-/// Notes the time of a packet, if it has media. A restart forgets all earlier times.
-fn note_packet(seen: &mut SeenTimes, is_media: bool, outcome: Outcome, time: u32)
-    ensures { seen.new ≡ packet_seen is_media outcome time seen.old }
+/// Records that this number has no media. A restart that it confirms forgets all earlier times.
+fn note_without_media<B: Depacketizer>(
+    packets: &mut JitterBuffer<B>,
+    seen: &mut LazySeenTimes,
+    number: u16,
+) -> Result<Outcome, AllocError>
+    ensures ok { IfOk result (λ outcome. (outcome ≡ outcomes.NoMedia) × Notes number packets.old packets.new × (seen.new ≡ seen_past (has_restarted packets.old packets.new) seen.old)) }
+    ensures err { OnErr result ((packets.new ≡ packets.old) × (seen.new ≡ seen.old)) }
+    ensures own { is_built_in_depacketizer packets.old.buffer.depacketizer ≡ false → OwnStores B.is_head B.is_tail packets.old.buffer packets.new.buffer }
 {
-    if !is_media {
-        return;
+    let restarts = packets.counters().restarts;
+    let outcome = note_number(packets, number, false)?;
+    seen.forget_if(packets.counters().restarts != restarts);
+    Ok(outcome)
+}
+
+/// Notes the time of a packet with media. A restart forgets all earlier times, also if a packet without media confirms it.
+fn note_primary(
+    seen: &mut SeenTimes,
+    is_media: bool,
+    outcome: Outcome,
+    time: u32,
+    has_restarted: bool,
+)
+    ensures { seen.new ≡ primary_seen is_media outcome time has_restarted seen.old }
+{
+    if is_media {
+        note_packet(seen, outcome, time);
+    } else if has_restarted {
+        *seen = SeenTimes::none();
     }
+}
+
+/// Notes the time of a packet with media. A restart forgets all earlier times.
+fn note_packet(seen: &mut SeenTimes, outcome: Outcome, time: u32)
+    ensures { seen.new ≡ packet_seen true outcome time seen.old }
+{
     if matches!(outcome, Outcome::Restarted(_)) {
         *seen = SeenTimes::none();
     }

@@ -38,7 +38,7 @@ use Rattle.codec_payload_send.specs.Packets.{Packet}
 use Rattle.codec_payload_stream.specs.Kinds.{Carrier, Kinds}
 use Rattle.codec_payload_stream.specs.SeenTimes.{Seen, has_block, is_seen, none_seen, seen_with}
 use Rattle.codec_payload_stream.specs.Sessions.{Holding, RecoversAll, RecoversUnless, RecoversUnseen, Session, TakesPrimary, TakesPrimaryIf}
-use Rattle.codec_payload_stream.specs.Sessions.{all_carried, block_seen, ended, is_own_media, is_repeat, is_restart, is_suspect, packet_seen, told_of_red}
+use Rattle.codec_payload_stream.specs.Sessions.{all_carried, block_seen, ended, has_restarted, is_own_media, is_repeat, is_restart, is_suspect, primary_seen, told_of_red}
 use Rattle.codec_payload_stream.specs.declared.receiver.ReceiveError.TheVariants as refusals
 use Rattle.codec_payload_wire.proofs.ReadingLemmas.{packet_at}
 use Rattle.codec_payload_wire.proofs.ReceivingLemmas.{AllNumbered, settled_none, waits_for_nothing}
@@ -340,19 +340,19 @@ module _ (l : RedSide) (start : State) (own_type : eqb (l.writer.red.primary_pt 
       let suspect : is_suspect hears.outcome ≡ false = ap is_suspect stored.outcome_is ∙ plain.0 in
       let restart : is_restart hears.outcome ≡ false = ap is_restart stored.outcome_is ∙ plain.1 in
       let own_s : is_own_media s.stream c ≡ true = ap (λ (x : Kinds). is_own_media x c) tuned.kinds_are ∙ own in
-      let seen_is : packet_seen (is_own_media s.stream c) hears.outcome c.header.timestamp s.seen ≡ seen_with (record { time = q.rtp_time; is_block = false }) s.seen =
-      ap (λ (b : Bool). packet_seen b hears.outcome q.rtp_time s.seen) own_s
+      let seen_is : primary_seen (is_own_media s.stream c) hears.outcome c.header.timestamp (has_restarted s.packets mid) s.seen ≡ seen_with (record { time = q.rtp_time; is_block = false }) s.seen =
+      ap (λ (b : Bool). primary_seen b hears.outcome q.rtp_time (has_restarted s.packets mid) s.seen) own_s
       ∙ ap (λ (b : Bool). seen_with (record { time = q.rtp_time; is_block = false }) (cond b none_seen s.seen)) restart in
       let whole : hears.whole ≡ true = is_whole q k hears.outcome hears.whole receipt delivers.0 hears.answers in
       let end : Holding = record { packets = hears.packets; seen = hears.seen } in
       let all : List Arrival = all_carried l.kinds now c in
-      let others : RecoversUnless (is_suspect hears.outcome) hears.whole all (record { packets = mid; seen = packet_seen (is_own_media s.stream c) hears.outcome c.header.timestamp s.seen }) end =
+      let others : RecoversUnless (is_suspect hears.outcome) hears.whole all (record { packets = mid; seen = primary_seen (is_own_media s.stream c) hears.outcome c.header.timestamp (has_restarted s.packets mid) s.seen }) end =
       subst (λ (x : Kinds). RecoversUnless (is_suspect hears.outcome) hears.whole (all_carried x now c)
-      (record { packets = mid; seen = packet_seen (is_own_media s.stream c) hears.outcome c.header.timestamp s.seen }) end) tuned.kinds_are takes.2 in
+      (record { packets = mid; seen = primary_seen (is_own_media s.stream c) hears.outcome c.header.timestamp (has_restarted s.packets mid) s.seen }) end) tuned.kinds_are takes.2 in
       let stays : RecoversUnless false true all (record { packets = mid; seen = seen_with (record { time = q.rtp_time; is_block = false }) s.seen }) end =
       subst (λ (x : Seen). RecoversUnless false true all (record { packets = mid; seen = x }) end) seen_is
-      (subst (λ (b : Bool). RecoversUnless false b all (record { packets = mid; seen = packet_seen (is_own_media s.stream c) hears.outcome c.header.timestamp s.seen }) end) whole
-      (subst (λ (b : Bool). RecoversUnless b hears.whole all (record { packets = mid; seen = packet_seen (is_own_media s.stream c) hears.outcome c.header.timestamp s.seen }) end) suspect others)) in
+      (subst (λ (b : Bool). RecoversUnless false b all (record { packets = mid; seen = primary_seen (is_own_media s.stream c) hears.outcome c.header.timestamp (has_restarted s.packets mid) s.seen }) end) whole
+      (subst (λ (b : Bool). RecoversUnless b hears.whole all (record { packets = mid; seen = primary_seen (is_own_media s.stream c) hears.outcome c.header.timestamp (has_restarted s.packets mid) s.seen }) end) suspect others)) in
       record {
         packet = q;
         there = is.there;

@@ -43,7 +43,7 @@ use Rattle.codec_payload_stream.specs.Pops.{PopsOnce}
 use Rattle.codec_payload_stream.specs.RedOnce.{HasNoBlock}
 use Rattle.codec_payload_stream.specs.SeenTimes.{Seen, is_seen}
 use Rattle.codec_payload_stream.specs.Sessions.{Ends, Heard, Hears, Holding, ReceivesBy, ReceivesBytes, RecoversAll, RecoversUnless, RecoversUnseen, Session, SettlesOn, TakesPrimary, TakesPrimaryIf}
-use Rattle.codec_payload_stream.specs.Sessions.{all_carried, ended, first_waiting, is_none_of, is_open, is_own_media, is_repeat, is_suspect, packet_seen}
+use Rattle.codec_payload_stream.specs.Sessions.{all_carried, ended, first_waiting, has_restarted, is_none_of, is_open, is_own_media, is_repeat, is_suspect, primary_seen}
 use Rattle.codec_payload_stream.specs.declared.choice.Candidate.{Candidate}
 use Rattle.codec_payload_stream.specs.declared.datagram.RedStream.{RedStream}
 use Rattle.codec_payload_wire.proofs.EventLemmas.{time_at, times_from}
@@ -599,7 +599,7 @@ module _ (l : RedSide) where
       let past : IsPast (first + k) backward mid.numbering =
       subst (IsPast (first + k) backward) (sym numbering) (subst (λ (b : ℕ). IsPast (first + k) b (numbering_after s.packets.numbering ((first + k) % 2 ^ 16))) tuned.steady.backward_is
       (past_number s.packets.numbering ((first + k) % 2 ^ 16) (first + k) answer)) in
-      let holding : Holding = record { packets = mid; seen = packet_seen (is_own_media s.stream c) hears.outcome c.header.timestamp s.seen } in
+      let holding : Holding = record { packets = mid; seen = primary_seen (is_own_media s.stream c) hears.outcome c.header.timestamp (has_restarted s.packets mid) s.seen } in
       let end : Holding = record { packets = hears.packets; seen = hears.seen } in
       let blocks = blocks_are stream packets w first k now kinds l.red.receiver q l.given is.there number in
       let others : RecoversUnless (is_suspect hears.outcome) hears.whole (all_carried kinds now c) holding end =

@@ -69,8 +69,9 @@ pub struct FeedbackSettings {
     pub silence: u64,
     /// How long a frame may wait at most if waiting follows the round trip. From the first answer to a request on, `max_wait` of
     /// the stream's wait limits is `first_wait` of `nack` and four round trips: at least as long as the session's limits for audio
-    /// or video say, and at most this number of ticks, unless these limits are above it. `None`, or no `max_wait` in the
-    /// session's limits: the wait limits stay.
+    /// or video say, and at most this number of ticks, unless these limits are above it. Before that answer video with `nack`
+    /// waits this number of ticks, so that a first keyframe is not dropped while its packets are on their way; all other streams
+    /// wait as the session's limits say. `None`, or no `max_wait` in the session's limits: the wait limits stay.
     pub longest_wait: Option<u64>,
     /// The number of ticks between two receiver reports of the session ([`Event::Report`]); the first one is due this long after
     /// the first stream is announced. 0 counts as 1. `None`: it sends none. RFC 3550, section 6.2, asks for 5 s at least; the
@@ -148,7 +149,7 @@ pub(crate) enum Role {
 impl FeedbackSettings {
     /// Returns settings for live streams and a clock in milliseconds, with this SSRC and this canonical name of 1 to 255 bytes:
     /// requests in packets of reduced size, the defaults of [`NackSettings`], and at most one request for a keyframe in 500 ms.
-    /// Waiting follows the round trip, up to 500 ms. Nothing is requested 2 s after the latest datagram. A receiver report is
+    /// Waiting follows the round trip, up to 800 ms. Nothing is requested 2 s after the latest datagram. A receiver report is
     /// sent each second. Does not allocate.
     pub fn live(ssrc: u32, cname: Vec<u8>) -> FeedbackSettings {
         FeedbackSettings {
@@ -158,7 +159,7 @@ impl FeedbackSettings {
             nack: NackSettings::live(),
             keyframe_interval: 500,
             silence: 2_000,
-            longest_wait: Some(500),
+            longest_wait: Some(800),
             report_interval: Some(1_000),
         }
     }

@@ -71,7 +71,7 @@ impl Streams {
 
 impl StreamState {
     /// Returns the block that a report about the stream's sender has now, and changes nothing.
-    fn peek_report(&self, now: Ticks, tick_rate: Frequency) -> Option<ReportBlock> {
+    pub(crate) fn peek_report(&self, now: Ticks, tick_rate: Frequency) -> Option<ReportBlock> {
         match self.receiver.inner().peek_report() {
             Some(report) => Some(block_about(
                 self.ssrc,

@@ -5,7 +5,7 @@
 use crate::feedback::requests::{FeedbackSource, StreamRequests};
 use crate::memory::{AllocError, TryVec};
 use crate::requests::nack::NackSettings;
-use crate::session::formats::{FeedbackSettings, Format};
+use crate::session::formats::{FeedbackSettings, Format, is_video};
 use crate::stream::parsed::ParsedDatagram;
 use crate::stream::receiver::Receiver;
 use crate::wire::Ticks;
@@ -38,6 +38,8 @@ pub(crate) struct WaitRange {
     first: u64,
     least: u64,
     most: u64,
+    /// Whether frames wait for `most` until the round trip is known.
+    is_patient: bool,
 }
 
 impl Feedback {
@@ -66,7 +68,7 @@ impl Feedback {
                     most,
                     pli: format.pli,
                     silence: settings.silence,
-                    waits: wait_range(settings, max_wait),
+                    waits: wait_range(settings, is_patient(format), max_wait),
                     missing: Vec::new(),
                 }))
             }
@@ -83,9 +85,9 @@ impl Feedback {
 
     /// Returns how long a frame may wait, by the round trip. `None`: the wait limits stay.
     fn wait(&self) -> Option<u64> {
-        match (self.waits, self.requests.round_trip()) {
-            (Some(range), Some(round_trip)) => Some(wait_within(range, round_trip)),
-            _ => None,
+        match self.waits {
+            Some(range) => wait_for(range, self.requests.round_trip()),
+            None => None,
         }
     }
 
@@ -194,15 +196,35 @@ pub(crate) fn wait_by(feedback: &Option<Feedback>) -> Option<u64> {
     }
 }
 
+/// Returns whether a stream of the format waits for the first answer: it is video, and requests missing packets. A keyframe that is
+/// dropped before that costs all frames up to the next one.
+fn is_patient(format: &Format) -> bool {
+    format.nack && is_video(format.spec.codec)
+}
+
 /// Returns how waiting follows the round trip, if it does.
-fn wait_range(settings: &FeedbackSettings, max_wait: Option<u64>) -> Option<WaitRange> {
+fn wait_range(
+    settings: &FeedbackSettings,
+    is_patient: bool,
+    max_wait: Option<u64>,
+) -> Option<WaitRange> {
     match (settings.longest_wait, max_wait) {
         (Some(most), Some(least)) => Some(WaitRange {
             first: settings.nack.first_wait,
             least,
             most,
+            is_patient,
         }),
         _ => None,
+    }
+}
+
+/// Returns how long a frame may wait, by the round trip if it is known. `None`: the wait limits stay.
+fn wait_for(range: WaitRange, round_trip: Option<u64>) -> Option<u64> {
+    match round_trip {
+        Some(round_trip) => Some(wait_within(range, round_trip)),
+        None if range.is_patient => Some(range.most.max(range.least)),
+        None => None,
     }
 }
 

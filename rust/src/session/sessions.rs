@@ -339,6 +339,19 @@ impl Session {
             .report(now, self.settings.tick_rate, (ssrc, payload_type))
     }
 
+    /// Returns the block that [`Session::report`] would return now, and changes nothing: the next block starts its fraction where it
+    /// would have. For those who look at jitter and losses beside the reports that the session sends
+    /// ([`FeedbackSettings::report_interval`]). The round trip is in [`StreamInfo::round_trip`]. Allocates nothing.
+    ///
+    /// [`FeedbackSettings::report_interval`]: crate::session::formats::FeedbackSettings::report_interval
+    /// [`StreamInfo::round_trip`]: crate::session::stream::StreamInfo::round_trip
+    pub fn peek_report(&self, now: Ticks, ssrc: u32, payload_type: u8) -> Option<ReportBlock> {
+        match place_of(&self.streams.list, ssrc, payload_type) {
+            Some(place) => self.streams.list[place].peek_report(now, self.settings.tick_rate),
+            None => None,
+        }
+    }
+
     /// Returns what the latest sender report about the stream with this SSRC and payload type says. `None`: there is no such
     /// stream, or no report arrived since it began. See [`SenderClock::ntp_at`].
     ///

@@ -340,9 +340,28 @@ pub(crate) fn ssrc_after(ssrc: Option<u32>, datagram: &Datagram<'_>) -> Option<u
     }
 }
 
-/// Passes a packet of the stream's sender to the statistics.
+/// What the jitter buffer found for a datagram, as far as the statistics are concerned.
+#[derive(Clone, Copy, Debug)]
+pub(crate) struct Found {
+    /// It confirmed a restart.
+    pub(crate) has_restarted: bool,
+    /// It is suspect.
+    pub(crate) is_suspect: bool,
+}
+
+/// Passes a packet of the stream's sender to the statistics, unless it is suspect. With a packet that confirms a restart they begin
+/// again.
 #[inline(always)]
-pub(crate) fn observe(statistics: &mut ReceptionStatistics, now: Ticks, datagram: &Datagram<'_>) {
+pub(crate) fn observe(
+    statistics: &mut ReceptionStatistics,
+    now: Ticks,
+    datagram: &Datagram<'_>,
+    found: Found,
+) {
+    statistics.begin_if(found.has_restarted);
+    if found.is_suspect {
+        return;
+    }
     match datagram {
         Datagram::NoMedia(packet) | Datagram::Media(packet) => {
             let header = &packet.header;
@@ -353,5 +372,20 @@ pub(crate) fn observe(statistics: &mut ReceptionStatistics, now: Ticks, datagram
             statistics.observe(now, header.sequence_number, header.timestamp);
         }
         _ => {}
+    }
+}
+
+/// Does the same for a packet with media.
+#[inline(always)]
+pub(crate) fn observe_media(
+    statistics: &mut ReceptionStatistics,
+    now: Ticks,
+    packet: &RtpPacket<'_>,
+    found: Found,
+) {
+    statistics.begin_if(found.has_restarted);
+    if !found.is_suspect {
+        let (number, time) = (packet.header.sequence_number, packet.header.timestamp);
+        statistics.observe(now, number, time);
     }
 }

@@ -556,8 +556,9 @@ impl<B: Depacketizer> Receiver<B> {
     }
 
     /// Returns the fields of a receiver report about the received packets of the stream's SSRC, with and without media.
-    /// Recovered and retransmitted packets do not count. Returns `None` if no packet was received. The next report starts its
-    /// fraction here.
+    /// Recovered, retransmitted and suspect packets do not count. After a restart the report is about the new sender alone, from
+    /// the packet on that confirmed it (RFC 3550, appendix A.1). Returns `None` if no packet was received. The next report starts
+    /// its fraction here. Allocates nothing.
     pub fn report(&mut self) -> Option<ReceptionReport> {
         self.statistics.report()
     }

@@ -69,6 +69,14 @@ impl ReceptionStatistics {
         ReceptionStatistics::over(self.numbers.anew(), self.tick_rate, self.clock_rate)
     }
 
+    /// Begins again if the sender has restarted. The next packet is the first one then.
+    #[inline(always)]
+    pub(crate) fn begin_if(&mut self, has_restarted: bool) {
+        if has_restarted {
+            *self = self.anew();
+        }
+    }
+
     /// Counts a packet with this number and RTP time that arrived at `now`.
     #[inline(always)]
     pub fn observe(&mut self, now: Ticks, number: u16, timestamp: u32) {

@@ -109,6 +109,13 @@ impl LazySeenTimes {
         }
     }
 
+    /// Forgets all times, if the sender has restarted. Allocates nothing.
+    pub(crate) fn forget_if(&mut self, has_restarted: bool) {
+        if has_restarted {
+            *self = LazySeenTimes::none();
+        }
+    }
+
     /// Puts the times back.
     pub(crate) fn put(&mut self, times: One<SeenTimes>) {
         self.times = Some(times);

@@ -117,15 +117,17 @@ impl StreamKinds {
         brought: Brought<'_>,
     ) -> Result<Taken, AllocError> {
         let mut times = seen.take()?;
+        let restarts = packets.counters().restarts;
         let Ok(outcome) = self.store_packet(packets, &times, now, &brought) else {
             seen.put(times);
             return Err(AllocError);
         };
-        note_packet(
+        note_primary(
             &mut times,
             brought.is_media,
             outcome,
             brought.header.timestamp,
+            packets.counters().restarts != restarts,
         );
         if !brought.is_again && outcome == Outcome::Suspect {
             seen.put(times);
@@ -190,7 +192,7 @@ impl StreamKinds {
             Datagram::Rtcp | Datagram::Malformed(_) => Outcome::Rtcp,
             Datagram::OtherStream => Outcome::OtherStream,
             Datagram::NoMedia(packet) => {
-                note_number(packets, packet.header.sequence_number, false)?
+                note_without_media(packets, seen, packet.header.sequence_number)?
             }
             Datagram::Nothing => {
                 packets.push_nothing();
@@ -231,11 +233,35 @@ fn note_number<B: Depacketizer>(
     Ok(Outcome::NoMedia)
 }
 
-/// Notes the time of a packet, if it has media. A restart forgets all earlier times.
-fn note_packet(seen: &mut SeenTimes, is_media: bool, outcome: Outcome, time: u32) {
-    if !is_media {
-        return;
+/// Records that this number has no media. A restart that it confirms forgets all earlier times.
+fn note_without_media<B: Depacketizer>(
+    packets: &mut JitterBuffer<B>,
+    seen: &mut LazySeenTimes,
+    number: u16,
+) -> Result<Outcome, AllocError> {
+    let restarts = packets.counters().restarts;
+    let outcome = note_number(packets, number, false)?;
+    seen.forget_if(packets.counters().restarts != restarts);
+    Ok(outcome)
+}
+
+/// Notes the time of a packet with media. A restart forgets all earlier times, also if a packet without media confirms it.
+fn note_primary(
+    seen: &mut SeenTimes,
+    is_media: bool,
+    outcome: Outcome,
+    time: u32,
+    has_restarted: bool,
+) {
+    if is_media {
+        note_packet(seen, outcome, time);
+    } else if has_restarted {
+        *seen = SeenTimes::none();
     }
+}
+
+/// Notes the time of a packet with media. A restart forgets all earlier times.
+fn note_packet(seen: &mut SeenTimes, outcome: Outcome, time: u32) {
     if matches!(outcome, Outcome::Restarted(_)) {
         *seen = SeenTimes::none();
     }

@@ -358,3 +358,38 @@ fn reports_beside_the_counters_of_rfc_3550() -> Result<(), Fail> {
     assert!(checked > 700, "{checked}");
     Ok(())
 }
+
+/// Statistics beside the reports of the session: looking changes no fraction (RFC 3550, section A.3: it is about the packets since
+/// the previous report).
+#[test]
+fn looking_at_a_block_changes_nothing() -> Result<(), Fail> {
+    let mut session = session(|_, _| {});
+    let look = |session: &Session, now| session.peek_report(Ticks(now), 5, OPUS);
+    assert_eq!(look(&session, 0), None);
+    for number in [10, 11, 13, 15] {
+        session.receive(Ticks(500), &opus(5, number))?;
+        let block = look(&session, 500).ok_or("a packet counts")?;
+        assert_eq!(block.highest_sequence_number, u32::from(number));
+    }
+    assert_eq!(session.peek_report(Ticks(500), 5, VP8), None);
+    assert_eq!(session.peek_report(Ticks(500), 6, OPUS), None);
+    // 6 are expected, 2 are lost: 2 * 256 / 6.
+    let before = look(&session, 500).ok_or("a block")?;
+    assert_eq!((before.fraction_lost, before.cumulative_lost), (85, 2));
+    assert_eq!(reports(&mut session, 500)?, []);
+    // The report of the session has the same fraction, however often somebody looked.
+    let [(packets, _)] = &reports(&mut session, 1_500)?[..] else {
+        return Err("there is one".into());
+    };
+    assert_eq!(packets.concat(), [before]);
+    // Since then nothing was expected, and 2 of 6 are lost in all.
+    let after = look(&session, 1_500).ok_or("a block")?;
+    assert_eq!((after.fraction_lost, after.cumulative_lost), (0, 2));
+    // `report` returns what a look would have returned.
+    session.receive(Ticks(1_600), &opus(5, 17))?;
+    let looked = look(&session, 1_600);
+    assert_eq!(session.report(Ticks(1_600), 5, OPUS), looked);
+    // 2 are expected since then, 1 is lost.
+    assert_eq!(looked.map(|block| (block.fraction_lost, block.cumulative_lost)), Some((128, 3)));
+    Ok(())
+}

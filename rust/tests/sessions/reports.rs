@@ -275,3 +275,81 @@ fn a_cut_compound_packet_states_nothing() -> Result<(), Fail> {
     assert_eq!(session.stream_at(0).unwrap().stage, Stage::Probation);
     Ok(())
 }
+
+/// A packet of Opus with this RTP time.
+fn opus_at(number: u16, time: u32) -> Vec<u8> {
+    let mut datagram = opus(5, number);
+    datagram[4..8].copy_from_slice(&time.to_be_bytes());
+    datagram
+}
+
+/// The block of stream 5: lost packets in total as 24 bits, the highest number, and the jitter.
+fn told(session: &mut Session, now: u64) -> (u8, u32, u32, u32) {
+    let block = session.report(Ticks(now), 5, OPUS).unwrap();
+    (
+        block.fraction_lost,
+        block.cumulative_lost,
+        block.highest_sequence_number,
+        block.jitter,
+    )
+}
+
+/// A sender begins again on its SSRC within the windows with other RTP times. The report is about the new sender
+/// from the packet on that confirms it (RFC 3550, appendix A.1: base number and counts are those of that packet): nothing is lost, no
+/// packet counts twice, and the distance between the two clocks is no jitter.
+#[test]
+fn reports_begin_again_at_a_restart_within_the_windows() -> Result<(), Fail> {
+    for back in [40, 400] {
+        for offset in [0x1234_5678, 0x9abc_def0] {
+            let mut session = session(1_000);
+            let mut now = 0;
+            // The first 500 numbers, of which 508 is lost.
+            for number in (500..=1_000_u16).filter(|number| *number != 508) {
+                session.receive(Ticks(now), &opus_at(number, 960 * u32::from(number)))?;
+                now += 20;
+            }
+            assert_eq!(told(&mut session, now), (0, 1, 1_000, 0));
+            let begin = 1_001 - back;
+            let mut confirmed = None;
+            for place in 0..300_u16 {
+                let number = begin + place;
+                let time = 960 * u32::from(place) + offset;
+                session.receive(Ticks(now), &opus_at(number, time))?;
+                let restarts = session.stream_at(0).unwrap().counters.packets.restarts;
+                if restarts == 1 && confirmed.is_none() {
+                    confirmed = Some(number);
+                    assert_eq!(told(&mut session, now), (0, 0, u32::from(number), 0));
+                }
+                now += 20;
+            }
+            // Two packets whose numbers were noted: every fourth is.
+            assert!(confirmed.is_some_and(|number| number < begin + 16));
+            let highest = u32::from(begin) + 299;
+            assert_eq!(told(&mut session, now), (0, 0, highest, 0), "{back}");
+            // Of the next four one is lost: 256 / 4.
+            for place in [300, 302, 303_u16] {
+                let time = 960 * u32::from(place) + offset;
+                session.receive(Ticks(now + 20 * u64::from(place - 300)), &opus_at(begin + place, time))?;
+            }
+            assert_eq!(told(&mut session, now + 80), (64, 1, highest + 4, 0), "{back}");
+        }
+    }
+    Ok(())
+}
+
+/// A packet that is far from all others is not counted, if none follows it (RFC 3550, appendix A.1).
+#[test]
+fn a_suspect_packet_does_not_count() -> Result<(), Fail> {
+    let mut session = session(1_000);
+    for number in 100..200_u16 {
+        let now = Ticks(20 * u64::from(number));
+        session.receive(now, &opus_at(number, 960 * u32::from(number)))?;
+        // The same number again, with a time that is 2^30 ticks away: of another sender.
+        if number == 148 {
+            session.receive(now, &opus_at(number, (1 << 30) + 960 * u32::from(number)))?;
+        }
+    }
+    assert_eq!(session.stream_at(0).unwrap().counters.packets.suspect, 1);
+    assert_eq!(told(&mut session, 4_000), (0, 0, 199, 0));
+    Ok(())
+}

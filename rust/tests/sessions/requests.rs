@@ -24,6 +24,12 @@ fn session(change: impl Fn(&mut SessionSettings)) -> Session {
     Session::new(settings).expect("settings that can be met")
 }
 
+/// Video waits for 20 ms, also until the first answer.
+fn always_20_ms(settings: &mut SessionSettings) {
+    settings.video.max_wait = Some(20);
+    settings.feedback.as_mut().unwrap().longest_wait = None;
+}
+
 /// A request: the SSRC of the stream, the numbers of its NACKs, and how many PLIs it has.
 type Request = (u32, Vec<u16>, usize);
 
@@ -122,7 +128,7 @@ fn a_number_behind_a_released_frame_is_not_requested() -> Result<(), Fail> {
 
 #[test]
 fn a_keyframe_is_requested_once_an_interval() -> Result<(), Fail> {
-    let mut session = session(|s| s.video.max_wait = Some(20));
+    let mut session = session(always_20_ms);
     for number in [1, 2, 4] {
         session.receive(Ticks(0), &vp8(5, number, number == 1))?;
     }
@@ -200,7 +206,7 @@ fn formats_say_what_is_requested() -> Result<(), Fail> {
     for (nack, pli) in [(false, false), (false, true), (true, false), (true, true)] {
         let mut session = session(|s| {
             (s.formats[0].nack, s.formats[0].pli) = (nack, pli);
-            s.video.max_wait = Some(20);
+            always_20_ms(s);
         });
         for number in [1, 2, 4] {
             session.receive(Ticks(0), &vp8(5, number, number == 1))?;
@@ -275,7 +281,7 @@ fn a_late_packet_is_no_answer() -> Result<(), Fail> {
 /// A decoder needs a keyframe, and the sender stops at 0 ms: it is asked each 500 ms, for 2 s.
 #[test]
 fn a_silent_sender_is_not_asked() -> Result<(), Fail> {
-    let mut session = session(|s| s.video.max_wait = Some(20));
+    let mut session = session(always_20_ms);
     for number in [1, 2, 4] {
         session.receive(Ticks(0), &vp8(5, number, number == 1))?;
     }
@@ -345,5 +351,71 @@ fn packets_carry_a_report_and_a_name() -> Result<(), Fail> {
     assert_eq!(packet[..8], [0x80, 201, 0, 1, 1, 2, 3, 4]);
     assert_eq!(packet[8..19], [0x81, 202, 0, 66, 1, 2, 3, 4, 1, 255, b'n']);
     assert_eq!(read(&packet), (7, vec![3], 0));
+    Ok(())
+}
+
+/// The first loss of a stream over a round trip of 160 ms: number 3 is lost, and so is the first answer. The frame behind it is complete
+/// at 33 ms, so by the session's limit of 200 ms it is released at 233 ms, and no frame up to the next keyframe can be shown. The
+/// answer to the second request arrives a round trip after it.
+#[test]
+fn a_first_loss_waits_for_the_first_answer() -> Result<(), Fail> {
+    let cases = [
+        // Waiting follows the round trip: by the default, and by a bound that is too short.
+        (Some(800), true, true),
+        (Some(200), true, false),
+        // Waiting does not follow the round trip; or the sender does not answer NACKs, so no answer can come.
+        (None, true, false),
+        (Some(800), false, false),
+    ];
+    for (longest_wait, nack, shown) in cases {
+        let mut session = session(|s| {
+            s.formats[0].retransmission = None;
+            s.formats[0].nack = nack;
+            s.video.max_wait = Some(200);
+            s.feedback.as_mut().unwrap().longest_wait = longest_wait;
+        });
+        session.receive(Ticks(0), &vp8(5, 1, true))?;
+        session.receive(Ticks(0), &vp8(5, 2, false))?;
+        let (mut asked, mut answered, mut shown_units, mut units) = (0, None, 0, 0);
+        for now in 0..2_000 {
+            if answered == Some(now) {
+                session.receive(Ticks(now), &vp8(5, 3, false))?;
+            }
+            // A frame each 33 ms, 28 of them.
+            if now % 33 == 0 && (1..29).contains(&(now / 33)) {
+                session.receive(Ticks(now), &vp8(5, 3 + (now / 33) as u16, false))?;
+            }
+            while let Some(event) = session.poll(Ticks(now)) {
+                match event {
+                    Event::Unit { decodable, .. } => {
+                        units += 1;
+                        shown_units += usize::from(decodable);
+                    }
+                    Event::Feedback { packet, .. } => {
+                        asked += read(&packet?).1.iter().filter(|it| **it == 3).count();
+                        // The answer to the first request is lost.
+                        if asked == 2 && answered.is_none() {
+                            answered = Some(now + 160);
+                        }
+                    }
+                    _ => {}
+                }
+            }
+        }
+        let expected = if shown { (31, 31) } else { (30, 2) };
+        assert_eq!((units, shown_units), expected, "{longest_wait:?} {nack}");
+    }
+    Ok(())
+}
+
+/// Audio does not wait for a first answer: a lost packet of audio delays what follows by the session's limit.
+#[test]
+fn audio_waits_as_the_session_says_until_the_first_answer() -> Result<(), Fail> {
+    let mut session = session(|s| s.audio.max_wait = Some(100));
+    for number in [1, 2] {
+        session.receive(Ticks(0), &opus(7, number))?;
+    }
+    let limits = session.receiver_of(7, OPUS).unwrap().wait_limits();
+    assert_eq!(limits.max_wait, Some(100));
     Ok(())
 }

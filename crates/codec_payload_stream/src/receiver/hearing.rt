@@ -1,16 +1,16 @@
 //! How a receiver takes the datagrams of its stream.
 
-ghost use Rattle.std.specs.Prelude.{◌≡◌, false};
+ghost use Rattle.std.specs.Prelude.{◌≡◌, ◌==◌, not, false};
 ghost use Rattle.codec_payload_codec.specs.Depacketizers.{is_built_in_depacketizer};
 ghost use Rattle.codec_payload_jitter.specs.OwnReceiving.{OwnStores};
 ghost use Rattle.codec_payload_rtp.specs.RtpValues.{packet_of};
 ghost use Rattle.codec_payload_stream.specs.Kinds.{Malformed, RtcpPacket, WithMedia, datagram_at, datagram_of, kind_for};
-ghost use Rattle.codec_payload_stream.specs.Sessions.{Heard};
+ghost use Rattle.codec_payload_stream.specs.Sessions.{Heard, is_suspect};
 ghost use Rattle.codec_payload_stream.specs.declared.datagram.Malformation.TheVariants as malformations;
 
 use super::{ReceiveError, Receiver, with_datagram};
 use crate::answers::answer_for;
-use crate::datagram::{Datagram, Malformation, observe, ssrc_after};
+use crate::datagram::{Datagram, Found, Malformation, observe, observe_media, ssrc_after};
 use crate::parsed::ParsedDatagram;
 use codec_payload_base::wire::Ticks;
 use codec_payload_codec::codec::Depacketizer;
@@ -80,17 +80,17 @@ impl<B: Depacketizer> Receiver<B> {
         ensures heard { Heard now (WithMedia (packet_of packet.now)) self.old result self.new }
         ensures own { is_built_in_depacketizer self.old.packets.buffer.depacketizer ≡ false → OwnStores B.is_head B.is_tail self.old.packets.buffer self.new.packets.buffer }
     {
+        let restarts = self.packets.counters().restarts;
         let Ok(outcome) = self
             .stream
             .take_media(&mut self.packets, &mut self.seen, now, packet)
         else {
             return Err(ReceiveError::OutOfMemory);
         };
-        let header = &packet.header;
-        self.ssrc = Some(header.ssrc);
+        self.ssrc = Some(packet.header.ssrc);
         self.arrived.received = self.arrived.received.wrapping_add(1);
-        self.statistics
-            .observe(now, header.sequence_number, header.timestamp);
+        let found = found_by(outcome, restarts, self.packets.counters().restarts);
+        observe_media(&mut self.statistics, now, packet, found);
         self.choice.note_at(now);
         Ok(outcome)
     }
@@ -117,6 +117,7 @@ impl<B: Depacketizer> Receiver<B> {
         ensures heard { Heard now (datagram_of datagram.now) self.old result self.new }
         ensures own { is_built_in_depacketizer self.old.packets.buffer.depacketizer ≡ false → OwnStores B.is_head B.is_tail self.old.packets.buffer self.new.packets.buffer }
     {
+        let restarts = self.packets.counters().restarts;
         let Ok(taken) = self
             .stream
             .take(&mut self.packets, &mut self.seen, now, datagram)
@@ -125,8 +126,21 @@ impl<B: Depacketizer> Receiver<B> {
         };
         self.ssrc = ssrc_after(self.ssrc, datagram);
         self.arrived = with_datagram(self.arrived, datagram);
-        observe(&mut self.statistics, now, datagram);
+        let found = found_by(taken.outcome, restarts, self.packets.counters().restarts);
+        observe(&mut self.statistics, now, datagram, found);
         self.choice.note(now, datagram);
         answer_for(datagram, taken)
+    }
+}
+
+/// Returns what the jitter buffer found for a datagram with this outcome. `before` and `after` count the restarts.
+#[inline(always)]
+fn found_by(outcome: Outcome, before: u64, after: u64) -> Found
+    ensures suspect { result.is_suspect ≡ is_suspect outcome }
+    ensures restarted { result.has_restarted ≡ not (after == before) }
+{
+    Found {
+        has_restarted: after != before,
+        is_suspect: matches!(outcome, Outcome::Suspect),
     }
 }

@@ -7,7 +7,7 @@ use crate::codec::Depacketizer;
 use crate::jitter::jitter_buffer::Outcome;
 use crate::rtp::packet::{RtpError, RtpPacket};
 use crate::stream::answers::answer_for;
-use crate::stream::datagram::{Datagram, Malformation, observe, ssrc_after};
+use crate::stream::datagram::{Datagram, Found, Malformation, observe, observe_media, ssrc_after};
 use crate::stream::parsed::ParsedDatagram;
 use crate::wire::Ticks;
 
@@ -59,17 +59,17 @@ impl<B: Depacketizer> Receiver<B> {
     /// Receives an RTP packet with media of the stream.
     #[inline(always)]
     fn hear_media(&mut self, now: Ticks, packet: &RtpPacket<'_>) -> Result<Outcome, ReceiveError> {
+        let restarts = self.packets.counters().restarts;
         let Ok(outcome) = self
             .stream
             .take_media(&mut self.packets, &mut self.seen, now, packet)
         else {
             return Err(ReceiveError::OutOfMemory);
         };
-        let header = &packet.header;
-        self.ssrc = Some(header.ssrc);
+        self.ssrc = Some(packet.header.ssrc);
         self.arrived.received = self.arrived.received.wrapping_add(1);
-        self.statistics
-            .observe(now, header.sequence_number, header.timestamp);
+        let found = found_by(outcome, restarts, self.packets.counters().restarts);
+        observe_media(&mut self.statistics, now, packet, found);
         self.choice.note_at(now);
         Ok(outcome)
     }
@@ -90,6 +90,7 @@ impl<B: Depacketizer> Receiver<B> {
         now: Ticks,
         datagram: &Datagram<'_>,
     ) -> Result<Outcome, ReceiveError> {
+        let restarts = self.packets.counters().restarts;
         let Ok(taken) = self
             .stream
             .take(&mut self.packets, &mut self.seen, now, datagram)
@@ -98,8 +99,18 @@ impl<B: Depacketizer> Receiver<B> {
         };
         self.ssrc = ssrc_after(self.ssrc, datagram);
         self.arrived = with_datagram(self.arrived, datagram);
-        observe(&mut self.statistics, now, datagram);
+        let found = found_by(taken.outcome, restarts, self.packets.counters().restarts);
+        observe(&mut self.statistics, now, datagram, found);
         self.choice.note(now, datagram);
         answer_for(datagram, taken)
+    }
+}
+
+/// Returns what the jitter buffer found for a datagram with this outcome. `before` and `after` count the restarts.
+#[inline(always)]
+fn found_by(outcome: Outcome, before: u64, after: u64) -> Found {
+    Found {
+        has_restarted: after != before,
+        is_suspect: matches!(outcome, Outcome::Suspect),
     }
 }

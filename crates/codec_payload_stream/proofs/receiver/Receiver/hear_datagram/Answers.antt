@@ -1,9 +1,10 @@
-use Rattle.std.proofs.Common.{◌≡◌, ◌∙◌, ℕ, ap, sym, subst, Option}
+use Rattle.std.proofs.Common.{◌≡◌, ◌∙◌, ℕ, Bool, ap, rules, sym, subst, Option}
+use Rattle.codec_payload_jitter.specs.declared.outcome.Outcome.{Outcome}
 use Rattle.codec_payload_stream.specs.Choice.{Choosing, latest_after, origin_of}
 use Rattle.codec_payload_stream.specs.Kinds.{Datagram, datagram_of}
 use Rattle.codec_payload_stream.specs.SeenTimes.{Seen}
-use Rattle.codec_payload_stream.specs.Sessions.{Heard, IsSorted, Session, arrived_with, observed_in, ssrc_after}
-use Rattle.codec_payload_stream.specs.Reports.{Reception}
+use Rattle.codec_payload_stream.specs.Sessions.{Heard, IsSorted, Session, arrived_with, has_restarted, is_suspect, observed_unless, reception_after, ssrc_after}
+use Rattle.codec_payload_stream.specs.Reports.{Reception, reception_since}
 use Rattle.codec_payload_stream.specs.declared.receiver.Arrived.{Arrived}
 use Rattle.codec_payload_stream.proofs.SessionLemmas.{heard, takes_balanced}
 use Rattle.codec_payload_stream.proofs.receiver.Receiver.hear_datagram.Goals as goal
@@ -32,19 +33,24 @@ returns-clause-heard g c =
     } in
     let d : Datagram = datagram_of c.args.datagram.now in
     let after = c.take.new.packets in
+    let o : Outcome = c.in-Ok.taken.outcome in
     let seen : Seen = c.take.new.seen in
+    let restarted : c.found_by-found.result.has_restarted ≡ has_restarted s.packets after = search rules in
+    let counts : observed_unless c.found_by-found.result.is_suspect (reception_since c.found_by-found.result.has_restarted s.reception) c.args.now.0 d ≡ reception_after o s.packets after s.reception c.args.now.0 d =
+    ap (λ (b : Bool). observed_unless b (reception_since c.found_by-found.result.has_restarted s.reception) c.args.now.0 d) c.found_by-found.ensures.suspect
+    ∙ ap (λ (b : Bool). observed_unless (is_suspect o) (reception_since b s.reception) c.args.now.0 d) restarted in
     let t : Session = record s { ssrc = c.ssrc_after-self-inside.result; packets = after; arrived = c.with_datagram-self-inside.result; reception = c.observe.new.statistics; choice = c.note.new.self; seen = seen } in
     let left : t ≡ record s {
       ssrc = ssrc_after s.ssrc d;
       packets = after;
       arrived = arrived_with s.arrived d;
-      reception = observed_in s.reception c.args.now.0 d;
+      reception = reception_after o s.packets after s.reception c.args.now.0 d;
       choice = record s.choice { latest = latest_after s.choice.latest c.args.now.0 (origin_of d) };
       seen = seen;
     } =
     ap (λ (o : Option ℕ). record s { ssrc = o; packets = after; arrived = c.with_datagram-self-inside.result; reception = c.observe.new.statistics; choice = c.note.new.self; seen = seen }) c.ssrc_after-self-inside.ensures
     ∙ ap (λ (a : Arrived). record s { ssrc = ssrc_after s.ssrc d; packets = after; arrived = a; reception = c.observe.new.statistics; choice = c.note.new.self; seen = seen }) c.with_datagram-self-inside.ensures
-    ∙ ap (λ (x : Reception). record s { ssrc = ssrc_after s.ssrc d; packets = after; arrived = arrived_with s.arrived d; reception = x; choice = c.note.new.self; seen = seen }) c.observe.ensures
-    ∙ ap (λ (x : Choosing). record s { ssrc = ssrc_after s.ssrc d; packets = after; arrived = arrived_with s.arrived d; reception = observed_in s.reception c.args.now.0 d; choice = x; seen = seen }) c.note.ensures in
+    ∙ ap (λ (x : Reception). record s { ssrc = ssrc_after s.ssrc d; packets = after; arrived = arrived_with s.arrived d; reception = x; choice = c.note.new.self; seen = seen }) (c.observe.ensures ∙ counts)
+    ∙ ap (λ (x : Choosing). record s { ssrc = ssrc_after s.ssrc d; packets = after; arrived = arrived_with s.arrived d; reception = reception_after o s.packets after s.reception c.args.now.0 d; choice = x; seen = seen }) c.note.ensures in
     let made : Heard c.args.now d s c.answer_for.result t = heard c.args.now d s t c.in-Ok.taken.outcome c.in-Ok.taken.whole after seen c.answer_for.result c.in-Ok.ensures.ok c.answer_for.ensures left in
     subst (λ (x : Session). Heard c.args.now d x c.answer_for.result t) c.self.view_is made
