@@ -68,9 +68,9 @@ impl Peer {
                 Event::TooLarge { unit, .. } => {
                     writeln!(out, "too large: {} bytes", unit.bytes.len())?
                 }
-                Event::Feedback { packet, .. } | Event::Report { packet } => {
-                    self.feedback.push(packet?)
-                }
+                Event::Feedback { packet, .. }
+                | Event::Report { packet }
+                | Event::TransportFeedback { packet } => self.feedback.push(packet?),
                 Event::Telephone { .. } => {}
                 Event::Ended {
                     ssrc, payload_type, ..

@@ -15,5 +15,6 @@ pub mod Requests
 pub mod Sorting
 pub mod Streams
 pub mod Telephone
+pub mod Transports
 pub mod Turns
 pub mod Waking
