@@ -1,12 +1,14 @@
 //! The receiving side of a call: all streams of a port, by the session description of the sender. The session requests missing
-//! packets and keyframes and reports each second; this program sends its packets, and prints a line for each event.
+//! packets and keyframes, and reports losses each second and arrivals each 100 ms; this program sends its packets, and prints a line for
+//! each event.
 //! `scripts/chromium_peer.py` runs it against Chromium:
 //!
 //! ```sh
-//! cargo run --example port_peer OFFER ADDRESS
+//! cargo run --example port_peer OFFER ADDRESS [INTERVAL]
 //! ```
 //!
 //! - OFFER is a file with the session description (SDP); ADDRESS receives the feedback. Without them the program says so.
+//! - INTERVAL is the number of milliseconds between two reports of arrivals.
 //! - The first line is the port. An empty datagram ends the program.
 //! - The SSRCs of retransmissions are those of the offer (`sdp::session_settings`). For a sender that joins later, a program with
 //!   signalling passes `sdp::pairs` of the new offer to `Session::add_pair`; this one has none.
@@ -31,9 +33,12 @@ struct Peer {
 }
 
 impl Peer {
-    fn new(offer: &str) -> Result<Peer, Failure> {
+    fn new(offer: &str, interval: Option<u64>) -> Result<Peer, Failure> {
         let mut settings = sdp::session_settings(&sdp::read(offer)?)?;
         settings.feedback = Some(FeedbackSettings::live(OWN_SSRC, b"me@host".to_vec()));
+        if let (Some(transport), Some(interval)) = (&mut settings.transport, interval) {
+            transport.interval = interval;
+        }
         Ok(Peer {
             session: Session::new(settings)?,
             feedback: Vec::new(),
@@ -116,13 +121,13 @@ fn receive_all(peer: &mut Peer, socket: &UdpSocket, clock: &Clock) -> Result<boo
 }
 
 /// Receives until an empty datagram arrives.
-fn run(offer: &str, address: &str) -> Result<(), Failure> {
+fn run(offer: &str, address: &str, interval: Option<u64>) -> Result<(), Failure> {
     let socket = UdpSocket::bind((Ipv4Addr::LOCALHOST, 0))?;
     let mut out = io::stdout().lock();
     writeln!(out, "port {}", socket.local_addr()?.port())?;
     out.flush()?;
     let clock = Clock::new();
-    let mut peer = Peer::new(offer)?;
+    let mut peer = Peer::new(offer, interval)?;
     while receive_all(&mut peer, &socket, &clock)? {
         peer.poll(clock.now(), &mut out)?;
         for feedback in peer.feedback.drain(..) {
@@ -137,9 +142,10 @@ fn run(offer: &str, address: &str) -> Result<(), Failure> {
 
 fn main() -> Result<(), Failure> {
     let words: Vec<String> = std::env::args().skip(1).collect();
-    let [offer, address] = &words[..] else {
-        println!("port_peer OFFER ADDRESS: see scripts/chromium_peer.py");
+    let [offer, address, more @ ..] = &words[..] else {
+        println!("port_peer OFFER ADDRESS [INTERVAL]: see scripts/chromium_peer.py");
         return Ok(());
     };
-    run(&std::fs::read_to_string(offer)?, address)
+    let interval = more.first().map(|word| word.parse()).transpose()?;
+    run(&std::fs::read_to_string(offer)?, address, interval)
 }
