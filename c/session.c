@@ -618,12 +618,12 @@ static void faults_of_settings(void) {
     CHECK(cpay_session_settings_check(&right, NULL, 0, NULL, 1, &fault) == CPAY_INVALID && fault.format == 7);
     CHECK(cpay_session_settings_check(&right, NULL, 0, NULL, 0, &fault) == CPAY_OK && fault.kind == CPAY_SETTINGS_FIT);
     const char *last = "";
-    for (uint32_t kind = CPAY_SETTINGS_FIT; kind <= CPAY_SETTINGS_CNAME; kind++) {
+    for (uint32_t kind = CPAY_SETTINGS_FIT; kind <= CPAY_SETTINGS_TRANSPORT_WINDOW; kind++) {
         const char *text = cpay_settings_fault_text((cpay_settings_fault_kind)kind);
         CHECK(strcmp(text, last) != 0 && strcmp(text, "unknown fault") != 0);
         last = text;
     }
-    CHECK(strcmp(cpay_settings_fault_text((cpay_settings_fault_kind)(CPAY_SETTINGS_CNAME + 1)), "unknown fault") == 0);
+    CHECK(strcmp(cpay_settings_fault_text((cpay_settings_fault_kind)(CPAY_SETTINGS_TRANSPORT_WINDOW + 1)), "unknown fault") == 0);
 }
 
 /* Settings out of range. */

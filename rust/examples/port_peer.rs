@@ -17,7 +17,7 @@ use codec_payload::{Clock, Event, FeedbackSettings, Session, Ticks, sdp};
 use std::error::Error;
 use std::io::{self, ErrorKind, Write};
 use std::net::{Ipv4Addr, UdpSocket};
-use std::time::Duration;
+use std::time::{Duration, Instant};
 
 type Failure = Box<dyn Error>;
 
@@ -28,6 +28,8 @@ const LONGEST_SLEEP: Duration = Duration::from_millis(100);
 /// All streams of a port, and what is sent back.
 struct Peer {
     session: Session,
+    /// When the clock of arrivals began.
+    start: Instant,
     /// The packets of RTCP to send.
     feedback: Vec<Vec<u8>>,
 }
@@ -41,6 +43,7 @@ impl Peer {
         }
         Ok(Peer {
             session: Session::new(settings)?,
+            start: Instant::now(),
             feedback: Vec::new(),
         })
     }
@@ -107,7 +110,8 @@ fn receive_all(peer: &mut Peer, socket: &UdpSocket, clock: &Clock) -> Result<boo
         match socket.recv(&mut datagram) {
             Ok(0) => return Ok(false),
             Ok(size) => {
-                peer.session.receive(clock.now(), &datagram[..size])?;
+                let micros = peer.start.elapsed().as_micros() as u64;
+                peer.session.receive_at(clock.now(), micros, &datagram[..size])?;
             }
             Err(why) if matches!(why.kind(), ErrorKind::WouldBlock | ErrorKind::TimedOut) => {
                 return Ok(true);

@@ -1,3 +1,4 @@
+pub mod Accepting
 pub mod Arrivals
 pub mod Associations
 pub mod Changes

@@ -5,7 +5,7 @@ use Rattle.std.specs.Option.{is_some}
 use Rattle.std.specs.declared.alloc.AllocError.{AllocError}
 use Rattle.codec_payload_base.specs.declared.wire.Ticks.{Ticks}
 use Rattle.codec_payload_congestion.specs.declared.arrivals.ArrivalLogError.{ArrivalLogError}
-use Rattle.codec_payload_feedback.specs.Transport.{IsTransportFeedback, Reporter, due_at, noted, quarters_at, reporter_by, restarted}
+use Rattle.codec_payload_feedback.specs.Transport.{IsTransportFeedback, Reporter, due_at, noted, reporter_by, restarted}
 use Rattle.codec_payload_feedback.specs.declared.transport.TransportSettings.{TransportSettings}
 use Rattle.codec_payload_requests.specs.Requests.{has_come}
 use Rattle.codec_payload_rtp.specs.RtpPackets.{is_rtcp}
@@ -32,11 +32,11 @@ reporter_for s = reporter_if s.feedback s.transport
 abbrev pub noted_by : ℕ → List ℕ → Reporter → Reporter
 noted_by time bytes r = if is_rtcp bytes then r else noted time bytes r
 
--- a datagram arrived at that time of the session's clock: if it is an RTP packet with a number of the transport, the number is in the log,
--- whatever the packet carries
-abbrev pub noted_at : (tick_rate now : ℕ) → List ℕ → Option Reporter → Option Reporter
-noted_at tick_rate now bytes None = None
-noted_at tick_rate now bytes (Some r) = Some (noted_by (quarters_at now tick_rate) bytes r)
+-- a datagram arrived at that time, in quarters of a millisecond: if it is an RTP packet with a number of the transport, the number is in
+-- the log, whatever the packet carries
+abbrev pub noted_at : ℕ → List ℕ → Option Reporter → Option Reporter
+noted_at time bytes None = None
+noted_at time bytes (Some r) = Some (noted_by time bytes r)
 
 abbrev pub restarted_if : Option Reporter → Option Reporter
 restarted_if None = None

@@ -4,11 +4,11 @@ ghost use Rattle.std.specs.Prelude.{◌≡◌, ◌<◌, ◌≤◌, IfSome, Optio
 ghost use Rattle.std.specs.List.{position};
 ghost use Rattle.std.specs.Option.{option_map};
 ghost use Rattle.codec_payload_session.specs.Arrivals.{Port};
-ghost use Rattle.codec_payload_session.specs.Accepting.{Accepts, restarts_transport};
+ghost use Rattle.codec_payload_session.specs.Accepting.{Accepts, time_for};
 ghost use Rattle.codec_payload_session.specs.Associations.{Associates};
 ghost use Rattle.codec_payload_session.specs.Checks.{fault_of};
 ghost use Rattle.codec_payload_session.specs.Idle.{IsIdle, held_in, next_of};
-ghost use Rattle.codec_payload_session.specs.Ports.{IsSum, MatchInfo, ReportsIf, counted, counted_if, ends_all, ends_of, made_of, no_counts, receiver_among, taken_in, told_counts, waits_of};
+ghost use Rattle.codec_payload_session.specs.Ports.{IsSum, MatchInfo, ReportsIf, counted, counted_if, ends_all, ends_of, made_of, no_counts, receiver_among, restarts_transport, taken_in, told_counts, waits_of};
 ghost use Rattle.codec_payload_session.specs.Reports.{clock_among};
 ghost use Rattle.codec_payload_session.specs.Polls.{Polls, SendsReport, SendsTransport, TurnsOrReports, TurnsOrSends, report_event, transport_event};
 ghost use Rattle.codec_payload_session.specs.Streams.{is_of};
@@ -28,7 +28,8 @@ use crate::waking::due_in;
 use codec_payload_base::error::PacketError;
 use codec_payload_base::wire::Ticks;
 use codec_payload_buffer::buffer::Depacketized;
-use codec_payload_feedback::transport::TransportReporter;
+use codec_payload_congestion::arrivals::quarters;
+use codec_payload_feedback::transport::{TransportReporter, quarters_at};
 use codec_payload_jitter::jitter::WaitLimits;
 use codec_payload_jitter::outcome::Outcome;
 use codec_payload_rtcp::items::ReportBlock;
@@ -268,7 +269,7 @@ impl Session {
     ///
     /// With `transport` of the settings the session also records when each RTP packet arrived that has a transport-wide number, whatever
     /// is done with it: media, retransmissions, padding, unknown types, repetitions ([`Event::TransportFeedback`]). The time has the
-    /// resolution of your ticks.
+    /// resolution of your ticks; [`Session::receive_at`] takes a finer one.
     ///
     /// # Errors
     ///
@@ -279,15 +280,42 @@ impl Session {
     /// [`StreamInfo::sender_clock`]: crate::stream::StreamInfo::sender_clock
     /// [`Ending::Changed`]: crate::stream::Ending::Changed
     pub fn receive(&mut self, now: Ticks, datagram: &[u8]) -> Result<Arrival, AllocError>
-        ensures { Accepts now datagram.now self.old result self.new }
+        ensures { Accepts (time_for Option.None now self.old) now datagram.now self.old result self.new }
+    {
+        let time = quarters_at(now, self.settings.tick_rate);
+        self.receive_timed(now, time, datagram)
+    }
+
+    /// Does what [`Session::receive`] does for a datagram that arrived at `micros`, in microseconds of any clock: the time stamp of your
+    /// socket, say. Feedback about the transport then reports this time instead of `now`. All else goes by `now`. Congestion control
+    /// estimates by differences of a millisecond, so a browser sends more if the times are finer than your ticks. Use one of the two
+    /// calls for all datagrams.
+    ///
+    /// # Errors
+    ///
+    /// Those of [`Session::receive`].
+    pub fn receive_at(
+        &mut self,
+        now: Ticks,
+        micros: u64,
+        datagram: &[u8],
+    ) -> Result<Arrival, AllocError>
+        ensures { Accepts (time_for (Option.Some micros) now self.old) now datagram.now self.old result self.new }
+    {
+        self.receive_timed(now, quarters(micros), datagram)
+    }
+
+    /// Receives a datagram that arrived on the transport at `time`, in quarters of a millisecond modulo 2^32.
+    fn receive_timed(
+        &mut self,
+        now: Ticks,
+        time: u32,
+        datagram: &[u8],
+    ) -> Result<Arrival, AllocError>
+        ensures { Accepts time now datagram.now self.old result self.new }
     {
         let datagram = ParsedDatagram::parse(datagram);
-        note(
-            &mut self.transport,
-            self.settings.tick_rate,
-            now,
-            &datagram,
-        )?;
+        note(&mut self.transport, time, &datagram)?;
         self.receive_parsed(now, &datagram)
     }
 

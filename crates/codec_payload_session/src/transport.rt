@@ -9,8 +9,8 @@ ghost use Rattle.codec_payload_session.specs.Transports.{Sends, SendsBy, is_tran
 
 use crate::formats::{FeedbackSettings, SessionSettings};
 use crate::requests::source_for;
-use codec_payload_base::wire::{Frequency, Ticks};
-use codec_payload_feedback::transport::{TransportReporter, quarters_at};
+use codec_payload_base::wire::Ticks;
+use codec_payload_feedback::transport::TransportReporter;
 use codec_payload_stream::parsed::ParsedDatagram;
 use std::alloc::{AllocError, Global};
 
@@ -24,24 +24,24 @@ pub(crate) fn reporter_for(alloc: Global, settings: &SessionSettings) -> Option<
     }
 }
 
-/// Records when the datagram arrived, if it is an RTP packet with a number of the transport. If memory runs out, nothing changes.
+/// Records that the datagram arrived at `time`, in quarters of a millisecond modulo 2^32, if it is an RTP packet with a number of the
+/// transport. If memory runs out, nothing changes.
 pub(crate) fn note(
     transport: &mut Option<TransportReporter>,
-    tick_rate: Frequency,
-    now: Ticks,
+    time: u32,
     datagram: &ParsedDatagram<'_>,
 ) -> Result<(), AllocError>
-    ensures ok { OnOk result (transport.new ≡ noted_at tick_rate now.0 datagram.now transport.old) }
+    ensures ok { OnOk result (transport.new ≡ noted_at time datagram.now transport.old) }
     ensures err { OnErr result (transport.new ≡ transport.old) }
     ensures lacks { OnErr result (is_some transport.old ≡ true) }
 {
     match transport {
-        Some(reporter) => note_by(reporter, quarters_at(now, tick_rate), datagram),
+        Some(reporter) => note_by(reporter, time, datagram),
         None => Ok(()),
     }
 }
 
-/// Records that the datagram arrived at `time`, in quarters of a millisecond modulo 2^32.
+/// Does the same for a session that reports.
 fn note_by(
     reporter: &mut TransportReporter,
     time: u32,

@@ -98,21 +98,21 @@ same_is ssrc payload_type =
     ap (λ (x : Bool). x && (payload_type == payload_type)) a ∙ b
 
 -- what a datagram makes of a stream, after its receiver received it
-record Heard (now : Ticks) (datagram : Vec ℕ) (ssrc : ℕ) (f : Format) (told : Bool) (stage : Stage) (r : Receiver) (y : StreamState) : Type 0 where
+record Heard (now : Ticks) (micros : Option ℕ) (datagram : Vec ℕ) (ssrc : ℕ) (f : Format) (told : Bool) (stage : Stage) (r : Receiver) (y : StreamState) : Type 0 where
   ssrc_is : y.ssrc ≡ ssrc
   format : y.format ≡ f
   told_is : y.told ≡ told
   stage_is : is_probation stage ≡ false → is_probation y.stage ≡ false
   more : List ReceiverCall
   run : RunsAlone more r y.receiver
-  made : AreMadeBy (calls.Receive now datagram) more
+  made : AreMadeBy (calls.Receive now micros datagram) more
   no_pop : many_pops more ≡ 0
   no_pair : HasNoPair more
   hidden : shown more ≡ []
 
-waiting_heard : (now : Ticks) (datagram : Vec ℕ) (o : Option ℕ) (s : StreamState) → Heard now datagram s.ssrc s.format s.told s.stage s.receiver (waiting_for o s)
-waiting_heard now datagram None s = record { ssrc_is = refl; format = refl; told_is = refl; stage_is = λ is. is; more = []; run = refl; made = tt; no_pop = refl; no_pair = tt; hidden = refl }
-waiting_heard now datagram (Some wait) s = record {
+waiting_heard : (now : Ticks) (micros : Option ℕ) (datagram : Vec ℕ) (o : Option ℕ) (s : StreamState) → Heard now micros datagram s.ssrc s.format s.told s.stage s.receiver (waiting_for o s)
+waiting_heard now micros datagram None s = record { ssrc_is = refl; format = refl; told_is = refl; stage_is = λ is. is; more = []; run = refl; made = tt; no_pop = refl; no_pair = tt; hidden = refl }
+waiting_heard now micros datagram (Some wait) s = record {
   ssrc_is = refl;
   format = refl;
   told_is = refl;
@@ -125,12 +125,12 @@ waiting_heard now datagram (Some wait) s = record {
   hidden = refl;
 }
 
-received_heard : (accepted : Bool) (now : Ticks) (datagram : Vec ℕ) (r : Receiver) (s : StreamState)
-    → Heard now datagram s.ssrc s.format s.told s.stage r (received now.0 datagram.items accepted r s)
-received_heard true now datagram r s =
-    waiting_heard now datagram (wait_by (heard_by now.0 (number_at s.format datagram.items) s.feedback))
+received_heard : (accepted : Bool) (now : Ticks) (micros : Option ℕ) (datagram : Vec ℕ) (r : Receiver) (s : StreamState)
+    → Heard now micros datagram s.ssrc s.format s.told s.stage r (received now.0 datagram.items accepted r s)
+received_heard true now micros datagram r s =
+    waiting_heard now micros datagram (wait_by (heard_by now.0 (number_at s.format datagram.items) s.feedback))
     (record s { receiver = r; feedback = heard_by now.0 (number_at s.format datagram.items) s.feedback })
-received_heard false now datagram r s = record { ssrc_is = refl; format = refl; told_is = refl; stage_is = λ is. is; more = []; run = refl; made = tt; no_pop = refl; no_pair = tt; hidden = refl }
+received_heard false now micros datagram r s = record { ssrc_is = refl; format = refl; told_is = refl; stage_is = λ is. is; more = []; run = refl; made = tt; no_pop = refl; no_pair = tt; hidden = refl }
 
 stage_after_is : (probation accepted : ℕ) (stage : Stage) → is_probation stage ≡ false → is_probation (stage_after probation accepted stage) ≡ false
 stage_after_is probation accepted stages.Probation is = absurd (cc)
@@ -138,10 +138,10 @@ stage_after_is probation accepted stages.Playing is = refl
 stage_after_is probation accepted (stages.Leaving why at) is = refl
 stage_after_is probation accepted (stages.Draining why) is = refl
 
-unless_heard : (b : Bool) (now : Ticks) (datagram : Vec ℕ) (probation : ℕ) (accepted : Bool) (ssrc : ℕ) (f : Format) (told : Bool) (stage : Stage) (r : Receiver) (s : StreamState)
-    → Heard now datagram ssrc f told stage r s → Heard now datagram ssrc f told stage r (heard_unless b now.0 probation accepted s)
-unless_heard true now datagram probation accepted ssrc f told stage r s got = got
-unless_heard false now datagram probation accepted ssrc f told stage r s got = record {
+unless_heard : (b : Bool) (now : Ticks) (micros : Option ℕ) (datagram : Vec ℕ) (probation : ℕ) (accepted : Bool) (ssrc : ℕ) (f : Format) (told : Bool) (stage : Stage) (r : Receiver) (s : StreamState)
+    → Heard now micros datagram ssrc f told stage r s → Heard now micros datagram ssrc f told stage r (heard_unless b now.0 probation accepted s)
+unless_heard true now micros datagram probation accepted ssrc f told stage r s got = got
+unless_heard false now micros datagram probation accepted ssrc f told stage r s got = record {
   ssrc_is = got.ssrc_is;
   format = got.format;
   told_is = got.told_is;
@@ -154,15 +154,15 @@ unless_heard false now datagram probation accepted ssrc f told stage r s got = r
   hidden = got.hidden;
 }
 
-takes_heard : (now : Ticks) (datagram : Vec ℕ) (probation : ℕ) (x : StreamState) (told : Result Outcome ReceiveError) (y : StreamState) → (got : Takes now probation datagram.items x told y)
-    → Heard now datagram x.ssrc x.format x.told x.stage got.0 y
-takes_heard now datagram probation x told y got =
-    subst (λ (z : StreamState). Heard now datagram x.ssrc x.format x.told x.stage got.0 z) (sym got.2)
-    (unless_heard (is_no_memory told) now datagram probation (is_accepted told) x.ssrc x.format x.told x.stage got.0 (received now.0 datagram.items (is_accepted told) got.0 x)
-    (received_heard (is_accepted told) now datagram got.0 x))
+takes_heard : (now : Ticks) (micros : Option ℕ) (datagram : Vec ℕ) (probation : ℕ) (x : StreamState) (told : Result Outcome ReceiveError) (y : StreamState) → (got : Takes now probation datagram.items x told y)
+    → Heard now micros datagram x.ssrc x.format x.told x.stage got.0 y
+takes_heard now micros datagram probation x told y got =
+    subst (λ (z : StreamState). Heard now micros datagram x.ssrc x.format x.told x.stage got.0 z) (sym got.2)
+    (unless_heard (is_no_memory told) now micros datagram probation (is_accepted told) x.ssrc x.format x.told x.stage got.0 (received now.0 datagram.items (is_accepted told) got.0 x)
+    (received_heard (is_accepted told) now micros datagram got.0 x))
 
 abbrev pub call_of : Ticks → Vec ℕ → Result Arrival AllocError → Call
-call_of now datagram answer = record { step = calls.Receive now datagram; answer = answers.Received answer }
+call_of now micros datagram answer = record { step = calls.Receive now micros datagram; answer = answers.Received answer }
 
 -- the datagram that an arrival gives to its stream
 pub given_arrival : (ssrc payload_type : ℕ) (now : Ticks) (bytes : List ℕ) (s p : ℕ) (told : Result Outcome ReceiveError)
@@ -179,10 +179,10 @@ given_is false now bytes ssrc payload_type told answer is =
 given_is true now bytes ssrc payload_type told (Ok arrival) is = absurd (cc)
 given_is true now bytes ssrc payload_type told (Err e) is = refl
 
-pub fed_goes : (now : Ticks) (datagram : Vec ℕ) (probation : ℕ) (x : StreamState) (told : Result Outcome ReceiveError) (y : StreamState) (answer : Result Arrival AllocError)
-    → Takes now probation datagram.items x told y → Arrives (is_no_memory told) (arrival_of x.ssrc x.format.payload_type told) answer → Goes (call_of now datagram answer) x y
-fed_goes now datagram probation x told y answer got arrives =
-    let h : Heard now datagram x.ssrc x.format x.told x.stage got.0 y = takes_heard now datagram probation x told y got in
+pub fed_goes : (now : Ticks) (micros : Option ℕ) (datagram : Vec ℕ) (probation : ℕ) (x : StreamState) (told : Result Outcome ReceiveError) (y : StreamState) (answer : Result Arrival AllocError)
+    → Takes now probation datagram.items x told y → Arrives (is_no_memory told) (arrival_of x.ssrc x.format.payload_type told) answer → Goes (call_of now micros datagram answer) x y
+fed_goes now micros datagram probation x told y answer got arrives =
+    let h : Heard now micros datagram x.ssrc x.format x.told x.stage got.0 y = takes_heard now micros datagram probation x told y got in
     record {
       has = record {
         ssrc_is = h.ssrc_is;
@@ -202,13 +202,13 @@ fed_goes now datagram probation x told y answer got arrives =
     }
 
 -- the same for a stream that first gets the SSRC of its retransmissions
-pub paired_fed_goes : (now : Ticks) (datagram : Vec ℕ) (probation : ℕ) (named : List SsrcPair) (b : Bool) (x : StreamState) (told : Result Outcome ReceiveError) (y : StreamState) (answer : Result Arrival AllocError)
+pub paired_fed_goes : (now : Ticks) (micros : Option ℕ) (datagram : Vec ℕ) (probation : ℕ) (named : List SsrcPair) (b : Bool) (x : StreamState) (told : Result Outcome ReceiveError) (y : StreamState) (answer : Result Arrival AllocError)
     → (b ≡ true → HasSsrcOf datagram.items (retransmission_for x.ssrc x.format.retransmission named)) → Takes now probation datagram.items (paired_when b named x) told y
-    → Arrives (is_no_memory told) (arrival_of (paired_when b named x).ssrc (paired_when b named x).format.payload_type told) answer → Goes (call_of now datagram answer) x y
-paired_fed_goes now datagram probation named false x told y answer names got arrives = fed_goes now datagram probation x told y answer got arrives
-paired_fed_goes now datagram probation named true x told y answer names got arrives =
+    → Arrives (is_no_memory told) (arrival_of (paired_when b named x).ssrc (paired_when b named x).format.payload_type told) answer → Goes (call_of now micros datagram answer) x y
+paired_fed_goes now micros datagram probation named false x told y answer names got arrives = fed_goes now micros datagram probation x told y answer got arrives
+paired_fed_goes now micros datagram probation named true x told y answer names got arrives =
     let z : StreamState = paired named x in
-    let h : Heard now datagram x.ssrc x.format x.told x.stage got.0 y = takes_heard now datagram probation z told y got in
+    let h : Heard now micros datagram x.ssrc x.format x.told x.stage got.0 y = takes_heard now micros datagram probation z told y got in
     record {
       has = record {
         ssrc_is = h.ssrc_is;

@@ -3,8 +3,9 @@
 //! A session: the datagrams of one port.
 
 use crate::buffer::Depacketized;
+use crate::congestion::arrivals::quarters;
 use crate::error::PacketError;
-use crate::feedback::transport::TransportReporter;
+use crate::feedback::transport::{TransportReporter, quarters_at};
 use crate::jitter::jitter_buffer::WaitLimits;
 use crate::jitter::outcome::Outcome;
 use crate::memory::AllocError;
@@ -239,7 +240,7 @@ impl Session {
     ///
     /// With `transport` of the settings the session also records when each RTP packet arrived that has a transport-wide number, whatever
     /// is done with it: media, retransmissions, padding, unknown types, repetitions ([`Event::TransportFeedback`]). The time has the
-    /// resolution of your ticks.
+    /// resolution of your ticks; [`Session::receive_at`] takes a finer one.
     ///
     /// # Errors
     ///
@@ -250,8 +251,36 @@ impl Session {
     /// [`StreamInfo::sender_clock`]: crate::session::stream::StreamInfo::sender_clock
     /// [`Ending::Changed`]: crate::session::stream::Ending::Changed
     pub fn receive(&mut self, now: Ticks, datagram: &[u8]) -> Result<Arrival, AllocError> {
+        let time = quarters_at(now, self.settings.tick_rate);
+        self.receive_timed(now, time, datagram)
+    }
+
+    /// Does what [`Session::receive`] does for a datagram that arrived at `micros`, in microseconds of any clock: the time stamp of your
+    /// socket, say. Feedback about the transport then reports this time instead of `now`. All else goes by `now`. Congestion control
+    /// estimates by differences of a millisecond, so a browser sends more if the times are finer than your ticks. Use one of the two
+    /// calls for all datagrams.
+    ///
+    /// # Errors
+    ///
+    /// Those of [`Session::receive`].
+    pub fn receive_at(
+        &mut self,
+        now: Ticks,
+        micros: u64,
+        datagram: &[u8],
+    ) -> Result<Arrival, AllocError> {
+        self.receive_timed(now, quarters(micros), datagram)
+    }
+
+    /// Receives a datagram that arrived on the transport at `time`, in quarters of a millisecond modulo 2^32.
+    fn receive_timed(
+        &mut self,
+        now: Ticks,
+        time: u32,
+        datagram: &[u8],
+    ) -> Result<Arrival, AllocError> {
         let datagram = ParsedDatagram::parse(datagram);
-        note(&mut self.transport, self.settings.tick_rate, now, &datagram)?;
+        note(&mut self.transport, time, &datagram)?;
         self.receive_parsed(now, &datagram)
     }
 

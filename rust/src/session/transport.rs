@@ -2,12 +2,12 @@
 
 //! The feedback for congestion control that a session sends by itself: when each packet of its transport arrived.
 
-use crate::feedback::transport::{TransportReporter, quarters_at};
+use crate::feedback::transport::TransportReporter;
 use crate::memory::AllocError;
 use crate::session::formats::{FeedbackSettings, SessionSettings};
 use crate::session::requests::source_for;
 use crate::stream::parsed::ParsedDatagram;
-use crate::wire::{Frequency, Ticks};
+use crate::wire::Ticks;
 use alloc::vec::Vec;
 
 /// Returns the reporter of a new session. Does not allocate.
@@ -18,20 +18,20 @@ pub(crate) fn reporter_for(settings: &SessionSettings) -> Option<TransportReport
     }
 }
 
-/// Records when the datagram arrived, if it is an RTP packet with a number of the transport. If memory runs out, nothing changes.
+/// Records that the datagram arrived at `time`, in quarters of a millisecond modulo 2^32, if it is an RTP packet with a number of the
+/// transport. If memory runs out, nothing changes.
 pub(crate) fn note(
     transport: &mut Option<TransportReporter>,
-    tick_rate: Frequency,
-    now: Ticks,
+    time: u32,
     datagram: &ParsedDatagram<'_>,
 ) -> Result<(), AllocError> {
     match transport {
-        Some(reporter) => note_by(reporter, quarters_at(now, tick_rate), datagram),
+        Some(reporter) => note_by(reporter, time, datagram),
         None => Ok(()),
     }
 }
 
-/// Records that the datagram arrived at `time`, in quarters of a millisecond modulo 2^32.
+/// Does the same for a session that reports.
 fn note_by(
     reporter: &mut TransportReporter,
     time: u32,

@@ -21,13 +21,13 @@ invariant_of-self-in-None c = record {
 
 pub returns-in-Some-clause-polls : goal.returns-in-Some-clause-polls
 returns-in-Some-clause-polls c =
-    let s : Session = record { settings = c.self.inside.settings; port = c.self.inside.streams; counts = c.self.inside.counts; telephone = c.self.inside.telephone; report_due = c.self.inside.report_due } in
+    let s : Session = record { settings = c.self.inside.settings; port = c.self.inside.streams; counts = c.self.inside.counts; telephone = c.self.inside.telephone; report_due = c.self.inside.report_due; transport = c.self.inside.transport } in
     subst (λ (x : Session). Polls c.args.now x (Some c.in-Some.event) (record s { telephone = c.take.new.self })) c.self.view_is
     (polls_first c.args.now s c.in-Some.event c.take.new.self c.in-Some.ensures)
 
 pub returns-in-None-clause-polls : goal.returns-in-None-clause-polls
 returns-in-None-clause-polls c =
-    let s : Session = record { settings = c.self.inside.settings; port = c.self.inside.streams; counts = c.self.inside.counts; telephone = c.self.inside.telephone; report_due = c.self.inside.report_due } in
+    let s : Session = record { settings = c.self.inside.settings; port = c.self.inside.streams; counts = c.self.inside.counts; telephone = c.self.inside.telephone; report_due = c.self.inside.report_due; transport = c.self.inside.transport } in
     subst (λ (x : Session). Polls c.args.now x c.turn.result c.turn.new.self) c.self.view_is
     (polls_turn c.args.now s c.turn.result c.turn.new.self c.take.new.self c.in-None.ensures c.turn.ensures)
 
