@@ -209,7 +209,9 @@ fn much_is_split() -> Result<(), Fail> {
 /// The events of streams and reports come first.
 #[test]
 fn other_events_come_first() -> Result<(), Fail> {
-    let mut session = session(|settings, _| settings.probation = 1);
+    let mut session = session(|settings, _| {
+        (settings.probation, settings.audio.start) = (1, 0);
+    });
     session.receive(Ticks(5), &numbered(1, &opus(9, 1)))?;
     let mut kinds = Vec::new();
     while let Some(event) = session.poll(Ticks(5)) {
