@@ -11,7 +11,7 @@ use Rattle.codec_payload_handle.specs.declared.extension_values.ExtensionValues.
 use Rattle.codec_payload_handle.specs.declared.object.PortSession.{PortSession}
 use Rattle.codec_payload_handle.specs.declared.unit.Unit.{Unit as CUnit}
 use Rattle.codec_payload_jitter.specs.declared.outcome.Outcome.{Outcome}
-use Rattle.codec_payload_session.specs.Associations.{Associates}
+use Rattle.codec_payload_session.specs.Accepting.{Accepts, time_for}
 use Rattle.codec_payload_session.specs.Polls.{Polls}
 use Rattle.codec_payload_session.specs.Ports.{Session}
 use Rattle.codec_payload_session.specs.declared.session.Arrival.{Arrival}
@@ -50,15 +50,19 @@ abbrev pub TellsAnswer : Result Arrival AllocError → ℕ → (before after : C
 TellsAnswer (Ok arrival) status before after = (status ≡ 0) × TellsArrival arrival after
 TellsAnswer (Err e) status before after = (status ≡ 17) × (after ≡ before)
 
--- a datagram is received
-pub record ReceivesDatagram (r : PortSession) (now : ℕ) (bytes : List ℕ) (status : ℕ) (before after : CArrival) (s : PortSession) : Type 0 where
+-- the session takes the datagram at that time; for the transport it arrived at its own time in microseconds, if that is given
+pub record TakesDatagram (micros : Option ℕ) (r : PortSession) (now : ℕ) (bytes : List ℕ) (answer : Result Arrival AllocError) (s : PortSession) : Type 0 where
   pub at : Ticks
   pub at_is : at.0 ≡ now
-  pub answer : Result Arrival AllocError
-  pub receives : Associates at bytes r.session answer s.session
-  pub tells : TellsAnswer answer status before after
+  pub receives : Accepts (time_for micros at r.session) at bytes r.session answer s.session
   pub waiting : s.waiting ≡ r.waiting
   pub taken : s.taken ≡ r.taken
+
+-- a datagram is received; for the transport it arrived at its own time in microseconds, if that is given
+pub record ReceivesDatagram (micros : Option ℕ) (r : PortSession) (now : ℕ) (bytes : List ℕ) (status : ℕ) (before after : CArrival) (s : PortSession) : Type 0 where
+  pub answer : Result Arrival AllocError
+  pub takes : TakesDatagram micros r now bytes answer s
+  pub tells : TellsAnswer answer status before after
 
 -- ---- events
 
@@ -105,6 +109,7 @@ TellsEvent (events.Feedback ssrc payload_type packet) e =
     e ≡ record { kind = 4; ssrc = ssrc; status = 0; why = 0; bytes = length (bytes_sent packet); payload_type = payload_type; unit = no_unit }
 TellsEvent (events.Telephone ssrc payload_type time marker payload) e = e ≡ event_with 6 ssrc payload_type (telephone_unit time marker (length payload.items))
 TellsEvent (events.Report packet) e = e ≡ record { kind = 5; ssrc = 0; status = 0; why = 0; bytes = length (bytes_sent packet); payload_type = 0; unit = no_unit }
+TellsEvent (events.TransportFeedback packet) e = e ≡ record { kind = 7; ssrc = 0; status = 0; why = 0; bytes = length (bytes_sent packet); payload_type = 0; unit = no_unit }
 TellsEvent (events.Ended ssrc payload_type why) e =
     e ≡ record { kind = 3; ssrc = ssrc; status = 0; why = ending_number why; bytes = 0; payload_type = payload_type; unit = no_unit }
 
@@ -120,6 +125,8 @@ is_no_memory (events.Feedback ssrc payload_type (Err e)) = true
 is_no_memory (events.Telephone ssrc payload_type time marker payload) = false
 is_no_memory (events.Report (Ok packet)) = false
 is_no_memory (events.Report (Err e)) = true
+is_no_memory (events.TransportFeedback (Ok packet)) = false
+is_no_memory (events.TransportFeedback (Err e)) = true
 is_no_memory (events.Ended ssrc payload_type why) = false
 
 -- the bytes of the event: of its unit, of its RTCP packet, or of its telephone events
@@ -132,6 +139,7 @@ bytes_in (events.Refused ssrc payload_type fault) = []
 bytes_in (events.Feedback ssrc payload_type packet) = bytes_sent packet
 bytes_in (events.Telephone ssrc payload_type time marker payload) = payload.items
 bytes_in (events.Report packet) = bytes_sent packet
+bytes_in (events.TransportFeedback packet) = bytes_sent packet
 bytes_in (events.Ended ssrc payload_type why) = []
 
 -- the unit, or without one the unit before it
@@ -148,6 +156,7 @@ latest_unit (events.Refused ssrc payload_type fault) taken = taken
 latest_unit (events.Feedback ssrc payload_type packet) taken = taken
 latest_unit (events.Telephone ssrc payload_type time marker payload) taken = taken
 latest_unit (events.Report packet) taken = taken
+latest_unit (events.TransportFeedback packet) taken = taken
 latest_unit (events.Ended ssrc payload_type why) taken = taken
 
 -- a poll of the session at that time

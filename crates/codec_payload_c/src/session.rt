@@ -3,9 +3,9 @@
 ghost use Rattle.std.specs.Prelude.{◌≡◌, ◌≢◌, length, nat_le, Option};
 ghost use Rattle.codec_payload_core.specs.Faults.{fault_number};
 ghost use Rattle.codec_payload_session.specs.Idle.{next_of};
-ghost use Rattle.codec_payload_session.specs.Ports.{ends_all, ends_of};
+ghost use Rattle.codec_payload_session.specs.Ports.{ends_all, ends_of, restarts_transport};
 ghost use Rattle.codec_payload_c.specs.SessionFormats.{IsPortSessionOf, MakesSession, is_in_range};
-ghost use Rattle.codec_payload_c.specs.Sessions.{Comes, Hands, PollsEvent, ReceivesDatagram, TellsArrival, TellsEvent, TellsJudgedBy, TellsOfStream, TellsTaken, arrived_as, bytes_in, ending_number, event_with, is_no_memory, latest_unit, popped_or, telephone_unit};
+ghost use Rattle.codec_payload_c.specs.Sessions.{Comes, Hands, PollsEvent, ReceivesDatagram, TakesDatagram, TellsArrival, TellsEvent, TellsJudgedBy, TellsOfStream, TellsTaken, arrived_as, bytes_in, ending_number, event_with, is_no_memory, latest_unit, popped_or, telephone_unit};
 ghost use Rattle.codec_payload_c.specs.StreamReceivers.{TellsNumber, at_once_if};
 ghost use Rattle.codec_payload_handle.specs.Kinds.{OnPortSession, Refuses, is_port_session};
 ghost use Rattle.codec_payload_handle.specs.Units.{no_unit};
@@ -48,7 +48,7 @@ pub struct Arrival {
 #[derive(Drop)]
 pub struct Event {
     /// 0: a stream begins; 1: a unit; 2: a refused frame or a unit that is too large; 3: the end of a stream; 4: an RTCP packet
-    /// to send; 6: a packet of telephone events.
+    /// to send; 5: a receiver report to send; 6: a packet of telephone events; 7: feedback about the transport to send.
     pub kind: u32,
     pub ssrc: u32,
     /// For a refused frame: the number of its error, 1 to 16; for a unit that is too large 76.
@@ -113,11 +113,32 @@ fn arrival_of(arrived: Arrived) -> Arrival
     }
 }
 
-/// Receives a datagram.
-fn receive(port: &mut PortSession, now: u64, datagram: &[u8], arrival: &mut Arrival) -> u32
-    ensures { ReceivesDatagram port.old now datagram.now result arrival.old arrival.new port.new }
+/// Passes a datagram to the session, with its own time of arrival if that is given.
+fn take_in(
+    port: &mut PortSession,
+    micros: Option<u64>,
+    now: u64,
+    datagram: &[u8],
+) -> Result<Arrived, AllocError>
+    ensures { TakesDatagram micros port.old now datagram.now result port.new }
 {
-    match port.session.receive(Ticks(now), datagram) {
+    match micros {
+        Some(micros) => port.session.receive_at(Ticks(now), micros, datagram),
+        None => port.session.receive(Ticks(now), datagram),
+    }
+}
+
+/// Receives a datagram.
+fn receive(
+    port: &mut PortSession,
+    micros: Option<u64>,
+    now: u64,
+    datagram: &[u8],
+    arrival: &mut Arrival,
+) -> u32
+    ensures { ReceivesDatagram micros port.old now datagram.now result arrival.old arrival.new port.new }
+{
+    match take_in(port, micros, now, datagram) {
         Ok(arrived) => {
             *arrival = arrival_of(arrived);
             status::OK
@@ -265,6 +286,7 @@ fn event_of(event: &SessionEvent) -> Event
             event_with(6, *ssrc, *payload_type, unit)
         }
         SessionEvent::Report { .. } => packet_event(5, 0, 0, bytes_of(event)),
+        SessionEvent::TransportFeedback { .. } => packet_event(7, 0, 0, bytes_of(event)),
         SessionEvent::Ended {
             ssrc,
             payload_type,
@@ -284,6 +306,7 @@ fn is_no_memory(event: &SessionEvent) -> bool
         SessionEvent::Unit { unit: Err(_), .. } => true,
         SessionEvent::Feedback { packet: Err(_), .. } => true,
         SessionEvent::Report { packet: Err(_) } => true,
+        SessionEvent::TransportFeedback { packet: Err(_) } => true,
         _ => false,
     }
 }
@@ -300,6 +323,7 @@ fn bytes_of(event: &SessionEvent) -> &[u8]
         } => packet,
         SessionEvent::Telephone { payload, .. } => payload,
         SessionEvent::Report { packet: Ok(packet) } => packet,
+        SessionEvent::TransportFeedback { packet: Ok(packet) } => packet,
         _ => &[],
     }
 }
@@ -404,7 +428,7 @@ pub extern "C" fn cpay_session_receive(
     datagram: &[u8],
     arrival: &mut Arrival,
 ) -> u32
-    ensures receives { OnPortSession handle.old.place.value (λ r s. ReceivesDatagram r now datagram.now result arrival.old arrival.new s) handle.new.place.value }
+    ensures receives { OnPortSession handle.old.place.value (λ r s. ReceivesDatagram Option.None r now datagram.now result arrival.old arrival.new s) handle.new.place.value }
     ensures refused { Refuses is_port_session handle.old.place.value result handle.new.place.value }
     ensures unchanged { result ≢ 0 → arrival.new ≡ arrival.old }
 {
@@ -412,7 +436,52 @@ pub extern "C" fn cpay_session_receive(
         return status::EMPTY;
     };
     let answer = match &mut *object {
-        Object::PortSession(port) => receive(port, now, datagram, arrival),
+        Object::PortSession(port) => receive(port, None, now, datagram, arrival),
+        _ => status::OTHER_KIND,
+    };
+    handle.put(object);
+    answer
+}
+
+/// Receives a datagram that arrived at `micros` for the transport, in microseconds of any clock.
+#[unsafe(no_mangle)]
+pub extern "C" fn cpay_session_receive_at(
+    alloc: Global,
+    handle: &mut Handle,
+    now: u64,
+    micros: u64,
+    datagram: &[u8],
+    arrival: &mut Arrival,
+) -> u32
+    ensures receives { OnPortSession handle.old.place.value (λ r s. ReceivesDatagram (Option.Some micros) r now datagram.now result arrival.old arrival.new s) handle.new.place.value }
+    ensures refused { Refuses is_port_session handle.old.place.value result handle.new.place.value }
+    ensures unchanged { result ≢ 0 → arrival.new ≡ arrival.old }
+{
+    let Some(mut object) = handle.take(alloc) else {
+        return status::EMPTY;
+    };
+    let answer = match &mut *object {
+        Object::PortSession(port) => receive(port, Some(micros), now, datagram, arrival),
+        _ => status::OTHER_KIND,
+    };
+    handle.put(object);
+    answer
+}
+
+/// Forgets which packets of the transport arrived.
+#[unsafe(no_mangle)]
+pub extern "C" fn cpay_session_restart_transport(alloc: Global, handle: &mut Handle) -> u32
+    ensures restarts { OnPortSession handle.old.place.value (λ r s. (result ≡ 0) × (s ≡ record r { session = restarts_transport r.session })) handle.new.place.value }
+    ensures refused { Refuses is_port_session handle.old.place.value result handle.new.place.value }
+{
+    let Some(mut object) = handle.take(alloc) else {
+        return status::EMPTY;
+    };
+    let answer = match &mut *object {
+        Object::PortSession(port) => {
+            port.session.restart_transport();
+            status::OK
+        }
         _ => status::OTHER_KIND,
     };
     handle.put(object);

@@ -4,7 +4,7 @@ use Rattle.std.proofs.Math.Seq.{take-append_seam}
 use Rattle.std.proofs.lemmas.Bool.Decides.{nat_tests}
 use Rattle.codec_payload_base.specs.declared.wire.Ticks.{Ticks}
 use Rattle.codec_payload_rtp.specs.RtpPackets.{Packet}
-use Rattle.codec_payload_session.specs.Polls.{Polls, PollsAfter, TurnsOrReports}
+use Rattle.codec_payload_session.specs.Polls.{Polls, PollsAfter, TurnsOrSends}
 use Rattle.codec_payload_session.specs.Ports.{Session}
 use Rattle.codec_payload_session.specs.Telephone.{Gives, GivesFrom, Notes, NotesBy, Queue, QueuesIf, WaitsLast, WaitsOrDrops, has_room, settled, without_last}
 use Rattle.codec_payload_session.specs.declared.session.Event.{Event}
@@ -72,12 +72,12 @@ pub polls_first : (now : Ticks) (s : Session) (event : Event) (r : Queue) → Gi
 polls_first now s event r got = first_by s.telephone.waiting now s event r got
 
 turn_by : (ws : List TelephonePacket) (now : Ticks) (s : Session) (event : Option Event) (t : Session) (r : Queue) → GivesFrom ws s.telephone None r
-    → TurnsOrReports now (record s { telephone = r }) event t → PollsAfter ws now s event t
-turn_by [] now s event t r got turn = subst (λ (x : Queue). TurnsOrReports now (record s { telephone = x }) event t) got.1 turn
+    → TurnsOrSends now (record s { telephone = r }) event t → PollsAfter ws now s event t
+turn_by [] now s event t r got turn = subst (λ (x : Queue). TurnsOrSends now (record s { telephone = x }) event t) got.1 turn
 turn_by (w ∷ ws) now s event t r got turn = absurd (cc (got.0))
 
 -- without one the streams are asked
-pub polls_turn : (now : Ticks) (s : Session) (event : Option Event) (t : Session) (r : Queue) → Gives s.telephone None r → TurnsOrReports now (record s { telephone = r }) event t
+pub polls_turn : (now : Ticks) (s : Session) (event : Option Event) (t : Session) (r : Queue) → Gives s.telephone None r → TurnsOrSends now (record s { telephone = r }) event t
     → Polls now s event t
 polls_turn now s event t r got turn = turn_by s.telephone.waiting now s event t r got turn
 

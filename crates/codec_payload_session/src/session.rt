@@ -4,12 +4,13 @@ ghost use Rattle.std.specs.Prelude.{◌≡◌, ◌<◌, ◌≤◌, IfSome, Optio
 ghost use Rattle.std.specs.List.{position};
 ghost use Rattle.std.specs.Option.{option_map};
 ghost use Rattle.codec_payload_session.specs.Arrivals.{Port};
+ghost use Rattle.codec_payload_session.specs.Accepting.{Accepts, time_for};
 ghost use Rattle.codec_payload_session.specs.Associations.{Associates};
 ghost use Rattle.codec_payload_session.specs.Checks.{fault_of};
 ghost use Rattle.codec_payload_session.specs.Idle.{IsIdle, held_in, next_of};
-ghost use Rattle.codec_payload_session.specs.Ports.{IsSum, MatchInfo, ReportsIf, counted, counted_if, ends_all, ends_of, made_of, no_counts, receiver_among, taken_in, told_counts, waits_of};
+ghost use Rattle.codec_payload_session.specs.Ports.{IsSum, MatchInfo, ReportsIf, counted, counted_if, ends_all, ends_of, made_of, no_counts, receiver_among, restarts_transport, taken_in, told_counts, waits_of};
 ghost use Rattle.codec_payload_session.specs.Reports.{block_among, clock_among};
-ghost use Rattle.codec_payload_session.specs.Polls.{Polls, SendsReport, TurnsOrReports, report_event};
+ghost use Rattle.codec_payload_session.specs.Polls.{Polls, SendsReport, SendsTransport, TurnsOrReports, TurnsOrSends, report_event, transport_event};
 ghost use Rattle.codec_payload_session.specs.Streams.{is_of};
 ghost use Rattle.codec_payload_session.specs.Pairs.{Pairs, with_pair, without_pair};
 
@@ -22,10 +23,13 @@ use crate::reports::SenderClock;
 use crate::stream::{Ending, StreamInfo, earlier};
 use crate::streams::{Streams, Who, place_of};
 use crate::telephone::TelephoneQueue;
+use crate::transport::{note, reporter_for, restart, take_due, transport_deadline};
 use crate::waking::due_in;
 use codec_payload_base::error::PacketError;
 use codec_payload_base::wire::Ticks;
 use codec_payload_buffer::buffer::Depacketized;
+use codec_payload_congestion::arrivals::quarters;
+use codec_payload_feedback::transport::{TransportReporter, quarters_at};
 use codec_payload_jitter::jitter::WaitLimits;
 use codec_payload_jitter::outcome::Outcome;
 use codec_payload_rtcp::items::ReportBlock;
@@ -145,6 +149,18 @@ pub enum Event {
     Report {
         packet: Result<Vec<u8>, AllocError>,
     },
+    /// A packet of RTCP for the peer, which `packet` returns: transport-wide feedback, which says when each packet of the transport
+    /// arrived since the last one, or that it is missing (draft-holmer-rmcat-transport-wide-cc-extensions-01, section 3.1). Send it:
+    /// its arrivals count as reported. If memory ran out, nothing has changed, and the next poll tries again.
+    ///
+    /// It comes each [`TransportSettings::interval`] while packets arrive, in parts if it is larger than
+    /// [`TransportSettings::size`]. With `has_report` of the feedback's settings it follows an empty receiver report and the name.
+    ///
+    /// [`TransportSettings::interval`]: codec_payload_feedback::transport::TransportSettings::interval
+    /// [`TransportSettings::size`]: codec_payload_feedback::transport::TransportSettings::size
+    TransportFeedback {
+        packet: Result<Vec<u8>, AllocError>,
+    },
     /// A stream was removed. This is the last event of the stream.
     Ended {
         ssrc: u32,
@@ -194,6 +210,8 @@ pub struct Session {
     telephone: TelephoneQueue,
     /// When the next report is due. `None`: no report is planned.
     report_due: Option<u64>,
+    /// What arrived on the transport. `None`: it is not reported.
+    transport: Option<TransportReporter>,
 }
 
 impl Model for Session {
@@ -201,9 +219,9 @@ impl Model for Session {
 
     ghost Value = { Session };
 
-    ghost view = { λ s. record { settings = s.settings; port = s.streams; counts = s.counts; telephone = s.telephone; report_due = s.report_due } };
+    ghost view = { λ s. record { settings = s.settings; port = s.streams; counts = s.counts; telephone = s.telephone; report_due = s.report_due; transport = s.transport } };
 
-    ghost invariant = { λ s. IsSession (record { settings = s.settings; port = s.streams; counts = s.counts; telephone = s.telephone; report_due = s.report_due }) };
+    ghost invariant = { λ s. IsSession (record { settings = s.settings; port = s.streams; counts = s.counts; telephone = s.telephone; report_due = s.report_due; transport = s.transport }) };
 }
 
 impl Session {
@@ -219,6 +237,7 @@ impl Session {
         match settings.fault() {
             Some(fault) => Err(fault),
             None => Ok(Session {
+                transport: reporter_for(alloc, &settings),
                 settings,
                 streams: Streams::none(alloc),
                 counts: ArrivalCounts::none(),
@@ -248,17 +267,56 @@ impl Session {
     /// A packet of telephone events beside audio (`telephone_events` of the settings) is one without media, and waits for a poll
     /// once a stream took it ([`Event::Telephone`]). At most 32 of them wait; further ones are dropped and counted.
     ///
+    /// With `transport` of the settings the session also records when each RTP packet arrived that has a transport-wide number, whatever
+    /// is done with it: media, retransmissions, padding, unknown types, repetitions ([`Event::TransportFeedback`]). The time has the
+    /// resolution of your ticks; [`Session::receive_at`] takes a finer one.
+    ///
     /// # Errors
     ///
-    /// Out of memory: the datagram is not counted; you can pass it again. A pair may have been added.
+    /// Out of memory: the datagram is not counted; you can pass it again. A pair may have been added, and the arrival may be recorded for
+    /// the transport; the first time counts.
     ///
     /// [`Receiver::receive`]: codec_payload_stream::receiver::Receiver::receive
     /// [`StreamInfo::sender_clock`]: crate::stream::StreamInfo::sender_clock
     /// [`Ending::Changed`]: crate::stream::Ending::Changed
     pub fn receive(&mut self, now: Ticks, datagram: &[u8]) -> Result<Arrival, AllocError>
-        ensures { Associates now datagram.now self.old result self.new }
+        ensures { Accepts (time_for Option.None now self.old) now datagram.now self.old result self.new }
     {
-        self.receive_parsed(now, &ParsedDatagram::parse(datagram))
+        let time = quarters_at(now, self.settings.tick_rate);
+        self.receive_timed(now, time, datagram)
+    }
+
+    /// Does what [`Session::receive`] does for a datagram that arrived at `micros`, in microseconds of any clock: the time stamp of your
+    /// socket, say. Feedback about the transport then reports this time instead of `now`. All else goes by `now`. Congestion control
+    /// estimates by differences of a millisecond, so a browser sends more if the times are finer than your ticks. Use one of the two
+    /// calls for all datagrams.
+    ///
+    /// # Errors
+    ///
+    /// Those of [`Session::receive`].
+    pub fn receive_at(
+        &mut self,
+        now: Ticks,
+        micros: u64,
+        datagram: &[u8],
+    ) -> Result<Arrival, AllocError>
+        ensures { Accepts (time_for (Option.Some micros) now self.old) now datagram.now self.old result self.new }
+    {
+        self.receive_timed(now, quarters(micros), datagram)
+    }
+
+    /// Receives a datagram that arrived on the transport at `time`, in quarters of a millisecond modulo 2^32.
+    fn receive_timed(
+        &mut self,
+        now: Ticks,
+        time: u32,
+        datagram: &[u8],
+    ) -> Result<Arrival, AllocError>
+        ensures { Accepts time now datagram.now self.old result self.new }
+    {
+        let datagram = ParsedDatagram::parse(datagram);
+        note(&mut self.transport, time, &datagram)?;
+        self.receive_parsed(now, &datagram)
     }
 
     /// Receives a datagram that was read. No later step reads it again.
@@ -290,6 +348,9 @@ impl Session {
     /// that has no more events of the first streams, and each later one an interval after the previous one was sent. Once all
     /// announced streams have ended, it begins so again. A report costs one step for each pair of streams.
     ///
+    /// With `transport` of the settings a poll without another event returns the feedback about what arrived, if it is due
+    /// (`TransportFeedback`): the first one at once, each later one an interval after the previous one, if something arrived since.
+    ///
     /// If a poll returns `None` and no packet left a stream in it, no poll before [`Session::next_deadline`] has an event, until
     /// the next call of another kind. The one exception is a request for which memory runs out. A poll without an event in which
     /// packets left has skipped frames or dropped units: the next poll can have an event at any time.
@@ -300,8 +361,31 @@ impl Session {
     {
         match self.telephone.take() {
             Some(event) => Some(event),
-            None => self.turn(now),
+            None => self.turn_or_feedback(now),
         }
+    }
+
+    /// Returns the next event of the streams or the report, or else the feedback about the transport, if it is due.
+    fn turn_or_feedback(&mut self, now: Ticks) -> Option<Event>
+        ensures { TurnsOrSends now self.old result self.new }
+    {
+        match self.turn(now) {
+            Some(event) => Some(event),
+            None => self.send_transport(now),
+        }
+    }
+
+    /// Returns the feedback about the transport, if it is due.
+    fn send_transport(&mut self, now: Ticks) -> Option<Event>
+        ensures { SendsTransport now.0 self.old result self.new }
+    {
+        let packet = take_due(
+            self.streams.alloc,
+            &mut self.transport,
+            &self.settings.feedback,
+            now,
+        );
+        transport_event(packet)
     }
 
     /// Returns the next event of the streams, or else the report about them, if one is due.
@@ -325,7 +409,7 @@ impl Session {
     }
 
     /// Returns when a poll may have an event without a datagram: `Ticks(0)` while telephone events wait, else the time of a
-    /// stream, or of the next report if a stream is announced. `None`: there is no such time. The cost is one step for each
+    /// stream, of the next report if a stream is announced, or of the next feedback about the transport. `None`: there is no such time. The cost is one step for each
     /// stream.
     pub fn next_deadline(&self) -> Option<Ticks>
         ensures { option_map (λ at. at.0) result ≡ next_of self.now }
@@ -334,13 +418,23 @@ impl Session {
             return Some(Ticks(0));
         }
         let streams = due_in(&self.streams.list, self.settings.idle_timeout);
+        let report = report_deadline(&self.streams.list, self.report_due);
         match earlier(
-            streams,
-            report_deadline(&self.streams.list, self.report_due),
+            earlier(streams, report),
+            transport_deadline(&self.transport),
         ) {
             Some(at) => Some(Ticks(at)),
             None => None,
         }
+    }
+
+    /// Forgets which packets of the transport arrived. Call it if another peer takes over the transport, or the peer counts anew: without
+    /// this call, numbers behind the last 2,048 (`window`) are ignored until they pass the highest one, up to 32,768 packets later.
+    /// Without `transport` of the settings nothing changes.
+    pub fn restart_transport(&mut self)
+        ensures { self.new ≡ restarts_transport self.old }
+    {
+        restart(&mut self.transport);
     }
 
     /// Ends the streams of this SSRC: polls return the units that are complete, and then `Ended`.
@@ -523,6 +617,16 @@ fn report_event(packet: Option<Result<Vec<u8>, AllocError>>) -> Option<Event>
 {
     match packet {
         Some(packet) => Some(Event::Report { packet }),
+        None => None,
+    }
+}
+
+/// Returns the event of a feedback about the transport, if there is one.
+fn transport_event(packet: Option<Result<Vec<u8>, AllocError>>) -> Option<Event>
+    ensures { result ≡ transport_event packet }
+{
+    match packet {
+        Some(packet) => Some(Event::TransportFeedback { packet }),
         None => None,
     }
 }

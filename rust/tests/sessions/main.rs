@@ -14,6 +14,7 @@ mod runs;
 mod settings;
 mod streams;
 mod telephone;
+mod transport;
 
 use std::alloc::{GlobalAlloc, Layout, System};
 use std::cell::Cell;

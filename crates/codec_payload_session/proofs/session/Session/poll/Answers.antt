@@ -21,19 +21,19 @@ invariant_of-self-in-None c = record {
 
 pub returns-in-Some-clause-polls : goal.returns-in-Some-clause-polls
 returns-in-Some-clause-polls c =
-    let s : Session = record { settings = c.self.inside.settings; port = c.self.inside.streams; counts = c.self.inside.counts; telephone = c.self.inside.telephone; report_due = c.self.inside.report_due } in
+    let s : Session = record { settings = c.self.inside.settings; port = c.self.inside.streams; counts = c.self.inside.counts; telephone = c.self.inside.telephone; report_due = c.self.inside.report_due; transport = c.self.inside.transport } in
     subst (λ (x : Session). Polls c.args.now x (Some c.in-Some.event) (record s { telephone = c.take.new.self })) c.self.view_is
     (polls_first c.args.now s c.in-Some.event c.take.new.self c.in-Some.ensures)
 
 pub returns-in-None-clause-polls : goal.returns-in-None-clause-polls
 returns-in-None-clause-polls c =
-    let s : Session = record { settings = c.self.inside.settings; port = c.self.inside.streams; counts = c.self.inside.counts; telephone = c.self.inside.telephone; report_due = c.self.inside.report_due } in
-    subst (λ (x : Session). Polls c.args.now x c.turn.result c.turn.new.self) c.self.view_is
-    (polls_turn c.args.now s c.turn.result c.turn.new.self c.take.new.self c.in-None.ensures c.turn.ensures)
+    let s : Session = record { settings = c.self.inside.settings; port = c.self.inside.streams; counts = c.self.inside.counts; telephone = c.self.inside.telephone; report_due = c.self.inside.report_due; transport = c.self.inside.transport } in
+    subst (λ (x : Session). Polls c.args.now x c.turn_or_feedback.result c.turn_or_feedback.new.self) c.self.view_is
+    (polls_turn c.args.now s c.turn_or_feedback.result c.turn_or_feedback.new.self c.take.new.self c.in-None.ensures c.turn_or_feedback.ensures)
 
 -- an event is not none
 pub returns-in-Some-clause-idle : goal.returns-in-Some-clause-idle
 returns-in-Some-clause-idle c = λ none same. absurd (cc)
 
 pub returns-in-None-clause-idle : goal.returns-in-None-clause-idle
-returns-in-None-clause-idle c = λ none same. idle_after c.args.now _ c.turn.new.self c.turn.result (returns-in-None-clause-polls c) none same
+returns-in-None-clause-idle c = λ none same. idle_after c.args.now _ c.turn_or_feedback.new.self c.turn_or_feedback.result (returns-in-None-clause-polls c) none same

@@ -20,7 +20,7 @@ invariant_of-self-in-None c = record {
 
 pub returns-in-Some : goal.returns-in-Some
 returns-in-Some c =
-    let t : Session = record { settings = c.self.inside.settings; port = c.turn.new.self; counts = c.self.inside.counts; telephone = c.self.inside.telephone; report_due = c.self.inside.report_due } in
+    let t : Session = record { settings = c.self.inside.settings; port = c.turn.new.self; counts = c.self.inside.counts; telephone = c.self.inside.telephone; report_due = c.self.inside.report_due; transport = c.self.inside.transport } in
     subst (λ (s : Session). TurnsOrReports c.args.now s (Some c.in-Some.event) t) c.self.view_is
     (record { event = Some c.in-Some.event; port = c.turn.new.self; turn = c.in-Some.ensures; goes_on = (refl, refl) })
 
