@@ -25,12 +25,11 @@ use Rattle.codec_payload_session.specs.Telephone.{Queue, due_before}
 use Rattle.codec_payload_session.specs.Turns.{AreQuiet, TakesTurn, event_of}
 use Rattle.codec_payload_session.specs.declared.formats.FeedbackSettings.{FeedbackSettings}
 use Rattle.codec_payload_session.specs.declared.formats.SessionSettings.{SessionSettings}
-use Rattle.codec_payload_session.specs.declared.session.Event.{Event}
+use Rattle.codec_payload_session.specs.Units.{Event, Step}
 use Rattle.codec_payload_session.specs.declared.stream.Ending.{Ending}
 use Rattle.codec_payload_session.specs.declared.stream.Ending.TheVariants as endings
 use Rattle.codec_payload_session.specs.declared.stream.Stage.{Stage}
 use Rattle.codec_payload_session.specs.declared.stream.Stage.TheVariants as stages
-use Rattle.codec_payload_session.specs.declared.stream.Step.{Step}
 use Rattle.codec_payload_session.specs.declared.stream.Step.TheVariants as steps
 use Rattle.codec_payload_session.specs.declared.telephone.TelephonePacket.{TelephonePacket}
 use Rattle.codec_payload_session.proofs.CalmLemmas.{due_later, updated_none}
@@ -375,7 +374,7 @@ no_event s steps.Nothing quiet = tt
 
 -- ---- the reports
 
-packet_none : (packet : Option (Result (Vec ℕ) AllocError)) → None ≡ report_event packet → packet ≡ None
+packet_none : (packet : Option (Result (Vec ℕ) AllocError)) → None ≡ report_event {Release} packet → packet ≡ None
 packet_none None is = refl
 packet_none (Some packet) is = absurd (cc)
 

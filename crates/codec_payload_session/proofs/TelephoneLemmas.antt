@@ -7,7 +7,7 @@ use Rattle.codec_payload_rtp.specs.RtpPackets.{Packet}
 use Rattle.codec_payload_session.specs.Polls.{Polls, PollsAfter, TurnsOrReports}
 use Rattle.codec_payload_session.specs.Ports.{Session}
 use Rattle.codec_payload_session.specs.Telephone.{Gives, GivesFrom, Notes, NotesBy, Queue, QueuesIf, WaitsLast, WaitsOrDrops, has_room, settled, without_last}
-use Rattle.codec_payload_session.specs.declared.session.Event.{Event}
+use Rattle.codec_payload_session.specs.Units.{Event}
 use Rattle.codec_payload_session.specs.declared.telephone.Noted.{Noted}
 use Rattle.codec_payload_session.specs.declared.telephone.Noted.TheVariants as noteds
 use Rattle.codec_payload_session.specs.declared.telephone.TelephonePacket.{TelephonePacket}

@@ -16,4 +16,5 @@ pub mod Sorting
 pub mod Streams
 pub mod Telephone
 pub mod Turns
+pub mod Units
 pub mod Waking

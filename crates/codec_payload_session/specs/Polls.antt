@@ -8,16 +8,17 @@ use Rattle.codec_payload_session.specs.Ports.{Session}
 use Rattle.codec_payload_session.specs.Reporting.{ReportsBy}
 use Rattle.codec_payload_session.specs.Telephone.{event_of}
 use Rattle.codec_payload_session.specs.Turns.{TakesTurn}
-use Rattle.codec_payload_session.specs.declared.session.Event.{Event}
+use Rattle.codec_payload_session.specs.Units.{Event}
+use Rattle.codec_payload_session.specs.declared.session.Event.{Event as EventWith}
 use Rattle.codec_payload_session.specs.declared.session.Event.TheVariants as events
 use Rattle.codec_payload_session.specs.declared.telephone.TelephonePacket.{TelephonePacket}
 
-abbrev pub report_event : Option (Result (Vec ℕ) AllocError) → Option Event
+abbrev pub report_event : {U : Type 0} → Option (Result (Vec ℕ) AllocError) → Option (EventWith U)
 report_event None = None
 report_event (Some packet) = Some (events.Report packet)
 
 -- the report, if one is due
-pub record SendsReport (now : ℕ) (s : Session) (answer : Option Event) (t : Session) : Type 0 where
+pub record SendsReport {U : Type 0} (now : ℕ) (s : Session) (answer : Option (EventWith U)) (t : Session) : Type 0 where
   pub packet : Option (Result (Vec ℕ) AllocError)
   pub due : Option ℕ
   pub port : Port

@@ -2,7 +2,7 @@
 
 //! A session: the datagrams of one port.
 
-use crate::buffer::Depacketized;
+use crate::buffer::PoppedUnit;
 use crate::error::PacketError;
 use crate::jitter::jitter_buffer::WaitLimits;
 use crate::jitter::outcome::Outcome;
@@ -61,10 +61,11 @@ pub enum Arrival {
     },
 }
 
-/// An event of a session.
+/// An event of a session. `U` is what it carries of a unit: the unit itself from [`Session::poll`], and `()` from
+/// [`Session::poll_into`], which writes the unit to memory of the caller.
 #[derive(Debug)]
 #[non_exhaustive]
-pub enum Event {
+pub enum Event<U = PoppedUnit> {
     /// A stream is announced. This is the first event of the stream.
     Begun { ssrc: u32, payload_type: u8 },
     /// A unit of a stream. If memory ran out for it, the frame is kept, and the next poll tries again. `rtp_time` is in ticks of
@@ -79,7 +80,7 @@ pub enum Event {
         rtp_time: Option<u64>,
         decodable: bool,
         keyframe: bool,
-        unit: Result<Depacketized, AllocError>,
+        unit: Result<U, AllocError>,
     },
     /// A unit of a stream with more bytes than `max_unit` of the settings. It counts as a refused frame: its packets count as
     /// `left`, for video the units after it follow a loss, and the stream continues. Any peer can send such a unit, so do not
@@ -87,7 +88,7 @@ pub enum Event {
     TooLarge {
         ssrc: u32,
         payload_type: u8,
-        unit: Depacketized,
+        unit: U,
     },
     /// A frame of a stream that the depacketizer refused, since its payloads are malformed. The frame was dropped, its packets
     /// count as `left`, and the stream continues. Any peer can send such a frame, so do not end a program for it. `fault` is
@@ -264,22 +265,36 @@ impl Session {
     /// the next call of another kind. The one exception is a request for which memory runs out. A poll without an event in which
     /// packets left has skipped frames or dropped units: the next poll can have an event at any time.
     pub fn poll(&mut self, now: Ticks) -> Option<Event> {
+        let mut unit = PoppedUnit::new();
+        match self.poll_into(now, &mut unit) {
+            Some(event) => Some(with_unit(event, unit)),
+            None => None,
+        }
+    }
+
+    /// Does the same as [`Session::poll`], and writes the unit of the event to `unit`, in place of what that has. Pass the same
+    /// unit to each poll, and its memory is used again: once it has room for the largest unit, a poll with a unit allocates
+    /// nothing for it.
+    ///
+    /// `unit` has the unit of an [`Event::Unit`] without an error, or of an [`Event::TooLarge`]. After any other answer its
+    /// contents are unspecified.
+    pub fn poll_into(&mut self, now: Ticks, unit: &mut PoppedUnit) -> Option<Event<()>> {
         match self.telephone.take() {
             Some(event) => Some(event),
-            None => self.turn(now),
+            None => self.turn(now, unit),
         }
     }
 
     /// Returns the next event of the streams, or else the report about them, if one is due.
-    fn turn(&mut self, now: Ticks) -> Option<Event> {
-        match self.streams.turn(now, self.settings.idle_timeout) {
+    fn turn(&mut self, now: Ticks, unit: &mut PoppedUnit) -> Option<Event<()>> {
+        match self.streams.turn(now, self.settings.idle_timeout, unit) {
             Some(event) => Some(event),
             None => self.report_streams(now),
         }
     }
 
     /// Returns the report about the streams, if one is due.
-    fn report_streams(&mut self, now: Ticks) -> Option<Event> {
+    fn report_streams(&mut self, now: Ticks) -> Option<Event<()>> {
         let packet = self
             .streams
             .report_due(&self.settings, now, &mut self.report_due);
@@ -432,10 +447,83 @@ impl Session {
 }
 
 /// Returns the event of a report, if there is one.
-fn report_event(packet: Option<Result<Vec<u8>, AllocError>>) -> Option<Event> {
+fn report_event(packet: Option<Result<Vec<u8>, AllocError>>) -> Option<Event<()>> {
     match packet {
         Some(packet) => Some(Event::Report { packet }),
         None => None,
+    }
+}
+
+/// Returns an event with its unit, if it has one.
+fn with_unit(event: Event<()>, unit: PoppedUnit) -> Event {
+    match event {
+        Event::Begun { ssrc, payload_type } => Event::Begun { ssrc, payload_type },
+        Event::Unit {
+            ssrc,
+            payload_type,
+            rtp_time,
+            decodable,
+            keyframe,
+            unit: popped,
+        } => Event::Unit {
+            ssrc,
+            payload_type,
+            rtp_time,
+            decodable,
+            keyframe,
+            unit: match popped {
+                Ok(()) => Ok(unit),
+                Err(e) => Err(e),
+            },
+        },
+        Event::TooLarge {
+            ssrc, payload_type, ..
+        } => Event::TooLarge {
+            ssrc,
+            payload_type,
+            unit,
+        },
+        Event::Refused {
+            ssrc,
+            payload_type,
+            fault,
+        } => Event::Refused {
+            ssrc,
+            payload_type,
+            fault,
+        },
+        Event::Feedback {
+            ssrc,
+            payload_type,
+            packet,
+        } => Event::Feedback {
+            ssrc,
+            payload_type,
+            packet,
+        },
+        Event::Telephone {
+            ssrc,
+            payload_type,
+            rtp_time,
+            marker,
+            payload,
+        } => Event::Telephone {
+            ssrc,
+            payload_type,
+            rtp_time,
+            marker,
+            payload,
+        },
+        Event::Report { packet } => Event::Report { packet },
+        Event::Ended {
+            ssrc,
+            payload_type,
+            why,
+        } => Event::Ended {
+            ssrc,
+            payload_type,
+            why,
+        },
     }
 }
 
