@@ -339,13 +339,15 @@ fn poll(
     ensures untouched { result ≢ 0 → bytes.new ≡ bytes.old }
     ensures unchanged { result ≢ 0 → result ≢ 33 → event.new ≡ event.old }
 {
-    if !port.waiting.is_some() {
-        port.waiting.poll(&mut port.session, Ticks(now));
+    if port.waiting.is_some() {
+        return hand_over(port, alloc, event, bytes);
     }
-    if !port.waiting.is_some() {
-        return status::NONE;
+    port.waiting.poll(&mut port.session, Ticks(now));
+    if port.waiting.is_some() {
+        hand_over(port, alloc, event, bytes)
+    } else {
+        status::NONE
     }
-    hand_over(port, alloc, event, bytes)
 }
 
 /// Creates a session with these settings, formats, payload types without media and pairs of SSRCs, in an empty handle. A payload
