@@ -5,7 +5,9 @@ use Rattle.std.specs.declared.alloc.AllocError.{AllocError}
 use Rattle.codec_payload_base.specs.declared.wire.Ticks.{Ticks}
 use Rattle.codec_payload_core.specs.Faults.{fault_number}
 use Rattle.codec_payload_core.specs.Release.{Release}
+use Rattle.codec_payload_core.specs.declared.buffer.RtpMeta.{RtpMeta}
 use Rattle.codec_payload_handle.specs.Bytes.{filled}
+use Rattle.codec_payload_handle.specs.Slots.{latest_packets}
 use Rattle.codec_payload_handle.specs.Units.{TellsUnit, TellsValues, no_unit}
 use Rattle.codec_payload_handle.specs.declared.extension_values.ExtensionValues.{ExtensionValues as CValues}
 use Rattle.codec_payload_handle.specs.declared.object.PortSession.{PortSession}
@@ -16,7 +18,7 @@ use Rattle.codec_payload_session.specs.Polls.{Polls}
 use Rattle.codec_payload_session.specs.Ports.{Session}
 use Rattle.codec_payload_session.specs.declared.session.Arrival.{Arrival}
 use Rattle.codec_payload_session.specs.declared.session.Arrival.TheVariants as arrivals
-use Rattle.codec_payload_session.specs.declared.session.Event.{Event}
+use Rattle.codec_payload_session.specs.Units.{Event}
 use Rattle.codec_payload_session.specs.declared.session.Event.TheVariants as events
 use Rattle.codec_payload_session.specs.declared.stream.Ending.{Ending}
 use Rattle.codec_payload_session.specs.declared.stream.Ending.TheVariants as endings
@@ -142,23 +144,6 @@ bytes_in (events.Report packet) = bytes_sent packet
 bytes_in (events.TransportFeedback packet) = bytes_sent packet
 bytes_in (events.Ended ssrc payload_type why) = []
 
--- the unit, or without one the unit before it
-abbrev pub popped_or : Result Release AllocError → Option Release → Option Release
-popped_or (Ok u) taken = Some u
-popped_or (Err e) taken = taken
-
--- the latest unit after the event
-abbrev pub latest_unit : Event → Option Release → Option Release
-latest_unit (events.Begun ssrc payload_type) taken = taken
-latest_unit (events.Unit ssrc payload_type time decodable keyframe unit) taken = popped_or unit taken
-latest_unit (events.TooLarge ssrc payload_type unit) taken = taken
-latest_unit (events.Refused ssrc payload_type fault) taken = taken
-latest_unit (events.Feedback ssrc payload_type packet) taken = taken
-latest_unit (events.Telephone ssrc payload_type time marker payload) taken = taken
-latest_unit (events.Report packet) taken = taken
-latest_unit (events.TransportFeedback packet) taken = taken
-latest_unit (events.Ended ssrc payload_type why) taken = taken
-
 -- a poll of the session at that time
 abbrev pub PollsAt : ℕ → Session → Option Event → Session → Type 0
 PollsAt now s answer t = (at : Ticks) × (at.0 ≡ now) × Polls at s answer t
@@ -184,7 +169,7 @@ abbrev pub Hands : (no_memory fits : Bool) → Event → ℕ → Handing → Por
 Hands true fits next status h r s = (status ≡ 17) × (h.event ≡ h.event_before) × (h.bytes ≡ h.before) × (s ≡ r)
 Hands false false next status h r s = (status ≡ 33) × TellsEvent next h.event × (h.bytes ≡ h.before) × (s ≡ record r { waiting = Some next })
 Hands false true next status h r s =
-    (status ≡ 0) × TellsEvent next h.event × (h.bytes ≡ filled (bytes_in next) h.before) × (s ≡ record r { taken = latest_unit next r.taken })
+    (status ≡ 0) × TellsEvent next h.event × (h.bytes ≡ filled (bytes_in next) h.before) × (s ≡ record r { taken = latest_packets (Some next) r.taken })
 
 -- Status 32: there is no event, and the outputs are unchanged.
 abbrev pub HandsOver : Option Event → ℕ → Handing → PortSession → PortSession → Type 0
@@ -198,7 +183,7 @@ pub record PollsEvent (now : ℕ) (r : PortSession) (status : ℕ) (h : Handing)
   pub comes : Comes now r next mid
   pub hands : HandsOver next status h mid s
 
--- the values of the latest popped unit
-abbrev pub TellsTaken : Option Release → ℕ → (before after : CValues) → Type 0
+-- the values of the latest popped unit, which has these packets
+abbrev pub TellsTaken : Option (List RtpMeta) → ℕ → (before after : CValues) → Type 0
 TellsTaken None status before after = (status ≡ 32) × (after ≡ before)
-TellsTaken (Some u) status before after = (status ≡ 0) × TellsValues u.metas after
+TellsTaken (Some metas) status before after = (status ≡ 0) × TellsValues metas after

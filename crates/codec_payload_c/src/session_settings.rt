@@ -8,8 +8,10 @@ use crate::extension::{ExtensionIds, ids_of};
 use crate::receiver::{WaitLimits, bound_of, from_keyframe_of, waiting_for};
 use codec_payload_core::wire::{CodecSpec, Frequency};
 use codec_payload_feedback::transport::TransportSettings;
+use codec_payload_handle::event_slot::EventSlot;
 use codec_payload_handle::object::PortSession;
 use codec_payload_handle::settings::{Spec, codec_of};
+use codec_payload_handle::slot::TakenPackets;
 use codec_payload_handle::status;
 use codec_payload_requests::nack::NackSettings;
 use codec_payload_session::formats::{
@@ -412,8 +414,8 @@ pub(crate) fn session_by(
     match Session::new(alloc, settings) {
         Ok(session) => Ok(PortSession {
             session,
-            waiting: None,
-            taken: None,
+            waiting: EventSlot::new(alloc),
+            taken: TakenPackets::new(alloc),
         }),
         Err(_) => Err(status::INVALID),
     }

@@ -28,12 +28,11 @@ use Rattle.codec_payload_session.specs.Transports.{Sends, SendsBy, SendsFrom, tr
 use Rattle.codec_payload_session.specs.Turns.{AreQuiet, TakesTurn, event_of}
 use Rattle.codec_payload_session.specs.declared.formats.FeedbackSettings.{FeedbackSettings}
 use Rattle.codec_payload_session.specs.declared.formats.SessionSettings.{SessionSettings}
-use Rattle.codec_payload_session.specs.declared.session.Event.{Event}
+use Rattle.codec_payload_session.specs.Units.{Event, Step}
 use Rattle.codec_payload_session.specs.declared.stream.Ending.{Ending}
 use Rattle.codec_payload_session.specs.declared.stream.Ending.TheVariants as endings
 use Rattle.codec_payload_session.specs.declared.stream.Stage.{Stage}
 use Rattle.codec_payload_session.specs.declared.stream.Stage.TheVariants as stages
-use Rattle.codec_payload_session.specs.declared.stream.Step.{Step}
 use Rattle.codec_payload_session.specs.declared.stream.Step.TheVariants as steps
 use Rattle.codec_payload_session.specs.declared.telephone.TelephonePacket.{TelephonePacket}
 use Rattle.codec_payload_session.proofs.CalmLemmas.{due_later, updated_none}
@@ -160,7 +159,7 @@ stayed now s t same drains other = record {
   asks = λ later after plays before. absurd (other (sym (ap (λ (x : StreamState). x.stage) same) ∙ plays));
 }
 
-asked : (o : Option Asking) (now : ℕ) (s t : StreamState) → s.feedback ≡ o → s.stage ≡ stages.Playing → RequestsBy o now s steps.Nothing t → Rested now s t
+asked : (o : Option Asking) (now : ℕ) (s t : StreamState) → s.feedback ≡ o → s.stage ≡ stages.Playing → RequestsBy {U = Release} o now s steps.Nothing t → Rested now s t
 asked None now s t is plays got = record {
   receiver = ap (λ (x : StreamState). x.receiver) got.1;
   told_is = ap (λ (x : StreamState). x.told) got.1;
@@ -180,7 +179,7 @@ asked (Some a) now s t is plays got = subst (λ (x : StreamState). Rested now s 
       (subst (λ (told : Result (Option (Vec ℕ)) AllocError). Asks now (is_heard now s.last a) s.receiver a told got.asking) (told_none got.told got.answers) got.asks) after before;
 })
 
-rested : (g : Stage) (now : ℕ) (s t : StreamState) → s.stage ≡ g → RestsBy g now s steps.Nothing t → Rested now s t
+rested : (g : Stage) (now : ℕ) (s t : StreamState) → s.stage ≡ g → RestsBy {U = Release} g now s steps.Nothing t → Rested now s t
 rested stages.Probation now s t is got = stayed now s t got.1 (ap is_draining is) (λ plays. let other : stages.Probation ≡ stages.Playing = sym is ∙ plays in absurd (cc))
 rested stages.Playing now s t is got = asked s.feedback now s t refl is got
 rested (stages.Leaving why at) now s t is got =
@@ -378,7 +377,7 @@ no_event s steps.Nothing quiet = tt
 
 -- ---- the reports
 
-packet_none : (packet : Option (Result (Vec ℕ) AllocError)) → None ≡ report_event packet → packet ≡ None
+packet_none : (packet : Option (Result (Vec ℕ) AllocError)) → None ≡ report_event {U = Release} packet → packet ≡ None
 packet_none None is = refl
 packet_none (Some packet) is = absurd (cc)
 
@@ -423,7 +422,7 @@ record Polled (now : Ticks) (s t : Session) : Type 0 where
   settings : t.settings ≡ s.settings
   waiting : t.telephone.waiting ≡ []
 
-polled_report : (now : Ticks) (s t : Session) (port : Port) → s.telephone.waiting ≡ [] → TakesTurn now s.settings.idle_timeout s.port None port → SendsReport now.0 (record s { port = port }) None t
+polled_report : (now : Ticks) (s t : Session) (port : Port) → s.telephone.waiting ≡ [] → TakesTurn now s.settings.idle_timeout s.port None port → SendsReport {U = Release} now.0 (record s { port = port }) None t
     → Polled now s t
 polled_report now s t port empty turn got =
     let none : got.packet ≡ None = packet_none got.packet got.answers in

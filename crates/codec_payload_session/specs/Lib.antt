@@ -18,4 +18,5 @@ pub mod Streams
 pub mod Telephone
 pub mod Transports
 pub mod Turns
+pub mod Units
 pub mod Waking

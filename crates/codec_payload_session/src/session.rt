@@ -13,6 +13,7 @@ ghost use Rattle.codec_payload_session.specs.Reports.{block_among, clock_among};
 ghost use Rattle.codec_payload_session.specs.Polls.{Polls, SendsReport, SendsTransport, TurnsOrReports, TurnsOrSends, report_event, transport_event};
 ghost use Rattle.codec_payload_session.specs.Streams.{is_of};
 ghost use Rattle.codec_payload_session.specs.Pairs.{Pairs, with_pair, without_pair};
+ghost use Rattle.codec_payload_session.specs.Units.{HasUnit, event_to, with_unit};
 
 use crate::association::{add_pair, take_in};
 use crate::checks::SessionSettingsError;
@@ -27,7 +28,7 @@ use crate::transport::{note, reporter_for, restart, take_due, transport_deadline
 use crate::waking::due_in;
 use codec_payload_base::error::PacketError;
 use codec_payload_base::wire::Ticks;
-use codec_payload_buffer::buffer::Depacketized;
+use codec_payload_buffer::buffer::PoppedUnit;
 use codec_payload_congestion::arrivals::quarters;
 use codec_payload_feedback::transport::{TransportReporter, quarters_at};
 use codec_payload_jitter::jitter::WaitLimits;
@@ -75,9 +76,10 @@ pub enum Arrival {
     },
 }
 
-/// An event of a session.
+/// An event of a session. `U` is what it carries of a unit: the unit itself from [`Session::poll`], and `()` from
+/// [`Session::poll_into`], which writes the unit to memory of the caller.
 #[derive(Debug, Drop)]
-pub enum Event {
+pub enum Event<U = PoppedUnit> {
     /// A stream is announced. This is the first event of the stream.
     Begun {
         ssrc: u32,
@@ -95,7 +97,7 @@ pub enum Event {
         rtp_time: Option<u64>,
         decodable: bool,
         keyframe: bool,
-        unit: Result<Depacketized, AllocError>,
+        unit: Result<U, AllocError>,
     },
     /// A unit of a stream with more bytes than `max_unit` of the settings. It counts as a refused frame: its packets count as
     /// `left`, for video the units after it follow a loss, and the stream continues. Any peer can send such a unit, so do not
@@ -103,7 +105,7 @@ pub enum Event {
     TooLarge {
         ssrc: u32,
         payload_type: u8,
-        unit: Depacketized,
+        unit: U,
     },
     /// A frame of a stream that the depacketizer refused, since its payloads are malformed. The frame was dropped, its packets
     /// count as `left`, and the stream continues. Any peer can send such a frame, so do not end a program for it. `fault` is
@@ -356,27 +358,49 @@ impl Session {
     /// packets left has skipped frames or dropped units: the next poll can have an event at any time.
     pub fn poll(&mut self, now: Ticks) -> Option<Event>
         ensures polls { Polls now self.old result self.new }
+        // A unit has packets.
+        ensures some { HasUnit result }
+        // If no packet left, no poll before the next deadline has an event.
+        ensures idle { result ≡ Option.None → held_in self.new.port.streams ≡ held_in self.old.port.streams → IsIdle now.0 self.new }
+    {
+        let mut unit = PoppedUnit::new(self.streams.alloc);
+        match self.poll_into(now, &mut unit) {
+            Some(event) => Some(with_unit(event, unit)),
+            None => None,
+        }
+    }
+
+    /// Does the same as [`Session::poll`], and writes the unit of the event to `unit`, in place of what that has. Pass the same
+    /// unit to each poll, and its memory is used again: once it has room for the largest unit, a poll with a unit allocates
+    /// nothing for it.
+    ///
+    /// `unit` has the unit of an [`Event::Unit`] without an error, or of an [`Event::TooLarge`]. After any other answer its
+    /// contents are unspecified.
+    pub fn poll_into(&mut self, now: Ticks, unit: &mut PoppedUnit) -> Option<Event<()>>
+        ensures polls { Polls now self.old (event_to result unit.new) self.new }
+        // A unit has packets.
+        ensures some { HasUnit (event_to result unit.new) }
         // If no packet left, no poll before the next deadline has an event.
         ensures idle { result ≡ Option.None → held_in self.new.port.streams ≡ held_in self.old.port.streams → IsIdle now.0 self.new }
     {
         match self.telephone.take() {
             Some(event) => Some(event),
-            None => self.turn_or_feedback(now),
+            None => self.turn_or_feedback(now, unit),
         }
     }
 
     /// Returns the next event of the streams or the report, or else the feedback about the transport, if it is due.
-    fn turn_or_feedback(&mut self, now: Ticks) -> Option<Event>
-        ensures { TurnsOrSends now self.old result self.new }
+    fn turn_or_feedback(&mut self, now: Ticks, unit: &mut PoppedUnit) -> Option<Event<()>>
+        ensures { TurnsOrSends now self.old (event_to result unit.new) self.new }
     {
-        match self.turn(now) {
+        match self.turn(now, unit) {
             Some(event) => Some(event),
             None => self.send_transport(now),
         }
     }
 
     /// Returns the feedback about the transport, if it is due.
-    fn send_transport(&mut self, now: Ticks) -> Option<Event>
+    fn send_transport(&mut self, now: Ticks) -> Option<Event<()>>
         ensures { SendsTransport now.0 self.old result self.new }
     {
         let packet = take_due(
@@ -389,17 +413,17 @@ impl Session {
     }
 
     /// Returns the next event of the streams, or else the report about them, if one is due.
-    fn turn(&mut self, now: Ticks) -> Option<Event>
-        ensures { TurnsOrReports now self.old result self.new }
+    fn turn(&mut self, now: Ticks, unit: &mut PoppedUnit) -> Option<Event<()>>
+        ensures { TurnsOrReports now self.old (event_to result unit.new) self.new }
     {
-        match self.streams.turn(now, self.settings.idle_timeout) {
+        match self.streams.turn(now, self.settings.idle_timeout, unit) {
             Some(event) => Some(event),
             None => self.report_streams(now),
         }
     }
 
     /// Returns the report about the streams, if one is due.
-    fn report_streams(&mut self, now: Ticks) -> Option<Event>
+    fn report_streams(&mut self, now: Ticks) -> Option<Event<()>>
         ensures { SendsReport now.0 self.old result self.new }
     {
         let packet = self
@@ -612,7 +636,7 @@ impl Session {
 }
 
 /// Returns the event of a report, if there is one.
-fn report_event(packet: Option<Result<Vec<u8>, AllocError>>) -> Option<Event>
+fn report_event(packet: Option<Result<Vec<u8>, AllocError>>) -> Option<Event<()>>
     ensures { result ≡ report_event packet }
 {
     match packet {
@@ -622,12 +646,90 @@ fn report_event(packet: Option<Result<Vec<u8>, AllocError>>) -> Option<Event>
 }
 
 /// Returns the event of a feedback about the transport, if there is one.
-fn transport_event(packet: Option<Result<Vec<u8>, AllocError>>) -> Option<Event>
+fn transport_event(packet: Option<Result<Vec<u8>, AllocError>>) -> Option<Event<()>>
     ensures { result ≡ transport_event packet }
 {
     match packet {
         Some(packet) => Some(Event::TransportFeedback { packet }),
         None => None,
+    }
+}
+
+/// Returns an event with its unit, if it has one.
+fn with_unit(event: Event<()>, unit: PoppedUnit) -> Event
+    ensures { result ≡ with_unit event unit }
+{
+    match event {
+        Event::Begun { ssrc, payload_type } => Event::Begun { ssrc, payload_type },
+        Event::Unit {
+            ssrc,
+            payload_type,
+            rtp_time,
+            decodable,
+            keyframe,
+            unit: popped,
+        } => Event::Unit {
+            ssrc,
+            payload_type,
+            rtp_time,
+            decodable,
+            keyframe,
+            unit: match popped {
+                Ok(()) => Ok(unit),
+                Err(e) => Err(e),
+            },
+        },
+        Event::TooLarge {
+            ssrc,
+            payload_type,
+            ..
+        } => Event::TooLarge {
+            ssrc,
+            payload_type,
+            unit,
+        },
+        Event::Refused {
+            ssrc,
+            payload_type,
+            fault,
+        } => Event::Refused {
+            ssrc,
+            payload_type,
+            fault,
+        },
+        Event::Feedback {
+            ssrc,
+            payload_type,
+            packet,
+        } => Event::Feedback {
+            ssrc,
+            payload_type,
+            packet,
+        },
+        Event::Telephone {
+            ssrc,
+            payload_type,
+            rtp_time,
+            marker,
+            payload,
+        } => Event::Telephone {
+            ssrc,
+            payload_type,
+            rtp_time,
+            marker,
+            payload,
+        },
+        Event::Report { packet } => Event::Report { packet },
+        Event::TransportFeedback { packet } => Event::TransportFeedback { packet },
+        Event::Ended {
+            ssrc,
+            payload_type,
+            why,
+        } => Event::Ended {
+            ssrc,
+            payload_type,
+            why,
+        },
     }
 }
 

@@ -14,7 +14,7 @@ use Rattle.codec_payload_session.specs.declared.formats.SessionSettings.{Session
 use Rattle.codec_payload_session.specs.declared.formats.SsrcPair.{SsrcPair}
 use Rattle.codec_payload_session.specs.declared.session.Arrival.{Arrival}
 use Rattle.codec_payload_session.specs.declared.session.Arrival.TheVariants as arrivals
-use Rattle.codec_payload_session.specs.declared.session.Event.{Event}
+use Rattle.codec_payload_session.specs.Units.{Event}
 use Rattle.codec_payload_session.specs.declared.session.SessionCounts.{SessionCounts}
 use Rattle.codec_payload_session_runs.specs.Counting.{Counts, answered_with, is_any, is_malformed, is_refused, is_rtcp, is_taken, is_unassociated, is_unknown, many, one_if}
 use Rattle.codec_payload_session_runs.specs.SessionRuns.{AddsPair, Call, Does, Runs}

@@ -11,7 +11,7 @@ use Rattle.codec_payload_session.specs.Ports.{ReportsIf, Session, ends_all, ends
 use Rattle.codec_payload_session.specs.Streams.{is_of}
 use Rattle.codec_payload_session.specs.declared.checks.SessionSettingsError.{SessionSettingsError}
 use Rattle.codec_payload_session.specs.declared.session.Arrival.{Arrival}
-use Rattle.codec_payload_session.specs.declared.session.Event.{Event}
+use Rattle.codec_payload_session.specs.Units.{Event}
 use Rattle.codec_payload_session_runs.specs.declared.run.NewRunError.{NewRunError}
 use Rattle.codec_payload_session_runs.specs.declared.run.NewRunError.TheVariants as refusals
 use Rattle.codec_payload_session_runs.specs.declared.run.SessionStep.{SessionStep}
