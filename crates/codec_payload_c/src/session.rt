@@ -352,13 +352,7 @@ fn hand_over(port: &mut PortSession, alloc: Global, event: &mut Event, bytes: &m
 
 /// Reports the next event, and writes its bytes to the output buffer: the event that waits for a larger output buffer, or the next
 /// one from the session.
-fn poll(
-    port: &mut PortSession,
-    alloc: Global,
-    now: u64,
-    event: &mut Event,
-    bytes: &mut [u8],
-) -> u32
+fn poll(port: &mut PortSession, alloc: Global, now: u64, event: &mut Event, bytes: &mut [u8]) -> u32
     ensures polls { PollsEvent now port.old result (record { event_before = event.old; event = event.new; before = bytes.old; bytes = bytes.new }) port.new }
     ensures untouched { result ≢ 0 → bytes.new ≡ bytes.old }
     ensures unchanged { result ≢ 0 → result ≢ 33 → event.new ≡ event.old }

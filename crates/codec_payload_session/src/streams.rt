@@ -306,12 +306,7 @@ impl Streams {
     }
 
     /// Returns the first step with an event. As long as the bound holds, only the stream that is excepted is asked.
-    fn step(
-        &mut self,
-        now: Ticks,
-        idle_timeout: u64,
-        unit: &mut PoppedUnit,
-    ) -> Option<Turn<()>>
+    fn step(&mut self, now: Ticks, idle_timeout: u64, unit: &mut PoppedUnit) -> Option<Turn<()>>
         ensures { StepsPort now idle_timeout self.old (turn_to result unit.new) self.new }
     {
         if self.waking.holds(now, idle_timeout) {
@@ -322,12 +317,7 @@ impl Streams {
     }
 
     /// Asks all streams in order, until one has an event. Without an event it is known until when they have none.
-    fn step_all(
-        &mut self,
-        now: Ticks,
-        idle_timeout: u64,
-        unit: &mut PoppedUnit,
-    ) -> Option<Turn<()>>
+    fn step_all(&mut self, now: Ticks, idle_timeout: u64, unit: &mut PoppedUnit) -> Option<Turn<()>>
         ensures { StepsPort now idle_timeout self.old (turn_to result unit.new) self.new }
     {
         self.waking = Waking::unknown();

@@ -3,7 +3,9 @@
 //! A session: the datagrams of one port.
 
 use crate::buffer::PoppedUnit;
+use crate::congestion::arrivals::quarters;
 use crate::error::PacketError;
+use crate::feedback::transport::{TransportReporter, quarters_at};
 use crate::jitter::jitter_buffer::WaitLimits;
 use crate::jitter::outcome::Outcome;
 use crate::memory::AllocError;
@@ -17,6 +19,7 @@ use crate::session::reports::SenderClock;
 use crate::session::stream::{Ending, StreamInfo, earlier};
 use crate::session::streams::{Streams, Who, place_of};
 use crate::session::telephone::TelephoneQueue;
+use crate::session::transport::{note, reporter_for, restart, take_due, transport_deadline};
 use crate::session::waking::due_in;
 use crate::stream::parsed::ParsedDatagram;
 use crate::stream::receiver::{ReceiveError, Receiver};
@@ -132,6 +135,16 @@ pub enum Event<U = PoppedUnit> {
     ///
     /// [`FeedbackSettings::report_interval`]: crate::session::formats::FeedbackSettings::report_interval
     Report { packet: Result<Vec<u8>, AllocError> },
+    /// A packet of RTCP for the peer, which `packet` returns: transport-wide feedback, which says when each packet of the transport
+    /// arrived since the last one, or that it is missing (draft-holmer-rmcat-transport-wide-cc-extensions-01, section 3.1). Send it:
+    /// its arrivals count as reported. If memory ran out, nothing has changed, and the next poll tries again.
+    ///
+    /// It comes each [`TransportSettings::interval`] while packets arrive, in parts if it is larger than
+    /// [`TransportSettings::size`]. With `has_report` of the feedback's settings it follows an empty receiver report and the name.
+    ///
+    /// [`TransportSettings::interval`]: crate::feedback::transport::TransportSettings::interval
+    /// [`TransportSettings::size`]: crate::feedback::transport::TransportSettings::size
+    TransportFeedback { packet: Result<Vec<u8>, AllocError> },
     /// A stream was removed. This is the last event of the stream.
     Ended {
         ssrc: u32,
@@ -181,6 +194,8 @@ pub struct Session {
     telephone: TelephoneQueue,
     /// When the next report is due. `None`: no report is planned.
     report_due: Option<u64>,
+    /// What arrived on the transport. `None`: it is not reported.
+    transport: Option<TransportReporter>,
 }
 
 impl Session {
@@ -194,6 +209,7 @@ impl Session {
         match settings.fault() {
             Some(fault) => Err(fault),
             None => Ok(Session {
+                transport: reporter_for(&settings),
                 settings,
                 streams: Streams::none(),
                 counts: ArrivalCounts::none(),
@@ -223,15 +239,50 @@ impl Session {
     /// A packet of telephone events beside audio (`telephone_events` of the settings) is one without media, and waits for a poll
     /// once a stream took it ([`Event::Telephone`]). At most 32 of them wait; further ones are dropped and counted.
     ///
+    /// With `transport` of the settings the session also records when each RTP packet arrived that has a transport-wide number, whatever
+    /// is done with it: media, retransmissions, padding, unknown types, repetitions ([`Event::TransportFeedback`]). The time has the
+    /// resolution of your ticks; [`Session::receive_at`] takes a finer one.
+    ///
     /// # Errors
     ///
-    /// Out of memory: the datagram is not counted; you can pass it again. A pair may have been added.
+    /// Out of memory: the datagram is not counted; you can pass it again. A pair may have been added, and the arrival may be recorded for
+    /// the transport; the first time counts.
     ///
     /// [`Receiver::receive`]: crate::stream::receiver::Receiver::receive
     /// [`StreamInfo::sender_clock`]: crate::session::stream::StreamInfo::sender_clock
     /// [`Ending::Changed`]: crate::session::stream::Ending::Changed
     pub fn receive(&mut self, now: Ticks, datagram: &[u8]) -> Result<Arrival, AllocError> {
-        self.receive_parsed(now, &ParsedDatagram::parse(datagram))
+        let time = quarters_at(now, self.settings.tick_rate);
+        self.receive_timed(now, time, datagram)
+    }
+
+    /// Does what [`Session::receive`] does for a datagram that arrived at `micros`, in microseconds of any clock: the time stamp of your
+    /// socket, say. Feedback about the transport then reports this time instead of `now`. All else goes by `now`. Congestion control
+    /// estimates by differences of a millisecond, so a browser sends more if the times are finer than your ticks. Use one of the two
+    /// calls for all datagrams.
+    ///
+    /// # Errors
+    ///
+    /// Those of [`Session::receive`].
+    pub fn receive_at(
+        &mut self,
+        now: Ticks,
+        micros: u64,
+        datagram: &[u8],
+    ) -> Result<Arrival, AllocError> {
+        self.receive_timed(now, quarters(micros), datagram)
+    }
+
+    /// Receives a datagram that arrived on the transport at `time`, in quarters of a millisecond modulo 2^32.
+    fn receive_timed(
+        &mut self,
+        now: Ticks,
+        time: u32,
+        datagram: &[u8],
+    ) -> Result<Arrival, AllocError> {
+        let datagram = ParsedDatagram::parse(datagram);
+        note(&mut self.transport, time, &datagram)?;
+        self.receive_parsed(now, &datagram)
     }
 
     /// Receives a datagram that was read. No later step reads it again.
@@ -261,6 +312,9 @@ impl Session {
     /// that has no more events of the first streams, and each later one an interval after the previous one was sent. Once all
     /// announced streams have ended, it begins so again. A report costs one step for each pair of streams.
     ///
+    /// With `transport` of the settings a poll without another event returns the feedback about what arrived, if it is due
+    /// (`TransportFeedback`): the first one at once, each later one an interval after the previous one, if something arrived since.
+    ///
     /// If a poll returns `None` and no packet left a stream in it, no poll before [`Session::next_deadline`] has an event, until
     /// the next call of another kind. The one exception is a request for which memory runs out. A poll without an event in which
     /// packets left has skipped frames or dropped units: the next poll can have an event at any time.
@@ -281,8 +335,22 @@ impl Session {
     pub fn poll_into(&mut self, now: Ticks, unit: &mut PoppedUnit) -> Option<Event<()>> {
         match self.telephone.take() {
             Some(event) => Some(event),
-            None => self.turn(now, unit),
+            None => self.turn_or_feedback(now, unit),
         }
+    }
+
+    /// Returns the next event of the streams or the report, or else the feedback about the transport, if it is due.
+    fn turn_or_feedback(&mut self, now: Ticks, unit: &mut PoppedUnit) -> Option<Event<()>> {
+        match self.turn(now, unit) {
+            Some(event) => Some(event),
+            None => self.send_transport(now),
+        }
+    }
+
+    /// Returns the feedback about the transport, if it is due.
+    fn send_transport(&mut self, now: Ticks) -> Option<Event<()>> {
+        let packet = take_due(&mut self.transport, &self.settings.feedback, now);
+        transport_event(packet)
     }
 
     /// Returns the next event of the streams, or else the report about them, if one is due.
@@ -302,20 +370,28 @@ impl Session {
     }
 
     /// Returns when a poll may have an event without a datagram: `Ticks(0)` while telephone events wait, else the time of a
-    /// stream, or of the next report if a stream is announced. `None`: there is no such time. The cost is one step for each
+    /// stream, of the next report if a stream is announced, or of the next feedback about the transport. `None`: there is no such time. The cost is one step for each
     /// stream.
     pub fn next_deadline(&self) -> Option<Ticks> {
         if !self.telephone.is_empty() {
             return Some(Ticks(0));
         }
         let streams = due_in(&self.streams.list, self.settings.idle_timeout);
+        let report = report_deadline(&self.streams.list, self.report_due);
         match earlier(
-            streams,
-            report_deadline(&self.streams.list, self.report_due),
+            earlier(streams, report),
+            transport_deadline(&self.transport),
         ) {
             Some(at) => Some(Ticks(at)),
             None => None,
         }
+    }
+
+    /// Forgets which packets of the transport arrived. Call it if another peer takes over the transport, or the peer counts anew: without
+    /// this call, numbers behind the last 2,048 (`window`) are ignored until they pass the highest one, up to 32,768 packets later.
+    /// Without `transport` of the settings nothing changes.
+    pub fn restart_transport(&mut self) {
+        restart(&mut self.transport);
     }
 
     /// Ends the streams of this SSRC: polls return the units that are complete, and then `Ended`.
@@ -352,6 +428,19 @@ impl Session {
     pub fn report(&mut self, now: Ticks, ssrc: u32, payload_type: u8) -> Option<ReportBlock> {
         self.streams
             .report(now, self.settings.tick_rate, (ssrc, payload_type))
+    }
+
+    /// Returns the block that [`Session::report`] would return now, and changes nothing: the next block starts its fraction where it
+    /// would have. For those who look at jitter and losses beside the reports that the session sends
+    /// ([`FeedbackSettings::report_interval`]). The round trip is in [`StreamInfo::round_trip`]. Allocates nothing.
+    ///
+    /// [`FeedbackSettings::report_interval`]: crate::session::formats::FeedbackSettings::report_interval
+    /// [`StreamInfo::round_trip`]: crate::session::stream::StreamInfo::round_trip
+    pub fn peek_report(&self, now: Ticks, ssrc: u32, payload_type: u8) -> Option<ReportBlock> {
+        match place_of(&self.streams.list, ssrc, payload_type) {
+            Some(place) => self.streams.list[place].peek_report(now, self.settings.tick_rate),
+            None => None,
+        }
     }
 
     /// Returns what the latest sender report about the stream with this SSRC and payload type says. `None`: there is no such
@@ -454,6 +543,14 @@ fn report_event(packet: Option<Result<Vec<u8>, AllocError>>) -> Option<Event<()>
     }
 }
 
+/// Returns the event of a feedback about the transport, if there is one.
+fn transport_event(packet: Option<Result<Vec<u8>, AllocError>>) -> Option<Event<()>> {
+    match packet {
+        Some(packet) => Some(Event::TransportFeedback { packet }),
+        None => None,
+    }
+}
+
 /// Returns an event with its unit, if it has one.
 fn with_unit(event: Event<()>, unit: PoppedUnit) -> Event {
     match event {
@@ -515,6 +612,7 @@ fn with_unit(event: Event<()>, unit: PoppedUnit) -> Event {
             payload,
         },
         Event::Report { packet } => Event::Report { packet },
+        Event::TransportFeedback { packet } => Event::TransportFeedback { packet },
         Event::Ended {
             ssrc,
             payload_type,
