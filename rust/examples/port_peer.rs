@@ -111,7 +111,8 @@ fn receive_all(peer: &mut Peer, socket: &UdpSocket, clock: &Clock) -> Result<boo
             Ok(0) => return Ok(false),
             Ok(size) => {
                 let micros = peer.start.elapsed().as_micros() as u64;
-                peer.session.receive_at(clock.now(), micros, &datagram[..size])?;
+                peer.session
+                    .receive_at(clock.now(), micros, &datagram[..size])?;
             }
             Err(why) if matches!(why.kind(), ErrorKind::WouldBlock | ErrorKind::TimedOut) => {
                 return Ok(true);

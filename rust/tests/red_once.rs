@@ -257,7 +257,11 @@ impl Confirmed {
 type Frame = (u8, u32);
 
 /// A sender restarts elsewhere, and the packet that confirms it has no media. Then this payload arrives.
-fn after_a_restart(confirmed: Confirmed, time: u32, payload: &[u8]) -> Result<Vec<u8>, Box<dyn Error>> {
+fn after_a_restart(
+    confirmed: Confirmed,
+    time: u32,
+    payload: &[u8],
+) -> Result<Vec<u8>, Box<dyn Error>> {
     let former: [Frame; 3] = [(1, 0), (2, STEP), (3, 2 * STEP)];
     let mut red = red_sender(&[1]);
     let mut receiver = receiver()?;
@@ -287,15 +291,27 @@ fn times_of_the_former_sender_are_forgotten() -> Result<(), Box<dyn Error>> {
         // The packet has the time of the former sender's block.
         let mut red = red_sender(&[1]);
         let alone = red.wrap(vec![9; 9], STEP, 1_200)?;
-        assert_eq!(after_a_restart(confirmed, STEP, &alone)?, [9], "{confirmed:?}");
+        assert_eq!(
+            after_a_restart(confirmed, STEP, &alone)?,
+            [9],
+            "{confirmed:?}"
+        );
         // Its block has the time of the former sender's first packet.
         let mut red = red_sender(&[1]);
         red.wrap(vec![8; 9], 0, 1_200)?;
         let with_block = red.wrap(vec![9; 9], STEP, 1_200)?;
-        assert_eq!(after_a_restart(confirmed, STEP, &with_block)?, [8, 9], "{confirmed:?}");
+        assert_eq!(
+            after_a_restart(confirmed, STEP, &with_block)?,
+            [8, 9],
+            "{confirmed:?}"
+        );
         // A time that the former sender did not have: nothing was dropped before, either.
         let other = red_sender(&[1]).wrap(vec![9; 9], 5 * STEP, 1_200)?;
-        assert_eq!(after_a_restart(confirmed, 5 * STEP, &other)?, [9], "{confirmed:?}");
+        assert_eq!(
+            after_a_restart(confirmed, 5 * STEP, &other)?,
+            [9],
+            "{confirmed:?}"
+        );
     }
     Ok(())
 }

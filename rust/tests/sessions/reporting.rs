@@ -390,6 +390,9 @@ fn looking_at_a_block_changes_nothing() -> Result<(), Fail> {
     let looked = look(&session, 1_600);
     assert_eq!(session.report(Ticks(1_600), 5, OPUS), looked);
     // 2 are expected since then, 1 is lost.
-    assert_eq!(looked.map(|block| (block.fraction_lost, block.cumulative_lost)), Some((128, 3)));
+    assert_eq!(
+        looked.map(|block| (block.fraction_lost, block.cumulative_lost)),
+        Some((128, 3))
+    );
     Ok(())
 }

@@ -329,9 +329,16 @@ fn reports_begin_again_at_a_restart_within_the_windows() -> Result<(), Fail> {
             // Of the next four one is lost: 256 / 4.
             for place in [300, 302, 303_u16] {
                 let time = 960 * u32::from(place) + offset;
-                session.receive(Ticks(now + 20 * u64::from(place - 300)), &opus_at(begin + place, time))?;
+                session.receive(
+                    Ticks(now + 20 * u64::from(place - 300)),
+                    &opus_at(begin + place, time),
+                )?;
             }
-            assert_eq!(told(&mut session, now + 80), (64, 1, highest + 4, 0), "{back}");
+            assert_eq!(
+                told(&mut session, now + 80),
+                (64, 1, highest + 4, 0),
+                "{back}"
+            );
         }
     }
     Ok(())

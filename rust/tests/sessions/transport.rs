@@ -110,7 +110,10 @@ fn a_late_packet_is_reported() -> Result<(), Fail> {
     let mut session = session(|_, _| {});
     session.receive(Ticks(10), &numbered(6, &opus(9, 1)))?;
     session.receive(Ticks(11), &numbered(8, &opus(9, 3)))?;
-    assert_eq!(statuses(&mut session, 20)?, [(6, vec![at(10), None, at(11)])]);
+    assert_eq!(
+        statuses(&mut session, 20)?,
+        [(6, vec![at(10), None, at(11)])]
+    );
     session.receive(Ticks(30), &numbered(7, &opus(9, 2)))?;
     // A repetition: its first time counts, and it is not reported again.
     session.receive(Ticks(31), &numbered(6, &opus(9, 1)))?;
@@ -121,7 +124,9 @@ fn a_late_packet_is_reported() -> Result<(), Fail> {
 
 /// When a stream has an event: the feedback is not among the causes.
 fn session_deadline(session: &Session) -> Option<Ticks> {
-    session.next_deadline().filter(|deadline| deadline.0 >= 30_000)
+    session
+        .next_deadline()
+        .filter(|deadline| deadline.0 >= 30_000)
 }
 
 /// The network carried each of them, so each counts, whatever the session does with it.
@@ -269,20 +274,31 @@ fn settings_of_a_transport_have_faults() {
     assert_eq!(fault(255, 32_768), None);
     assert_eq!(fault(0, 0), Some(SessionSettingsError::TransportId));
     assert_eq!(fault(1, 0), Some(SessionSettingsError::TransportWindow));
-    assert_eq!(fault(1, 32_769), Some(SessionSettingsError::TransportWindow));
+    assert_eq!(
+        fault(1, 32_769),
+        Some(SessionSettingsError::TransportWindow)
+    );
 }
 
 /// The settings are those of the description: the id of `a=extmap`, if a format has `transport-cc`.
 #[test]
 fn descriptions_set_the_transport() -> Result<(), Fail> {
-    const MAP: &str = "a=extmap:7 http://www.ietf.org/id/draft-holmer-rmcat-transport-wide-cc-extensions-01\r\n";
+    const MAP: &str =
+        "a=extmap:7 http://www.ietf.org/id/draft-holmer-rmcat-transport-wide-cc-extensions-01\r\n";
     const WANTS: &str = "a=rtcp-fb:96 transport-cc\r\n";
     let found = |lines: &str| -> Result<_, Fail> {
-        let text = format!("v=0\r\nm=video 9 UDP/TLS/RTP/SAVPF 96\r\na=rtpmap:96 VP8/90000\r\n{lines}");
+        let text =
+            format!("v=0\r\nm=video 9 UDP/TLS/RTP/SAVPF 96\r\na=rtpmap:96 VP8/90000\r\n{lines}");
         Ok(sdp::session_settings(&sdp::read(&text)?)?.transport)
     };
-    assert_eq!(found(&format!("{MAP}{WANTS}"))?, Some(TransportSettings::live(7)));
-    assert_eq!(found(&format!("{MAP}a=rtcp-fb:* transport-cc\r\n"))?, Some(TransportSettings::live(7)));
+    assert_eq!(
+        found(&format!("{MAP}{WANTS}"))?,
+        Some(TransportSettings::live(7))
+    );
+    assert_eq!(
+        found(&format!("{MAP}a=rtcp-fb:* transport-cc\r\n"))?,
+        Some(TransportSettings::live(7))
+    );
     assert_eq!(found(MAP)?, None);
     assert_eq!(found(WANTS)?, None);
     Ok(())
