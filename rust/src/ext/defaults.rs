@@ -2,6 +2,7 @@
 
 use crate::av1::Av1Depacketizer;
 use crate::buffer::{PoppedPackets, PoppedUnit};
+use crate::forward::Vp8Ids;
 use crate::jitter::SequenceNumbers;
 use crate::vp9::Vp9Depacketizer;
 
@@ -32,5 +33,11 @@ impl Default for PoppedUnit {
 impl Default for PoppedPackets {
     fn default() -> Self {
         PoppedPackets::new()
+    }
+}
+
+impl Default for Vp8Ids {
+    fn default() -> Self {
+        Vp8Ids::new()
     }
 }
