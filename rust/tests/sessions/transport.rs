@@ -59,8 +59,11 @@ fn feedback(session: &mut Session, now: u64) -> Result<Vec<(u32, TransportFeedba
     Ok(all)
 }
 
+/// The first number of a feedback, and the time of each number, or none.
+type Statuses = (u16, Vec<Option<u32>>);
+
 /// The first number and the statuses of each feedback at a time.
-fn statuses(session: &mut Session, now: u64) -> Result<Vec<(u16, Vec<Option<u32>>)>, Fail> {
+fn statuses(session: &mut Session, now: u64) -> Result<Vec<Statuses>, Fail> {
     let all = feedback(session, now)?.into_iter();
     Ok(all.map(|(_, it)| (it.base, it.statuses)).collect())
 }
