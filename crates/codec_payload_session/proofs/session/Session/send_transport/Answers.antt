@@ -1,18 +1,16 @@
-use Rattle.std.proofs.Common.{rules, ◌≡◌, ◌<◌, ◌≤◌, IfSome, Option, length, slice_get, OnErr, OnOk, ℕ, ◌+◌, ◌-◌, ◌*◌, ◌/◌, ◌%◌, Bool, true, false, nat_eq, nat_lt, List, [], ◌∷◌, ◌++◌, slice_index_or, slice_set, bit_and, bit_or, Fits, w8, w32, w64, Bor, MutBor}
-use Rattle.std.specs.List.{position}
-use Rattle.std.specs.Option.{option_map}
-use Rattle.codec_payload_session.specs.Arrivals.{Port}
-use Rattle.codec_payload_session.specs.Accepting.{Accepts, time_for}
-use Rattle.codec_payload_session.specs.Associations.{Associates}
-use Rattle.codec_payload_session.specs.Checks.{fault_of}
-use Rattle.codec_payload_session.specs.Idle.{IsIdle, held_in, next_of}
-use Rattle.codec_payload_session.specs.Ports.{IsSum, MatchInfo, ReportsIf, counted, counted_if, ends_all, ends_of, made_of, no_counts, receiver_among, restarts_transport, taken_in, told_counts, waits_of}
-use Rattle.codec_payload_session.specs.Reports.{clock_among}
-use Rattle.codec_payload_session.specs.Polls.{Polls, SendsReport, SendsTransport, TurnsOrReports, TurnsOrSends, report_event, transport_event}
-use Rattle.codec_payload_session.specs.Streams.{is_of}
-use Rattle.codec_payload_session.specs.Pairs.{Pairs, with_pair, without_pair}
+use Rattle.std.proofs.Common.{refl, subst}
+use Rattle.codec_payload_session.specs.Polls.{SendsTransport}
+use Rattle.codec_payload_session.specs.Ports.{Session}
 use Rattle.codec_payload_session.proofs.session.Session.send_transport.Goals as goal
 
--- src/session.rt:379:5
 pub returns : goal.returns
-returns c = ?
+returns c =
+    let t : Session = record { settings = c.self.inside.settings; port = c.self.inside.streams; counts = c.self.inside.counts; telephone = c.self.inside.telephone; report_due = c.self.inside.report_due; transport = c.take_due-packet.new.transport } in
+    subst (λ (s : Session). SendsTransport c.args.now.0 s c.transport_event.result t) c.self.view_is
+    (record {
+      packet = c.take_due-packet.result;
+      transport = c.take_due-packet.new.transport;
+      sends = c.take_due-packet.ensures;
+      answers = c.transport_event.ensures;
+      left = refl;
+    })
