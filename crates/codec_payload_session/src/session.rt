@@ -24,7 +24,7 @@ use crate::reports::SenderClock;
 use crate::stream::{Ending, StreamInfo, earlier};
 use crate::streams::{Streams, Who, place_of};
 use crate::telephone::TelephoneQueue;
-use crate::transport::{note, reporter_for, restart, take_due, transport_deadline};
+use crate::transport::{note, reporter_for, restart, transport_deadline};
 use crate::waking::due_in;
 use codec_payload_base::error::PacketError;
 use codec_payload_base::wire::Ticks;
@@ -403,12 +403,9 @@ impl Session {
     fn send_transport(&mut self, now: Ticks) -> Option<Event<()>>
         ensures { SendsTransport now.0 self.old result self.new }
     {
-        let packet = take_due(
-            self.streams.alloc,
-            &mut self.transport,
-            &self.settings.feedback,
-            now,
-        );
+        let packet = self
+            .streams
+            .transport_due(&self.settings, now, &mut self.transport);
         transport_event(packet)
     }
 

@@ -9,6 +9,7 @@ ghost use Rattle.codec_payload_session.specs.Transports.{Sends, SendsBy, is_tran
 
 use crate::formats::{FeedbackSettings, SessionSettings};
 use crate::requests::source_for;
+use crate::streams::Streams;
 use codec_payload_base::wire::Ticks;
 use codec_payload_feedback::transport::TransportReporter;
 use codec_payload_stream::parsed::ParsedDatagram;
@@ -72,8 +73,22 @@ pub(crate) fn transport_deadline(transport: &Option<TransportReporter>) -> Optio
     }
 }
 
+impl Streams {
+    /// Returns the feedback about the transport, if it is due.
+    pub(crate) fn transport_due(
+        &self,
+        settings: &SessionSettings,
+        now: Ticks,
+        transport: &mut Option<TransportReporter>,
+    ) -> Option<Result<Vec<u8>, AllocError>>
+        ensures { SendsBy settings.now.feedback now.0 transport.old result transport.new }
+    {
+        take_due(self.alloc, transport, &settings.feedback, now)
+    }
+}
+
 /// Returns the feedback that is due, as a packet of this sender. If memory runs out, nothing changes, and it stays due.
-pub(crate) fn take_due(
+fn take_due(
     alloc: Global,
     transport: &mut Option<TransportReporter>,
     feedback: &Option<FeedbackSettings>,

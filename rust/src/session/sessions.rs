@@ -19,7 +19,7 @@ use crate::session::reports::SenderClock;
 use crate::session::stream::{Ending, StreamInfo, earlier};
 use crate::session::streams::{Streams, Who, place_of};
 use crate::session::telephone::TelephoneQueue;
-use crate::session::transport::{note, reporter_for, restart, take_due, transport_deadline};
+use crate::session::transport::{note, reporter_for, restart, transport_deadline};
 use crate::session::waking::due_in;
 use crate::stream::parsed::ParsedDatagram;
 use crate::stream::receiver::{ReceiveError, Receiver};
@@ -349,7 +349,9 @@ impl Session {
 
     /// Returns the feedback about the transport, if it is due.
     fn send_transport(&mut self, now: Ticks) -> Option<Event<()>> {
-        let packet = take_due(&mut self.transport, &self.settings.feedback, now);
+        let packet = self
+            .streams
+            .transport_due(&self.settings, now, &mut self.transport);
         transport_event(packet)
     }
 

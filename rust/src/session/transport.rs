@@ -6,6 +6,7 @@ use crate::feedback::transport::TransportReporter;
 use crate::memory::AllocError;
 use crate::session::formats::{FeedbackSettings, SessionSettings};
 use crate::session::requests::source_for;
+use crate::session::streams::Streams;
 use crate::stream::parsed::ParsedDatagram;
 use crate::wire::Ticks;
 use alloc::vec::Vec;
@@ -57,8 +58,20 @@ pub(crate) fn transport_deadline(transport: &Option<TransportReporter>) -> Optio
     }
 }
 
+impl Streams {
+    /// Returns the feedback about the transport, if it is due.
+    pub(crate) fn transport_due(
+        &self,
+        settings: &SessionSettings,
+        now: Ticks,
+        transport: &mut Option<TransportReporter>,
+    ) -> Option<Result<Vec<u8>, AllocError>> {
+        take_due(transport, &settings.feedback, now)
+    }
+}
+
 /// Returns the feedback that is due, as a packet of this sender. If memory runs out, nothing changes, and it stays due.
-pub(crate) fn take_due(
+fn take_due(
     transport: &mut Option<TransportReporter>,
     feedback: &Option<FeedbackSettings>,
     now: Ticks,
