@@ -136,6 +136,12 @@ from_packets : (n : ℕ) (ds : List (List ℕ)) → From n ds → All IsPacket d
 from_packets n ds from k d within =
     packet_of (get_or ds k d) ((n + k) % 65536) (from_at n k ds (get_or ds k d) from (slice_get-get_or ds k d within))
 
+-- no step loses a datagram
+pub none_lost : (samples : List Sample) (step : DatagramStep) (s t : Wire) → DoesStep samples step s t → length s.datagrams ≤ length t.datagrams
+none_lost samples step s t does =
+    let g = grows samples step s t does in
+    omega (arith, ap length g.whole, length-append s.datagrams g.new)
+
 -- what a step sends are packets
 pub packets_sent : (samples : List Sample) (step : DatagramStep) (s t : Wire) → DoesStep samples step s t → All IsPacket (sent_since s t)
 packets_sent samples step s t does =

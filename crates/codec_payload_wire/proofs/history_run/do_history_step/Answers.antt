@@ -1,4 +1,4 @@
-use Rattle.std.proofs.Common.{◌≡◌, ◌∙◌, ◌++◌, ◌∷◌, [], ℕ, List, ◌-◌, ap, inl, inr, length, take, drop, option_map, refl, rules, sym, subst, arith, OnOk, OnErr}
+use Rattle.std.proofs.Common.{◌≡◌, ◌≤◌, ◌∙◌, ◌++◌, ◌∷◌, [], ℕ, List, ◌-◌, ap, inl, inr, length, take, drop, option_map, refl, rules, sym, subst, arith, OnOk, OnErr}
 use Rattle.std.specs.Global.{Vec}
 use Rattle.std.specs.Prelude.{All, map, slice_get}
 use Rattle.std.proofs.lemmas.List.{drop-map, length-drop, length-map, take_all}
@@ -6,7 +6,7 @@ use Rattle.std.proofs.lemmas.Option.{slice_get-map, slice_get_past, slice_get_re
 use Rattle.codec_payload_codec.proofs.AnswerLemmas.{from_err, on_err, on_ok}
 use Rattle.codec_payload_jitter.proofs.OwnLemmas.{stores_none}
 use Rattle.codec_payload_send.specs.Sending.{sample_of}
-use Rattle.codec_payload_wire.proofs.RepeatLemmas.{packets_sent}
+use Rattle.codec_payload_wire.proofs.RepeatLemmas.{none_lost, packets_sent}
 use Rattle.codec_payload_wire.specs.HistoryRuns.{IsPacket, KeepsAll, KeepsSome}
 use Rattle.codec_payload_wire.specs.WireRuns.{Wire, bytes_in, wire_of}
 use Rattle.codec_payload_wire.proofs.history_run.do_history_step.Goals as goal
@@ -25,6 +25,17 @@ since old new slice sent count is =
     ∙ ap bytes_in (sym (take_all (length slice - sent) (drop sent slice) (omega (arith, length-drop sent slice))))))
 
 -- A step of the run without a history
+
+pub slice_bounds-keep_all-count : goal.slice_bounds-keep_all-count
+slice_bounds-keep_all-count g c =
+    let before : Wire = wire_of c.args.link.now.sender c.args.link.now.receiver c.args.run.now.run in
+    let after : Wire = wire_of c.do_step.new.sender c.do_step.new.receiver c.do_step.new.run in
+    let count : c.len-sent.result ≡ length c.args.run.now.run.datagrams.items = omega (arith, c.len-sent.ensures, c.args.run.now.run.datagrams.ok.0) in
+    let grown : length before.datagrams ≤ length after.datagrams = none_lost (map sample_of c.args.samples.now) c.in-Plain.step before after c.in_ok-do_step-in-Plain.ensures.ok in
+    omega (arith, count, grown, length-map c.args.run.now.run.datagrams.items bytes_of, length-map c.do_step.new.run.datagrams.items bytes_of, ap length c.deref.ensures.value)
+
+pub slice_bounds-keep_all-start : goal.slice_bounds-keep_all-start
+slice_bounds-keep_all-start g c = let most = slice_bounds-keep_all-count g c in search (rules, most)
 
 pub keep_all-requires : goal.keep_all-requires
 keep_all-requires g c =
