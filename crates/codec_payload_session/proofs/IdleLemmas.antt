@@ -445,7 +445,7 @@ polled_turn None now s t port empty turn got = polled_report now s t port empty 
 polled_turn (Some event) now s t port empty turn got = absurd (some_event event got.0)
 
 -- the feedback about the transport changes nothing else
-sent_after : (now : Ticks) (s after t : Session) → Polled now s after → SendsTransport now.0 after None t → Polled now s t
+sent_after : (now : Ticks) (s after t : Session) → Polled now s after → SendsTransport {U = Release} now.0 after None t → Polled now s t
 sent_after now s after t it got = record {
   quiet = subst (λ (x : Session). AreQuiet now s.settings.idle_timeout s.port.streams x.port.streams) (sym got.left) it.quiet;
   settings = ap (λ (x : Session). x.settings) got.left ∙ it.settings;
