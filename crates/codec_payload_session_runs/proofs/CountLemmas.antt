@@ -43,7 +43,7 @@ up m n k is more = omega arith
 same : (m n k : ℕ) → m ≡ n % 2 ^ 64 → k ≡ n + 0 → m ≡ k % 2 ^ 64
 same m n k is more = omega arith
 
-abbrev receive_call : Ticks → Vec ℕ → Result Arrival AllocError → Call
+abbrev receive_call : Ticks → Option ℕ → Vec ℕ → Result Arrival AllocError → Call
 receive_call now micros datagram answer = record { step = calls.Receive now micros datagram; answer = answers.Received answer }
 
 abbrev Totals : List Call → Type 0

@@ -168,7 +168,7 @@ takes_heard now datagram probation x told y got =
     (unless_heard (is_no_memory told) now probation (is_accepted told) x.ssrc x.format x.told x.stage got.0 (received now.0 datagram.items (is_accepted told) got.0 x)
     (received_heard (is_accepted told) now datagram got.0 x))
 
-abbrev pub call_of : Ticks → Vec ℕ → Result Arrival AllocError → Call
+abbrev pub call_of : Ticks → Option ℕ → Vec ℕ → Result Arrival AllocError → Call
 call_of now micros datagram answer = record { step = calls.Receive now micros datagram; answer = answers.Received answer }
 
 -- the datagram that an arrival gives to its stream
