@@ -27,7 +27,7 @@ use codec_payload_jitter::outcome::Outcome;
 use codec_payload_session::session::{Arrival as Arrived, Event as SessionEvent};
 use codec_payload_session::stream::Ending;
 use codec_payload_stream::receiver::ReceiveError;
-use std::alloc::Global;
+use std::alloc::{AllocError, Global};
 
 /// What a session did with a datagram.
 #[repr(C)]

@@ -83,7 +83,8 @@ impl EventSlot {
         ensures moved { taken.new ≡ latest_packets self.old taken.old }
         ensures empty { self.new ≡ None }
     {
-        if let Some(Event::Unit { unit: Ok(()), .. }) = &self.event {
+        let event = self.event.take();
+        if let Some(Event::Unit { unit: Ok(()), .. }) = &event {
             taken.take_from(&mut self.unit);
         }
         self.clear(alloc);
