@@ -100,7 +100,7 @@ static bool forward(sfu *it, uint64_t now, const uint8_t *packet, size_t size) {
     return did == CPAY_FORWARDED_BEGAN;
 }
 
-/* A datagram of the publisher. */
+/* A datagram of the publisher. The SSRCs of its layers are those of the session description. */
 static void receive(sfu *it, uint64_t now, const uint8_t *datagram, size_t size) {
     uint8_t bytes[ROOM];
     static cpay_arrival arrival;
@@ -108,11 +108,13 @@ static void receive(sfu *it, uint64_t now, const uint8_t *datagram, size_t size)
     cpay_kept_once seen = CPAY_KEPT_KNOWN;
     cpay_resent found = CPAY_RESENT_NOT_KEPT;
     check(cpay_session_receive(&it->session, now, datagram, size, &arrival), "receive");
-    if (arrival.kind != CPAY_ARRIVAL_STREAM || arrival.status || cpay_rtp_read(datagram, size, &packet)) return;
-    bool repeats = packet.payload_type != arrival.payload_type; /* a retransmission */
-    if (repeats && cpay_rtx_original(arrival.ssrc, arrival.payload_type, datagram, size, bytes, ROOM, &size)) return;
+    if (cpay_is_rtcp(datagram, size) || cpay_rtp_read(datagram, size, &packet)) return;
+    uint32_t ssrc = packet.ssrc % RTX_SSRC;
+    bool repeats = packet.payload_type == RTX;
+    if (ssrc < 1 || ssrc > LAYERS) return;
+    if (repeats && cpay_rtx_original(ssrc, VP8, datagram, size, bytes, ROOM, &size)) return; /* padding alone: a probe */
     const uint8_t *it_is = repeats ? bytes : datagram;
-    cpay_history *store = &it->stores[arrival.ssrc - 1];
+    cpay_history *store = &it->stores[ssrc - 1];
     check(cpay_history_keep_once(store, it_is, size, &seen), "keep");
     if (seen != CPAY_KEPT_NEW || !forward(it, now, it_is, size)) return;
     for (uint16_t step = 1; step < 64; step++) { /* packets of the keyframe that came before its first one */

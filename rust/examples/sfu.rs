@@ -18,11 +18,11 @@ use codec_payload::forward::{ForwardSettings, Forwarded, Forwarder};
 use codec_payload::history::{KeptOnce, OriginalStream, Request, Resent, RetransmissionStream};
 use codec_payload::keyframes::FromKeyframe;
 use codec_payload::rtcp::{CompoundRule, PictureLoss};
-use codec_payload::rtp::RtpPacket;
+use codec_payload::rtp::{RtpPacket, is_rtcp};
 use codec_payload::{
-    Arrival, Codec, CodecPacketizer, CodecSpec, Event, ExtensionValues, FeedbackSettings, Format,
-    Frequency, History, HistorySettings, MediaTime, Sample, Sender, SenderSettings, Session,
-    SessionSettings, SsrcPair, Ticks, Vp8Packetizer, read_requests,
+    Codec, CodecPacketizer, CodecSpec, Event, ExtensionValues, FeedbackSettings, Format, Frequency,
+    History, HistorySettings, MediaTime, Sample, Sender, SenderSettings, Session, SessionSettings,
+    SsrcPair, Ticks, Vp8Packetizer, read_requests,
 };
 use std::collections::VecDeque;
 use std::error::Error;
@@ -134,14 +134,19 @@ impl Sfu {
         Ok(did == Forwarded::Began)
     }
 
-    /// A datagram of the publisher.
+    /// A datagram of the publisher. The SSRCs of its layers are those of the session description.
     fn receive(&mut self, now: u64, datagram: &[u8]) -> Done {
-        let Arrival::Stream { ssrc, .. } = self.session.receive(Ticks(now), datagram)? else {
+        self.session.receive(Ticks(now), datagram)?;
+        let (Ok(packet), false) = (RtpPacket::parse(datagram), is_rtcp(datagram)) else {
             return Ok(());
         };
-        let (store, mut bytes) = (ssrc as usize - 1, datagram.to_vec());
-        if RtpPacket::parse(datagram)?.header.payload_type == RTX {
-            layer_stream(ssrc).write(datagram, &mut bytes)?; // the packet that it repeats
+        let (ssrc, mut bytes) = (packet.header.ssrc % RTX_SSRC, datagram.to_vec());
+        let Some(store) = (ssrc as usize).checked_sub(1).filter(|it| *it < 2) else {
+            return Ok(());
+        };
+        let repeats = packet.header.payload_type == RTX;
+        if repeats && layer_stream(ssrc).write(datagram, &mut bytes).is_err() {
+            return Ok(()); // padding alone, which probes the bandwidth
         }
         let is_new = self.stores[store].keep_once(&bytes)? == KeptOnce::New;
         let first = RtpPacket::parse(&bytes)?.header.sequence_number;
