@@ -567,6 +567,15 @@ cpay_status cpay_session_receive(cpay_session *session, uint64_t now, const uint
                                        arrival);
 }
 
+cpay_status proved_cpay_session_receive_at(cpay_handle *session, uint64_t now, uint64_t micros, const uint8_t *datagram,
+                                           size_t datagram_len, cpay_arrival *arrival);
+cpay_status cpay_session_receive_at(cpay_session *session, uint64_t now, uint64_t micros, const uint8_t *datagram,
+                                    size_t datagram_len, cpay_arrival *arrival) {
+    if (!datagram && datagram_len) return CPAY_INVALID;
+    return proved_cpay_session_receive_at(&session->handle, now, micros, datagram ? datagram : (const uint8_t *)nothing,
+                                          datagram_len, arrival);
+}
+
 cpay_status proved_cpay_session_poll(cpay_handle *session, uint64_t now, cpay_event *event, uint8_t *bytes, size_t bytes_len);
 cpay_status cpay_session_poll(cpay_session *session, uint64_t now, cpay_event *event, uint8_t *bytes, size_t bytes_len) {
     if (!bytes && bytes_len) return CPAY_INVALID;
@@ -586,6 +595,11 @@ cpay_status cpay_session_next_deadline(cpay_session *session, uint64_t *at) {
 cpay_status proved_cpay_session_end(cpay_handle *session, uint64_t now, uint32_t ssrc);
 cpay_status cpay_session_end(cpay_session *session, uint64_t now, uint32_t ssrc) {
     return proved_cpay_session_end(&session->handle, now, ssrc);
+}
+
+cpay_status proved_cpay_session_restart_transport(cpay_handle *session);
+cpay_status cpay_session_restart_transport(cpay_session *session) {
+    return proved_cpay_session_restart_transport(&session->handle);
 }
 
 cpay_status proved_cpay_session_finish(cpay_handle *session, uint64_t now);

@@ -296,7 +296,7 @@ static cpay_sdp_error read_feedback(section *it, text value) {
 
 /* ---- Ids of header extensions (RFC 8285) ---- */
 
-enum { EXTENSIONS = 12, MOST_ID = 255, FIRST_UNASSIGNED_ID = 4096, LAST_UNASSIGNED_ID = 4351 };
+enum { EXTENSIONS = 12, TRANSPORT_CC = 9, MOST_ID = 255, FIRST_UNASSIGNED_ID = 4096, LAST_UNASSIGNED_ID = 4351 };
 
 static const char *const uris[EXTENSIONS] = {
     "http://www.webrtc.org/experiments/rtp-hdrext/abs-capture-time",
@@ -610,6 +610,7 @@ typedef struct {
     cpay_sdp_session_settings *session;
     const cpay_sdp_format *known[PAYLOAD_TYPES]; /* the first format of each payload type */
     uint8_t ids[EXTENSIONS];                     /* of header extensions, in the order of `uris` */
+    bool transport_cc;                           /* a format of media has feedback about the transport */
 } port;
 
 static cpay_sdp_session_fault clash(cpay_sdp_session_error error, uint8_t value) { return (cpay_sdp_session_fault){value, error}; }
@@ -720,6 +721,7 @@ static cpay_sdp_session_fault add_format(port *it, const cpay_sdp_media *media, 
         session->no_media[session->no_media_len++] = type;
     }
     if (!is_known) it->known[type] = format;
+    it->transport_cc = it->transport_cc || (is_media && format->transport_cc);
     return clash(CPAY_SDP_NO_CLASH, 0);
 }
 
@@ -791,6 +793,13 @@ static void set_wait_limits(cpay_sdp_session_settings *session) {
     }
 }
 
+/* Sets how arrivals are reported, if a format has feedback about the transport and its extension has an id. */
+static void set_transport(cpay_session_settings *settings, const port *it) {
+    uint8_t id = it->ids[TRANSPORT_CC];
+    settings->has_transport = it->transport_cc && id != 0;
+    settings->transport.extension_id = settings->has_transport ? id : 0;
+}
+
 cpay_status cpay_sdp_session(const cpay_sdp_media *media, size_t media_len, cpay_sdp_session_settings *session,
                              cpay_sdp_session_fault *fault) {
     static const cpay_sdp_session_settings none;
@@ -806,6 +815,7 @@ cpay_status cpay_sdp_session(const cpay_sdp_media *media, size_t media_len, cpay
         return CPAY_INVALID;
     }
     found.settings.extension_ids = extension_ids_of(it.ids);
+    set_transport(&found.settings, &it);
     set_wait_limits(&found);
     *session = found;
     return CPAY_OK;

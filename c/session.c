@@ -343,6 +343,42 @@ static void sent_reports(void) {
     cpay_session_free(&session);
 }
 
+/* Transport-wide feedback (draft-holmer-rmcat-transport-wide-cc-extensions-01, section 3.1): each interval, with the times of
+   microseconds, and from a new number on after a restart. */
+static void transports(void) {
+    /* number 1 under id 5, in the one-byte form (RFC 8285, section 4.2) */
+    uint8_t datagram[] = {0x90, 0x80 | AUDIO, 0, 1, 0, 0, 0, 0, 0, 0, 0, 7, 0xbe, 0xde, 0, 1, 0x51, 0, 1, 0, 1};
+    /* 64.5 ms are 64 ms and two quarters: one status, in a run of one small delta */
+    static const uint8_t first[] = {0x8f, 205, 0, 5, 0, 0, 0, 9, 0, 0, 0, 7, 0, 1, 0, 1, 0, 0, 1, 0, 0x20, 1, 2, 0};
+    cpay_session_settings settings;
+    cpay_session session = CPAY_INIT;
+    cpay_arrival arrival;
+    cpay_event event;
+    uint8_t bytes[64];
+    uint64_t at = 77;
+    cpay_session_settings_init(&settings, CPAY_FOR_LIVE);
+    CHECK(!settings.has_transport && settings.transport.interval == 100 && settings.transport.window == 2048);
+    CHECK(cpay_session_settings_feedback(&settings, 9, (const uint8_t *)"me", 2) == CPAY_OK);
+    settings.feedback.has_report_interval = false;
+    settings.has_transport = true;
+    settings.transport.extension_id = 5;
+    CHECK(cpay_session_new(&session, &settings, FORMATS, 2, NULL, 0, NULL, 0) == CPAY_OK);
+    CHECK(cpay_session_receive_at(&session, 10, 64500, datagram, sizeof datagram, &arrival) == CPAY_OK);
+    CHECK(arrival.kind == CPAY_ARRIVAL_STREAM && arrival.ssrc == 7);
+    CHECK(cpay_session_next_deadline(&session, &at) == CPAY_OK && at == 0);
+    CHECK(cpay_session_poll(&session, 10, &event, bytes, 23) == CPAY_TOO_SMALL && event.bytes == 24);
+    CHECK(cpay_session_poll(&session, 10, &event, bytes, 64) == CPAY_OK && event.kind == CPAY_EVENT_TRANSPORT_FEEDBACK);
+    CHECK(event.ssrc == 0 && event.bytes == sizeof first && memcmp(bytes, first, sizeof first) == 0);
+    CHECK(cpay_session_poll(&session, 10, &event, bytes, 64) == CPAY_NONE);
+    /* by the ticks: 110 ms are 440 quarters; the number is behind the first one, so it waits for the restart */
+    datagram[17] = 0x90;
+    CHECK(cpay_session_restart_transport(&session) == CPAY_OK);
+    CHECK(cpay_session_receive(&session, 110, datagram, sizeof datagram, &arrival) == CPAY_OK);
+    CHECK(cpay_session_poll(&session, 110, &event, bytes, 64) == CPAY_OK && event.kind == CPAY_EVENT_TRANSPORT_FEEDBACK);
+    CHECK(bytes[12] == 0x90 && bytes[13] == 1 && bytes[18] == 1 && bytes[19] == 1 && bytes[22] == 440 - 256);
+    cpay_session_free(&session);
+}
+
 /* RED (RFC 2198): a lost packet is recovered from the next one; invalid RED is reported; comfort noise carries no media. */
 static void redundant(void) {
     cpay_session session = live();
@@ -592,6 +628,10 @@ static void faults_of_settings(void) {
     FAULT(limit, 0, CPAY_SETTINGS_LIMIT);
     FAULT(limit, 65537, CPAY_SETTINGS_LIMIT);
     FAULT(max_streams, 0, CPAY_SETTINGS_MAX_STREAMS);
+    FAULT(has_transport, true, CPAY_SETTINGS_TRANSPORT_ID); /* id 0 is padding (RFC 8285, section 4.1.1) */
+    wrong.transport.extension_id = 5;
+    wrong.transport.window = 32769;
+    fault_is(&wrong, FORMATS, NO_MEDIA, 2, CPAY_SETTINGS_TRANSPORT_WINDOW, -1, -1);
     FAULT(has_feedback, true, CPAY_SETTINGS_CNAME); /* RFC 3550, section 6.1: each compound packet has a name */
 #define FAULT_AT(at, field, value, kind, payload_type) \
     memcpy(formats, FORMATS, sizeof formats); \
@@ -624,12 +664,12 @@ static void faults_of_settings(void) {
     CHECK(cpay_session_settings_check(&right, NULL, 0, NULL, 1, &fault) == CPAY_INVALID && fault.format == 7);
     CHECK(cpay_session_settings_check(&right, NULL, 0, NULL, 0, &fault) == CPAY_OK && fault.kind == CPAY_SETTINGS_FIT);
     const char *last = "";
-    for (uint32_t kind = CPAY_SETTINGS_FIT; kind <= CPAY_SETTINGS_CNAME; kind++) {
+    for (uint32_t kind = CPAY_SETTINGS_FIT; kind <= CPAY_SETTINGS_TRANSPORT_WINDOW; kind++) {
         const char *text = cpay_settings_fault_text((cpay_settings_fault_kind)kind);
         CHECK(strcmp(text, last) != 0 && strcmp(text, "unknown fault") != 0);
         last = text;
     }
-    CHECK(strcmp(cpay_settings_fault_text((cpay_settings_fault_kind)(CPAY_SETTINGS_CNAME + 1)), "unknown fault") == 0);
+    CHECK(strcmp(cpay_settings_fault_text((cpay_settings_fault_kind)(CPAY_SETTINGS_TRANSPORT_WINDOW + 1)), "unknown fault") == 0);
 }
 
 /* Settings out of range. */
@@ -807,6 +847,7 @@ int main(void) {
     change_of_format();
     requests();
     sent_reports();
+    transports();
     redundant();
     redundant_again();
     telephone();

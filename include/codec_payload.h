@@ -1227,6 +1227,17 @@ typedef struct {
     bool has_report_interval;   /**< the session sends receiver reports */
 } cpay_session_feedback;
 
+/** How the arrivals of packets are reported to the sender, for its congestion control: transport-wide feedback
+ * (draft-holmer-rmcat-transport-wide-cc-extensions-01). cpay_session_settings_init sets all but the id. */
+typedef struct {
+    uint64_t interval;    /**< number of ticks between two feedbacks; 0 counts as 1. 100 to begin with: 50 to 250 ms suit video */
+    size_t size;          /**< maximum size of the control information of a feedback in bytes; 1100 to begin with. A larger feedback
+                               is split */
+    size_t window;        /**< number of packets that are remembered, 1 to 32768, 8 bytes each; 2048 to begin with. A packet that comes
+                               late is reported if it is among them */
+    uint8_t extension_id; /**< id of the header extension with the transport-wide number (`a=extmap`), 1 to 255 */
+} cpay_session_transport;
+
 /** Begin with cpay_session_settings_init. */
 typedef struct {
     cpay_wait_limits audio;   /**< how long frames of audio wait for missing packets */
@@ -1244,8 +1255,13 @@ typedef struct {
     uint8_t from_keyframe;    /**< what happens to video units that a decoder cannot show: CPAY_KEYFRAME_OFF, CPAY_KEYFRAME_MARK
                                    or CPAY_KEYFRAME_DROP */
     bool has_feedback;        /**< the session requests what its streams miss: see CPAY_EVENT_FEEDBACK */
+    bool has_transport;       /**< the session reports when packets arrive: see CPAY_EVENT_TRANSPORT_FEEDBACK. Set it exactly if your
+                                   session description accepts the header extension and `transport-cc`: a browser that finds them
+                                   accepted and gets no feedback sends almost nothing. It works only with has_feedback, and for one
+                                   peer: the numbers count all packets of one transport */
     cpay_session_feedback feedback;   /**< with has_feedback: see cpay_session_settings_feedback */
     cpay_extension_ids extension_ids; /**< for cpay_session_values; two equal ids read the same element */
+    cpay_session_transport transport; /**< with has_transport */
 } cpay_session_settings;
 
 /** Sets how a session begins, for a purpose (CPAY_FOR_LIVE and so on) and a clock of milliseconds. Audio waits as the purpose says,
@@ -1275,7 +1291,7 @@ CPAY_CHECKED cpay_status cpay_session_new(cpay_session *session, const cpay_sess
 
 /** What is wrong with a setting. The settings are checked in this order: CPAY_SETTINGS_TICK_RATE to
  * CPAY_SETTINGS_MAX_STREAMS; the formats one after another; types without media, and then those of telephone events;
- * CPAY_SETTINGS_CNAME. */
+ * CPAY_SETTINGS_CNAME to CPAY_SETTINGS_TRANSPORT_WINDOW. */
 typedef enum {
     CPAY_SETTINGS_FIT = 0,           /**< no fault */
     CPAY_SETTINGS_TICK_RATE = 1,     /**< `tick_rate` is 0 */
@@ -1287,7 +1303,9 @@ typedef enum {
     CPAY_SETTINGS_RED_STEP = 7,      /**< `red_step` of the format is not 1 to 16383 */
     CPAY_SETTINGS_PAYLOAD_TYPE = 8,  /**< the payload type is not 0 to 63 or 96 to 127 */
     CPAY_SETTINGS_TWO_MEANINGS = 9,  /**< the payload type has a meaning already, in this format, an earlier one or a list */
-    CPAY_SETTINGS_CNAME = 10         /**< with has_feedback: the name does not have 1 to 255 bytes */
+    CPAY_SETTINGS_CNAME = 10,        /**< with has_feedback: the name does not have 1 to 255 bytes */
+    CPAY_SETTINGS_TRANSPORT_ID = 11, /**< with has_transport: `extension_id` is 0 */
+    CPAY_SETTINGS_TRANSPORT_WINDOW = 12 /**< with has_transport: `window` is not 1 to 32768 */
 } cpay_settings_fault_kind;
 
 /** A setting that no session can meet. */
@@ -1336,6 +1354,12 @@ typedef struct {
 CPAY_CHECKED cpay_status cpay_session_receive(cpay_session *session, uint64_t now, const uint8_t *datagram, size_t datagram_len,
                                               cpay_arrival *arrival);
 
+/** Does the same for a datagram that arrived at `micros`, in microseconds of any clock: the time stamp of your socket, say.
+ * CPAY_EVENT_TRANSPORT_FEEDBACK then reports this time instead of `now`; all else goes by `now`. A browser estimates by differences of
+ * a millisecond, so it sends more if the times are finer than your ticks. Use one of the two calls for all datagrams. [m] */
+CPAY_CHECKED cpay_status cpay_session_receive_at(cpay_session *session, uint64_t now, uint64_t micros, const uint8_t *datagram,
+                                                 size_t datagram_len, cpay_arrival *arrival);
+
 /** The kinds of events. New ones may be added: ignore those that you do not know. */
 typedef enum {
     CPAY_EVENT_BEGUN = 0, /**< a stream is announced: the first event of the stream */
@@ -1348,10 +1372,13 @@ typedef enum {
     CPAY_EVENT_REPORT = 5,   /**< a compound packet of RTCP for all senders is in the output buffer: send it. It has a block about each
                                  announced stream that has one, of two streams with one SSRC only about the later (RFC 3550, section
                                  6.4.2). `ssrc` and `payload_type` are 0 */
-    CPAY_EVENT_TELEPHONE = 6 /**< a packet of telephone events beside audio (RFC 4733): its payload is in the output buffer, with 4
+    CPAY_EVENT_TELEPHONE = 6, /**< a packet of telephone events beside audio (RFC 4733): its payload is in the output buffer, with 4
                                  bytes for each event (cpay_tele_read). All packets of an event have the same `unit.rtp_time`,
                                  its last one comes three times, and a network can repeat any of them, so go by that time. It is
                                  also reported for a stream that is not announced yet */
+    CPAY_EVENT_TRANSPORT_FEEDBACK = 7 /**< a packet of RTCP for the peer is in the output buffer: send it. It says when each packet of
+                                 the transport arrived since the last one, or that it is missing. It comes each `interval` of
+                                 cpay_session_transport while packets arrive. `ssrc` and `payload_type` are 0 */
 } cpay_event_kind;
 
 /** Why a stream ended. */
@@ -1392,6 +1419,10 @@ CPAY_CHECKED cpay_status cpay_session_next_deadline(cpay_session *session, uint6
 /** Ends the streams of this SSRC at time `now`: polls report their complete units, and then CPAY_EVENT_ENDED. Without such a stream
  * nothing changes. A later packet of the SSRC begins a new stream. */
 CPAY_CHECKED cpay_status cpay_session_end(cpay_session *session, uint64_t now, uint32_t ssrc);
+
+/** Forgets which packets of the transport arrived. Call it if another peer takes over the transport, or the peer counts anew: without
+ * this call, numbers behind the last `window` ones are ignored until they pass the highest one. Without has_transport nothing changes. */
+CPAY_CHECKED cpay_status cpay_session_restart_transport(cpay_session *session);
 
 /** Ends all streams at time `now`, announced or not: polls report their complete units, and then CPAY_EVENT_ENDED for each. From
  * now on no stream begins. */
@@ -1676,6 +1707,8 @@ static inline const char *cpay_settings_fault_text(cpay_settings_fault_kind kind
     case CPAY_SETTINGS_PAYLOAD_TYPE: return "the payload type is not 0 to 63 or 96 to 127";
     case CPAY_SETTINGS_TWO_MEANINGS: return "the payload type has two meanings";
     case CPAY_SETTINGS_CNAME: return "the canonical name does not have 1 to 255 bytes";
+    case CPAY_SETTINGS_TRANSPORT_ID: return "the extension id of the transport is 0";
+    case CPAY_SETTINGS_TRANSPORT_WINDOW: return "the window of the transport is not 1 to 32768";
     default: return "unknown fault";
     }
 }

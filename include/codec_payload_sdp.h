@@ -170,6 +170,8 @@ typedef struct {
  * - `no_media`: comfort noise, error correction, and telephone events, whose packets polls report.
  * - Pairs of SSRCs (`a=ssrc-group:FID`), and ids of header extensions, of all sections.
  * - Wait limits: for live audio and video, with retransmission if a format of the kind has `nack`.
+ * - Transport: the id of transport-wide-cc, if a section has its `a=extmap` and a format of media has `transport-cc`. So pass the
+ *   description that both sides agreed on, or the offer if you accept both.
  * - All else is as cpay_session_settings_init sets it. Nothing is requested until you call cpay_session_settings_feedback.
  *
  * A later description may have further pairs: pass each source with `has_rtx` to cpay_session_add_pair. The cost is a step for each

@@ -24,9 +24,8 @@ LOOPBACK = "127.0.0.1"
 STUN_COOKIE = 0x2112A442
 BINDING_REQUEST, BINDING_SUCCESS = 0x0001, 0x0101
 XOR_MAPPED_ADDRESS, MESSAGE_INTEGRITY, FINGERPRINT = 0x0020, 0x0008, 0x8028
-# Attributes of an offer that an answer repeats. Congestion control by feedback is not among them.
-REPEATED = re.compile(r"a=(mid|rtpmap|fmtp|rtcp-mux|rtcp-rsize|extmap:|rtcp-fb:\d+ (nack|ccm fir))")
-TRANSPORT_FEEDBACK = "transport-wide-cc"
+# Attributes of an offer that an answer repeats: what the session answers to. REMB is not among them.
+REPEATED = re.compile(r"a=(mid|rtpmap|fmtp|rtcp-mux|rtcp-rsize|extmap:|rtcp-fb:\d+ (nack|ccm fir|transport-cc))")
 
 
 # ---- session descriptions (RFC 8829) ----
@@ -61,7 +60,7 @@ def answer_to_section(lines, port, user, password, refused):
         yield f"a=fmtp:{taken[0]} x-google-start-bitrate=1500"
     for line in lines[1:]:
         number = re.match(r"a=(?:rtpmap|fmtp|rtcp-fb):(\d+)", line)
-        if REPEATED.match(line) and TRANSPORT_FEEDBACK not in line and not (number and number[1] not in taken):
+        if REPEATED.match(line) and not (number and number[1] not in taken):
             yield line
         elif line.startswith(("a=rid:", "a=simulcast:")):
             yield line.replace(" send", " recv").replace(":send", ":recv")

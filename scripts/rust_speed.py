@@ -71,11 +71,11 @@ def of_datagram(way, kind, streams, counts=(30, 60)):
 
 
 def print_sessions():
-    print("| streams | receiver | `receive`, `poll` | ratio | and `next_deadline` | ratio |")
-    print("|---" * 6 + "|")
+    print("| streams | receiver | `receive`, `poll` | ratio | and `next_deadline` | ratio | `receive`, `poll_into` | ratio |")
+    print("|---" * 8 + "|")
     for kind, name in KINDS.items():
         for streams in (1, 8, 64):
-            bare, *others = (of_datagram(way, kind, streams) for way in ("bare", "poll", "deadline"))
+            bare, *others = (of_datagram(way, kind, streams) for way in ("bare", "poll", "deadline", "into"))
             cells = " | ".join(f"{other:,.0f} | {other / bare:.2f}" for other in others)
             print(f"| {streams} of {name} | {bare:,.0f} | {cells} |", flush=True)
     print("\n| `receive` of | 1 stream | 8 streams | 64 streams |")

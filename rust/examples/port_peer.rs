@@ -1,12 +1,14 @@
 //! The receiving side of a call: all streams of a port, by the session description of the sender. The session requests missing
-//! packets and keyframes and reports each second; this program sends its packets, and prints a line for each event.
+//! packets and keyframes, and reports losses each second and arrivals each 100 ms; this program sends its packets, and prints a line for
+//! each event.
 //! `scripts/chromium_peer.py` runs it against Chromium:
 //!
 //! ```sh
-//! cargo run --example port_peer OFFER ADDRESS
+//! cargo run --example port_peer OFFER ADDRESS [INTERVAL]
 //! ```
 //!
 //! - OFFER is a file with the session description (SDP); ADDRESS receives the feedback. Without them the program says so.
+//! - INTERVAL is the number of milliseconds between two reports of arrivals.
 //! - The first line is the port. An empty datagram ends the program.
 //! - The SSRCs of retransmissions are those of the offer (`sdp::session_settings`). For a sender that joins later, a program with
 //!   signalling passes `sdp::pairs` of the new offer to `Session::add_pair`; this one has none.
@@ -15,7 +17,7 @@ use codec_payload::{Clock, Event, FeedbackSettings, Session, Ticks, sdp};
 use std::error::Error;
 use std::io::{self, ErrorKind, Write};
 use std::net::{Ipv4Addr, UdpSocket};
-use std::time::Duration;
+use std::time::{Duration, Instant};
 
 type Failure = Box<dyn Error>;
 
@@ -26,16 +28,22 @@ const LONGEST_SLEEP: Duration = Duration::from_millis(100);
 /// All streams of a port, and what is sent back.
 struct Peer {
     session: Session,
+    /// When the clock of arrivals began.
+    start: Instant,
     /// The packets of RTCP to send.
     feedback: Vec<Vec<u8>>,
 }
 
 impl Peer {
-    fn new(offer: &str) -> Result<Peer, Failure> {
+    fn new(offer: &str, interval: Option<u64>) -> Result<Peer, Failure> {
         let mut settings = sdp::session_settings(&sdp::read(offer)?)?;
         settings.feedback = Some(FeedbackSettings::live(OWN_SSRC, b"me@host".to_vec()));
+        if let (Some(transport), Some(interval)) = (&mut settings.transport, interval) {
+            transport.interval = interval;
+        }
         Ok(Peer {
             session: Session::new(settings)?,
+            start: Instant::now(),
             feedback: Vec::new(),
         })
     }
@@ -68,9 +76,9 @@ impl Peer {
                 Event::TooLarge { unit, .. } => {
                     writeln!(out, "too large: {} bytes", unit.bytes.len())?
                 }
-                Event::Feedback { packet, .. } | Event::Report { packet } => {
-                    self.feedback.push(packet?)
-                }
+                Event::Feedback { packet, .. }
+                | Event::Report { packet }
+                | Event::TransportFeedback { packet } => self.feedback.push(packet?),
                 Event::Telephone { .. } => {}
                 Event::Ended {
                     ssrc, payload_type, ..
@@ -102,7 +110,9 @@ fn receive_all(peer: &mut Peer, socket: &UdpSocket, clock: &Clock) -> Result<boo
         match socket.recv(&mut datagram) {
             Ok(0) => return Ok(false),
             Ok(size) => {
-                peer.session.receive(clock.now(), &datagram[..size])?;
+                let micros = peer.start.elapsed().as_micros() as u64;
+                peer.session
+                    .receive_at(clock.now(), micros, &datagram[..size])?;
             }
             Err(why) if matches!(why.kind(), ErrorKind::WouldBlock | ErrorKind::TimedOut) => {
                 return Ok(true);
@@ -116,13 +126,13 @@ fn receive_all(peer: &mut Peer, socket: &UdpSocket, clock: &Clock) -> Result<boo
 }
 
 /// Receives until an empty datagram arrives.
-fn run(offer: &str, address: &str) -> Result<(), Failure> {
+fn run(offer: &str, address: &str, interval: Option<u64>) -> Result<(), Failure> {
     let socket = UdpSocket::bind((Ipv4Addr::LOCALHOST, 0))?;
     let mut out = io::stdout().lock();
     writeln!(out, "port {}", socket.local_addr()?.port())?;
     out.flush()?;
     let clock = Clock::new();
-    let mut peer = Peer::new(offer)?;
+    let mut peer = Peer::new(offer, interval)?;
     while receive_all(&mut peer, &socket, &clock)? {
         peer.poll(clock.now(), &mut out)?;
         for feedback in peer.feedback.drain(..) {
@@ -137,9 +147,10 @@ fn run(offer: &str, address: &str) -> Result<(), Failure> {
 
 fn main() -> Result<(), Failure> {
     let words: Vec<String> = std::env::args().skip(1).collect();
-    let [offer, address] = &words[..] else {
-        println!("port_peer OFFER ADDRESS: see scripts/chromium_peer.py");
+    let [offer, address, more @ ..] = &words[..] else {
+        println!("port_peer OFFER ADDRESS [INTERVAL]: see scripts/chromium_peer.py");
         return Ok(());
     };
-    run(&std::fs::read_to_string(offer)?, address)
+    let interval = more.first().map(|word| word.parse()).transpose()?;
+    run(&std::fs::read_to_string(offer)?, address, interval)
 }

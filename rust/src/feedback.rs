@@ -11,4 +11,4 @@ pub mod transport;
 pub use requests::{FeedbackSource, StreamRequests};
 
 #[doc(inline)]
-pub use transport::{TransportReporter, TransportSettings};
+pub use transport::{TransportReporter, TransportSettings, quarters_at};

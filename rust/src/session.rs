@@ -24,6 +24,7 @@ mod sort;
 pub mod stream;
 mod streams;
 mod telephone;
+mod transport;
 mod waking;
 
 #[doc(inline)]

@@ -26,6 +26,7 @@ fault_same s formats no_media pairs t are =
       are.formats_are,
       are.no_media_are,
       are.telephone_events_are,
+      are.plain.transport,
       feedback_same s.has_feedback s.feedback t.feedback are.feedback_is,
     ) refl
 

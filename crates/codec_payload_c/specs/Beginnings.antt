@@ -110,6 +110,8 @@ pub record IsSessionFor (purpose : ℕ) (s : SessionSettings) : Type 0 where
   pub has_feedback : s.has_feedback ≡ false
   pub feedback : IsFeedback s.feedback
   pub extension_ids : s.extension_ids ≡ no_ids
+  pub has_transport : s.has_transport ≡ false
+  pub transport : s.transport ≡ record { interval = 100; size = 1100; window = 2048; extension_id = 0 }
 
 -- the session sends feedback with this SSRC and this name of 1 to 255 bytes; all else stays
 pub record Named (ssrc : ℕ) (name : List ℕ) (s t : SessionSettings) : Type 0 where

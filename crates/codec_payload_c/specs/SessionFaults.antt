@@ -31,6 +31,8 @@ fault_told (faults.RedStep format) = fault_at 7 format
 fault_told (faults.PayloadType format payload_type) = type_fault_at 8 format payload_type
 fault_told (faults.TwoMeanings format payload_type) = type_fault_at 9 format payload_type
 fault_told faults.Cname = plain_fault 10
+fault_told faults.TransportId = plain_fault 11
+fault_told faults.TransportWindow = plain_fault 12
 
 -- ---- the first fault
 

@@ -5,7 +5,8 @@ use Rattle.codec_payload_handle.specs.Settings.{codec_numbered}
 use Rattle.codec_payload_handle.specs.declared.object.Object.{Object}
 use Rattle.codec_payload_handle.specs.declared.object.Object.TheVariants as objects
 use Rattle.codec_payload_handle.specs.declared.object.PortSession.{PortSession}
-use Rattle.codec_payload_session.specs.Checks.{fault_in, first_of, name_fault}
+use Rattle.codec_payload_feedback.specs.declared.transport.TransportSettings.{TransportSettings}
+use Rattle.codec_payload_session.specs.Checks.{fault_in, first_of, name_fault, transport_fault}
 use Rattle.codec_payload_session.specs.Ports.{new_session}
 use Rattle.codec_payload_session.specs.declared.checks.SessionSettingsError.{SessionSettingsError}
 use Rattle.codec_payload_session.specs.declared.formats.FeedbackSettings.{FeedbackSettings}
@@ -84,6 +85,13 @@ MatchFeedbackIf true c (Some t) = HasFeedback c t
 abbrev pub MatchFeedback : SessionSettings → Option FeedbackSettings → Type 0
 MatchFeedback s t = MatchFeedbackIf s.has_feedback s.feedback t
 
+-- how arrivals are reported, if that is set
+abbrev pub transport_given : SessionSettings → Option TransportSettings
+transport_given s =
+    if s.has_transport
+    then Some (record { extension_id = s.transport.extension_id; interval = s.transport.interval; size = s.transport.size; window = s.transport.window })
+    else None
+
 -- the settings, from C, without formats, other lists and feedback
 pub record HasPlainSettings (s : SessionSettings) (t : Settings) : Type 0 where
   pub ids : t.extension_ids ≡ ids_given s.extension_ids
@@ -97,6 +105,7 @@ pub record HasPlainSettings (s : SessionSettings) (t : Settings) : Type 0 where
   pub idle_timeout : t.idle_timeout ≡ s.idle_timeout
   pub bye_wait : t.bye_wait ≡ s.bye_wait
   pub tick_rate : t.tick_rate ≡ s.tick_rate
+  pub transport : t.transport ≡ transport_given s
 
 -- the settings of a session, from C
 pub record AreSessionSettings (s : SessionSettings) (formats : List SessionFormat) (no_media : List ℕ) (pairs : List SsrcPair) (t : Settings) : Type 0 where
@@ -117,7 +126,7 @@ name_fault_given s = if s.has_feedback then name_fault s.feedback.cname_len else
 abbrev pub fault_given : SessionSettings → List SessionFormat → List ℕ → Option SessionSettingsError
 fault_given s formats no_media =
     first_of (fault_in s.limit s.max_streams (filter_map format_given formats) (filter_map no_media_given no_media) (filter_map telephone_given no_media))
-    (name_fault_given s)
+    (first_of (name_fault_given s) (transport_fault (transport_given s)))
 
 -- clocks have rates, and `from_keyframe` has a meaning, so the settings can be converted
 abbrev pub can_convert : SessionSettings → List SessionFormat → Bool

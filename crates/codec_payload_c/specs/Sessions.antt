@@ -5,18 +5,20 @@ use Rattle.std.specs.declared.alloc.AllocError.{AllocError}
 use Rattle.codec_payload_base.specs.declared.wire.Ticks.{Ticks}
 use Rattle.codec_payload_core.specs.Faults.{fault_number}
 use Rattle.codec_payload_core.specs.Release.{Release}
+use Rattle.codec_payload_core.specs.declared.buffer.RtpMeta.{RtpMeta}
 use Rattle.codec_payload_handle.specs.Bytes.{filled}
+use Rattle.codec_payload_handle.specs.Slots.{latest_packets}
 use Rattle.codec_payload_handle.specs.Units.{TellsUnit, TellsValues, no_unit}
 use Rattle.codec_payload_handle.specs.declared.extension_values.ExtensionValues.{ExtensionValues as CValues}
 use Rattle.codec_payload_handle.specs.declared.object.PortSession.{PortSession}
 use Rattle.codec_payload_handle.specs.declared.unit.Unit.{Unit as CUnit}
 use Rattle.codec_payload_jitter.specs.declared.outcome.Outcome.{Outcome}
-use Rattle.codec_payload_session.specs.Associations.{Associates}
+use Rattle.codec_payload_session.specs.Accepting.{Accepts, time_for}
 use Rattle.codec_payload_session.specs.Polls.{Polls}
 use Rattle.codec_payload_session.specs.Ports.{Session}
 use Rattle.codec_payload_session.specs.declared.session.Arrival.{Arrival}
 use Rattle.codec_payload_session.specs.declared.session.Arrival.TheVariants as arrivals
-use Rattle.codec_payload_session.specs.declared.session.Event.{Event}
+use Rattle.codec_payload_session.specs.Units.{Event}
 use Rattle.codec_payload_session.specs.declared.session.Event.TheVariants as events
 use Rattle.codec_payload_session.specs.declared.stream.Ending.{Ending}
 use Rattle.codec_payload_session.specs.declared.stream.Ending.TheVariants as endings
@@ -50,15 +52,19 @@ abbrev pub TellsAnswer : Result Arrival AllocError → ℕ → (before after : C
 TellsAnswer (Ok arrival) status before after = (status ≡ 0) × TellsArrival arrival after
 TellsAnswer (Err e) status before after = (status ≡ 17) × (after ≡ before)
 
--- a datagram is received
-pub record ReceivesDatagram (r : PortSession) (now : ℕ) (bytes : List ℕ) (status : ℕ) (before after : CArrival) (s : PortSession) : Type 0 where
+-- the session takes the datagram at that time; for the transport it arrived at its own time in microseconds, if that is given
+pub record TakesDatagram (micros : Option ℕ) (r : PortSession) (now : ℕ) (bytes : List ℕ) (answer : Result Arrival AllocError) (s : PortSession) : Type 0 where
   pub at : Ticks
   pub at_is : at.0 ≡ now
-  pub answer : Result Arrival AllocError
-  pub receives : Associates at bytes r.session answer s.session
-  pub tells : TellsAnswer answer status before after
+  pub receives : Accepts (time_for micros at r.session) at bytes r.session answer s.session
   pub waiting : s.waiting ≡ r.waiting
   pub taken : s.taken ≡ r.taken
+
+-- a datagram is received; for the transport it arrived at its own time in microseconds, if that is given
+pub record ReceivesDatagram (micros : Option ℕ) (r : PortSession) (now : ℕ) (bytes : List ℕ) (status : ℕ) (before after : CArrival) (s : PortSession) : Type 0 where
+  pub answer : Result Arrival AllocError
+  pub takes : TakesDatagram micros r now bytes answer s
+  pub tells : TellsAnswer answer status before after
 
 -- ---- events
 
@@ -105,6 +111,7 @@ TellsEvent (events.Feedback ssrc payload_type packet) e =
     e ≡ record { kind = 4; ssrc = ssrc; status = 0; why = 0; bytes = length (bytes_sent packet); payload_type = payload_type; unit = no_unit }
 TellsEvent (events.Telephone ssrc payload_type time marker payload) e = e ≡ event_with 6 ssrc payload_type (telephone_unit time marker (length payload.items))
 TellsEvent (events.Report packet) e = e ≡ record { kind = 5; ssrc = 0; status = 0; why = 0; bytes = length (bytes_sent packet); payload_type = 0; unit = no_unit }
+TellsEvent (events.TransportFeedback packet) e = e ≡ record { kind = 7; ssrc = 0; status = 0; why = 0; bytes = length (bytes_sent packet); payload_type = 0; unit = no_unit }
 TellsEvent (events.Ended ssrc payload_type why) e =
     e ≡ record { kind = 3; ssrc = ssrc; status = 0; why = ending_number why; bytes = 0; payload_type = payload_type; unit = no_unit }
 
@@ -120,6 +127,8 @@ is_no_memory (events.Feedback ssrc payload_type (Err e)) = true
 is_no_memory (events.Telephone ssrc payload_type time marker payload) = false
 is_no_memory (events.Report (Ok packet)) = false
 is_no_memory (events.Report (Err e)) = true
+is_no_memory (events.TransportFeedback (Ok packet)) = false
+is_no_memory (events.TransportFeedback (Err e)) = true
 is_no_memory (events.Ended ssrc payload_type why) = false
 
 -- the bytes of the event: of its unit, of its RTCP packet, or of its telephone events
@@ -132,23 +141,8 @@ bytes_in (events.Refused ssrc payload_type fault) = []
 bytes_in (events.Feedback ssrc payload_type packet) = bytes_sent packet
 bytes_in (events.Telephone ssrc payload_type time marker payload) = payload.items
 bytes_in (events.Report packet) = bytes_sent packet
+bytes_in (events.TransportFeedback packet) = bytes_sent packet
 bytes_in (events.Ended ssrc payload_type why) = []
-
--- the unit, or without one the unit before it
-abbrev pub popped_or : Result Release AllocError → Option Release → Option Release
-popped_or (Ok u) taken = Some u
-popped_or (Err e) taken = taken
-
--- the latest unit after the event
-abbrev pub latest_unit : Event → Option Release → Option Release
-latest_unit (events.Begun ssrc payload_type) taken = taken
-latest_unit (events.Unit ssrc payload_type time decodable keyframe unit) taken = popped_or unit taken
-latest_unit (events.TooLarge ssrc payload_type unit) taken = taken
-latest_unit (events.Refused ssrc payload_type fault) taken = taken
-latest_unit (events.Feedback ssrc payload_type packet) taken = taken
-latest_unit (events.Telephone ssrc payload_type time marker payload) taken = taken
-latest_unit (events.Report packet) taken = taken
-latest_unit (events.Ended ssrc payload_type why) taken = taken
 
 -- a poll of the session at that time
 abbrev pub PollsAt : ℕ → Session → Option Event → Session → Type 0
@@ -175,7 +169,7 @@ abbrev pub Hands : (no_memory fits : Bool) → Event → ℕ → Handing → Por
 Hands true fits next status h r s = (status ≡ 17) × (h.event ≡ h.event_before) × (h.bytes ≡ h.before) × (s ≡ r)
 Hands false false next status h r s = (status ≡ 33) × TellsEvent next h.event × (h.bytes ≡ h.before) × (s ≡ record r { waiting = Some next })
 Hands false true next status h r s =
-    (status ≡ 0) × TellsEvent next h.event × (h.bytes ≡ filled (bytes_in next) h.before) × (s ≡ record r { taken = latest_unit next r.taken })
+    (status ≡ 0) × TellsEvent next h.event × (h.bytes ≡ filled (bytes_in next) h.before) × (s ≡ record r { taken = latest_packets (Some next) r.taken })
 
 -- Status 32: there is no event, and the outputs are unchanged.
 abbrev pub HandsOver : Option Event → ℕ → Handing → PortSession → PortSession → Type 0
@@ -189,7 +183,7 @@ pub record PollsEvent (now : ℕ) (r : PortSession) (status : ℕ) (h : Handing)
   pub comes : Comes now r next mid
   pub hands : HandsOver next status h mid s
 
--- the values of the latest popped unit
-abbrev pub TellsTaken : Option Release → ℕ → (before after : CValues) → Type 0
+-- the values of the latest popped unit, which has these packets
+abbrev pub TellsTaken : Option (List RtpMeta) → ℕ → (before after : CValues) → Type 0
 TellsTaken None status before after = (status ≡ 32) × (after ≡ before)
-TellsTaken (Some u) status before after = (status ≡ 0) × TellsValues u.metas after
+TellsTaken (Some metas) status before after = (status ≡ 0) × TellsValues metas after

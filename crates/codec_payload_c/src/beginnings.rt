@@ -7,7 +7,7 @@ ghost use Rattle.codec_payload_c.specs.Beginnings.{IsFeedback, IsSessionFor, Nam
 use crate::adaptive_wait::AdaptiveWaitSettings;
 use crate::extension::ExtensionIds;
 use crate::receiver::{ReceiverSettings, WaitLimits};
-use crate::session_settings::{SessionFeedback, SessionSettings};
+use crate::session_settings::{SessionFeedback, SessionSettings, SessionTransport};
 use codec_payload_handle::settings::Spec;
 use codec_payload_handle::status;
 
@@ -213,7 +213,7 @@ fn unnamed_feedback() -> SessionFeedback
     }
 }
 
-/// Sets how a session begins: wait limits follow the purpose, and nothing is requested.
+/// Sets how a session begins: wait limits follow the purpose, and nothing is requested and reported.
 #[unsafe(no_mangle)]
 pub extern "C" fn cpay_session_settings_init(settings: &mut SessionSettings, purpose: u32)
     ensures { IsSessionFor purpose settings.new }
@@ -232,6 +232,13 @@ pub extern "C" fn cpay_session_settings_init(settings: &mut SessionSettings, pur
         has_feedback: false,
         feedback: unnamed_feedback(),
         extension_ids: no_ids(),
+        has_transport: false,
+        transport: SessionTransport {
+            interval: 100,
+            size: 1_100,
+            window: 2_048,
+            extension_id: 0,
+        },
     };
 }
 

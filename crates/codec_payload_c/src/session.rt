@@ -1,18 +1,20 @@
 //! Sessions: the datagrams of a port in, the events of its streams out.
 
-ghost use Rattle.std.specs.Prelude.{◌≡◌, ◌≢◌, length, nat_le, Option};
+ghost use Rattle.std.specs.Prelude.{◌≡◌, ◌≢◌, ◌<◌, IfSome, IsSome, length, nat_le, Option};
 ghost use Rattle.codec_payload_core.specs.Faults.{fault_number};
+ghost use Rattle.codec_payload_core.specs.Release.{Release};
 ghost use Rattle.codec_payload_session.specs.Idle.{next_of};
-ghost use Rattle.codec_payload_session.specs.Ports.{ends_all, ends_of};
+ghost use Rattle.codec_payload_session.specs.Ports.{ends_all, ends_of, restarts_transport};
+ghost use Rattle.codec_payload_session.specs.Units.{HasUnit, with_unit};
 ghost use Rattle.codec_payload_c.specs.SessionFormats.{IsPortSessionOf, MakesSession, is_in_range};
-ghost use Rattle.codec_payload_c.specs.Sessions.{Comes, Hands, PollsEvent, ReceivesDatagram, TellsArrival, TellsEvent, TellsJudgedBy, TellsOfStream, TellsTaken, arrived_as, bytes_in, ending_number, event_with, is_no_memory, latest_unit, popped_or, telephone_unit};
+ghost use Rattle.codec_payload_c.specs.Sessions.{Hands, PollsEvent, ReceivesDatagram, TakesDatagram, TellsArrival, TellsEvent, TellsJudgedBy, TellsOfStream, TellsTaken, arrived_as, bytes_in, ending_number, event_with, is_no_memory, telephone_unit};
 ghost use Rattle.codec_payload_c.specs.StreamReceivers.{TellsNumber, at_once_if};
 ghost use Rattle.codec_payload_handle.specs.Kinds.{OnPortSession, Refuses, is_port_session};
 ghost use Rattle.codec_payload_handle.specs.Units.{no_unit};
 
 use crate::receiver::report_answer;
 use crate::session_settings::{SessionFormat, SessionSettings, SsrcPair, session_by};
-use codec_payload_core::buffer::Depacketized;
+use codec_payload_core::buffer::PoppedUnit;
 use codec_payload_core::error::PacketError;
 use codec_payload_core::wire::Ticks;
 use codec_payload_handle::bytes::fill;
@@ -20,7 +22,7 @@ use codec_payload_handle::extension_values::ExtensionValues;
 use codec_payload_handle::handle::Handle;
 use codec_payload_handle::object::{Object, PortSession};
 use codec_payload_handle::status;
-use codec_payload_handle::unit::{Unit, no_unit, unit_of, values_in};
+use codec_payload_handle::unit::{Unit, describe_popped, no_unit};
 use codec_payload_jitter::outcome::Outcome;
 use codec_payload_session::session::{Arrival as Arrived, Event as SessionEvent};
 use codec_payload_session::stream::Ending;
@@ -48,7 +50,7 @@ pub struct Arrival {
 #[derive(Drop)]
 pub struct Event {
     /// 0: a stream begins; 1: a unit; 2: a refused frame or a unit that is too large; 3: the end of a stream; 4: an RTCP packet
-    /// to send; 6: a packet of telephone events.
+    /// to send; 5: a receiver report to send; 6: a packet of telephone events; 7: feedback about the transport to send.
     pub kind: u32,
     pub ssrc: u32,
     /// For a refused frame: the number of its error, 1 to 16; for a unit that is too large 76.
@@ -113,11 +115,32 @@ fn arrival_of(arrived: Arrived) -> Arrival
     }
 }
 
-/// Receives a datagram.
-fn receive(port: &mut PortSession, now: u64, datagram: &[u8], arrival: &mut Arrival) -> u32
-    ensures { ReceivesDatagram port.old now datagram.now result arrival.old arrival.new port.new }
+/// Passes a datagram to the session, with its own time of arrival if that is given.
+fn take_in(
+    port: &mut PortSession,
+    micros: Option<u64>,
+    now: u64,
+    datagram: &[u8],
+) -> Result<Arrived, AllocError>
+    ensures { TakesDatagram micros port.old now datagram.now result port.new }
 {
-    match port.session.receive(Ticks(now), datagram) {
+    match micros {
+        Some(micros) => port.session.receive_at(Ticks(now), micros, datagram),
+        None => port.session.receive(Ticks(now), datagram),
+    }
+}
+
+/// Receives a datagram.
+fn receive(
+    port: &mut PortSession,
+    micros: Option<u64>,
+    now: u64,
+    datagram: &[u8],
+    arrival: &mut Arrival,
+) -> u32
+    ensures { ReceivesDatagram micros port.old now datagram.now result arrival.old arrival.new port.new }
+{
+    match take_in(port, micros, now, datagram) {
         Ok(arrived) => {
             *arrival = arrival_of(arrived);
             status::OK
@@ -139,20 +162,18 @@ pub(crate) fn number_of(why: Ending) -> u32
 }
 
 /// Describes a unit of a session: with its extended RTP time, and whether it is decodable.
-fn judged_unit(unit: &Depacketized, time: Option<u64>, decodable: bool, keyframe: bool) -> Unit
+fn judged_unit(unit: &PoppedUnit, time: Option<u64>, decodable: bool, keyframe: bool) -> Unit
+    requires { 0 < length unit.now.metas }
     ensures { TellsJudgedBy time decodable keyframe unit.now result }
 {
-    let told = unit_of(unit);
-    let rtp_time = match time {
-        Some(time) => time,
-        None => told.rtp_time,
-    };
-    Unit {
-        rtp_time,
-        decodable,
-        keyframe,
-        ..told
+    let mut told = no_unit();
+    describe_popped(&mut told, unit);
+    if let Some(time) = time {
+        told.rtp_time = time;
     }
+    told.decodable = decodable;
+    told.keyframe = keyframe;
+    told
 }
 
 /// Returns an event of a stream without an error or a reason to end.
@@ -219,9 +240,10 @@ fn packet_event(kind: u32, ssrc: u32, payload_type: u8, packet: &[u8]) -> Event
     }
 }
 
-/// Describes an event for C.
-fn event_of(event: &SessionEvent) -> Event
-    ensures { TellsEvent event.now result }
+/// Describes an event with this unit for C, if it has one.
+fn event_of(event: &SessionEvent<()>, popped: &PoppedUnit) -> Event
+    requires { HasUnit (Option.Some (with_unit event.now popped.now)) }
+    ensures { TellsEvent (with_unit event.now popped.now) result }
 {
     match event {
         SessionEvent::Begun { ssrc, payload_type } => event_without_unit(0, *ssrc, *payload_type),
@@ -233,8 +255,8 @@ fn event_of(event: &SessionEvent) -> Event
             keyframe,
             unit,
         } => match unit {
-            Ok(unit) => {
-                let unit = judged_unit(unit, *rtp_time, *decodable, *keyframe);
+            Ok(()) => {
+                let unit = judged_unit(popped, *rtp_time, *decodable, *keyframe);
                 event_with(1, *ssrc, *payload_type, unit)
             }
             Err(_) => event_without_unit(1, *ssrc, *payload_type),
@@ -253,7 +275,7 @@ fn event_of(event: &SessionEvent) -> Event
             ssrc,
             payload_type,
             ..
-        } => packet_event(4, *ssrc, *payload_type, bytes_of(event)),
+        } => packet_event(4, *ssrc, *payload_type, bytes_of(event, popped)),
         SessionEvent::Telephone {
             ssrc,
             payload_type,
@@ -264,7 +286,8 @@ fn event_of(event: &SessionEvent) -> Event
             let unit = telephone_unit(*rtp_time, *marker, payload);
             event_with(6, *ssrc, *payload_type, unit)
         }
-        SessionEvent::Report { .. } => packet_event(5, 0, 0, bytes_of(event)),
+        SessionEvent::Report { .. } => packet_event(5, 0, 0, bytes_of(event, popped)),
+        SessionEvent::TransportFeedback { .. } => packet_event(7, 0, 0, bytes_of(event, popped)),
         SessionEvent::Ended {
             ssrc,
             payload_type,
@@ -277,88 +300,71 @@ fn event_of(event: &SessionEvent) -> Event
 }
 
 /// Returns whether memory ran out for the unit or the packet of an event.
-fn is_no_memory(event: &SessionEvent) -> bool
-    ensures { result ≡ is_no_memory event.now }
+fn is_no_memory(event: &SessionEvent<()>) -> bool
+    ensures { (unit : Release) → result ≡ is_no_memory (with_unit event.now unit) }
 {
     match event {
         SessionEvent::Unit { unit: Err(_), .. } => true,
         SessionEvent::Feedback { packet: Err(_), .. } => true,
         SessionEvent::Report { packet: Err(_) } => true,
+        SessionEvent::TransportFeedback { packet: Err(_) } => true,
         _ => false,
     }
 }
 
-/// Returns the bytes of an event: those of its unit, of its RTCP packet, or of its telephone events.
-fn bytes_of(event: &SessionEvent) -> &[u8]
-    ensures { result.now ≡ bytes_in event.now }
+/// Returns the bytes of an event with this unit: those of its unit, of its RTCP packet, or of its telephone events.
+fn bytes_of<'a>(event: &'a SessionEvent<()>, popped: &'a PoppedUnit) -> &'a [u8]
+    ensures { result.now ≡ bytes_in (with_unit event.now popped.now) }
 {
     match event {
-        SessionEvent::Unit { unit: Ok(unit), .. } => &unit.bytes,
+        SessionEvent::Unit { unit: Ok(()), .. } => &popped.bytes,
         SessionEvent::Feedback {
             packet: Ok(packet),
             ..
         } => packet,
         SessionEvent::Telephone { payload, .. } => payload,
         SessionEvent::Report { packet: Ok(packet) } => packet,
+        SessionEvent::TransportFeedback { packet: Ok(packet) } => packet,
         _ => &[],
     }
 }
 
-/// Keeps the unit of an event, for its values of header extensions.
-fn keep_unit(port: &mut PortSession, event: SessionEvent)
-    ensures { port.new ≡ record port.old { taken = latest_unit event port.old.taken } }
-{
-    if let SessionEvent::Unit { unit, .. } = event {
-        keep_popped(port, unit);
-    }
-}
-
-/// Keeps a unit that was popped.
-fn keep_popped(port: &mut PortSession, unit: Result<Depacketized, AllocError>)
-    ensures { port.new ≡ record port.old { taken = popped_or unit port.old.taken } }
-{
-    if let Ok(unit) = unit {
-        port.taken = Some(unit);
-    }
-}
-
-/// Returns the next event: the event that waits for a larger output buffer, or the next one from the session.
-fn next_event(port: &mut PortSession, now: u64) -> Option<SessionEvent>
-    ensures { Comes now port.old result port.new }
-{
-    match port.waiting.take() {
-        Some(event) => Some(event),
-        None => port.session.poll(Ticks(now)),
-    }
-}
-
-/// Hands an event over: it is described, and its bytes go to the output buffer. If that is too small, the event waits.
-fn hand_over(port: &mut PortSession, next: SessionEvent, event: &mut Event, bytes: &mut [u8]) -> u32
-    ensures hands { Hands (is_no_memory next) (nat_le (length (bytes_in next)) (length bytes.old)) next result (record { event_before = event.old; event = event.new; before = bytes.old; bytes = bytes.new }) port.old port.new }
+/// Hands over the event that waits: it is described, and its bytes go to the output buffer. If that is too small, the event still
+/// waits.
+fn hand_over(port: &mut PortSession, alloc: Global, event: &mut Event, bytes: &mut [u8]) -> u32
+    requires { IsSome port.old.waiting }
+    ensures hands { IfSome port.old.waiting (λ next. Hands (is_no_memory next) (nat_le (length (bytes_in next)) (length bytes.old)) next result (record { event_before = event.old; event = event.new; before = bytes.old; bytes = bytes.new }) (record port.old { waiting = Option.None }) port.new) }
     ensures untouched { result ≢ 0 → bytes.new ≡ bytes.old }
     ensures unchanged { result ≢ 0 → result ≢ 33 → event.new ≡ event.old }
 {
-    if is_no_memory(&next) {
+    let (next, popped) = port.waiting.parts();
+    if is_no_memory(next) {
+        port.waiting.clear(alloc);
         return status::OUT_OF_MEMORY;
     }
-    *event = event_of(&next);
-    if !fill(bytes, bytes_of(&next)) {
-        port.waiting = Some(next);
+    *event = event_of(next, popped);
+    if !fill(bytes, bytes_of(next, popped)) {
         return status::TOO_SMALL;
     }
-    keep_unit(port, next);
+    port.waiting.move_to(&mut port.taken, alloc);
     status::OK
 }
 
-/// Reports the next event, and writes its bytes to the output buffer.
-fn poll(port: &mut PortSession, now: u64, event: &mut Event, bytes: &mut [u8]) -> u32
+/// Reports the next event, and writes its bytes to the output buffer: the event that waits for a larger output buffer, or the next
+/// one from the session.
+fn poll(port: &mut PortSession, alloc: Global, now: u64, event: &mut Event, bytes: &mut [u8]) -> u32
     ensures polls { PollsEvent now port.old result (record { event_before = event.old; event = event.new; before = bytes.old; bytes = bytes.new }) port.new }
     ensures untouched { result ≢ 0 → bytes.new ≡ bytes.old }
     ensures unchanged { result ≢ 0 → result ≢ 33 → event.new ≡ event.old }
 {
-    match next_event(port, now) {
-        Some(next) => hand_over(port, next, event, bytes),
-        None => status::NONE,
+    if port.waiting.is_some() {
+        return hand_over(port, alloc, event, bytes);
+    }
+    port.waiting.poll(&mut port.session, Ticks(now));
+    if port.waiting.is_some() {
+        hand_over(port, alloc, event, bytes)
+    } else {
+        status::NONE
     }
 }
 
@@ -404,7 +410,7 @@ pub extern "C" fn cpay_session_receive(
     datagram: &[u8],
     arrival: &mut Arrival,
 ) -> u32
-    ensures receives { OnPortSession handle.old.place.value (λ r s. ReceivesDatagram r now datagram.now result arrival.old arrival.new s) handle.new.place.value }
+    ensures receives { OnPortSession handle.old.place.value (λ r s. ReceivesDatagram Option.None r now datagram.now result arrival.old arrival.new s) handle.new.place.value }
     ensures refused { Refuses is_port_session handle.old.place.value result handle.new.place.value }
     ensures unchanged { result ≢ 0 → arrival.new ≡ arrival.old }
 {
@@ -412,7 +418,52 @@ pub extern "C" fn cpay_session_receive(
         return status::EMPTY;
     };
     let answer = match &mut *object {
-        Object::PortSession(port) => receive(port, now, datagram, arrival),
+        Object::PortSession(port) => receive(port, None, now, datagram, arrival),
+        _ => status::OTHER_KIND,
+    };
+    handle.put(object);
+    answer
+}
+
+/// Receives a datagram that arrived at `micros` for the transport, in microseconds of any clock.
+#[unsafe(no_mangle)]
+pub extern "C" fn cpay_session_receive_at(
+    alloc: Global,
+    handle: &mut Handle,
+    now: u64,
+    micros: u64,
+    datagram: &[u8],
+    arrival: &mut Arrival,
+) -> u32
+    ensures receives { OnPortSession handle.old.place.value (λ r s. ReceivesDatagram (Option.Some micros) r now datagram.now result arrival.old arrival.new s) handle.new.place.value }
+    ensures refused { Refuses is_port_session handle.old.place.value result handle.new.place.value }
+    ensures unchanged { result ≢ 0 → arrival.new ≡ arrival.old }
+{
+    let Some(mut object) = handle.take(alloc) else {
+        return status::EMPTY;
+    };
+    let answer = match &mut *object {
+        Object::PortSession(port) => receive(port, Some(micros), now, datagram, arrival),
+        _ => status::OTHER_KIND,
+    };
+    handle.put(object);
+    answer
+}
+
+/// Forgets which packets of the transport arrived.
+#[unsafe(no_mangle)]
+pub extern "C" fn cpay_session_restart_transport(alloc: Global, handle: &mut Handle) -> u32
+    ensures restarts { OnPortSession handle.old.place.value (λ r s. (result ≡ 0) × (s ≡ record r { session = restarts_transport r.session })) handle.new.place.value }
+    ensures refused { Refuses is_port_session handle.old.place.value result handle.new.place.value }
+{
+    let Some(mut object) = handle.take(alloc) else {
+        return status::EMPTY;
+    };
+    let answer = match &mut *object {
+        Object::PortSession(port) => {
+            port.session.restart_transport();
+            status::OK
+        }
         _ => status::OTHER_KIND,
     };
     handle.put(object);
@@ -437,7 +488,7 @@ pub extern "C" fn cpay_session_poll(
         return status::EMPTY;
     };
     let answer = match &mut *object {
-        Object::PortSession(port) => poll(port, now, event, bytes),
+        Object::PortSession(port) => poll(port, alloc, now, event, bytes),
         _ => status::OTHER_KIND,
     };
     handle.put(object);
@@ -459,9 +510,9 @@ pub extern "C" fn cpay_session_values(
         return status::EMPTY;
     };
     let answer = match &mut *object {
-        Object::PortSession(port) => match &port.taken {
-            Some(unit) => {
-                *values = values_in(unit);
+        Object::PortSession(port) => match port.taken.values() {
+            Some(told) => {
+                *values = told;
                 status::OK
             }
             None => status::NONE,

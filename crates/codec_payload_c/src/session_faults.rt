@@ -16,7 +16,8 @@ pub struct SettingsFault {
     /// The index of the format, if the fault is in one; else 0.
     pub format: usize,
     /// 0: no fault; 1: `tick_rate`; 2: `from_keyframe`; 3: the clock rate of a format; 4: `limit`; 5: `max_streams`; 6: the codec of
-    /// a format; 7: the step of RED of a format; 8: a payload type out of range; 9: one with two meanings; 10: the name.
+    /// a format; 7: the step of RED of a format; 8: a payload type out of range; 9: one with two meanings; 10: the name; 11: the extension id of the
+    /// transport; 12: its window.
     pub kind: u32,
     /// The payload type, if the fault is about one; else 0.
     pub payload_type: u8,
@@ -83,6 +84,8 @@ fn fault_told(fault: SessionSettingsError) -> SettingsFault
             payload_type,
         } => type_fault_at(9, format, payload_type),
         SessionSettingsError::Cname => plain_fault(10),
+        SessionSettingsError::TransportId => plain_fault(11),
+        SessionSettingsError::TransportWindow => plain_fault(12),
     }
 }
 

@@ -2,13 +2,16 @@
 
 ghost use Rattle.std.specs.Prelude.{◌≡◌, ◌&&◌, is_some, map, filter_map, IfErr, IfOk, IfSome, Option, Bool};
 ghost use Rattle.std.specs.List.{list_all};
-ghost use Rattle.codec_payload_c.specs.SessionFormats.{AreSessionSettings, HasPlainSettings, IsNewSession, MatchFeedback, RefusesSession, can_convert, format_given, format_in_range, is_in_range, no_media_given, pair_given, red_given, session_in_range, telephone_given};
+ghost use Rattle.codec_payload_c.specs.SessionFormats.{AreSessionSettings, HasPlainSettings, IsNewSession, MatchFeedback, RefusesSession, can_convert, format_given, format_in_range, is_in_range, no_media_given, pair_given, red_given, session_in_range, telephone_given, transport_given};
 
 use crate::extension::{ExtensionIds, ids_of};
 use crate::receiver::{WaitLimits, bound_of, from_keyframe_of, waiting_for};
 use codec_payload_core::wire::{CodecSpec, Frequency};
+use codec_payload_feedback::transport::TransportSettings;
+use codec_payload_handle::event_slot::EventSlot;
 use codec_payload_handle::object::PortSession;
 use codec_payload_handle::settings::{Spec, codec_of};
+use codec_payload_handle::slot::TakenPackets;
 use codec_payload_handle::status;
 use codec_payload_requests::nack::NackSettings;
 use codec_payload_session::formats::{
@@ -93,6 +96,20 @@ pub struct SessionFeedback {
     pub has_report_interval: bool,
 }
 
+/// How the arrivals of packets are reported.
+#[repr(C)]
+#[derive(Clone, Copy)]
+pub struct SessionTransport {
+    /// The number of ticks between two feedbacks; 0 counts as 1.
+    pub interval: u64,
+    /// The largest number of bytes of the control information of a feedback.
+    pub size: usize,
+    /// How many numbers are remembered, 1 to 32,768.
+    pub window: usize,
+    /// The id of the header extension with the transport-wide number, 1 to 255.
+    pub extension_id: u8,
+}
+
 /// The settings of a session, except its lists.
 #[repr(C)]
 #[derive(Clone, Copy)]
@@ -119,10 +136,14 @@ pub struct SessionSettings {
     pub from_keyframe: u8,
     /// Whether `feedback` is set. If not, nothing is requested.
     pub has_feedback: bool,
+    /// Whether `transport` is set. If not, no arrivals are reported.
+    pub has_transport: bool,
     /// Who requests missing packets and keyframes.
     pub feedback: SessionFeedback,
     /// The ids of the header extensions to read.
     pub extension_ids: ExtensionIds,
+    /// How the arrivals of packets are reported.
+    pub transport: SessionTransport,
 }
 
 /// Returns how the format uses RED.
@@ -287,6 +308,21 @@ fn feedback_of(
     }))
 }
 
+/// Converts the settings of a transport, if they are set.
+fn transport_of(settings: &SessionSettings) -> Option<TransportSettings>
+    ensures { result ≡ transport_given settings.now }
+{
+    if !settings.has_transport {
+        return None;
+    }
+    Some(TransportSettings {
+        extension_id: settings.transport.extension_id,
+        interval: settings.transport.interval,
+        size: settings.transport.size,
+        window: settings.transport.window,
+    })
+}
+
 /// Returns whether the clock has a rate, and `from_keyframe` a meaning.
 fn is_session_in_range(settings: &SessionSettings) -> bool
     ensures { result ≡ session_in_range settings.now }
@@ -321,6 +357,7 @@ fn settings_of(alloc: Global, settings: &SessionSettings) -> Option<Settings>
         bye_wait: settings.bye_wait,
         tick_rate,
         feedback: None,
+        transport: transport_of(settings),
     })
 }
 
@@ -377,8 +414,8 @@ pub(crate) fn session_by(
     match Session::new(alloc, settings) {
         Ok(session) => Ok(PortSession {
             session,
-            waiting: None,
-            taken: None,
+            waiting: EventSlot::new(alloc),
+            taken: TakenPackets::new(alloc),
         }),
         Err(_) => Err(status::INVALID),
     }

@@ -1,5 +1,5 @@
 -- Feedback about the arrival of each packet of a transport.
-use Rattle.std.specs.Prelude.{◌≡◌, ℕ, ◌+◌, ◌-◌, ◌%◌, ◌^◌, nat_lt, max, min, if◌then◌else◌, Bool, true, false, List, [], ◌∷◌, ◌++◌, length, Option, Some, None, Result, Ok, Err}
+use Rattle.std.specs.Prelude.{◌≡◌, ℕ, ◌+◌, ◌-◌, ◌*◌, ◌/◌, ◌%◌, ◌^◌, nat_lt, max, min, if◌then◌else◌, Bool, true, false, List, [], ◌∷◌, ◌++◌, length, Option, Some, None, Result, Ok, Err}
 use Rattle.std.specs.Int.{w16, from_be_bytes}
 use Rattle.codec_payload_congestion.specs.Arrivals.{Log, after_reported, arrived, log_by, new_log}
 use Rattle.codec_payload_congestion.specs.Feedback.{AppendsReported}
@@ -36,7 +36,15 @@ reporter_by settings = reporter_with settings (log_by settings.window)
 abbrev pub restarted : Reporter → Reporter
 restarted r = record r { log = new_log r.log.window; sent = None }
 
+-- a feedback of at most 1,100 bytes each 100 ticks about the last 2,048 numbers
+abbrev pub live_transport : ℕ → TransportSettings
+live_transport id = record { extension_id = id; interval = 100; size = 1100; window = 2048 }
+
 -- ---- arrivals
+
+-- a time in ticks as quarters of a millisecond, rounded down, modulo 2^32
+abbrev pub quarters_at : ℕ → ℕ → ℕ
+quarters_at now rate = (now * 4000 / rate) % 4294967296
 
 -- a number of two bytes
 abbrev pub number_at : Option (List ℕ) → Option ℕ
@@ -54,8 +62,12 @@ abbrev pub noted_if : Option ℕ → ℕ → ℕ → Reporter → Reporter
 noted_if None time ssrc r = r
 noted_if (Some number) time ssrc r = record r { log = arrived number time r.log; media_ssrc = ssrc }
 
+-- an RTP packet arrives at that time: its number is in the log
+abbrev pub noted_packet : ℕ → Packet → Reporter → Reporter
+noted_packet time p r = noted_if (number_in r.settings.extension_id (elements_of p.header.extension)) time p.header.ssrc r
+
 abbrev pub noted_in : Result Packet RtpError → ℕ → Reporter → Reporter
-noted_in (Ok p) time r = noted_if (number_in r.settings.extension_id (elements_of p.header.extension)) time p.header.ssrc r
+noted_in (Ok p) time r = noted_packet time p r
 noted_in (Err e) time r = r
 
 -- a datagram arrives at that time: the number of an RTP packet is in the log

@@ -4,11 +4,11 @@ ghost use Rattle.std.specs.Prelude.{◌≡◌, ◌+◌, ◌<◌, ◌≤◌, max,
 ghost use Rattle.std.specs.Option.{option_map};
 ghost use Rattle.codec_payload_requests.specs.Requests.{has_come};
 ghost use Rattle.codec_payload_rtp.specs.ExtensionFormats.{elements_of};
-ghost use Rattle.codec_payload_rtp.specs.RtpValues.{extension_of};
-ghost use Rattle.codec_payload_feedback.specs.Transport.{IsTransportFeedback, due_at, most_of, noted, number_in, reporter_by, restarted};
+ghost use Rattle.codec_payload_rtp.specs.RtpValues.{extension_of, packet_of};
+ghost use Rattle.codec_payload_feedback.specs.Transport.{IsTransportFeedback, due_at, live_transport, most_of, noted, noted_packet, number_in, quarters_at, reporter_by, restarted};
 
 use crate::requests::FeedbackSource;
-use codec_payload_base::wire::Ticks;
+use codec_payload_base::wire::{Frequency, Ticks};
 use codec_payload_congestion::arrivals::{ArrivalLog, ArrivalLogError};
 use codec_payload_congestion::report::{append_report, most_reported};
 use codec_payload_rtp::rtp::{HeaderExtension, RtpPacket};
@@ -85,6 +85,28 @@ fn most_of(size: usize) -> usize
     most_reported(size).max(1)
 }
 
+/// Returns a time of your clock in quarters of a millisecond, rounded down, modulo 2^32.
+pub fn quarters_at(now: Ticks, tick_rate: Frequency) -> u32
+    ensures { result ≡ quarters_at now.0 tick_rate }
+{
+    (u128::from(now.0) * 4_000 / u128::from(tick_rate.get()) % 4_294_967_296) as u32
+}
+
+impl TransportSettings {
+    /// Returns settings for a clock in milliseconds: a feedback each 100 ms with at most 1,100 bytes of control information, and
+    /// 2,048 numbers. `extension_id` is the id of the header extension with the transport-wide number, 1 to 255.
+    pub fn live(extension_id: u8) -> TransportSettings
+        ensures { result ≡ live_transport extension_id }
+    {
+        TransportSettings {
+            extension_id,
+            interval: 100,
+            size: 1_100,
+            window: 2_048,
+        }
+    }
+}
+
 impl TransportReporter {
     /// Returns a reporter to which nothing arrived. Does not allocate.
     ///
@@ -120,9 +142,21 @@ impl TransportReporter {
         ensures ok { OnOk result (self.new ≡ noted time datagram.now self.old) }
         ensures err { OnErr result (self.new ≡ self.old) }
     {
-        let Ok(packet) = RtpPacket::parse(datagram) else {
-            return Ok(());
-        };
+        match RtpPacket::parse(datagram) {
+            Ok(packet) => self.receive_packet(time, &packet),
+            Err(_) => Ok(()),
+        }
+    }
+
+    /// Does the same for an RTP packet that was read.
+    ///
+    /// # Errors
+    ///
+    /// Out of memory: nothing changed.
+    pub fn receive_packet(&mut self, time: u32, packet: &RtpPacket<'_>) -> Result<(), AllocError>
+        ensures ok { OnOk result (self.new ≡ noted_packet time (packet_of packet.now) self.old) }
+        ensures err { OnErr result (self.new ≡ self.old) }
+    {
         let Some(number) = number_in(self.settings.extension_id, &packet.header.extension) else {
             return Ok(());
         };

@@ -10,6 +10,8 @@ use Rattle.codec_payload_handle.specs.Popping.{Answer}
 use Rattle.codec_payload_handle.specs.Units.{TellsUnit, TellsValues}
 use Rattle.codec_payload_handle.specs.declared.extension_values.ExtensionValues.{ExtensionValues as CValues}
 use Rattle.codec_payload_handle.specs.declared.unit.Unit.{Unit as CUnit}
+use Rattle.codec_payload_session.specs.Units.{Event}
+use Rattle.codec_payload_session.specs.declared.session.Event.TheVariants as events
 use Rattle.codec_payload_stream.specs.declared.pops.Popped.{Popped as Pop}
 use Rattle.codec_payload_stream.specs.declared.pops.Popped.TheVariants as popped
 
@@ -36,6 +38,20 @@ pub record IsWrittenTo (u : Release) (has_room : Bool) (unit : CUnit) (before by
 abbrev pub IsWritten : Option Release → Bool → CUnit → (before bytes : List ℕ) → Type 0
 IsWritten None has_room unit before bytes = Unit {0}
 IsWritten (Some u) has_room unit before bytes = IsWrittenTo u has_room unit before bytes
+
+-- the packets of the latest unit, after a poll with this event
+abbrev pub latest_packets : Option Event → Option (List RtpMeta) → Option (List RtpMeta)
+latest_packets None taken = taken
+latest_packets (Some (events.Begun ssrc payload_type)) taken = taken
+latest_packets (Some (events.Unit ssrc payload_type time decodable keyframe (Ok unit))) taken = Some unit.metas
+latest_packets (Some (events.Unit ssrc payload_type time decodable keyframe (Err e))) taken = taken
+latest_packets (Some (events.TooLarge ssrc payload_type unit)) taken = taken
+latest_packets (Some (events.Refused ssrc payload_type fault)) taken = taken
+latest_packets (Some (events.Feedback ssrc payload_type packet)) taken = taken
+latest_packets (Some (events.Telephone ssrc payload_type time marker payload)) taken = taken
+latest_packets (Some (events.Report packet)) taken = taken
+latest_packets (Some (events.TransportFeedback packet)) taken = taken
+latest_packets (Some (events.Ended ssrc payload_type why)) taken = taken
 
 -- the values of the unit with these packets, if there is one
 abbrev pub TellsValuesOf : Option (List RtpMeta) → Option CValues → Type 0

@@ -3,6 +3,7 @@
 #![tactic(auto)]
 
 pub mod bytes;
+pub mod event_slot;
 pub mod extension_values;
 pub mod extra;
 pub mod handle;

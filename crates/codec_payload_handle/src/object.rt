@@ -1,8 +1,9 @@
 //! The contents of a handle.
 
+use crate::event_slot::EventSlot;
 use crate::slot::{TakenPackets, UnitSlot};
 use codec_payload_adaptive_wait::adaptive_wait::AdaptiveWait;
-use codec_payload_core::buffer::{Depacketized, DepacketizingBuffer};
+use codec_payload_core::buffer::DepacketizingBuffer;
 use codec_payload_core::codec::{CodecDepacketizer, CodecExtra, CodecPacketizer};
 use codec_payload_core::payloads::Payloads;
 use codec_payload_core::red::RedSender;
@@ -13,7 +14,7 @@ use codec_payload_forward::counts::ForwardCounts;
 use codec_payload_forward::forwarder::Forwarder;
 use codec_payload_history::retransmission::History;
 use codec_payload_sender::sender::Sender as DatagramSender;
-use codec_payload_session::session::{Event, Session};
+use codec_payload_session::session::Session;
 use codec_payload_stream::receiver::Receiver as DatagramReceiver;
 use codec_payload_transport::sent::SentPackets;
 
@@ -61,12 +62,12 @@ pub struct StreamReceiver {
     pub taken: TakenPackets,
 }
 
-/// A session, the event whose bytes wait for a larger output buffer, and the latest unit.
+/// A session, the event whose bytes wait for a larger output buffer, and the packets of the latest unit.
 #[derive(Drop)]
 pub struct PortSession {
     pub session: Session,
-    pub waiting: Option<Event>,
-    pub taken: Option<Depacketized>,
+    pub waiting: EventSlot,
+    pub taken: TakenPackets,
 }
 
 /// A history of sent packets, and memory for the datagram that is resent; it is reused.

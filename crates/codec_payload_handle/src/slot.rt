@@ -1,6 +1,6 @@
 //! A popped unit in memory that the next pop uses again.
 
-ghost use Rattle.std.specs.Prelude.{◌≡◌, IsSome, None, is_some, option_map};
+ghost use Rattle.std.specs.Prelude.{◌≡◌, ◌<◌, IsSome, None, Some, is_some, length, option_map};
 ghost use Rattle.codec_payload_core.specs.Steps.{Pops};
 ghost use Rattle.codec_payload_stream.specs.Pops.{NamesFault, PopsGated, is_large};
 ghost use Rattle.codec_payload_handle.specs.Slots.{IsWritten, PopsFrom, PopsTo, TellsValuesOf};
@@ -17,10 +17,10 @@ use std::alloc::{AllocError, Global};
 use std::marker::Model;
 
 /// The largest number of bytes that an empty slot keeps for the next unit.
-const MOST_BYTES: usize = 8_192;
+pub(crate) const MOST_BYTES: usize = 8_192;
 
 /// The largest number of packets for which an empty slot keeps memory.
-const MOST_PACKETS: usize = 8;
+pub(crate) const MOST_PACKETS: usize = 8;
 
 /// A popped unit, or none. A slot without a unit keeps memory for the next one: at most 8,192 bytes, and 8 packets. What is in
 /// that memory is unspecified.
@@ -179,6 +179,15 @@ impl TakenPackets {
             is_some: false,
             packets: PoppedPackets::new(alloc),
         }
+    }
+
+    /// Moves the packets of a unit here, and drops those that were here. What packets the unit has then is unspecified.
+    pub fn take_from(&mut self, unit: &mut PoppedUnit)
+        requires { 0 < length unit.old.metas }
+        ensures { self.new ≡ Some unit.old.metas }
+    {
+        self.is_some = true;
+        unit.move_packets(&mut self.packets);
     }
 
     /// Returns the values of header extensions of the unit, if there was one.

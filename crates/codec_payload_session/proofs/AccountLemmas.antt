@@ -33,12 +33,11 @@ use Rattle.codec_payload_session.specs.declared.formats.SessionSettings.{Session
 use Rattle.codec_payload_session.specs.declared.session.Arrival.{Arrival}
 use Rattle.codec_payload_session.specs.declared.session.Arrival.TheVariants as arrivals
 use Rattle.codec_payload_session.specs.declared.session.ArrivalCounts.{ArrivalCounts}
-use Rattle.codec_payload_session.specs.declared.session.Event.{Event}
+use Rattle.codec_payload_session.specs.Units.{Event, Step}
 use Rattle.codec_payload_session.specs.Sorting as sorted
 use Rattle.codec_payload_session.specs.declared.stream.Ending.{Ending}
 use Rattle.codec_payload_session.specs.declared.stream.Stage.{Stage}
 use Rattle.codec_payload_session.specs.declared.stream.Stage.TheVariants as stages
-use Rattle.codec_payload_session.specs.declared.stream.Step.{Step}
 use Rattle.codec_payload_session.specs.declared.stream.Step.TheVariants as steps
 use Rattle.codec_payload_session.specs.declared.stream.StreamState.{StreamState}
 

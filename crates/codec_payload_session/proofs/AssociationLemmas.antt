@@ -84,7 +84,7 @@ telephone_same s named bytes = by_kind (is_rtcp bytes) (rtp_at bytes)
 
 -- the session after the datagram
 abbrev after_all : Session → SessionSettings → Port → Queue → Result Arrival AllocError → Session
-after_all s settings port telephone answer = record { settings = settings; port = port; counts = counted_if answer s.counts; telephone = telephone; report_due = s.report_due }
+after_all s settings port telephone answer = record { settings = settings; port = port; counts = counted_if answer s.counts; telephone = telephone; report_due = s.report_due; transport = s.transport }
 
 pairs_of : (pair : SsrcPair) (s : Session) (t : SessionSettings) (q : Port) → AddsPair pair s.settings s.port t q
     → Pairs pair.ssrc (with_pair pair s.settings.pairs.items) s (record s { settings = t; port = q })

@@ -16,7 +16,7 @@ use Rattle.codec_payload_stream.specs.declared.receiver.SettingsError.{SettingsE
 use Rattle.codec_payload_stream.specs.declared.receiver.SettingsError.TheVariants as errors
 use Rattle.codec_payload_session.specs.Arrivals.{Port}
 use Rattle.codec_payload_session.specs.Associations.{AddsPair, TakesInBy}
-use Rattle.codec_payload_session.specs.Checks.{at_most_127, can_begin, fault_of, feedback_fault, first_of, format_fault, format_fits, formats_fault, is_payload_type, is_named, limit_fault, listed_fault, red_fault, red_fits, red_retransmission_fault, retransmission_fault, step_fault, streams_fault, type_fault, types_fault}
+use Rattle.codec_payload_session.specs.Checks.{at_most_127, can_begin, fault_of, feedback_fault, first_of, format_fault, format_fits, formats_fault, is_payload_type, is_named, limit_fault, listed_fault, red_fault, red_fits, red_retransmission_fault, retransmission_fault, step_fault, streams_fault, transport_fault, type_fault, types_fault}
 use Rattle.codec_payload_session.specs.Formats.{HasSettings, backward_for, forward_for, has_type, is_video, resends, retransmission_for, retransmission_of, role_by, role_of, stream_of}
 use Rattle.codec_payload_session.specs.Sorting.{Sorted, sorted_at, sorted_by, sorted_packet, sorted_retransmission, sorted_rtcp, sorted_rtp}
 use Rattle.codec_payload_session.specs.declared.checks.SessionSettingsError.{SessionSettingsError}
@@ -186,7 +186,7 @@ begins_by_role s t f none is =
     first_of (listed_fault s.formats.items [] s.no_media.items) (listed_fault s.formats.items s.no_media.items s.telephone_events.items) in
     let types : Option SessionSettingsError = first_of (formats_fault [] s.formats.items) listed in
     let numbers : Option SessionSettingsError = first_of (limit_fault s.limit) (streams_fault s.max_streams) in
-    let all : first_of numbers types ≡ None = none_one (first_of numbers types) (feedback_fault s.feedback) none in
+    let all : first_of numbers types ≡ None = none_one (first_of numbers types) (first_of (feedback_fault s.feedback) (transport_fault s.transport)) none in
     let limit : (nat_le 1 s.limit && nat_le s.limit 65536) ≡ true =
     limit_in_range s.limit (none_one (limit_fault s.limit) (streams_fault s.max_streams) (none_one numbers types all)) in
     let fits : format_fits f ≡ true =

@@ -8,29 +8,31 @@ use Rattle.codec_payload_base.specs.declared.error.PacketError.{PacketError}
 use Rattle.codec_payload_base.specs.declared.wire.Ticks.{Ticks}
 use Rattle.codec_payload_buffer.specs.Release.{Release}
 use Rattle.codec_payload_feedback.specs.Feedback.{Requests, deadline_of as deadline_of_requests, has_any, keyframe_is_due, numbers_due}
+use Rattle.codec_payload_feedback.specs.Transport.{Reporter, due_at}
 use Rattle.codec_payload_jitter.specs.Receiving.{Receiving, deadline_of}
+use Rattle.codec_payload_requests.specs.Requests.{has_come}
 use Rattle.codec_payload_stream.specs.Pops.{DropsUnits, PopsGated, PopsOnce, answer_of, bound_if, gates_if, has_left, is_large, none_dropped, one_more, time_if, without_unit}
 use Rattle.codec_payload_stream.specs.Sessions.{Session as Receiver}
 use Rattle.codec_payload_stream.specs.declared.pops.Popped.{Popped}
 use Rattle.codec_payload_stream.specs.declared.pops.Popped.TheVariants as popped
 use Rattle.codec_payload_session.specs.Arrivals.{Port}
 use Rattle.codec_payload_session.specs.Idle.{IsIdle, IsNoEvent, held_in, next_of}
-use Rattle.codec_payload_session.specs.Polls.{GoesOn, Polls, PollsAfter, SendsReport, TurnsOrReports, report_event}
+use Rattle.codec_payload_session.specs.Polls.{GoesOn, Polls, PollsAfter, SendsAfter, SendsReport, SendsTransport, TurnsOrReports, TurnsOrSends, report_event, transport_event}
 use Rattle.codec_payload_session.specs.Ports.{Session}
 use Rattle.codec_payload_session.specs.Quiet.{IsBefore, PopsNothing}
 use Rattle.codec_payload_session.specs.Reporting.{ReportsBy, ReportsEach, ReportsIf, any_announced, deadline_if, is_report_due, is_time, report_deadline}
 use Rattle.codec_payload_session.specs.Requests.{Asking, Asks, is_heard, refreshed, requests_due}
 use Rattle.codec_payload_session.specs.Streams.{Drains, Follows, Plays, Pops, RequestsBy, RestsBy, Steps, StepsBy, StreamState, due_by, due_in, due_of, earlier, end_by, end_of, is_probation, later as time_after, request_deadline, step_of, step_with, work_deadline}
 use Rattle.codec_payload_session.specs.Telephone.{Queue, due_before}
+use Rattle.codec_payload_session.specs.Transports.{Sends, SendsBy, SendsFrom, transport_deadline}
 use Rattle.codec_payload_session.specs.Turns.{AreQuiet, TakesTurn, event_of}
 use Rattle.codec_payload_session.specs.declared.formats.FeedbackSettings.{FeedbackSettings}
 use Rattle.codec_payload_session.specs.declared.formats.SessionSettings.{SessionSettings}
-use Rattle.codec_payload_session.specs.declared.session.Event.{Event}
+use Rattle.codec_payload_session.specs.Units.{Event, Step}
 use Rattle.codec_payload_session.specs.declared.stream.Ending.{Ending}
 use Rattle.codec_payload_session.specs.declared.stream.Ending.TheVariants as endings
 use Rattle.codec_payload_session.specs.declared.stream.Stage.{Stage}
 use Rattle.codec_payload_session.specs.declared.stream.Stage.TheVariants as stages
-use Rattle.codec_payload_session.specs.declared.stream.Step.{Step}
 use Rattle.codec_payload_session.specs.declared.stream.Step.TheVariants as steps
 use Rattle.codec_payload_session.specs.declared.telephone.TelephonePacket.{TelephonePacket}
 use Rattle.codec_payload_session.proofs.CalmLemmas.{due_later, updated_none}
@@ -157,7 +159,7 @@ stayed now s t same drains other = record {
   asks = λ later after plays before. absurd (other (sym (ap (λ (x : StreamState). x.stage) same) ∙ plays));
 }
 
-asked : (o : Option Asking) (now : ℕ) (s t : StreamState) → s.feedback ≡ o → s.stage ≡ stages.Playing → RequestsBy o now s steps.Nothing t → Rested now s t
+asked : (o : Option Asking) (now : ℕ) (s t : StreamState) → s.feedback ≡ o → s.stage ≡ stages.Playing → RequestsBy {U = Release} o now s steps.Nothing t → Rested now s t
 asked None now s t is plays got = record {
   receiver = ap (λ (x : StreamState). x.receiver) got.1;
   told_is = ap (λ (x : StreamState). x.told) got.1;
@@ -177,7 +179,7 @@ asked (Some a) now s t is plays got = subst (λ (x : StreamState). Rested now s 
       (subst (λ (told : Result (Option (Vec ℕ)) AllocError). Asks now (is_heard now s.last a) s.receiver a told got.asking) (told_none got.told got.answers) got.asks) after before;
 })
 
-rested : (g : Stage) (now : ℕ) (s t : StreamState) → s.stage ≡ g → RestsBy g now s steps.Nothing t → Rested now s t
+rested : (g : Stage) (now : ℕ) (s t : StreamState) → s.stage ≡ g → RestsBy {U = Release} g now s steps.Nothing t → Rested now s t
 rested stages.Probation now s t is got = stayed now s t got.1 (ap is_draining is) (λ plays. let other : stages.Probation ≡ stages.Playing = sym is ∙ plays in absurd (cc))
 rested stages.Playing now s t is got = asked s.feedback now s t refl is got
 rested (stages.Leaving why at) now s t is got =
@@ -375,7 +377,7 @@ no_event s steps.Nothing quiet = tt
 
 -- ---- the reports
 
-packet_none : (packet : Option (Result (Vec ℕ) AllocError)) → None ≡ report_event packet → packet ≡ None
+packet_none : (packet : Option (Result (Vec ℕ) AllocError)) → None ≡ report_event {U = Release} packet → packet ≡ None
 packet_none None is = refl
 packet_none (Some packet) is = absurd (cc)
 
@@ -420,7 +422,7 @@ record Polled (now : Ticks) (s t : Session) : Type 0 where
   settings : t.settings ≡ s.settings
   waiting : t.telephone.waiting ≡ []
 
-polled_report : (now : Ticks) (s t : Session) (port : Port) → s.telephone.waiting ≡ [] → TakesTurn now s.settings.idle_timeout s.port None port → SendsReport now.0 (record s { port = port }) None t
+polled_report : (now : Ticks) (s t : Session) (port : Port) → s.telephone.waiting ≡ [] → TakesTurn now s.settings.idle_timeout s.port None port → SendsReport {U = Release} now.0 (record s { port = port }) None t
     → Polled now s t
 polled_report now s t port empty turn got =
     let none : got.packet ≡ None = packet_none got.packet got.answers in
@@ -442,8 +444,21 @@ polled_turn : (event : Option Event) (now : Ticks) (s t : Session) (port : Port)
 polled_turn None now s t port empty turn got = polled_report now s t port empty turn got
 polled_turn (Some event) now s t port empty turn got = absurd (some_event event got.0)
 
+-- the feedback about the transport changes nothing else
+sent_after : (now : Ticks) (s after t : Session) → Polled now s after → SendsTransport {U = Release} now.0 after None t → Polled now s t
+sent_after now s after t it got = record {
+  quiet = subst (λ (x : Session). AreQuiet now s.settings.idle_timeout s.port.streams x.port.streams) (sym got.left) it.quiet;
+  settings = ap (λ (x : Session). x.settings) got.left ∙ it.settings;
+  waiting = ap (λ (x : Session). x.telephone.waiting) got.left ∙ it.waiting;
+}
+
+polled_sent : (event : Option Event) (now : Ticks) (s after t : Session) → s.telephone.waiting ≡ [] → TurnsOrReports now s event after → SendsAfter event now.0 after None t
+    → Polled now s t
+polled_sent None now s after t empty turn got = sent_after now s after t (polled_turn turn.event now s after turn.port empty turn.turn turn.goes_on) got
+polled_sent (Some event) now s after t empty turn got = absurd (some_event event got.0)
+
 polled_after : (ws : List TelephonePacket) (now : Ticks) (s t : Session) → s.telephone.waiting ≡ ws → PollsAfter ws now s None t → Polled now s t
-polled_after [] now s t is got = polled_turn got.event now s t got.port is got.turn got.goes_on
+polled_after [] now s t is got = polled_sent got.event now s got.after t is got.turn got.sends
 polled_after (w ∷ ws) now s t is got = absurd (some_event _ got.0)
 
 none_waits : (q : Queue) (due : Option ℕ) → q.waiting ≡ [] → due_before q due ≡ due
@@ -473,14 +488,55 @@ turns_none (Some event) now later s t u port answer it same after few due report
     (subst (λ (ts : List StreamState). IsBefore (due_in t.settings.idle_timeout ts) later.0) turn.there due) turn.steps in
     subst (λ (e : Option Event). IsNoEvent e) (sym got.0) (subst (λ (e : Option Event). IsNoEvent e) (sym turn.tells) (no_event turn.stepped turn.step step_quiet))
 
+-- ---- the feedback about the transport
+
+not_come : (due : Option ℕ) (now : ℕ) → IsBefore due now → has_come due now ≡ false
+not_come None now before = refl
+not_come (Some at) now before = grind (arith, nat_tests, before)
+
+none_sent : (f : FeedbackSettings) (now : ℕ) (r q : Reporter) (packet : Option (Result (Vec ℕ) AllocError)) → IsBefore (due_at r) now → Sends f now r packet q → packet ≡ None
+none_sent f now r q None before got = refl
+none_sent f now r q (Some (Ok packet)) before got = let no : true ≡ false = sym got.0 ∙ not_come (due_at r) now before in absurd (cc)
+none_sent f now r q (Some (Err e)) before got = let no : true ≡ false = sym got.0 ∙ not_come (due_at r) now before in absurd (cc)
+
+none_from : (r : Option Reporter) (f : FeedbackSettings) (now : ℕ) (packet : Option (Result (Vec ℕ) AllocError)) (q : Option Reporter) → IsBefore (transport_deadline r) now
+    → SendsFrom r f now packet q → packet ≡ None
+none_from None f now packet q before got = got.0
+none_from (Some r) f now packet q before got = none_sent f now r got.0 packet before got.1
+
+none_by : (o : Option FeedbackSettings) (now : ℕ) (r : Option Reporter) (packet : Option (Result (Vec ℕ) AllocError)) (q : Option Reporter) → IsBefore (transport_deadline r) now
+    → SendsBy o now r packet q → packet ≡ None
+none_by None now r packet q before got = got.0
+none_by (Some f) now r packet q before got = none_from r f now packet q before got
+
+transport_stays : (event : Option Event) (now : ℕ) (s : Session) (answer : Option Event) (t : Session) → GoesOn event now s answer t → t.transport ≡ s.transport
+transport_stays None now s answer t got = ap (λ (x : Session). x.transport) got.left
+transport_stays (Some event) now s answer t got = ap (λ (x : Session). x.transport) got.1
+
+no_feedback : (later : ℕ) (t after u : Session) (answer : Option Event) → after.transport ≡ t.transport → IsBefore (transport_deadline t.transport) later → SendsTransport later after answer u
+    → IsNoEvent answer
+no_feedback later t after u answer same before got =
+    let early_is : IsBefore (transport_deadline after.transport) later = subst (λ (r : Option Reporter). IsBefore (transport_deadline r) later) (sym same) before in
+    let none : got.packet ≡ None = none_by after.settings.feedback later after.transport got.packet got.transport early_is got.sends in
+    subst (λ (e : Option Event). IsNoEvent e) (sym (got.answers ∙ ap transport_event none)) tt
+
+sends_none : (event : Option Event) (later : ℕ) (t after u : Session) (answer : Option Event) → after.transport ≡ t.transport → IsBefore (transport_deadline t.transport) later → IsNoEvent event
+    → SendsAfter event later after answer u → IsNoEvent answer
+sends_none None later t after u answer same before quiet got = no_feedback later t after u answer same before got
+sends_none (Some event) later t after u answer same before quiet got = subst (λ (e : Option Event). IsNoEvent e) (sym got.0) quiet
+
 again_none : (now later : Ticks) (s t u : Session) (answer : Option Event) → Polled now s t → held_in t.port.streams ≡ held_in s.port.streams → now.0 ≤ later.0 → later.0 < 2 ^ 64
     → IsBefore (next_of t) later.0 → Polls later t answer u → IsNoEvent answer
 again_none now later s t u answer it same after few before got =
     let due : Option ℕ = earlier (due_in t.settings.idle_timeout t.port.streams) (report_deadline t.report_due t.port.streams) in
-    let both = earlier_both (due_in t.settings.idle_timeout t.port.streams) (report_deadline t.report_due t.port.streams) later.0
-    (subst (λ (o : Option ℕ). IsBefore o later.0) (none_waits t.telephone due it.waiting) before) in
-    let turns : TurnsOrReports later t answer u = subst (λ (ws : List TelephonePacket). PollsAfter ws later t answer u) it.waiting got in
-    turns_none turns.event now later s t u turns.port answer it same after few both.0 both.1 turns.turn turns.goes_on
+    let all = earlier_both due (transport_deadline t.transport) later.0
+    (subst (λ (o : Option ℕ). IsBefore o later.0) (none_waits t.telephone (earlier due (transport_deadline t.transport)) it.waiting) before) in
+    let both = earlier_both (due_in t.settings.idle_timeout t.port.streams) (report_deadline t.report_due t.port.streams) later.0 all.0 in
+    let sends : TurnsOrSends later t answer u = subst (λ (ws : List TelephonePacket). PollsAfter ws later t answer u) it.waiting got in
+    let turns : TurnsOrReports later t sends.event sends.after = sends.turn in
+    sends_none sends.event later.0 t sends.after u answer
+    (transport_stays turns.event later.0 (record t { port = turns.port }) sends.event sends.after turns.goes_on) all.1
+    (turns_none turns.event now later s t sends.after turns.port sends.event it same after few both.0 both.1 turns.turn turns.goes_on) sends.sends
 
 -- a poll without an event in which no packet left
 pub idle_after : (now : Ticks) (s t : Session) (answer : Option Event) → Polls now s answer t → answer ≡ None → held_in t.port.streams ≡ held_in s.port.streams → IsIdle now.0 t

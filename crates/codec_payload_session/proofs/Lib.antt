@@ -8,6 +8,7 @@ mod GoodbyeLemmas
 mod IdleLemmas
 mod NamedLemmas
 mod PacketLemmas
+mod PacketsLemmas
 mod PairLemmas
 mod PopAgainLemmas
 mod QuietLemmas
@@ -19,4 +20,5 @@ mod SkipLemmas
 mod SourceLemmas
 mod StillLemmas
 mod TelephoneLemmas
+mod UnitLemmas
 mod WakingLemmas

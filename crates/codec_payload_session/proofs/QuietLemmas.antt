@@ -5,11 +5,10 @@ use Rattle.codec_payload_base.specs.declared.wire.Ticks.{Ticks}
 use Rattle.codec_payload_session.specs.Streams.{Steps, earlier}
 use Rattle.codec_payload_session.specs.Arrivals.{Port, removed, sum_wrapped}
 use Rattle.codec_payload_session.specs.Turns.{AreQuiet, FirstSteps, TakesTurn, after_step, ended_after, event_of, is_nothing, kept_after, told_by}
-use Rattle.codec_payload_session.specs.declared.session.Event.{Event}
-use Rattle.codec_payload_session.specs.declared.stream.Step.{Step}
+use Rattle.codec_payload_session.specs.Units.{Event, Step, Turn}
+use Rattle.codec_payload_session.specs.declared.stream.Step.{Step as StepWith}
 use Rattle.codec_payload_session.specs.declared.stream.Step.TheVariants as steps
 use Rattle.codec_payload_session.specs.declared.stream.StreamState.{StreamState}
-use Rattle.codec_payload_session.specs.declared.streams.Turn.{Turn}
 
 -- the stream at a place after quiet ones, and the list with another stream in its place
 abbrev pub Splits : List StreamState → List StreamState → ℕ → StreamState → StreamState → Type 0
@@ -73,7 +72,7 @@ pub quiet_next : (now : Ticks) (idle : ℕ) (xs quiet : List StreamState) (i : �
 quiet_next now idle xs quiet i d t within are steps = rw add-one (quiet_on now idle xs quiet i d t within are steps)
 
 -- a step without an event
-pub nothing_is : (step : Step) → is_nothing step ≡ true → step ≡ steps.Nothing
+pub nothing_is : {U : Type 0} (step : StepWith U) → is_nothing step ≡ true → step ≡ steps.Nothing
 nothing_is steps.Begun is = absurd (cc)
 nothing_is (steps.Unit unit) is = absurd (cc)
 nothing_is (steps.TooLarge unit) is = absurd (cc)

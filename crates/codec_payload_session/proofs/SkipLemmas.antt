@@ -63,7 +63,7 @@ nothing_popped now r pops = record {
 
 -- ---- a step that is not made
 
-asks_by : (o : Option Asking) (now : ℕ) (s : StreamState) → s.feedback ≡ o → AsksNothing o now s.last s.receiver → RequestsBy o now s steps.Nothing s
+asks_by : (o : Option Asking) (now : ℕ) (s : StreamState) → s.feedback ≡ o → AsksNothing o now s.last s.receiver → RequestsBy {U = Release} o now s steps.Nothing s
 asks_by None now s is asks = (refl, refl)
 asks_by (Some a) now s is asks = record {
   told = Ok None;
@@ -86,8 +86,8 @@ quiet_steps : (now : Ticks) (idle : ℕ) (s : StreamState) → nat_le idle (now.
 quiet_steps now idle s awake quiet =
     let lasts : end_by now.0 idle s.last s.stage ≡ None =
     ap (λ (g : Stage). end_by now.0 idle s.last g) quiet.plays ∙ ap (λ (b : Bool). if b then Some endings.Timeout else None) awake in
-    let rests : RestsBy s.stage now.0 s steps.Nothing s =
-    subst (λ (g : Stage). RestsBy g now.0 s steps.Nothing s) (sym quiet.plays) (asks_by s.feedback now.0 s refl quiet.asks) in
+    let rests : RestsBy {U = Release} s.stage now.0 s steps.Nothing s =
+    subst (λ (g : Stage). RestsBy {U = Release} g now.0 s steps.Nothing s) (sym quiet.plays) (asks_by s.feedback now.0 s refl quiet.asks) in
     let pops : Pops now s steps.Nothing s = record { told = None; receiver = s.receiver; pops = nothing_popped now.0 s.receiver quiet.pops; refused = tt; large = refl; follows = rests } in
     let plays : Plays now idle s steps.Nothing s = (s, subst (λ (o : Option Ending). Drains o s s) (sym lasts) refl, pops) in
     subst (λ (g : Stage). StepsBy (is_probation g) s.told now idle s steps.Nothing s) (sym quiet.plays)
@@ -107,12 +107,12 @@ Asked now s t =
     (t.receiver ≡ s.receiver)
     × ((later : ℕ) → MayRest t.feedback now later t.last t.receiver → IsBefore (requests_due t.feedback) later → AsksNothing t.feedback later t.last t.receiver)
 
-pub told_none : (told : Result (Option (Vec ℕ)) AllocError) → steps.Nothing ≡ step_of told → told ≡ Ok None
+pub told_none : (told : Result (Option (Vec ℕ)) AllocError) → steps.Nothing ≡ step_of {U = Release} told → told ≡ Ok None
 told_none (Ok None) is = refl
 told_none (Ok (Some packet)) is = absurd (cc)
 told_none (Err e) is = absurd (cc)
 
-asked_by : (o : Option Asking) (now : ℕ) (s t : StreamState) → RequestsBy o now s steps.Nothing t → s.feedback ≡ o → Asked now s t
+asked_by : (o : Option Asking) (now : ℕ) (s t : StreamState) → RequestsBy {U = Release} o now s steps.Nothing t → s.feedback ≡ o → Asked now s t
 asked_by None now s t asked is = (
   ap (λ (x : StreamState). x.receiver) asked.1,
   λ later may before. subst (λ (o : Option Asking). AsksNothing o later t.last t.receiver) (sym (ap (λ (x : StreamState). x.feedback) asked.1 ∙ is)) tt,
@@ -127,7 +127,7 @@ asked_by (Some a) now s t asked is = subst (λ (x : StreamState). Asked now s x)
 stays : (s t : StreamState) (stage : Stage) → t ≡ s → s.stage ≡ stage → t.stage ≡ stage
 stays s t stage same is = ap (λ (x : StreamState). x.stage) same ∙ is
 
-rested_by : (g : Stage) (now : ℕ) (s t : StreamState) → s.stage ≡ g → RestsBy g now s steps.Nothing t → t.stage ≡ stages.Playing → Asked now s t
+rested_by : (g : Stage) (now : ℕ) (s t : StreamState) → s.stage ≡ g → RestsBy {U = Release} g now s steps.Nothing t → t.stage ≡ stages.Playing → Asked now s t
 rested_by stages.Probation now s t is rests plays = let other : stages.Probation ≡ stages.Playing = sym (stays s t stages.Probation rests.1 is) ∙ plays in absurd (cc)
 rested_by stages.Playing now s t is rests plays = asked_by s.feedback now s t rests refl
 rested_by (stages.Leaving why at) now s t is rests plays =
@@ -153,7 +153,7 @@ time_kept (Some (suc n)) before =
     ap (λ (b : Bool). if b then None else Some (suc n)) other
 
 -- a stream that had no unit and nothing to request, and of which no packet left
-pub rests_until : (now until kept : ℕ) (work : Option ℕ) (r : Receiver) (s t : StreamState) → PopsGated now r None s.receiver → RestsBy s.stage now s steps.Nothing t
+pub rests_until : (now until kept : ℕ) (work : Option ℕ) (r : Receiver) (s t : StreamState) → PopsGated now r None s.receiver → RestsBy {U = Release} s.stage now s steps.Nothing t
     → length t.receiver.packets.buffer.held ≡ length r.packets.buffer.held → work ≡ work_deadline t → kept ≡ or_none work → RestsUntil until now t
     → IsQuietUntil until (time_of kept) t.told t.stage t.last t.feedback t.receiver
 rests_until now until kept work r s t popped rests same work_is kept_is can = quiet_until until (time_of kept) t.told t.stage t.last t.feedback t.receiver (λ some. record {

@@ -3,11 +3,13 @@ use Rattle.std.proofs.Common.{◌≡◌, ◌≤◌, ◌<◌, ◌∙◌, ℕ, ◌
 use Rattle.std.proofs.Math.Seq.{take-append_seam}
 use Rattle.std.proofs.lemmas.Bool.Decides.{nat_tests}
 use Rattle.codec_payload_base.specs.declared.wire.Ticks.{Ticks}
+use Rattle.codec_payload_buffer.specs.Release.{Release}
 use Rattle.codec_payload_rtp.specs.RtpPackets.{Packet}
-use Rattle.codec_payload_session.specs.Polls.{Polls, PollsAfter, TurnsOrReports}
+use Rattle.codec_payload_session.specs.Polls.{Polls, PollsAfter, TurnsOrSends}
 use Rattle.codec_payload_session.specs.Ports.{Session}
 use Rattle.codec_payload_session.specs.Telephone.{Gives, GivesFrom, Notes, NotesBy, Queue, QueuesIf, WaitsLast, WaitsOrDrops, has_room, settled, without_last}
-use Rattle.codec_payload_session.specs.declared.session.Event.{Event}
+use Rattle.codec_payload_session.specs.Units.{Event}
+use Rattle.codec_payload_session.specs.declared.session.Event.{Event as EventWith}
 use Rattle.codec_payload_session.specs.declared.telephone.Noted.{Noted}
 use Rattle.codec_payload_session.specs.declared.telephone.Noted.TheVariants as noteds
 use Rattle.codec_payload_session.specs.declared.telephone.TelephonePacket.{TelephonePacket}
@@ -71,24 +73,24 @@ first_by (w ∷ ws) now s event r got = (got.0, ap (λ (x : Queue). record s { t
 pub polls_first : (now : Ticks) (s : Session) (event : Event) (r : Queue) → Gives s.telephone (Some event) r → Polls now s (Some event) (record s { telephone = r })
 polls_first now s event r got = first_by s.telephone.waiting now s event r got
 
-turn_by : (ws : List TelephonePacket) (now : Ticks) (s : Session) (event : Option Event) (t : Session) (r : Queue) → GivesFrom ws s.telephone None r
-    → TurnsOrReports now (record s { telephone = r }) event t → PollsAfter ws now s event t
-turn_by [] now s event t r got turn = subst (λ (x : Queue). TurnsOrReports now (record s { telephone = x }) event t) got.1 turn
+turn_by : (ws : List TelephonePacket) (now : Ticks) (s : Session) (event : Option Event) (t : Session) (r : Queue) → GivesFrom {U = Release} ws s.telephone None r
+    → TurnsOrSends now (record s { telephone = r }) event t → PollsAfter ws now s event t
+turn_by [] now s event t r got turn = subst (λ (x : Queue). TurnsOrSends now (record s { telephone = x }) event t) got.1 turn
 turn_by (w ∷ ws) now s event t r got turn = absurd (cc (got.0))
 
 -- without one the streams are asked
-pub polls_turn : (now : Ticks) (s : Session) (event : Option Event) (t : Session) (r : Queue) → Gives s.telephone None r → TurnsOrReports now (record s { telephone = r }) event t
+pub polls_turn : (now : Ticks) (s : Session) (event : Option Event) (t : Session) (r : Queue) → Gives {U = Release} s.telephone None r → TurnsOrSends now (record s { telephone = r }) event t
     → Polls now s event t
 polls_turn now s event t r got turn = turn_by s.telephone.waiting now s event t r got turn
 
-fewer_by : (ws : List TelephonePacket) (q : Queue) (event : Option Event) (r : Queue) → q.waiting ≡ ws → GivesFrom ws q event r → length q.waiting ≤ 32 → length r.waiting ≤ 32
+fewer_by : {U : Type 0} (ws : List TelephonePacket) (q : Queue) (event : Option (EventWith U)) (r : Queue) → q.waiting ≡ ws → GivesFrom ws q event r → length q.waiting ≤ 32 → length r.waiting ≤ 32
 fewer_by [] q event r is got few = subst (λ (x : Queue). length x.waiting ≤ 32) (sym got.1) few
 fewer_by (w ∷ ws) q event r is got few =
     let before : length q.waiting ≡ length (w ∷ ws) = ap (λ (l : List TelephonePacket). length l) is in
     let after : length r.waiting ≡ length ws = ap (λ (x : Queue). length x.waiting) got.1 in
     omega (arith, before, after, few)
 
-pub stay_fewer : (q : Queue) (event : Option Event) (r : Queue) → Gives q event r → length q.waiting ≤ 32 → length r.waiting ≤ 32
+pub stay_fewer : {U : Type 0} (q : Queue) (event : Option (EventWith U)) (r : Queue) → Gives q event r → length q.waiting ≤ 32 → length r.waiting ≤ 32
 stay_fewer q event r got few = fewer_by q.waiting q event r refl got few
 
 pub queues_settled : (taken : Bool) (o : Option Packet) (q : Queue) (noted : Noted) (r t : Queue) → Notes o q noted r → t ≡ settled noted taken r → QueuesIf taken o q t

@@ -7,9 +7,8 @@ use Rattle.codec_payload_session.specs.Quiet.{IsQuietUntil}
 use Rattle.codec_payload_session.specs.Streams.{Steps, StreamState, due_in, due_of, earlier}
 use Rattle.codec_payload_session.specs.Turns.{AreQuiet, FirstSteps, StepsFirst, is_nothing}
 use Rattle.codec_payload_session.specs.Waking.{AllSleep, Holds, IsBound, OthersSleep, Sleeps, StepsPort, or_max}
-use Rattle.codec_payload_session.specs.declared.stream.Step.{Step}
+use Rattle.codec_payload_session.specs.Units.{Step, Turn}
 use Rattle.codec_payload_session.specs.declared.stream.Step.TheVariants as steps
-use Rattle.codec_payload_session.specs.declared.streams.Turn.{Turn}
 use Rattle.codec_payload_session.specs.declared.waking.Waking.{Waking}
 use Rattle.codec_payload_session.proofs.QuietLemmas.{earlier_assoc, earlier_none, first_length, found_in, nothing_is, quiet_length}
 use Rattle.codec_payload_session.proofs.SkipLemmas.{skips}

@@ -1,6 +1,7 @@
 -- Settings that a session can meet: each payload type has one meaning, and each format can begin streams.
 use Rattle.std.specs.Prelude.{ℕ, ◌==◌, ◌&&◌, ◌||◌, not, nat_le, nat_lt, if◌then◌else◌, Bool, true, false, List, [], ◌∷◌, ◌++◌, Option, Some, None, Result, Ok, Err, ⊤, is_some, length}
 use Rattle.codec_payload_codec.specs.Depacketizers.{depacketizer_state_for}
+use Rattle.codec_payload_feedback.specs.declared.transport.TransportSettings.{TransportSettings}
 use Rattle.codec_payload_stream.specs.Kinds.{is_among}
 use Rattle.codec_payload_stream.specs.declared.receiver.RedSettings.{RedSettings}
 use Rattle.codec_payload_session.specs.Formats.{has_type, resends}
@@ -95,9 +96,18 @@ abbrev pub feedback_fault : Option FeedbackSettings → Option SessionSettingsEr
 feedback_fault None = None
 feedback_fault (Some f) = name_fault (length f.cname.items)
 
--- the first setting that no session can meet; the name comes last
+-- the id of a header extension, and a window of 1 to 32,768 numbers
+abbrev pub transport_settings_fault : TransportSettings → Option SessionSettingsError
+transport_settings_fault t =
+    if nat_le 1 t.extension_id then (if nat_le 1 t.window && nat_le t.window 32768 then None else Some faults.TransportWindow) else Some faults.TransportId
+
+abbrev pub transport_fault : Option TransportSettings → Option SessionSettingsError
+transport_fault None = None
+transport_fault (Some t) = transport_settings_fault t
+
+-- the first setting that no session can meet; the name and the transport come last
 abbrev pub fault_of : SessionSettings → Option SessionSettingsError
-fault_of s = first_of (fault_in s.limit s.max_streams s.formats.items s.no_media.items s.telephone_events.items) (feedback_fault s.feedback)
+fault_of s = first_of (fault_in s.limit s.max_streams s.formats.items s.no_media.items s.telephone_events.items) (first_of (feedback_fault s.feedback) (transport_fault s.transport))
 
 abbrev pub checked : Option SessionSettingsError → Result ⊤ SessionSettingsError
 checked None = Ok tt

@@ -161,6 +161,7 @@ pub record IsLive (s : SessionSettings) : Type 0 where
   pub bye_wait : s.bye_wait ≡ 200
   pub tick_rate : s.tick_rate ≡ 1000
   pub feedback : s.feedback ≡ None
+  pub transport : s.transport ≡ None
 
 -- the settings of feedback for live streams: the stated number of milliseconds, the given name, and no report in packets of requests
 pub record IsLiveFeedback (ssrc : ℕ) (name : List ℕ) (f : FeedbackSettings) : Type 0 where

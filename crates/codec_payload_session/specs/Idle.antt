@@ -7,13 +7,17 @@ use Rattle.codec_payload_session.specs.Quiet.{IsBefore}
 use Rattle.codec_payload_session.specs.Reporting.{report_deadline}
 use Rattle.codec_payload_session.specs.Streams.{due_in, earlier}
 use Rattle.codec_payload_session.specs.Telephone.{due_before}
-use Rattle.codec_payload_session.specs.declared.session.Event.{Event}
+use Rattle.codec_payload_session.specs.Transports.{transport_deadline}
+use Rattle.codec_payload_session.specs.Units.{Event}
 use Rattle.codec_payload_session.specs.declared.session.Event.TheVariants as events
 use Rattle.codec_payload_session.specs.declared.stream.StreamState.{StreamState}
 
--- when a poll may have an event without a datagram: at once while telephone events wait, else the time of a stream or of the report
+-- when a poll may have an event without a datagram: at once while telephone events wait, else the time of a stream, of the report, or of
+-- the feedback about the transport
 abbrev pub next_of : Session → Option ℕ
-next_of s = due_before s.telephone (earlier (due_in s.settings.idle_timeout s.port.streams) (report_deadline s.report_due s.port.streams))
+next_of s =
+    due_before s.telephone
+    (earlier (earlier (due_in s.settings.idle_timeout s.port.streams) (report_deadline s.report_due s.port.streams)) (transport_deadline s.transport))
 
 -- how many packets the streams hold
 abbrev pub held_in : List StreamState → ℕ
@@ -31,6 +35,7 @@ IsNoEvent (Some (events.Feedback ssrc payload_type (Ok packet))) = ⊥
 IsNoEvent (Some (events.Feedback ssrc payload_type (Err e))) = Unit {0}
 IsNoEvent (Some (events.Telephone ssrc payload_type rtp_time marker payload)) = ⊥
 IsNoEvent (Some (events.Report packet)) = ⊥
+IsNoEvent (Some (events.TransportFeedback packet)) = ⊥
 IsNoEvent (Some (events.Ended ssrc payload_type why)) = ⊥
 
 -- from `now` on and before the next deadline no poll has an event

@@ -1,3 +1,4 @@
+pub mod Accepting
 pub mod Arrivals
 pub mod Associations
 pub mod Changes
@@ -15,5 +16,7 @@ pub mod Requests
 pub mod Sorting
 pub mod Streams
 pub mod Telephone
+pub mod Transports
 pub mod Turns
+pub mod Units
 pub mod Waking

@@ -3,12 +3,14 @@ use Rattle.std.specs.Prelude.{◌≡◌, ◌⊎◌, ◌≤◌, IsErr, ℕ, ◌+�
 use Rattle.std.specs.Option.{option_map}
 use Rattle.std.specs.declared.alloc.AllocError.{AllocError}
 use Rattle.codec_payload_base.specs.declared.wire.Ticks.{Ticks}
+use Rattle.codec_payload_feedback.specs.Transport.{Reporter}
 use Rattle.codec_payload_jitter.specs.Receiving.{next}
 use Rattle.codec_payload_session.specs.Arrivals.{Port, TakesIn, left_where}
 use Rattle.codec_payload_session.specs.Checks.{fault_of}
 use Rattle.codec_payload_session.specs.Reports.{block_of, reported_by}
 use Rattle.codec_payload_session.specs.Streams.{IsInfo, waiting_where}
 use Rattle.codec_payload_session.specs.Telephone.{MayLackMemory, Queue, QueuesIf, empty_queue, is_without_media, telephone_at}
+use Rattle.codec_payload_session.specs.Transports.{reporter_for, restarted_if}
 use Rattle.codec_payload_jitter.specs.declared.waiting.WaitLimits.{WaitLimits}
 use Rattle.codec_payload_rtcp.specs.declared.items.ReportBlock.{ReportBlock}
 use Rattle.codec_payload_stream.specs.Sessions.{Session as Receiver}
@@ -22,13 +24,15 @@ use Rattle.codec_payload_session.specs.declared.stream.Ending.TheVariants as end
 use Rattle.codec_payload_session.specs.declared.stream.StreamInfo.{StreamInfo}
 use Rattle.codec_payload_session.specs.declared.stream.StreamState.{StreamState}
 
--- the settings, the streams, the counters of datagrams, the packets of telephone events that wait, and when the next report is due
+-- the settings, the streams, the counters of datagrams, the packets of telephone events that wait, when the next report is due, and the
+-- arrivals on the transport, if they are reported
 pub record Session : Type 0 where
   pub settings : SessionSettings
   pub port : Port
   pub counts : ArrivalCounts
   pub telephone : Queue
   pub report_due : Option ℕ
+  pub transport : Option Reporter
 
 abbrev pub no_port : Port
 no_port = record { streams = []; finished = false; ended = 0 }
@@ -37,7 +41,7 @@ abbrev pub no_counts : ArrivalCounts
 no_counts = record { received = 0; rtcp = 0; malformed = 0; unknown = 0; refused = 0; unassociated = 0 }
 
 abbrev pub new_session : SessionSettings → Session
-new_session settings = record { settings = settings; port = no_port; counts = no_counts; telephone = empty_queue; report_due = None }
+new_session settings = record { settings = settings; port = no_port; counts = no_counts; telephone = empty_queue; report_due = None; transport = reporter_for settings }
 
 -- a new session, or the fault of its settings
 abbrev pub made_of : Option SessionSettingsError → SessionSettings → Result Session SessionSettingsError
@@ -104,6 +108,10 @@ ends_of ssrc at s = record s { port = record s.port { streams = left_where (λ o
 
 abbrev pub waits_of : ℕ → ℕ → WaitLimits → Session → Session
 waits_of ssrc payload_type limits s = record s { port = record s.port { streams = waiting_where ssrc payload_type limits s.port.streams } }
+
+-- the transport begins anew
+abbrev pub restarts_transport : Session → Session
+restarts_transport s = record s { transport = restarted_if s.transport }
 
 -- the stream at a place gives its block; no other stream changes
 pub record ReportsOn (place tick_rate now : ℕ) (p : Port) (answer : Option ReportBlock) (q : Port) : Type 0 where

@@ -26,7 +26,8 @@ use Rattle.codec_payload_session.specs.declared.stream.Ending.{Ending}
 use Rattle.codec_payload_session.specs.declared.stream.Ending.TheVariants as endings
 use Rattle.codec_payload_session.specs.declared.stream.Stage.{Stage}
 use Rattle.codec_payload_session.specs.declared.stream.Stage.TheVariants as stages
-use Rattle.codec_payload_session.specs.declared.stream.Step.{Step}
+use Rattle.codec_payload_session.specs.Units.{Step}
+use Rattle.codec_payload_session.specs.declared.stream.Step.{Step as StepWith}
 use Rattle.codec_payload_session.specs.declared.stream.Step.TheVariants as steps
 use Rattle.codec_payload_session.specs.declared.reports.SenderClock.{SenderClock}
 use Rattle.codec_payload_session.specs.declared.stream.StreamInfo.{StreamInfo}
@@ -185,12 +186,12 @@ Drains (Some why) s t = (r : Receiver) × Ends s.receiver r × (t ≡ record s {
 -- ---- events
 
 -- the packet with the requests that are due, if there are any; or memory ran out, and they stay due
-abbrev pub step_of : Result (Option (Vec ℕ)) AllocError → Step
+abbrev pub step_of : {U : Type 0} → Result (Option (Vec ℕ)) AllocError → StepWith U
 step_of (Ok None) = steps.Nothing
 step_of (Ok (Some packet)) = steps.Feedback (Ok packet)
 step_of (Err e) = steps.Feedback (Err e)
 
-pub record RequestsWith (now : ℕ) (a : Asking) (s : StreamState) (answer : Step) (t : StreamState) : Type 0 where
+pub record RequestsWith {U : Type 0} (now : ℕ) (a : Asking) (s : StreamState) (answer : StepWith U) (t : StreamState) : Type 0 where
   pub told : Result (Option (Vec ℕ)) AllocError
   pub asking : Asking
   pub asks : Asks now (is_heard now s.last a) s.receiver a told asking
@@ -198,19 +199,19 @@ pub record RequestsWith (now : ℕ) (a : Asking) (s : StreamState) (answer : Ste
   pub after : t ≡ record s { feedback = Some asking }
 
 -- a stream without settings of requests requests nothing
-abbrev pub RequestsBy : Option Asking → ℕ → StreamState → Step → StreamState → Type 0
+abbrev pub RequestsBy : {U : Type 0} → Option Asking → ℕ → StreamState → StepWith U → StreamState → Type 0
 RequestsBy None now s answer t = (answer ≡ steps.Nothing) × (t ≡ s)
 RequestsBy (Some a) now s answer t = RequestsWith now a s answer t
 
 -- a stream without a unit: while it plays it requests what it misses, and once it is drained it ends
-abbrev pub RestsBy : Stage → ℕ → StreamState → Step → StreamState → Type 0
+abbrev pub RestsBy : {U : Type 0} → Stage → ℕ → StreamState → StepWith U → StreamState → Type 0
 RestsBy stages.Probation now s answer t = (answer ≡ steps.Nothing) × (t ≡ s)
 RestsBy stages.Playing now s answer t = RequestsBy s.feedback now s answer t
 RestsBy (stages.Leaving why at) now s answer t = (answer ≡ steps.Nothing) × (t ≡ s)
 RestsBy (stages.Draining why) now s answer t = (answer ≡ steps.Ended why) × (t ≡ s)
 
 -- a unit, or memory ran out for it, or a unit above the bound, or a refused frame
-abbrev pub step_with : Result (Popped Release) AllocError → Step
+abbrev pub step_with : {U : Type 0} → Result (Popped U) AllocError → StepWith U
 step_with (Ok (popped.Unit unit)) = steps.Unit (Ok unit)
 step_with (Ok (popped.TooLarge unit)) = steps.TooLarge unit
 step_with (Ok (popped.Refused fault)) = steps.Refused fault

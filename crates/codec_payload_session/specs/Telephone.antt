@@ -10,7 +10,7 @@ use Rattle.codec_payload_session.specs.Formats.{is_telephone}
 use Rattle.codec_payload_session.specs.declared.formats.SessionSettings.{SessionSettings}
 use Rattle.codec_payload_session.specs.declared.session.Arrival.{Arrival}
 use Rattle.codec_payload_session.specs.declared.session.Arrival.TheVariants as arrivals
-use Rattle.codec_payload_session.specs.declared.session.Event.{Event}
+use Rattle.codec_payload_session.specs.declared.session.Event.{Event as EventWith}
 use Rattle.codec_payload_session.specs.declared.session.Event.TheVariants as events
 use Rattle.codec_payload_session.specs.declared.telephone.Noted.{Noted}
 use Rattle.codec_payload_session.specs.declared.telephone.Noted.TheVariants as noteds
@@ -114,15 +114,15 @@ settled noteds.NoPlace false q = q
 
 -- ---- events
 
-abbrev pub event_of : TelephonePacket → Event
+abbrev pub event_of : {U : Type 0} → TelephonePacket → EventWith U
 event_of w = events.Telephone w.ssrc w.payload_type w.rtp_time w.marker w.payload
 
 -- the first packet leaves as an event
-abbrev pub GivesFrom : List TelephonePacket → Queue → Option Event → Queue → Type 0
+abbrev pub GivesFrom : {U : Type 0} → List TelephonePacket → Queue → Option (EventWith U) → Queue → Type 0
 GivesFrom [] q event r = (event ≡ None) × (r ≡ q)
 GivesFrom (w ∷ ws) q event r = (event ≡ Some (event_of w)) × (r ≡ record q { waiting = ws })
 
-abbrev pub Gives : Queue → Option Event → Queue → Type 0
+abbrev pub Gives : {U : Type 0} → Queue → Option (EventWith U) → Queue → Type 0
 Gives q event r = GivesFrom q.waiting q event r
 
 abbrev pub is_quiet : Queue → Bool

@@ -3,12 +3,12 @@ use Rattle.std.specs.Prelude.{◌≡◌, ℕ, Bool, true, false, List, [], ◌�
 use Rattle.codec_payload_base.specs.declared.wire.Ticks.{Ticks}
 use Rattle.codec_payload_session.specs.Arrivals.{Port, removed, sum_wrapped}
 use Rattle.codec_payload_session.specs.Streams.{Steps}
-use Rattle.codec_payload_session.specs.declared.session.Event.{Event}
+use Rattle.codec_payload_session.specs.Units.{Event, Step, Turn}
+use Rattle.codec_payload_session.specs.declared.session.Event.{Event as EventWith}
+use Rattle.codec_payload_session.specs.declared.stream.Step.{Step as StepWith}
 use Rattle.codec_payload_session.specs.declared.session.Event.TheVariants as events
-use Rattle.codec_payload_session.specs.declared.stream.Step.{Step}
 use Rattle.codec_payload_session.specs.declared.stream.Step.TheVariants as steps
 use Rattle.codec_payload_session.specs.declared.stream.StreamState.{StreamState}
-use Rattle.codec_payload_session.specs.declared.streams.Turn.{Turn}
 
 -- each of the streams was asked, and had no event
 abbrev pub AreQuiet : Ticks → ℕ → List StreamState → List StreamState → Type 0
@@ -17,7 +17,7 @@ AreQuiet now idle [] (t ∷ ts) = ⊥
 AreQuiet now idle (s ∷ ss) [] = ⊥
 AreQuiet now idle (s ∷ ss) (t ∷ ts) = Steps now idle s steps.Nothing t × AreQuiet now idle ss ts
 
-abbrev pub is_nothing : Step → Bool
+abbrev pub is_nothing : {U : Type 0} → StepWith U → Bool
 is_nothing steps.Begun = false
 is_nothing (steps.Unit unit) = false
 is_nothing (steps.TooLarge unit) = false
@@ -47,7 +47,7 @@ StepsFirst now idle ss (Some turn) ts = FirstSteps now idle ss turn ts
 -- ---- events
 
 -- the event of a stream; a unit with its RTP time, whether a decoder can show it, and whether it is a keyframe
-abbrev pub event_of : StreamState → Step → Option Event
+abbrev pub event_of : {U : Type 0} → StreamState → StepWith U → Option (EventWith U)
 event_of s steps.Begun = Some (events.Begun s.ssrc s.format.payload_type)
 event_of s (steps.Unit unit) = Some (events.Unit s.ssrc s.format.payload_type s.receiver.time s.receiver.gates.gate.shows s.receiver.gates.is_keyframe unit)
 event_of s (steps.TooLarge unit) = Some (events.TooLarge s.ssrc s.format.payload_type unit)
@@ -76,11 +76,11 @@ ended_after (steps.Ended why) s ended = sum_wrapped ended s.taken
 ended_after steps.Nothing s ended = ended
 
 -- the event of the stream at a place, and the streams after it
-abbrev pub told_by : Option StreamState → Step → Option Event
+abbrev pub told_by : {U : Type 0} → Option StreamState → StepWith U → Option (EventWith U)
 told_by None step = None
 told_by (Some s) step = event_of s step
 
-abbrev pub after_step : Step → ℕ → Port → Port
+abbrev pub after_step : {U : Type 0} → StepWith U → ℕ → Port → Port
 after_step steps.Begun place p = p
 after_step (steps.Unit unit) place p = p
 after_step (steps.TooLarge unit) place p = p

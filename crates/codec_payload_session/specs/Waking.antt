@@ -9,7 +9,7 @@ use Rattle.codec_payload_session.specs.Streams.{Steps, StreamState, Takes, is_no
 use Rattle.codec_payload_session.specs.Turns.{StepsFirst}
 use Rattle.codec_payload_session.specs.declared.session.Arrival.{Arrival}
 use Rattle.codec_payload_session.specs.declared.stream.Step.TheVariants as steps
-use Rattle.codec_payload_session.specs.declared.streams.Turn.{Turn}
+use Rattle.codec_payload_session.specs.Units.{Turn}
 use Rattle.codec_payload_session.specs.declared.waking.Waking.{Waking}
 
 -- before `until` the stream has no event, and nothing changes, unless the idle timeout has passed since `since`

@@ -5,6 +5,7 @@ ghost use Rattle.codec_payload_session.specs.Formats.{HasSettings, IsLive, IsLiv
 ghost use Rattle.codec_payload_stream.specs.Kinds.{is_among};
 
 use codec_payload_base::wire::{Codec, CodecSpec, Frequency};
+use codec_payload_feedback::transport::TransportSettings;
 use codec_payload_jitter::jitter::WaitLimits;
 use codec_payload_keyframes::unit_gate::FromKeyframe;
 use codec_payload_requests::nack::NackSettings;
@@ -133,6 +134,14 @@ pub struct SessionSettings {
     pub tick_rate: Frequency,
     /// Who requests what streams miss, and reports on them. `None`: the session requests nothing, and sends no reports.
     pub feedback: Option<FeedbackSettings>,
+    /// How the arrivals of packets are reported to the sender, for its congestion control (transport-wide-cc,
+    /// draft-holmer-rmcat-transport-wide-cc-extensions-01): [`Event::TransportFeedback`]. Set it exactly if your session
+    /// description accepts the header extension and `a=rtcp-fb` with `transport-cc`; a browser that finds them accepted and gets no
+    /// feedback sends almost nothing. It works only beside `feedback`, whose SSRC and name send the packets. The numbers count all
+    /// packets of one transport, so such a session has one peer. `None`: nothing is reported.
+    ///
+    /// [`Event::TransportFeedback`]: crate::session::Event::TransportFeedback
+    pub transport: Option<TransportSettings>,
 }
 
 /// The role of a payload type.
@@ -193,6 +202,7 @@ impl SessionSettings {
             bye_wait: 200,
             tick_rate: Frequency::make(1_000).unwrap(),
             feedback: None,
+            transport: None,
         }
     }
 

@@ -18,4 +18,5 @@ mod sort;
 pub mod stream;
 mod streams;
 mod telephone;
+mod transport;
 mod waking;

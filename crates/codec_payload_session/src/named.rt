@@ -3,10 +3,12 @@
 ghost use Rattle.std.specs.Prelude.{◌≡◌, false};
 ghost use Rattle.codec_payload_codec.specs.Depacketizers.{depacketizer_state_of};
 ghost use Rattle.codec_payload_stream.specs.Pops.{NamesFault, PopsGated, answer_of, is_large, is_too_large};
+ghost use Rattle.codec_payload_session.specs.Units.{popped_with};
 ghost use Rattle.codec_payload_stream.specs.Reports.{report_of, reported};
 ghost use Rattle.codec_payload_stream.specs.Sessions.{Ends, ReceivesBytes, is_none_of, session_by};
 
 use codec_payload_base::wire::Ticks;
+use codec_payload_buffer::buffer::PoppedUnit;
 use codec_payload_codec::codec::CodecDepacketizer;
 use codec_payload_jitter::jitter::WaitLimits;
 use codec_payload_jitter::outcome::Outcome;
@@ -73,14 +75,18 @@ impl NamedReceiver {
         self.receiver.receive_parsed(now, datagram)
     }
 
-    /// Returns the next unit or refused frame. See [`Receiver::pop`].
+    /// Pops the next unit into `unit`, or returns a refused frame. See [`Receiver::pop_unit`].
     #[inline(always)]
-    pub(crate) fn pop(&mut self, now: Ticks) -> Option<Result<Popped, AllocError>>
-        ensures pops { PopsGated now.0 self.old (answer_of result) self.new }
-        ensures refused { NamesFault result }
-        ensures large { is_too_large result ≡ is_large self.old.bound.most (answer_of result) }
+    pub(crate) fn pop_unit(
+        &mut self,
+        now: Ticks,
+        unit: &mut PoppedUnit,
+    ) -> Option<Result<Popped<()>, AllocError>>
+        ensures pops { PopsGated now.0 self.old (answer_of (popped_with result unit.new)) self.new }
+        ensures refused { NamesFault (popped_with result unit.new) }
+        ensures large { is_too_large (popped_with result unit.new) ≡ is_large self.old.bound.most (answer_of (popped_with result unit.new)) }
     {
-        self.receiver.pop(now)
+        self.receiver.pop_unit(now, unit)
     }
 
     /// Ends the stream. Allocates nothing, since no packet waits. See [`Receiver::finish`].

@@ -289,7 +289,10 @@ fn spaced(nack: NackSettings) -> NackSettings
 }
 
 /// Returns who sends the requests.
-fn source_for(alloc: Global, settings: &FeedbackSettings) -> Result<FeedbackSource, AllocError>
+pub(crate) fn source_for(
+    alloc: Global,
+    settings: &FeedbackSettings,
+) -> Result<FeedbackSource, AllocError>
     ensures { IfOk result (λ source. source ≡ source_for settings.now) }
 {
     let len = LONGEST_NAME.min(settings.cname.len());

@@ -4,14 +4,16 @@ ghost use Rattle.std.specs.Prelude.{◌≡◌, ◌<◌, ◌≤◌, IfSome, Optio
 ghost use Rattle.std.specs.List.{position};
 ghost use Rattle.std.specs.Option.{option_map};
 ghost use Rattle.codec_payload_session.specs.Arrivals.{Port};
+ghost use Rattle.codec_payload_session.specs.Accepting.{Accepts, time_for};
 ghost use Rattle.codec_payload_session.specs.Associations.{Associates};
 ghost use Rattle.codec_payload_session.specs.Checks.{fault_of};
 ghost use Rattle.codec_payload_session.specs.Idle.{IsIdle, held_in, next_of};
-ghost use Rattle.codec_payload_session.specs.Ports.{IsSum, MatchInfo, ReportsIf, counted, counted_if, ends_all, ends_of, made_of, no_counts, receiver_among, taken_in, told_counts, waits_of};
+ghost use Rattle.codec_payload_session.specs.Ports.{IsSum, MatchInfo, ReportsIf, counted, counted_if, ends_all, ends_of, made_of, no_counts, receiver_among, restarts_transport, taken_in, told_counts, waits_of};
 ghost use Rattle.codec_payload_session.specs.Reports.{block_among, clock_among};
-ghost use Rattle.codec_payload_session.specs.Polls.{Polls, SendsReport, TurnsOrReports, report_event};
+ghost use Rattle.codec_payload_session.specs.Polls.{Polls, SendsReport, SendsTransport, TurnsOrReports, TurnsOrSends, report_event, transport_event};
 ghost use Rattle.codec_payload_session.specs.Streams.{is_of};
 ghost use Rattle.codec_payload_session.specs.Pairs.{Pairs, with_pair, without_pair};
+ghost use Rattle.codec_payload_session.specs.Units.{HasUnit, event_to, with_unit};
 
 use crate::association::{add_pair, take_in};
 use crate::checks::SessionSettingsError;
@@ -22,10 +24,13 @@ use crate::reports::SenderClock;
 use crate::stream::{Ending, StreamInfo, earlier};
 use crate::streams::{Streams, Who, place_of};
 use crate::telephone::TelephoneQueue;
+use crate::transport::{note, reporter_for, restart, transport_deadline};
 use crate::waking::due_in;
 use codec_payload_base::error::PacketError;
 use codec_payload_base::wire::Ticks;
-use codec_payload_buffer::buffer::Depacketized;
+use codec_payload_buffer::buffer::PoppedUnit;
+use codec_payload_congestion::arrivals::quarters;
+use codec_payload_feedback::transport::{TransportReporter, quarters_at};
 use codec_payload_jitter::jitter::WaitLimits;
 use codec_payload_jitter::outcome::Outcome;
 use codec_payload_rtcp::items::ReportBlock;
@@ -71,9 +76,10 @@ pub enum Arrival {
     },
 }
 
-/// An event of a session.
+/// An event of a session. `U` is what it carries of a unit: the unit itself from [`Session::poll`], and `()` from
+/// [`Session::poll_into`], which writes the unit to memory of the caller.
 #[derive(Debug, Drop)]
-pub enum Event {
+pub enum Event<U = PoppedUnit> {
     /// A stream is announced. This is the first event of the stream.
     Begun {
         ssrc: u32,
@@ -91,7 +97,7 @@ pub enum Event {
         rtp_time: Option<u64>,
         decodable: bool,
         keyframe: bool,
-        unit: Result<Depacketized, AllocError>,
+        unit: Result<U, AllocError>,
     },
     /// A unit of a stream with more bytes than `max_unit` of the settings. It counts as a refused frame: its packets count as
     /// `left`, for video the units after it follow a loss, and the stream continues. Any peer can send such a unit, so do not
@@ -99,7 +105,7 @@ pub enum Event {
     TooLarge {
         ssrc: u32,
         payload_type: u8,
-        unit: Depacketized,
+        unit: U,
     },
     /// A frame of a stream that the depacketizer refused, since its payloads are malformed. The frame was dropped, its packets
     /// count as `left`, and the stream continues. Any peer can send such a frame, so do not end a program for it. `fault` is
@@ -143,6 +149,18 @@ pub enum Event {
     ///
     /// [`FeedbackSettings::report_interval`]: crate::formats::FeedbackSettings::report_interval
     Report {
+        packet: Result<Vec<u8>, AllocError>,
+    },
+    /// A packet of RTCP for the peer, which `packet` returns: transport-wide feedback, which says when each packet of the transport
+    /// arrived since the last one, or that it is missing (draft-holmer-rmcat-transport-wide-cc-extensions-01, section 3.1). Send it:
+    /// its arrivals count as reported. If memory ran out, nothing has changed, and the next poll tries again.
+    ///
+    /// It comes each [`TransportSettings::interval`] while packets arrive, in parts if it is larger than
+    /// [`TransportSettings::size`]. With `has_report` of the feedback's settings it follows an empty receiver report and the name.
+    ///
+    /// [`TransportSettings::interval`]: codec_payload_feedback::transport::TransportSettings::interval
+    /// [`TransportSettings::size`]: codec_payload_feedback::transport::TransportSettings::size
+    TransportFeedback {
         packet: Result<Vec<u8>, AllocError>,
     },
     /// A stream was removed. This is the last event of the stream.
@@ -194,6 +212,8 @@ pub struct Session {
     telephone: TelephoneQueue,
     /// When the next report is due. `None`: no report is planned.
     report_due: Option<u64>,
+    /// What arrived on the transport. `None`: it is not reported.
+    transport: Option<TransportReporter>,
 }
 
 impl Model for Session {
@@ -201,9 +221,9 @@ impl Model for Session {
 
     ghost Value = { Session };
 
-    ghost view = { λ s. record { settings = s.settings; port = s.streams; counts = s.counts; telephone = s.telephone; report_due = s.report_due } };
+    ghost view = { λ s. record { settings = s.settings; port = s.streams; counts = s.counts; telephone = s.telephone; report_due = s.report_due; transport = s.transport } };
 
-    ghost invariant = { λ s. IsSession (record { settings = s.settings; port = s.streams; counts = s.counts; telephone = s.telephone; report_due = s.report_due }) };
+    ghost invariant = { λ s. IsSession (record { settings = s.settings; port = s.streams; counts = s.counts; telephone = s.telephone; report_due = s.report_due; transport = s.transport }) };
 }
 
 impl Session {
@@ -219,6 +239,7 @@ impl Session {
         match settings.fault() {
             Some(fault) => Err(fault),
             None => Ok(Session {
+                transport: reporter_for(alloc, &settings),
                 settings,
                 streams: Streams::none(alloc),
                 counts: ArrivalCounts::none(),
@@ -248,17 +269,56 @@ impl Session {
     /// A packet of telephone events beside audio (`telephone_events` of the settings) is one without media, and waits for a poll
     /// once a stream took it ([`Event::Telephone`]). At most 32 of them wait; further ones are dropped and counted.
     ///
+    /// With `transport` of the settings the session also records when each RTP packet arrived that has a transport-wide number, whatever
+    /// is done with it: media, retransmissions, padding, unknown types, repetitions ([`Event::TransportFeedback`]). The time has the
+    /// resolution of your ticks; [`Session::receive_at`] takes a finer one.
+    ///
     /// # Errors
     ///
-    /// Out of memory: the datagram is not counted; you can pass it again. A pair may have been added.
+    /// Out of memory: the datagram is not counted; you can pass it again. A pair may have been added, and the arrival may be recorded for
+    /// the transport; the first time counts.
     ///
     /// [`Receiver::receive`]: codec_payload_stream::receiver::Receiver::receive
     /// [`StreamInfo::sender_clock`]: crate::stream::StreamInfo::sender_clock
     /// [`Ending::Changed`]: crate::stream::Ending::Changed
     pub fn receive(&mut self, now: Ticks, datagram: &[u8]) -> Result<Arrival, AllocError>
-        ensures { Associates now datagram.now self.old result self.new }
+        ensures { Accepts (time_for Option.None now self.old) now datagram.now self.old result self.new }
     {
-        self.receive_parsed(now, &ParsedDatagram::parse(datagram))
+        let time = quarters_at(now, self.settings.tick_rate);
+        self.receive_timed(now, time, datagram)
+    }
+
+    /// Does what [`Session::receive`] does for a datagram that arrived at `micros`, in microseconds of any clock: the time stamp of your
+    /// socket, say. Feedback about the transport then reports this time instead of `now`. All else goes by `now`. Congestion control
+    /// estimates by differences of a millisecond, so a browser sends more if the times are finer than your ticks. Use one of the two
+    /// calls for all datagrams.
+    ///
+    /// # Errors
+    ///
+    /// Those of [`Session::receive`].
+    pub fn receive_at(
+        &mut self,
+        now: Ticks,
+        micros: u64,
+        datagram: &[u8],
+    ) -> Result<Arrival, AllocError>
+        ensures { Accepts (time_for (Option.Some micros) now self.old) now datagram.now self.old result self.new }
+    {
+        self.receive_timed(now, quarters(micros), datagram)
+    }
+
+    /// Receives a datagram that arrived on the transport at `time`, in quarters of a millisecond modulo 2^32.
+    fn receive_timed(
+        &mut self,
+        now: Ticks,
+        time: u32,
+        datagram: &[u8],
+    ) -> Result<Arrival, AllocError>
+        ensures { Accepts time now datagram.now self.old result self.new }
+    {
+        let datagram = ParsedDatagram::parse(datagram);
+        note(&mut self.transport, time, &datagram)?;
+        self.receive_parsed(now, &datagram)
     }
 
     /// Receives a datagram that was read. No later step reads it again.
@@ -290,32 +350,77 @@ impl Session {
     /// that has no more events of the first streams, and each later one an interval after the previous one was sent. Once all
     /// announced streams have ended, it begins so again. A report costs one step for each pair of streams.
     ///
+    /// With `transport` of the settings a poll without another event returns the feedback about what arrived, if it is due
+    /// (`TransportFeedback`): the first one at once, each later one an interval after the previous one, if something arrived since.
+    ///
     /// If a poll returns `None` and no packet left a stream in it, no poll before [`Session::next_deadline`] has an event, until
     /// the next call of another kind. The one exception is a request for which memory runs out. A poll without an event in which
     /// packets left has skipped frames or dropped units: the next poll can have an event at any time.
     pub fn poll(&mut self, now: Ticks) -> Option<Event>
         ensures polls { Polls now self.old result self.new }
+        // A unit has packets.
+        ensures some { HasUnit result }
+        // If no packet left, no poll before the next deadline has an event.
+        ensures idle { result ≡ Option.None → held_in self.new.port.streams ≡ held_in self.old.port.streams → IsIdle now.0 self.new }
+    {
+        let mut unit = PoppedUnit::new(self.streams.alloc);
+        match self.poll_into(now, &mut unit) {
+            Some(event) => Some(with_unit(event, unit)),
+            None => None,
+        }
+    }
+
+    /// Does the same as [`Session::poll`], and writes the unit of the event to `unit`, in place of what that has. Pass the same
+    /// unit to each poll, and its memory is used again: once it has room for the largest unit, a poll with a unit allocates
+    /// nothing for it.
+    ///
+    /// `unit` has the unit of an [`Event::Unit`] without an error, or of an [`Event::TooLarge`]. After any other answer its
+    /// contents are unspecified.
+    pub fn poll_into(&mut self, now: Ticks, unit: &mut PoppedUnit) -> Option<Event<()>>
+        ensures polls { Polls now self.old (event_to result unit.new) self.new }
+        // A unit has packets.
+        ensures some { HasUnit (event_to result unit.new) }
         // If no packet left, no poll before the next deadline has an event.
         ensures idle { result ≡ Option.None → held_in self.new.port.streams ≡ held_in self.old.port.streams → IsIdle now.0 self.new }
     {
         match self.telephone.take() {
             Some(event) => Some(event),
-            None => self.turn(now),
+            None => self.turn_or_feedback(now, unit),
         }
     }
 
-    /// Returns the next event of the streams, or else the report about them, if one is due.
-    fn turn(&mut self, now: Ticks) -> Option<Event>
-        ensures { TurnsOrReports now self.old result self.new }
+    /// Returns the next event of the streams or the report, or else the feedback about the transport, if it is due.
+    fn turn_or_feedback(&mut self, now: Ticks, unit: &mut PoppedUnit) -> Option<Event<()>>
+        ensures { TurnsOrSends now self.old (event_to result unit.new) self.new }
     {
-        match self.streams.turn(now, self.settings.idle_timeout) {
+        match self.turn(now, unit) {
+            Some(event) => Some(event),
+            None => self.send_transport(now),
+        }
+    }
+
+    /// Returns the feedback about the transport, if it is due.
+    fn send_transport(&mut self, now: Ticks) -> Option<Event<()>>
+        ensures { SendsTransport now.0 self.old result self.new }
+    {
+        let packet = self
+            .streams
+            .transport_due(&self.settings, now, &mut self.transport);
+        transport_event(packet)
+    }
+
+    /// Returns the next event of the streams, or else the report about them, if one is due.
+    fn turn(&mut self, now: Ticks, unit: &mut PoppedUnit) -> Option<Event<()>>
+        ensures { TurnsOrReports now self.old (event_to result unit.new) self.new }
+    {
+        match self.streams.turn(now, self.settings.idle_timeout, unit) {
             Some(event) => Some(event),
             None => self.report_streams(now),
         }
     }
 
     /// Returns the report about the streams, if one is due.
-    fn report_streams(&mut self, now: Ticks) -> Option<Event>
+    fn report_streams(&mut self, now: Ticks) -> Option<Event<()>>
         ensures { SendsReport now.0 self.old result self.new }
     {
         let packet = self
@@ -325,7 +430,7 @@ impl Session {
     }
 
     /// Returns when a poll may have an event without a datagram: `Ticks(0)` while telephone events wait, else the time of a
-    /// stream, or of the next report if a stream is announced. `None`: there is no such time. The cost is one step for each
+    /// stream, of the next report if a stream is announced, or of the next feedback about the transport. `None`: there is no such time. The cost is one step for each
     /// stream.
     pub fn next_deadline(&self) -> Option<Ticks>
         ensures { option_map (λ at. at.0) result ≡ next_of self.now }
@@ -334,13 +439,23 @@ impl Session {
             return Some(Ticks(0));
         }
         let streams = due_in(&self.streams.list, self.settings.idle_timeout);
+        let report = report_deadline(&self.streams.list, self.report_due);
         match earlier(
-            streams,
-            report_deadline(&self.streams.list, self.report_due),
+            earlier(streams, report),
+            transport_deadline(&self.transport),
         ) {
             Some(at) => Some(Ticks(at)),
             None => None,
         }
+    }
+
+    /// Forgets which packets of the transport arrived. Call it if another peer takes over the transport, or the peer counts anew: without
+    /// this call, numbers behind the last 2,048 (`window`) are ignored until they pass the highest one, up to 32,768 packets later.
+    /// Without `transport` of the settings nothing changes.
+    pub fn restart_transport(&mut self)
+        ensures { self.new ≡ restarts_transport self.old }
+    {
+        restart(&mut self.transport);
     }
 
     /// Ends the streams of this SSRC: polls return the units that are complete, and then `Ended`.
@@ -518,12 +633,100 @@ impl Session {
 }
 
 /// Returns the event of a report, if there is one.
-fn report_event(packet: Option<Result<Vec<u8>, AllocError>>) -> Option<Event>
+fn report_event(packet: Option<Result<Vec<u8>, AllocError>>) -> Option<Event<()>>
     ensures { result ≡ report_event packet }
 {
     match packet {
         Some(packet) => Some(Event::Report { packet }),
         None => None,
+    }
+}
+
+/// Returns the event of a feedback about the transport, if there is one.
+fn transport_event(packet: Option<Result<Vec<u8>, AllocError>>) -> Option<Event<()>>
+    ensures { result ≡ transport_event packet }
+{
+    match packet {
+        Some(packet) => Some(Event::TransportFeedback { packet }),
+        None => None,
+    }
+}
+
+/// Returns an event with its unit, if it has one.
+fn with_unit(event: Event<()>, unit: PoppedUnit) -> Event
+    ensures { result ≡ with_unit event unit }
+{
+    match event {
+        Event::Begun { ssrc, payload_type } => Event::Begun { ssrc, payload_type },
+        Event::Unit {
+            ssrc,
+            payload_type,
+            rtp_time,
+            decodable,
+            keyframe,
+            unit: popped,
+        } => Event::Unit {
+            ssrc,
+            payload_type,
+            rtp_time,
+            decodable,
+            keyframe,
+            unit: match popped {
+                Ok(()) => Ok(unit),
+                Err(e) => Err(e),
+            },
+        },
+        Event::TooLarge {
+            ssrc,
+            payload_type,
+            ..
+        } => Event::TooLarge {
+            ssrc,
+            payload_type,
+            unit,
+        },
+        Event::Refused {
+            ssrc,
+            payload_type,
+            fault,
+        } => Event::Refused {
+            ssrc,
+            payload_type,
+            fault,
+        },
+        Event::Feedback {
+            ssrc,
+            payload_type,
+            packet,
+        } => Event::Feedback {
+            ssrc,
+            payload_type,
+            packet,
+        },
+        Event::Telephone {
+            ssrc,
+            payload_type,
+            rtp_time,
+            marker,
+            payload,
+        } => Event::Telephone {
+            ssrc,
+            payload_type,
+            rtp_time,
+            marker,
+            payload,
+        },
+        Event::Report { packet } => Event::Report { packet },
+        Event::TransportFeedback { packet } => Event::TransportFeedback { packet },
+        Event::Ended {
+            ssrc,
+            payload_type,
+            why,
+        } => Event::Ended {
+            ssrc,
+            payload_type,
+            why,
+        },
     }
 }
 

@@ -9,6 +9,7 @@ ghost use Rattle.codec_payload_session.specs.Quiet.{RestsUntil, or_none, time_of
 ghost use Rattle.codec_payload_session.specs.Requests.{wait_by};
 ghost use Rattle.codec_payload_session.specs.Streams.{Begins, Drains, IsInfo, Pops, RequestsBy, RestsBy, Steps, Takes, due_of, earlier, end_of, heard, heard_unless, is_accepted, is_no_memory, is_of, is_probation, left, left_when, received, step_of, step_with, waiting_for, waiting_if, work_deadline};
 ghost use Rattle.codec_payload_session.specs.Turns.{is_nothing};
+ghost use Rattle.codec_payload_session.specs.Units.{step_to};
 ghost use Rattle.codec_payload_session.specs.Waking.{Sleeps, or_max};
 ghost use Rattle.codec_payload_session.specs.declared.stream.Step.TheVariants as steps;
 
@@ -19,7 +20,7 @@ use crate::reports::SenderClock;
 use crate::requests::{Feedback, hear, requests_due, rest_time, round_trip, wait_by};
 use codec_payload_base::error::PacketError;
 use codec_payload_base::wire::Ticks;
-use codec_payload_buffer::buffer::Depacketized;
+use codec_payload_buffer::buffer::PoppedUnit;
 use codec_payload_codec::codec::CodecDepacketizer;
 use codec_payload_jitter::jitter::WaitLimits;
 use codec_payload_jitter::outcome::Outcome;
@@ -122,14 +123,14 @@ impl Model for StreamState {
     ghost invariant = { λ s. IsQuietUntil s.quiet_until (time_of s.work) s.told s.stage s.last s.feedback s.receiver };
 }
 
-/// A step of a stream: its next event, or nothing.
+/// A step of a stream: its next event, or nothing. `U` is what it carries of a unit.
 #[derive(Debug, Drop)]
-pub(crate) enum Step {
+pub(crate) enum Step<U> {
     Begun,
     /// A unit. If memory ran out for it, the frame is kept.
-    Unit(Result<Depacketized, AllocError>),
+    Unit(Result<U, AllocError>),
     /// A unit above the bound of the settings.
-    TooLarge(Depacketized),
+    TooLarge(U),
     /// A frame that the depacketizer refused.
     Refused(PacketError),
     /// A packet of RTCP to send. If memory ran out, its requests stay due.
@@ -343,14 +344,14 @@ impl StreamState {
         }
     }
 
-    /// Returns the next event of the stream. A stream that is known to have none is not asked.
-    pub(crate) fn step(&mut self, now: Ticks, idle_timeout: u64) -> Step
-        ensures { Steps now idle_timeout self.old result self.new }
+    /// Returns the next event of the stream, and writes its unit to `unit`. A stream that is known to have none is not asked.
+    pub(crate) fn step(&mut self, now: Ticks, idle_timeout: u64, unit: &mut PoppedUnit) -> Step<()>
+        ensures { Steps now idle_timeout self.old (step_to result unit.new) self.new }
     {
         if self.is_quiet(now, idle_timeout) {
             Step::Nothing
         } else {
-            self.ask(now, idle_timeout)
+            self.ask(now, idle_timeout, unit)
         }
     }
 
@@ -362,8 +363,8 @@ impl StreamState {
     }
 
     /// Asks the stream for its next event.
-    fn ask(&mut self, now: Ticks, idle_timeout: u64) -> Step
-        ensures { Steps now idle_timeout self.old result self.new }
+    fn ask(&mut self, now: Ticks, idle_timeout: u64, unit: &mut PoppedUnit) -> Step<()>
+        ensures { Steps now idle_timeout self.old (step_to result unit.new) self.new }
     {
         if is_probation(self.stage) {
             return Step::Nothing;
@@ -374,16 +375,16 @@ impl StreamState {
             return Step::Begun;
         }
         self.drain(now.0, idle_timeout);
-        self.pop(now)
+        self.pop(now, unit)
     }
 
     /// Returns the next unit or refused frame of the stream, or what follows without one.
-    fn pop(&mut self, now: Ticks) -> Step
-        ensures { Pops now self.old result self.new }
+    fn pop(&mut self, now: Ticks, unit: &mut PoppedUnit) -> Step<()>
+        ensures { Pops now self.old (step_to result unit.new) self.new }
     {
         self.quiet_until = 0;
         let held = self.receiver.inner().held();
-        match self.receiver.pop(now) {
+        match self.receiver.pop_unit(now, unit) {
             Some(popped) => step_with(popped),
             None => {
                 let step = self.rest(now);
@@ -416,7 +417,7 @@ impl StreamState {
     }
 
     /// Returns the step of a stream without a unit: its end, or what it requests.
-    fn rest(&mut self, now: Ticks) -> Step
+    fn rest(&mut self, now: Ticks) -> Step<()>
         ensures { RestsBy self.old.stage now.0 self.old result self.new }
     {
         match self.stage {
@@ -427,7 +428,7 @@ impl StreamState {
     }
 
     /// Returns the requests that are due, by what the receiver misses now.
-    fn request(&mut self, now: Ticks) -> Step
+    fn request(&mut self, now: Ticks) -> Step<()>
         ensures { RequestsBy self.old.feedback now.0 self.old result self.new }
     {
         self.quiet_until = 0;
@@ -557,14 +558,14 @@ fn or_max(time: Option<u64>) -> u64
 }
 
 /// Returns whether a step has no event.
-pub(crate) fn is_nothing(step: &Step) -> bool
+pub(crate) fn is_nothing(step: &Step<()>) -> bool
     ensures { result ≡ is_nothing step.now }
 {
     matches!(step, Step::Nothing)
 }
 
 /// Returns the step of a stream with this answer of a pop.
-fn step_with(popped: Result<Popped, AllocError>) -> Step
+fn step_with(popped: Result<Popped<()>, AllocError>) -> Step<()>
     ensures { result ≡ step_with popped }
 {
     match popped {
@@ -576,7 +577,7 @@ fn step_with(popped: Result<Popped, AllocError>) -> Step
 }
 
 /// Returns the step of a stream with these requests.
-fn step_of(packet: Result<Option<Vec<u8>>, AllocError>) -> Step
+fn step_of(packet: Result<Option<Vec<u8>>, AllocError>) -> Step<()>
     ensures { result ≡ step_of packet }
 {
     match packet {

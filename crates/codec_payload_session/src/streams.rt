@@ -15,6 +15,7 @@ ghost use Rattle.codec_payload_session.specs.declared.stream.Ending.TheVariants 
 ghost use Rattle.codec_payload_session.specs.Pairs.{paired_where, with_pair};
 ghost use Rattle.codec_payload_session.specs.Checks.{can_begin, fault_of};
 ghost use Rattle.codec_payload_session.specs.Changes.{any_left_behind, continued, continues};
+ghost use Rattle.codec_payload_session.specs.Units.{event_to, turn_to};
 ghost use Rattle.codec_payload_session.specs.Waking.{FeedsOne, StepsPort};
 
 use crate::changes::{any_left_behind, continues, leave_behind};
@@ -26,6 +27,7 @@ use crate::sort::{SortedPacket, sort};
 use crate::stream::{Ending, Step, StreamState, is_no_memory, is_nothing};
 use crate::waking::{Waking, step_excepted};
 use codec_payload_base::wire::{Frequency, Ticks};
+use codec_payload_buffer::buffer::PoppedUnit;
 use codec_payload_jitter::jitter::WaitLimits;
 use codec_payload_jitter::outcome::Outcome;
 use codec_payload_rtcp::compound::{CompoundRule, Packets, read_compound};
@@ -51,9 +53,9 @@ pub(crate) struct Streams {
 
 /// The step of the stream at a place.
 #[derive(Debug, Drop)]
-pub(crate) struct Turn {
+pub(crate) struct Turn<U> {
     pub(crate) place: usize,
-    pub(crate) step: Step,
+    pub(crate) step: Step<U>,
 }
 
 /// The streams to end.
@@ -288,33 +290,38 @@ impl Streams {
         self.ended = self.ended.wrapping_add(gone.taken);
     }
 
-    /// Returns the next event.
-    pub(crate) fn turn(&mut self, now: Ticks, idle_timeout: u64) -> Option<Event>
-        ensures { TakesTurn now idle_timeout self.old result self.new }
+    /// Returns the next event, and writes its unit to `unit`.
+    pub(crate) fn turn(
+        &mut self,
+        now: Ticks,
+        idle_timeout: u64,
+        unit: &mut PoppedUnit,
+    ) -> Option<Event<()>>
+        ensures { TakesTurn now idle_timeout self.old (event_to result unit.new) self.new }
     {
-        match self.step(now, idle_timeout) {
+        match self.step(now, idle_timeout, unit) {
             Some(turn) => self.tell(turn),
             None => None,
         }
     }
 
     /// Returns the first step with an event. As long as the bound holds, only the stream that is excepted is asked.
-    fn step(&mut self, now: Ticks, idle_timeout: u64) -> Option<Turn>
-        ensures { StepsPort now idle_timeout self.old result self.new }
+    fn step(&mut self, now: Ticks, idle_timeout: u64, unit: &mut PoppedUnit) -> Option<Turn<()>>
+        ensures { StepsPort now idle_timeout self.old (turn_to result unit.new) self.new }
     {
         if self.waking.holds(now, idle_timeout) {
-            step_excepted(&mut self.list, self.waking, now, idle_timeout)
+            step_excepted(&mut self.list, self.waking, now, idle_timeout, unit)
         } else {
-            self.step_all(now, idle_timeout)
+            self.step_all(now, idle_timeout, unit)
         }
     }
 
     /// Asks all streams in order, until one has an event. Without an event it is known until when they have none.
-    fn step_all(&mut self, now: Ticks, idle_timeout: u64) -> Option<Turn>
-        ensures { StepsPort now idle_timeout self.old result self.new }
+    fn step_all(&mut self, now: Ticks, idle_timeout: u64, unit: &mut PoppedUnit) -> Option<Turn<()>>
+        ensures { StepsPort now idle_timeout self.old (turn_to result unit.new) self.new }
     {
         self.waking = Waking::unknown();
-        let turn = step_first(&mut self.list, now, idle_timeout);
+        let turn = step_first(&mut self.list, now, idle_timeout, unit);
         if turn.is_none() {
             self.waking = Waking::of(&self.list);
         }
@@ -322,7 +329,7 @@ impl Streams {
     }
 
     /// Returns the event of the stream at a place. A stream that ended is removed.
-    fn tell(&mut self, turn: Turn) -> Option<Event>
+    fn tell(&mut self, turn: Turn<()>) -> Option<Event<()>>
         requires { turn.place < length self.old.streams }
         ensures told { result ≡ told_by (slice_get self.old.streams turn.place) turn.step }
         ensures after { self.new ≡ after_step turn.step turn.place self.old }
@@ -512,11 +519,16 @@ fn leaving(max_streams: usize, streams: &[StreamState]) -> Option<usize>
 }
 
 /// Asks the streams for an event, in order, until one has an event.
-fn step_first(streams: &mut [StreamState], now: Ticks, idle_timeout: u64) -> Option<Turn>
-    ensures { StepsFirst now idle_timeout streams.old result streams.new }
+fn step_first(
+    streams: &mut [StreamState],
+    now: Ticks,
+    idle_timeout: u64,
+    unit: &mut PoppedUnit,
+) -> Option<Turn<()>>
+    ensures { StepsFirst now idle_timeout streams.old (turn_to result unit.new) streams.new }
 {
     for place in 0..streams.len() {
-        let step = streams[place].step(now, idle_timeout);
+        let step = streams[place].step(now, idle_timeout, unit);
         if !is_nothing(&step) {
             return Some(Turn { place, step });
         }

@@ -70,7 +70,7 @@ impl TelephonePacket {
     }
 
     /// Returns the event of this packet.
-    fn into_event(self) -> Event
+    fn into_event(self) -> Event<()>
         ensures { result ≡ event_of self }
     {
         Event::Telephone {
@@ -132,7 +132,7 @@ impl TelephoneQueue {
     }
 
     /// Returns the event of the packet that has waited longest, which waits no more.
-    pub(crate) fn take(&mut self) -> Option<Event>
+    pub(crate) fn take(&mut self) -> Option<Event<()>>
         ensures { Gives self.old result self.new }
     {
         if self.waiting.is_empty() {

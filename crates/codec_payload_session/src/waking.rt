@@ -3,11 +3,13 @@
 ghost use Rattle.std.specs.Prelude.{◌≡◌, ◌-◌, ◌<◌, true};
 ghost use Rattle.codec_payload_session.specs.Streams.{due_in, earlier};
 ghost use Rattle.codec_payload_session.specs.Turns.{StepsFirst};
+ghost use Rattle.codec_payload_session.specs.Units.{turn_to};
 ghost use Rattle.codec_payload_session.specs.Waking.{AllSleep, Holds, IsBound, SaysNothing, or_max};
 
 use crate::stream::{StreamState, earlier, is_nothing};
 use crate::streams::Turn;
 use codec_payload_base::wire::Ticks;
+use codec_payload_buffer::buffer::PoppedUnit;
 
 /// A bound for all streams of a list except one: before `until` they have no event, unless the idle timeout has passed since
 /// `since`. It may be earlier than their events, and never later.
@@ -92,17 +94,18 @@ pub(crate) fn step_excepted(
     waking: Waking,
     now: Ticks,
     idle_timeout: u64,
-) -> Option<Turn>
+    unit: &mut PoppedUnit,
+) -> Option<Turn<()>>
     requires bound { IsBound waking streams.old }
     requires holds { Holds waking now idle_timeout }
-    ensures first { StepsFirst now idle_timeout streams.old result streams.new }
+    ensures first { StepsFirst now idle_timeout streams.old (turn_to result unit.new) streams.new }
     ensures bound { IsBound waking streams.new }
 {
     let place = waking.fed;
     if place >= streams.len() {
         return None;
     }
-    let step = streams[place].step(now, idle_timeout);
+    let step = streams[place].step(now, idle_timeout, unit);
     if is_nothing(&step) {
         None
     } else {

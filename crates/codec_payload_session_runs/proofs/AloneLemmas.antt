@@ -2,7 +2,7 @@
 use Rattle.std.proofs.Common.{◌≡◌, ◌∙◌, refl, sym, ap, subst, ℕ, ◌+◌, Bool, true, false, List, [], ◌∷◌, ◌++◌, append_assoc, append-nil, Option, arith}
 use Rattle.codec_payload_base.specs.declared.wire.Ticks.{Ticks}
 use Rattle.codec_payload_stream.specs.Sessions.{Session as Receiver}
-use Rattle.codec_payload_session.specs.declared.session.Event.{Event}
+use Rattle.codec_payload_session.specs.Units.{Event}
 use Rattle.codec_payload_session.specs.declared.session.Event.TheVariants as events
 use Rattle.codec_payload_session_runs.specs.Lives.{AreInOrder, AreMadeBy, AreOfOne, HasNoPair, IsMadeBy, IsPairFirst, IsPart, Projects, ReceiverCall, RunsAlone, events_in, events_of, finishes, follows, is_finish, is_pair, is_pop, is_shown, many_finishes, many_pops, one_more, pairs, pops, receives, reports, shown, shown_in, shown_of, waits, with_shown}
 use Rattle.codec_payload_session_runs.specs.SessionRuns.{Call}
@@ -101,6 +101,7 @@ one_append (events.Feedback s p packet ∷ es) fs a b c got more = (got.0, one_a
 one_append (events.Ended s p why ∷ es) fs a b c got more = absurd got
 one_append (events.Telephone s p time marker payload ∷ es) fs a b c got more = absurd got
 one_append (events.Report packet ∷ es) fs a b c got more = absurd got
+one_append (events.TransportFeedback packet ∷ es) fs a b c got more = absurd got
 
 pub order_append : (es fs : List Event) (a b c : Bool) → AreInOrder a es b → AreInOrder b fs c → AreInOrder a (es ++ fs) c
 order_append [] fs a b c got more = subst (λ (x : Bool). AreInOrder x fs c) got more
@@ -112,6 +113,7 @@ order_append (events.Feedback s p packet ∷ es) fs a b c got more = (got.0, ord
 order_append (events.Ended s p why ∷ es) fs a b c got more = (got.0, order_append es fs false b c got.1 more)
 order_append (events.Telephone s p time marker payload ∷ es) fs a b c got more = absurd got
 order_append (events.Report packet ∷ es) fs a b c got more = absurd got
+order_append (events.TransportFeedback packet ∷ es) fs a b c got more = absurd got
 
 pub one_in_order : (es : List Event) (a b : Bool) → AreOfOne a es b → AreInOrder a es b
 one_in_order [] a b got = got
@@ -123,3 +125,4 @@ one_in_order (events.Feedback s p packet ∷ es) a b got = (got.0, one_in_order 
 one_in_order (events.Ended s p why ∷ es) a b got = absurd got
 one_in_order (events.Telephone s p time marker payload ∷ es) a b got = absurd got
 one_in_order (events.Report packet ∷ es) a b got = absurd got
+one_in_order (events.TransportFeedback packet ∷ es) a b got = absurd got

@@ -134,9 +134,9 @@ named_last pair payload_type (p ∷ ps) = by_test (p.ssrc == pair.ssrc) (p.retra
     by_test false true own again later = rw (own, again) later
     by_test false false own again later = rw (own, again) (rw own later)
 
-pub gets_ssrc : (s : SessionSettings) (now : Ticks) (datagram : Vec ℕ) (pair : SsrcPair) (ps : List SsrcPair) → IsFound s datagram.items pair.retransmission
-    → IsAboutPair (calls.Receive now datagram) pair.ssrc (with_pair pair ps)
-gets_ssrc s now datagram pair ps found = λ x given is.
+pub gets_ssrc : (s : SessionSettings) (now : Ticks) (micros : Option ℕ) (datagram : Vec ℕ) (pair : SsrcPair) (ps : List SsrcPair) → IsFound s datagram.items pair.retransmission
+    → IsAboutPair (calls.Receive now micros datagram) pair.ssrc (with_pair pair ps)
+gets_ssrc s now micros datagram pair ps found = λ x given is.
     subst (λ (n : ℕ). HasSsrcOf datagram.items (retransmission_for n x.format.retransmission (with_pair pair ps))) (sym (eqb-true x.ssrc pair.ssrc is)) (by_type x.format.retransmission)
   where
     by_type : (o : Option ℕ) → HasSsrcOf datagram.items (retransmission_for pair.ssrc o (with_pair pair ps))
@@ -216,11 +216,11 @@ one_paired c ssrc named (z ∷ zs) (suc i) x y there apart goes others = (
   one_paired c ssrc named zs i x y there apart.1 goes others,
 )
 
-feeds_paired : (given : SessionSettings) (probation place : ℕ) (now : Ticks) (datagram : Vec ℕ) (ssrc : ℕ) (named : List SsrcPair) (ss : List StreamState) (p : Port) (answer : Result Arrival AllocError) (q : Port)
-    → p.streams ≡ paired_where ssrc named ss → IsAboutPair (calls.Receive now datagram) ssrc named → AreApart ss → Feeds probation place now datagram.items p answer q
-    → Evolves given (call_of now datagram answer) ss q.streams
-feeds_paired given probation place now datagram ssrc named ss p answer q is about apart got =
-    let c : Call = call_of now datagram answer in
+feeds_paired : (given : SessionSettings) (probation place : ℕ) (now : Ticks) (micros : Option ℕ) (datagram : Vec ℕ) (ssrc : ℕ) (named : List SsrcPair) (ss : List StreamState) (p : Port) (answer : Result Arrival AllocError) (q : Port)
+    → p.streams ≡ paired_where ssrc named ss → IsAboutPair (calls.Receive now micros datagram) ssrc named → AreApart ss → Feeds probation place now datagram.items p answer q
+    → Evolves given (call_of now micros datagram answer) ss q.streams
+feeds_paired given probation place now micros datagram ssrc named ss p answer q is about apart got =
+    let c : Call = call_of now micros datagram answer in
     let x : StreamState = got.stream in
     let there : slice_get (paired_where ssrc named ss) place ≡ Some x = subst (λ (zs : List StreamState). slice_get zs place ≡ Some x) is got.there in
     subst (λ (o : Port). Evolves given c ss o.streams) (sym got.left)
@@ -228,49 +228,49 @@ feeds_paired given probation place now datagram ssrc named ss p answer q is abou
     (evolves_all given c ss (slice_set (paired_where ssrc named ss) place got.after) (λ s t. refl)
     (one_paired c ssrc named ss place x got.after there apart
     (λ (z : StreamState) (e : paired_if ssrc named z ≡ x).
-    paired_fed_goes now datagram probation named (z.ssrc == ssrc) z got.told got.after answer (about z [])
+    paired_fed_goes now micros datagram probation named (z.ssrc == ssrc) z got.told got.after answer (about z [])
     (subst (λ (w : StreamState). Takes now probation datagram.items w got.told got.after) (sym e) got.takes)
     (subst (λ (w : StreamState). Arrives (is_no_memory got.told) (arrival_of w.ssrc w.format.payload_type got.told) answer) (sym e) got.arrives))
     (λ (z : StreamState) (other : is_same z.ssrc z.format.payload_type x.ssrc x.format.payload_type ≡ false).
     paired_goes c ssrc named (z.ssrc == ssrc) z refl about refl
     (given_other (is_no_memory got.told) now datagram.items z.ssrc z.format.payload_type x.ssrc x.format.payload_type got.told answer other got.arrives)))))
 
-stays_paired : (given : SessionSettings) (now : Ticks) (datagram : Vec ℕ) (ssrc : ℕ) (named : List SsrcPair) (ss : List StreamState) (p : Port) (answer told : Result Arrival AllocError) (q : Port)
-    → p.streams ≡ paired_where ssrc named ss → IsAboutPair (calls.Receive now datagram) ssrc named → NamesNone told → answer ≡ told → q ≡ p
-    → Evolves given (call_of now datagram answer) ss q.streams
-stays_paired given now datagram ssrc named ss p answer told q is about none same stays =
-    subst₂ (λ (a : Result Arrival AllocError) (zs : List StreamState). Evolves given (call_of now datagram a) ss zs) (sym same) (sym (ap (λ (o : Port). o.streams) stays ∙ is))
-    (pairs_evolve given (call_of now datagram told) ssrc named ss about (λ s t. refl) (λ s t. none now datagram.items s t))
+stays_paired : (given : SessionSettings) (now : Ticks) (micros : Option ℕ) (datagram : Vec ℕ) (ssrc : ℕ) (named : List SsrcPair) (ss : List StreamState) (p : Port) (answer told : Result Arrival AllocError) (q : Port)
+    → p.streams ≡ paired_where ssrc named ss → IsAboutPair (calls.Receive now micros datagram) ssrc named → NamesNone told → answer ≡ told → q ≡ p
+    → Evolves given (call_of now micros datagram answer) ss q.streams
+stays_paired given now micros datagram ssrc named ss p answer told q is about none same stays =
+    subst₂ (λ (a : Result Arrival AllocError) (zs : List StreamState). Evolves given (call_of now micros datagram a) ss zs) (sym same) (sym (ap (λ (o : Port). o.streams) stays ∙ is))
+    (pairs_evolve given (call_of now micros datagram told) ssrc named ss about (λ s t. refl) (λ s t. none now datagram.items s t))
 
-feeds_if_paired : (o : Option ℕ) (given : SessionSettings) (probation : ℕ) (now : Ticks) (datagram : Vec ℕ) (ssrc : ℕ) (named : List SsrcPair) (ss : List StreamState) (p : Port) (answer : Result Arrival AllocError) (q : Port)
-    → p.streams ≡ paired_where ssrc named ss → IsAboutPair (calls.Receive now datagram) ssrc named → AreApart ss
-    → FeedsIf o arrivals.Unassociated probation now datagram.items p answer q → Evolves given (call_of now datagram answer) ss q.streams
-feeds_if_paired None given probation now datagram ssrc named ss p answer q is about apart got =
-    stays_paired given now datagram ssrc named ss p answer (Ok arrivals.Unassociated) q is about (λ now bytes s t. refl) got.0 got.1
-feeds_if_paired (Some place) given probation now datagram ssrc named ss p answer q is about apart got =
-    feeds_paired given probation place now datagram ssrc named ss p answer q is about apart got
+feeds_if_paired : (o : Option ℕ) (given : SessionSettings) (probation : ℕ) (now : Ticks) (micros : Option ℕ) (datagram : Vec ℕ) (ssrc : ℕ) (named : List SsrcPair) (ss : List StreamState) (p : Port) (answer : Result Arrival AllocError) (q : Port)
+    → p.streams ≡ paired_where ssrc named ss → IsAboutPair (calls.Receive now micros datagram) ssrc named → AreApart ss
+    → FeedsIf o arrivals.Unassociated probation now datagram.items p answer q → Evolves given (call_of now micros datagram answer) ss q.streams
+feeds_if_paired None given probation now micros datagram ssrc named ss p answer q is about apart got =
+    stays_paired given now micros datagram ssrc named ss p answer (Ok arrivals.Unassociated) q is about (λ now bytes s t. refl) got.0 got.1
+feeds_if_paired (Some place) given probation now micros datagram ssrc named ss p answer q is about apart got =
+    feeds_paired given probation place now micros datagram ssrc named ss p answer q is about apart got
 
-again_paired : (o : Option ℕ) (payload_type : ℕ) (given settings : SessionSettings) (now : Ticks) (datagram : Vec ℕ) (ssrc : ℕ) (named : List SsrcPair) (ss : List StreamState) (p : Port) (answer : Result Arrival AllocError) (q : Port)
-    → p.streams ≡ paired_where ssrc named ss → IsAboutPair (calls.Receive now datagram) ssrc named → AreApart ss
-    → TakesInAs (sorted_retransmission o payload_type) settings now datagram.items p answer q → Evolves given (call_of now datagram answer) ss q.streams
-again_paired None payload_type given settings now datagram ssrc named ss p answer q is about apart got =
-    stays_paired given now datagram ssrc named ss p answer (Ok arrivals.Unassociated) q is about (λ now bytes s t. refl) got.0 got.1
-again_paired (Some own) payload_type given settings now datagram ssrc named ss p answer q is about apart got =
-    feeds_if_paired (position (is_of own payload_type) p.streams) given settings.probation now datagram ssrc named ss p answer q is about apart got
+again_paired : (o : Option ℕ) (payload_type : ℕ) (given settings : SessionSettings) (now : Ticks) (micros : Option ℕ) (datagram : Vec ℕ) (ssrc : ℕ) (named : List SsrcPair) (ss : List StreamState) (p : Port) (answer : Result Arrival AllocError) (q : Port)
+    → p.streams ≡ paired_where ssrc named ss → IsAboutPair (calls.Receive now micros datagram) ssrc named → AreApart ss
+    → TakesInAs (sorted_retransmission o payload_type) settings now datagram.items p answer q → Evolves given (call_of now micros datagram answer) ss q.streams
+again_paired None payload_type given settings now micros datagram ssrc named ss p answer q is about apart got =
+    stays_paired given now micros datagram ssrc named ss p answer (Ok arrivals.Unassociated) q is about (λ now bytes s t. refl) got.0 got.1
+again_paired (Some own) payload_type given settings now micros datagram ssrc named ss p answer q is about apart got =
+    feeds_if_paired (position (is_of own payload_type) p.streams) given settings.probation now micros datagram ssrc named ss p answer q is about apart got
 
 -- ---- the datagram after the pair
 
-pub paired_evolves : (s : SessionSettings) (now : Ticks) (datagram : Vec ℕ) (pair : SsrcPair) (named : Vec SsrcPair) (ss : List StreamState) (p : Port) (answer : Result Arrival AllocError) (q : Port)
+pub paired_evolves : (s : SessionSettings) (now : Ticks) (micros : Option ℕ) (datagram : Vec ℕ) (pair : SsrcPair) (named : Vec SsrcPair) (ss : List StreamState) (p : Port) (answer : Result Arrival AllocError) (q : Port)
     → IsFound s datagram.items pair.retransmission → p.streams ≡ paired_where pair.ssrc (with_pair pair s.pairs.items) ss → AreApart ss
-    → TakesIn (record s { pairs = named }) now datagram.items p answer q → Evolves s (call_of now datagram answer) ss q.streams
-paired_evolves s now datagram pair named ss p answer q found is apart got =
-    again_paired (stream_of found.packet.header.ssrc named.items) found.own_type s (record s { pairs = named }) now datagram pair.ssrc (with_pair pair s.pairs.items) ss p answer q is
-    (gets_ssrc s now datagram pair s.pairs.items found) apart
+    → TakesIn (record s { pairs = named }) now datagram.items p answer q → Evolves s (call_of now micros datagram answer) ss q.streams
+paired_evolves s now micros datagram pair named ss p answer q found is apart got =
+    again_paired (stream_of found.packet.header.ssrc named.items) found.own_type s (record s { pairs = named }) now micros datagram pair.ssrc (with_pair pair s.pairs.items) ss p answer q is
+    (gets_ssrc s now micros datagram pair s.pairs.items found) apart
     (subst (λ (d : _). TakesInAs d (record s { pairs = named }) now datagram.items p answer q) (sorted_found s named datagram.items pair.retransmission found) got)
 
 -- memory ran out for the datagram: the pair stays
-pub failed_paired : (s : SessionSettings) (now : Ticks) (datagram : Vec ℕ) (pair : SsrcPair) (answer : Result Arrival AllocError) (ss : List StreamState) → IsFound s datagram.items pair.retransmission → IsErr answer
-    → Evolves s (call_of now datagram answer) ss (paired_where pair.ssrc (with_pair pair s.pairs.items) ss)
-failed_paired s now datagram pair (Ok arrival) ss found fails = absurd (cc)
-failed_paired s now datagram pair (Err e) ss found fails =
-    pairs_evolve s (call_of now datagram (Err e)) pair.ssrc (with_pair pair s.pairs.items) ss (gets_ssrc s now datagram pair s.pairs.items found) (λ s t. refl) (λ s t. refl)
+pub failed_paired : (s : SessionSettings) (now : Ticks) (micros : Option ℕ) (datagram : Vec ℕ) (pair : SsrcPair) (answer : Result Arrival AllocError) (ss : List StreamState) → IsFound s datagram.items pair.retransmission → IsErr answer
+    → Evolves s (call_of now micros datagram answer) ss (paired_where pair.ssrc (with_pair pair s.pairs.items) ss)
+failed_paired s now micros datagram pair (Ok arrival) ss found fails = absurd (cc)
+failed_paired s now micros datagram pair (Err e) ss found fails =
+    pairs_evolve s (call_of now micros datagram (Err e)) pair.ssrc (with_pair pair s.pairs.items) ss (gets_ssrc s now micros datagram pair s.pairs.items found) (λ s t. refl) (λ s t. refl)

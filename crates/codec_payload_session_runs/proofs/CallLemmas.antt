@@ -32,7 +32,7 @@ use Rattle.codec_payload_session.specs.declared.formats.SessionSettings.{Session
 use Rattle.codec_payload_session.specs.declared.formats.SsrcPair.{SsrcPair}
 use Rattle.codec_payload_session.specs.declared.session.Arrival.{Arrival}
 use Rattle.codec_payload_session.specs.declared.session.Arrival.TheVariants as arrivals
-use Rattle.codec_payload_session.specs.declared.session.Event.{Event}
+use Rattle.codec_payload_session.specs.Units.{Event}
 use Rattle.codec_payload_session.specs.declared.session.Event.TheVariants as events
 use Rattle.codec_payload_session.specs.declared.stream.Ending.{Ending}
 use Rattle.codec_payload_session.specs.declared.stream.Ending.TheVariants as endings
@@ -57,14 +57,14 @@ given_other false now bytes ssrc payload_type s p told answer other is =
 given_other true now bytes ssrc payload_type s p told (Ok arrival) other is = absurd (cc)
 given_other true now bytes ssrc payload_type s p told (Err e) other is = refl
 
-feeds_evolve : (given settings : SessionSettings) (place : ℕ) (now : Ticks) (datagram : Vec ℕ) (p : Port) (answer : Result Arrival AllocError) (q : Port) → AreApart p.streams
-    → Feeds settings.probation place now datagram.items p answer q → Evolves given (call_of now datagram answer) p.streams q.streams
-feeds_evolve given settings place now datagram p answer q apart got =
-    let c : Call = call_of now datagram answer in
+feeds_evolve : (given settings : SessionSettings) (place : ℕ) (now : Ticks) (micros : Option ℕ) (datagram : Vec ℕ) (p : Port) (answer : Result Arrival AllocError) (q : Port) → AreApart p.streams
+    → Feeds settings.probation place now datagram.items p answer q → Evolves given (call_of now micros datagram answer) p.streams q.streams
+feeds_evolve given settings place now micros datagram p answer q apart got =
+    let c : Call = call_of now micros datagram answer in
     let x : StreamState = got.stream in
     subst (λ (o : Port). Evolves given c p.streams o.streams) (sym got.left)
     (evolves_all given c p.streams (slice_set p.streams place got.after) (λ ssrc payload_type. refl)
-    (one_goes c p.streams place x got.after got.there apart (fed_goes now datagram settings.probation x got.told got.after answer got.takes got.arrives)
+    (one_goes c p.streams place x got.after got.there apart (fed_goes now micros datagram settings.probation x got.told got.after answer got.takes got.arrives)
     (λ (z : StreamState) (other : is_same z.ssrc z.format.payload_type x.ssrc x.format.payload_type ≡ false).
     silent_goes c z (given_other (is_no_memory got.told) now datagram.items z.ssrc z.format.payload_type x.ssrc x.format.payload_type got.told answer other got.arrives) refl)))
 
@@ -72,16 +72,16 @@ feeds_evolve given settings place now datagram p answer q apart got =
 abbrev pub NamesNone : Result Arrival AllocError → Type 0
 NamesNone answer = (now : Ticks) (bytes : List ℕ) (ssrc payload_type : ℕ) → given_by ssrc payload_type now bytes answer ≡ []
 
-stays_evolve : (given : SessionSettings) (now : Ticks) (datagram : Vec ℕ) (p : Port) (answer told : Result Arrival AllocError) (q : Port) → NamesNone told → answer ≡ told → q ≡ p
-    → Evolves given (call_of now datagram answer) p.streams q.streams
-stays_evolve given now datagram p answer told q none is same =
-    subst₂ (λ (a : Result Arrival AllocError) (o : Port). Evolves given (call_of now datagram a) p.streams o.streams) (sym is) (sym same)
-    (evolves_same given (call_of now datagram told) p.streams (λ ssrc payload_type. refl) (λ ssrc payload_type. none now datagram.items ssrc payload_type))
+stays_evolve : (given : SessionSettings) (now : Ticks) (micros : Option ℕ) (datagram : Vec ℕ) (p : Port) (answer told : Result Arrival AllocError) (q : Port) → NamesNone told → answer ≡ told → q ≡ p
+    → Evolves given (call_of now micros datagram answer) p.streams q.streams
+stays_evolve given now micros datagram p answer told q none is same =
+    subst₂ (λ (a : Result Arrival AllocError) (o : Port). Evolves given (call_of now micros datagram a) p.streams o.streams) (sym is) (sym same)
+    (evolves_same given (call_of now micros datagram told) p.streams (λ ssrc payload_type. refl) (λ ssrc payload_type. none now datagram.items ssrc payload_type))
 
-feeds_if_evolve : (given : SessionSettings) (o : Option ℕ) (arrival : Arrival) (settings : SessionSettings) (now : Ticks) (datagram : Vec ℕ) (p : Port) (answer : Result Arrival AllocError) (q : Port)
-    → NamesNone (Ok arrival) → AreApart p.streams → FeedsIf o arrival settings.probation now datagram.items p answer q → Evolves given (call_of now datagram answer) p.streams q.streams
-feeds_if_evolve given None arrival settings now datagram p answer q none apart got = stays_evolve given now datagram p answer (Ok arrival) q none got.0 got.1
-feeds_if_evolve given (Some place) arrival settings now datagram p answer q none apart got = feeds_evolve given settings place now datagram p answer q apart got
+feeds_if_evolve : (given : SessionSettings) (o : Option ℕ) (arrival : Arrival) (settings : SessionSettings) (now : Ticks) (micros : Option ℕ) (datagram : Vec ℕ) (p : Port) (answer : Result Arrival AllocError) (q : Port)
+    → NamesNone (Ok arrival) → AreApart p.streams → FeedsIf o arrival settings.probation now datagram.items p answer q → Evolves given (call_of now micros datagram answer) p.streams q.streams
+feeds_if_evolve given None arrival settings now micros datagram p answer q none apart got = stays_evolve given now micros datagram p answer (Ok arrival) q none got.0 got.1
+feeds_if_evolve given (Some place) arrival settings now micros datagram p answer q none apart got = feeds_evolve given settings place now micros datagram p answer q apart got
 
 -- ---- receive: a stream begins, and may replace one in probation
 
@@ -132,11 +132,11 @@ added_evolves given c false (Some i) p y silent go known begins place =
       silent = λ ssrc payload_type absent. silent ssrc payload_type;
     }
 
-begins_evolve : (settings : SessionSettings) (ssrc : ℕ) (f : Format) (now : Ticks) (datagram : Vec ℕ) (p : Port) (answer : Result Arrival AllocError) (q : Port)
+begins_evolve : (settings : SessionSettings) (ssrc : ℕ) (f : Format) (now : Ticks) (micros : Option ℕ) (datagram : Vec ℕ) (p : Port) (answer : Result Arrival AllocError) (q : Port)
     → position (is_of ssrc f.payload_type) p.streams ≡ None → AreKnown p.streams → BeginsWith settings ssrc f now datagram.items p answer q
-    → Evolves settings (call_of now datagram answer) p.streams q.streams
-begins_evolve settings ssrc f now datagram p answer q none known got =
-    let c : Call = call_of now datagram answer in
+    → Evolves settings (call_of now micros datagram answer) p.streams q.streams
+begins_evolve settings ssrc f now micros datagram p answer q none known got =
+    let c : Call = call_of now micros datagram answer in
     let x : StreamState = got.stream in
     let y : StreamState = got.after in
     let absent : IsAbsent ssrc f.payload_type p.streams = found_none ssrc f.payload_type p.streams none in
@@ -144,7 +144,7 @@ begins_evolve settings ssrc f now datagram p answer q none known got =
     got.answers ∙ ap₂ (λ (s : ℕ) (g : Format). Ok (arrival_of s g.payload_type got.told)) (sym got.begins.ssrc_is) (sym got.begins.format) in
     let arrives : Arrives (is_no_memory got.told) (arrival_of x.ssrc x.format.payload_type got.told) answer =
     subst (λ (b : Bool). Arrives b (arrival_of x.ssrc x.format.payload_type got.told) answer) (sym got.received) names in
-    let goes : Goes c x y = fed_goes now datagram settings.probation x got.told y answer got.takes arrives in
+    let goes : Goes c x y = fed_goes now micros datagram settings.probation x got.told y answer got.takes arrives in
     let ssrc_is : y.ssrc ≡ ssrc = goes.has.ssrc_is ∙ got.begins.ssrc_is in
     let format : y.format ≡ f = goes.has.format ∙ got.begins.format in
     let begins : BeginsNow settings c p.streams y = record {
@@ -162,21 +162,21 @@ begins_evolve settings ssrc f now datagram p answer q none known got =
     subst (λ (o : Port). Evolves settings c p.streams o.streams) (sym got.left)
     (added_evolves settings c (nat_lt (length p.streams) settings.max_streams) (position on_probation p.streams) p y (λ s t. refl) go known begins refl)
 
-begins_if_evolve : (b : Bool) (settings : SessionSettings) (ssrc : ℕ) (f : Format) (now : Ticks) (datagram : Vec ℕ) (p : Port) (answer : Result Arrival AllocError) (q : Port)
+begins_if_evolve : (b : Bool) (settings : SessionSettings) (ssrc : ℕ) (f : Format) (now : Ticks) (micros : Option ℕ) (datagram : Vec ℕ) (p : Port) (answer : Result Arrival AllocError) (q : Port)
     → position (is_of ssrc f.payload_type) p.streams ≡ None → AreKnown p.streams → BeginsIf b settings ssrc f now datagram.items p answer q
-    → Evolves settings (call_of now datagram answer) p.streams q.streams
-begins_if_evolve false settings ssrc f now datagram p answer q none known got = stays_evolve settings now datagram p answer (Ok arrivals.Refused) q (λ now bytes s t. refl) got.0 got.1
-begins_if_evolve true settings ssrc f now datagram p answer q none known (inl got) = begins_evolve settings ssrc f now datagram p answer q none known got
-begins_if_evolve true settings ssrc f now datagram p (Ok arrival) q none known (inr got) =
+    → Evolves settings (call_of now micros datagram answer) p.streams q.streams
+begins_if_evolve false settings ssrc f now micros datagram p answer q none known got = stays_evolve settings now micros datagram p answer (Ok arrivals.Refused) q (λ now bytes s t. refl) got.0 got.1
+begins_if_evolve true settings ssrc f now micros datagram p answer q none known (inl got) = begins_evolve settings ssrc f now micros datagram p answer q none known got
+begins_if_evolve true settings ssrc f now micros datagram p (Ok arrival) q none known (inr got) =
     absurd (cc)
-begins_if_evolve true settings ssrc f now datagram p (Err e) q none known (inr got) = stays_evolve settings now datagram p (Err e) (Err e) q (λ now bytes s t. refl) refl got.1
+begins_if_evolve true settings ssrc f now micros datagram p (Err e) q none known (inr got) = stays_evolve settings now micros datagram p (Err e) (Err e) q (λ now bytes s t. refl) refl got.1
 
-begins_or_feeds_evolve : (o : Option ℕ) (settings : SessionSettings) (ssrc : ℕ) (f : Format) (now : Ticks) (datagram : Vec ℕ) (p : Port) (answer : Result Arrival AllocError) (q : Port)
+begins_or_feeds_evolve : (o : Option ℕ) (settings : SessionSettings) (ssrc : ℕ) (f : Format) (now : Ticks) (micros : Option ℕ) (datagram : Vec ℕ) (p : Port) (answer : Result Arrival AllocError) (q : Port)
     → position (is_of ssrc f.payload_type) p.streams ≡ o → AreApart p.streams → AreKnown p.streams → BeginsOrFeeds o settings ssrc f now datagram.items p answer q
-    → Evolves settings (call_of now datagram answer) p.streams q.streams
-begins_or_feeds_evolve None settings ssrc f now datagram p answer q none apart known got =
-    begins_if_evolve (has_place settings.max_streams p) settings ssrc f now datagram p answer q none known got
-begins_or_feeds_evolve (Some place) settings ssrc f now datagram p answer q there apart known got = feeds_evolve settings settings place now datagram p answer q apart got
+    → Evolves settings (call_of now micros datagram answer) p.streams q.streams
+begins_or_feeds_evolve None settings ssrc f now micros datagram p answer q none apart known got =
+    begins_if_evolve (has_place settings.max_streams p) settings ssrc f now micros datagram p answer q none known got
+begins_or_feeds_evolve (Some place) settings ssrc f now micros datagram p answer q there apart known got = feeds_evolve settings settings place now micros datagram p answer q apart got
 
 -- streams that their sender left
 continued_evolves : (b : Bool) (given : SessionSettings) (c : Call) (now wait ssrc : ℕ) (f : Format) (ss ts : List StreamState) → Evolves given c ss ts → Evolves given c ss (continued b now wait ssrc f ts)
@@ -184,13 +184,13 @@ continued_evolves true given c now wait ssrc f ss ts got =
     evolves_map given c (left_behind now wait ssrc f) ss ts (λ (s : StreamState). keeps_left (is_left_behind now wait ssrc f s) endings.Changed now s) got
 continued_evolves false given c now wait ssrc f ss ts got = got
 
-media_evolves : (settings : SessionSettings) (ssrc : ℕ) (f : Format) (now : Ticks) (datagram : Vec ℕ) (p : Port) (answer : Result Arrival AllocError) (q : Port)
-    → AreApart p.streams → AreKnown p.streams → TakesMedia settings ssrc f now datagram.items p answer q → Evolves settings (call_of now datagram answer) p.streams q.streams
-media_evolves settings ssrc f now datagram p answer q apart known got =
+media_evolves : (settings : SessionSettings) (ssrc : ℕ) (f : Format) (now : Ticks) (micros : Option ℕ) (datagram : Vec ℕ) (p : Port) (answer : Result Arrival AllocError) (q : Port)
+    → AreApart p.streams → AreKnown p.streams → TakesMedia settings ssrc f now datagram.items p answer q → Evolves settings (call_of now micros datagram answer) p.streams q.streams
+media_evolves settings ssrc f now micros datagram p answer q apart known got =
     let mid : Port = got.received in
-    subst (λ (o : Port). Evolves settings (call_of now datagram answer) p.streams o.streams) (sym got.left)
-    (continued_evolves (is_ok answer && continues ssrc f mid.streams) settings (call_of now datagram answer) now.0 settings.bye_wait ssrc f p.streams mid.streams
-    (begins_or_feeds_evolve (position (is_of ssrc f.payload_type) p.streams) settings ssrc f now datagram p answer mid refl apart known got.takes))
+    subst (λ (o : Port). Evolves settings (call_of now micros datagram answer) p.streams o.streams) (sym got.left)
+    (continued_evolves (is_ok answer && continues ssrc f mid.streams) settings (call_of now micros datagram answer) now.0 settings.bye_wait ssrc f p.streams mid.streams
+    (begins_or_feeds_evolve (position (is_of ssrc f.payload_type) p.streams) settings ssrc f now micros datagram p answer mid refl apart known got.takes))
 
 -- ---- receive: RTCP
 
@@ -206,70 +206,70 @@ left_evolves given c who why at ss ts got = evolves_map given c (left_if who why
 
 -- ---- receive
 
-rtcp_evolves : (o : Result (List Packet) RtcpError) (settings : SessionSettings) (now : Ticks) (datagram : Vec ℕ) (p : Port) (answer : Result Arrival AllocError) (q : Port)
-    → TakesInAs (sorted_rtcp o) settings now datagram.items p answer q → Evolves settings (call_of now datagram answer) p.streams q.streams
-rtcp_evolves (Err e) settings now datagram p answer q got = stays_evolve settings now datagram p answer (Ok arrivals.Malformed) q (λ now bytes s t. refl) got.0 got.1
-rtcp_evolves (Ok packets) settings now datagram p answer q got =
-    let c : Call = call_of now datagram (Ok arrivals.Rtcp) in
-    subst₂ (λ (a : Result Arrival AllocError) (o : Port). Evolves settings (call_of now datagram a) p.streams o.streams) (sym got.0) (sym got.1)
+rtcp_evolves : (o : Result (List Packet) RtcpError) (settings : SessionSettings) (now : Ticks) (micros : Option ℕ) (datagram : Vec ℕ) (p : Port) (answer : Result Arrival AllocError) (q : Port)
+    → TakesInAs (sorted_rtcp o) settings now datagram.items p answer q → Evolves settings (call_of now micros datagram answer) p.streams q.streams
+rtcp_evolves (Err e) settings now micros datagram p answer q got = stays_evolve settings now micros datagram p answer (Ok arrivals.Malformed) q (λ now bytes s t. refl) got.0 got.1
+rtcp_evolves (Ok packets) settings now micros datagram p answer q got =
+    let c : Call = call_of now micros datagram (Ok arrivals.Rtcp) in
+    subst₂ (λ (a : Result Arrival AllocError) (o : Port). Evolves settings (call_of now micros datagram a) p.streams o.streams) (sym got.0) (sym got.1)
     (left_evolves settings c (goodbye_at datagram.items) endings.Bye (min (now.0 + settings.bye_wait) (2 ^ 64 - 1)) p.streams (noted_at now datagram.items p.streams)
     (noted_evolves settings c now (compound_at false datagram.items) p.streams p.streams (evolves_same settings c p.streams (λ s t. refl) (λ s t. refl))))
 
-again_evolves : (o : Option ℕ) (payload_type : ℕ) (settings : SessionSettings) (now : Ticks) (datagram : Vec ℕ) (p : Port) (answer : Result Arrival AllocError) (q : Port) → AreApart p.streams
-    → TakesInAs (sorted_retransmission o payload_type) settings now datagram.items p answer q → Evolves settings (call_of now datagram answer) p.streams q.streams
-again_evolves None payload_type settings now datagram p answer q apart got = stays_evolve settings now datagram p answer (Ok arrivals.Unassociated) q (λ now bytes s t. refl) got.0 got.1
-again_evolves (Some ssrc) payload_type settings now datagram p answer q apart got =
-    feeds_if_evolve settings (position (is_of ssrc payload_type) p.streams) arrivals.Unassociated settings now datagram p answer q (λ now bytes s t. refl) apart got
+again_evolves : (o : Option ℕ) (payload_type : ℕ) (settings : SessionSettings) (now : Ticks) (micros : Option ℕ) (datagram : Vec ℕ) (p : Port) (answer : Result Arrival AllocError) (q : Port) → AreApart p.streams
+    → TakesInAs (sorted_retransmission o payload_type) settings now datagram.items p answer q → Evolves settings (call_of now micros datagram answer) p.streams q.streams
+again_evolves None payload_type settings now micros datagram p answer q apart got = stays_evolve settings now micros datagram p answer (Ok arrivals.Unassociated) q (λ now bytes s t. refl) got.0 got.1
+again_evolves (Some ssrc) payload_type settings now micros datagram p answer q apart got =
+    feeds_if_evolve settings (position (is_of ssrc payload_type) p.streams) arrivals.Unassociated settings now micros datagram p answer q (λ now bytes s t. refl) apart got
 
 -- by the first format that names the payload type, or by the types without media
-no_format_evolves : (b : Bool) (dropped telephone : List ℕ) (ssrc payload_type : ℕ) (settings : SessionSettings) (now : Ticks) (datagram : Vec ℕ) (p : Port) (answer : Result Arrival AllocError) (q : Port)
+no_format_evolves : (b : Bool) (dropped telephone : List ℕ) (ssrc payload_type : ℕ) (settings : SessionSettings) (now : Ticks) (micros : Option ℕ) (datagram : Vec ℕ) (p : Port) (answer : Result Arrival AllocError) (q : Port)
     → AreApart p.streams → (is_among payload_type dropped || is_among payload_type telephone) ≡ b
-    → TakesInAs (sorted_by (role_by [] dropped telephone payload_type) settings ssrc) settings now datagram.items p answer q → Evolves settings (call_of now datagram answer) p.streams q.streams
-no_format_evolves true dropped telephone ssrc payload_type settings now datagram p answer q apart is got =
-    feeds_if_evolve settings (position (has_ssrc ssrc) p.streams) arrivals.Unknown settings now datagram p answer q (λ now bytes s t. refl) apart (rw is at got)
-no_format_evolves false dropped telephone ssrc payload_type settings now datagram p answer q apart is got =
+    → TakesInAs (sorted_by (role_by [] dropped telephone payload_type) settings ssrc) settings now datagram.items p answer q → Evolves settings (call_of now micros datagram answer) p.streams q.streams
+no_format_evolves true dropped telephone ssrc payload_type settings now micros datagram p answer q apart is got =
+    feeds_if_evolve settings (position (has_ssrc ssrc) p.streams) arrivals.Unknown settings now micros datagram p answer q (λ now bytes s t. refl) apart (rw is at got)
+no_format_evolves false dropped telephone ssrc payload_type settings now micros datagram p answer q apart is got =
     let same = rw is at got in
-    stays_evolve settings now datagram p answer (Ok arrivals.Unknown) q (λ now bytes s t. refl) same.0 same.1
+    stays_evolve settings now micros datagram p answer (Ok arrivals.Unknown) q (λ now bytes s t. refl) same.0 same.1
 
-format_evolves : (b c : Bool) (f : Format) (fs : List Format) (dropped telephone : List ℕ) (ssrc payload_type : ℕ) (settings : SessionSettings) (now : Ticks) (datagram : Vec ℕ) (p : Port) (answer : Result Arrival AllocError) (q : Port)
+format_evolves : (b c : Bool) (f : Format) (fs : List Format) (dropped telephone : List ℕ) (ssrc payload_type : ℕ) (settings : SessionSettings) (now : Ticks) (micros : Option ℕ) (datagram : Vec ℕ) (p : Port) (answer : Result Arrival AllocError) (q : Port)
     → AreApart p.streams → AreKnown p.streams → has_type f payload_type ≡ b → resends f payload_type ≡ c
     → TakesInAs (sorted_by (role_by (f ∷ fs) dropped telephone payload_type) settings ssrc) settings now datagram.items p answer q
-    → (TakesInAs (sorted_by (role_by fs dropped telephone payload_type) settings ssrc) settings now datagram.items p answer q → Evolves settings (call_of now datagram answer) p.streams q.streams)
-    → Evolves settings (call_of now datagram answer) p.streams q.streams
-format_evolves true c f fs dropped telephone ssrc payload_type settings now datagram p answer q apart known has again got later =
-    media_evolves settings ssrc f now datagram p answer q apart known (rw has at got)
-format_evolves false true f fs dropped telephone ssrc payload_type settings now datagram p answer q apart known has again got later =
-    again_evolves (stream_of ssrc settings.pairs.items) f.payload_type settings now datagram p answer q apart (rw (has, again) at got)
-format_evolves false false f fs dropped telephone ssrc payload_type settings now datagram p answer q apart known has again got later = later (rw (has, again) at got)
+    → (TakesInAs (sorted_by (role_by fs dropped telephone payload_type) settings ssrc) settings now datagram.items p answer q → Evolves settings (call_of now micros datagram answer) p.streams q.streams)
+    → Evolves settings (call_of now micros datagram answer) p.streams q.streams
+format_evolves true c f fs dropped telephone ssrc payload_type settings now micros datagram p answer q apart known has again got later =
+    media_evolves settings ssrc f now micros datagram p answer q apart known (rw has at got)
+format_evolves false true f fs dropped telephone ssrc payload_type settings now micros datagram p answer q apart known has again got later =
+    again_evolves (stream_of ssrc settings.pairs.items) f.payload_type settings now micros datagram p answer q apart (rw (has, again) at got)
+format_evolves false false f fs dropped telephone ssrc payload_type settings now micros datagram p answer q apart known has again got later = later (rw (has, again) at got)
 
-role_evolves : (fs : List Format) (dropped telephone : List ℕ) (ssrc payload_type : ℕ) (settings : SessionSettings) (now : Ticks) (datagram : Vec ℕ) (p : Port) (answer : Result Arrival AllocError) (q : Port)
+role_evolves : (fs : List Format) (dropped telephone : List ℕ) (ssrc payload_type : ℕ) (settings : SessionSettings) (now : Ticks) (micros : Option ℕ) (datagram : Vec ℕ) (p : Port) (answer : Result Arrival AllocError) (q : Port)
     → AreApart p.streams → AreKnown p.streams → TakesInAs (sorted_by (role_by fs dropped telephone payload_type) settings ssrc) settings now datagram.items p answer q
-    → Evolves settings (call_of now datagram answer) p.streams q.streams
-role_evolves [] dropped telephone ssrc payload_type settings now datagram p answer q apart known got =
-    no_format_evolves (is_among payload_type dropped || is_among payload_type telephone) dropped telephone ssrc payload_type settings now datagram p answer q apart refl got
-role_evolves (f ∷ fs) dropped telephone ssrc payload_type settings now datagram p answer q apart known got =
-    format_evolves (has_type f payload_type) (resends f payload_type) f fs dropped telephone ssrc payload_type settings now datagram p answer q apart known refl refl got
-    (role_evolves fs dropped telephone ssrc payload_type settings now datagram p answer q apart known)
+    → Evolves settings (call_of now micros datagram answer) p.streams q.streams
+role_evolves [] dropped telephone ssrc payload_type settings now micros datagram p answer q apart known got =
+    no_format_evolves (is_among payload_type dropped || is_among payload_type telephone) dropped telephone ssrc payload_type settings now micros datagram p answer q apart refl got
+role_evolves (f ∷ fs) dropped telephone ssrc payload_type settings now micros datagram p answer q apart known got =
+    format_evolves (has_type f payload_type) (resends f payload_type) f fs dropped telephone ssrc payload_type settings now micros datagram p answer q apart known refl refl got
+    (role_evolves fs dropped telephone ssrc payload_type settings now micros datagram p answer q apart known)
 
-rtp_evolves : (o : Result RtpPacket RtpError) (settings : SessionSettings) (now : Ticks) (datagram : Vec ℕ) (p : Port) (answer : Result Arrival AllocError) (q : Port)
-    → AreApart p.streams → AreKnown p.streams → TakesInAs (sorted_rtp settings o) settings now datagram.items p answer q → Evolves settings (call_of now datagram answer) p.streams q.streams
-rtp_evolves (Err e) settings now datagram p answer q apart known got = stays_evolve settings now datagram p answer (Ok arrivals.Malformed) q (λ now bytes s t. refl) got.0 got.1
-rtp_evolves (Ok packet) settings now datagram p answer q apart known got =
-    role_evolves settings.formats.items settings.no_media.items settings.telephone_events.items packet.header.ssrc packet.header.payload_type settings now datagram p answer q apart known got
+rtp_evolves : (o : Result RtpPacket RtpError) (settings : SessionSettings) (now : Ticks) (micros : Option ℕ) (datagram : Vec ℕ) (p : Port) (answer : Result Arrival AllocError) (q : Port)
+    → AreApart p.streams → AreKnown p.streams → TakesInAs (sorted_rtp settings o) settings now datagram.items p answer q → Evolves settings (call_of now micros datagram answer) p.streams q.streams
+rtp_evolves (Err e) settings now micros datagram p answer q apart known got = stays_evolve settings now micros datagram p answer (Ok arrivals.Malformed) q (λ now bytes s t. refl) got.0 got.1
+rtp_evolves (Ok packet) settings now micros datagram p answer q apart known got =
+    role_evolves settings.formats.items settings.no_media.items settings.telephone_events.items packet.header.ssrc packet.header.payload_type settings now micros datagram p answer q apart known got
 
-bytes_evolve : (b : Bool) (settings : SessionSettings) (now : Ticks) (datagram : Vec ℕ) (p : Port) (answer : Result Arrival AllocError) (q : Port) → AreApart p.streams → AreKnown p.streams
-    → is_rtcp datagram.items ≡ b → TakesIn settings now datagram.items p answer q → Evolves settings (call_of now datagram answer) p.streams q.streams
-bytes_evolve true settings now datagram p answer q apart known is got = rtcp_evolves (compound_at false datagram.items) settings now datagram p answer q (rw is at got)
-bytes_evolve false settings now datagram p answer q apart known is got = rtp_evolves (rtp_at datagram.items) settings now datagram p answer q apart known (rw is at got)
+bytes_evolve : (b : Bool) (settings : SessionSettings) (now : Ticks) (micros : Option ℕ) (datagram : Vec ℕ) (p : Port) (answer : Result Arrival AllocError) (q : Port) → AreApart p.streams → AreKnown p.streams
+    → is_rtcp datagram.items ≡ b → TakesIn settings now datagram.items p answer q → Evolves settings (call_of now micros datagram answer) p.streams q.streams
+bytes_evolve true settings now micros datagram p answer q apart known is got = rtcp_evolves (compound_at false datagram.items) settings now micros datagram p answer q (rw is at got)
+bytes_evolve false settings now micros datagram p answer q apart known is got = rtp_evolves (rtp_at datagram.items) settings now micros datagram p answer q apart known (rw is at got)
 
-pub receive_evolves : (settings : SessionSettings) (now : Ticks) (datagram : Vec ℕ) (p : Port) (answer : Result Arrival AllocError) (q : Port)
-    → AreApart p.streams → AreKnown p.streams → TakesIn settings now datagram.items p answer q → Evolves settings (call_of now datagram answer) p.streams q.streams
-receive_evolves settings now datagram p answer q apart known got = bytes_evolve (is_rtcp datagram.items) settings now datagram p answer q apart known refl got
+pub receive_evolves : (settings : SessionSettings) (now : Ticks) (micros : Option ℕ) (datagram : Vec ℕ) (p : Port) (answer : Result Arrival AllocError) (q : Port)
+    → AreApart p.streams → AreKnown p.streams → TakesIn settings now datagram.items p answer q → Evolves settings (call_of now micros datagram answer) p.streams q.streams
+receive_evolves settings now micros datagram p answer q apart known got = bytes_evolve (is_rtcp datagram.items) settings now micros datagram p answer q apart known refl got
 
 -- memory ran out: nothing has changed
-pub failed_evolves : (settings : SessionSettings) (now : Ticks) (datagram : Vec ℕ) (answer : Result Arrival AllocError) (ss : List StreamState) → IsErr answer → Evolves settings (call_of now datagram answer) ss ss
-failed_evolves settings now datagram (Ok arrival) ss fails = absurd (cc)
-failed_evolves settings now datagram (Err e) ss fails = evolves_same settings (call_of now datagram (Err e)) ss (λ s t. refl) (λ s t. refl)
+pub failed_evolves : (settings : SessionSettings) (now : Ticks) (micros : Option ℕ) (datagram : Vec ℕ) (answer : Result Arrival AllocError) (ss : List StreamState) → IsErr answer → Evolves settings (call_of now micros datagram answer) ss ss
+failed_evolves settings now micros datagram (Ok arrival) ss fails = absurd (cc)
+failed_evolves settings now micros datagram (Err e) ss fails = evolves_same settings (call_of now micros datagram (Err e)) ss (λ s t. refl) (λ s t. refl)
 
 -- ---- poll
 

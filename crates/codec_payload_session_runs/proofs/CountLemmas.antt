@@ -6,14 +6,15 @@ use Rattle.std.specs.declared.alloc.AllocError.{AllocError}
 use Rattle.codec_payload_base.specs.declared.wire.Ticks.{Ticks}
 use Rattle.codec_payload_jitter.specs.Receiving.{next}
 use Rattle.codec_payload_session.specs.Arrivals.{Port}
+use Rattle.codec_payload_session.specs.Accepting.{Accepts, noted_in, time_for}
 use Rattle.codec_payload_session.specs.Associations.{AssociatesBy, pair_at}
-use Rattle.codec_payload_session.specs.Polls.{GoesOn, PollsAfter}
+use Rattle.codec_payload_session.specs.Polls.{GoesOn, PollsAfter, SendsAfter, TurnsOrReports}
 use Rattle.codec_payload_session.specs.Ports.{IsSum, Receives, Session, counted as counted_as, new_session, told_counts}
 use Rattle.codec_payload_session.specs.declared.formats.SessionSettings.{SessionSettings}
 use Rattle.codec_payload_session.specs.declared.formats.SsrcPair.{SsrcPair}
 use Rattle.codec_payload_session.specs.declared.session.Arrival.{Arrival}
 use Rattle.codec_payload_session.specs.declared.session.Arrival.TheVariants as arrivals
-use Rattle.codec_payload_session.specs.declared.session.Event.{Event}
+use Rattle.codec_payload_session.specs.Units.{Event}
 use Rattle.codec_payload_session.specs.declared.session.SessionCounts.{SessionCounts}
 use Rattle.codec_payload_session_runs.specs.Counting.{Counts, answered_with, is_any, is_malformed, is_refused, is_rtcp, is_taken, is_unassociated, is_unknown, many, one_if}
 use Rattle.codec_payload_session_runs.specs.SessionRuns.{AddsPair, Call, Does, Runs}
@@ -42,17 +43,17 @@ up m n k is more = omega arith
 same : (m n k : ℕ) → m ≡ n % 2 ^ 64 → k ≡ n + 0 → m ≡ k % 2 ^ 64
 same m n k is more = omega arith
 
-abbrev receive_call : Ticks → Vec ℕ → Result Arrival AllocError → Call
-receive_call now datagram answer = record { step = calls.Receive now datagram; answer = answers.Received answer }
+abbrev receive_call : Ticks → Option ℕ → Vec ℕ → Result Arrival AllocError → Call
+receive_call now micros datagram answer = record { step = calls.Receive now micros datagram; answer = answers.Received answer }
 
 abbrev Totals : List Call → Type 0
 Totals cs = many is_any cs ≡ many is_rtcp cs + many is_malformed cs + many is_unknown cs + many is_refused cs + many is_unassociated cs + many is_taken cs
 
 -- one more datagram
-arrival_tally : (a : Arrival) (now : Ticks) (datagram : Vec ℕ) (cs : List Call) (s t : Session) → Tally cs s → t.counts ≡ counted_as a s.counts
-    → Tally (cs ++ receive_call now datagram (Ok a) ∷ []) t
-arrival_tally arrivals.Rtcp now datagram cs s t got is =
-    let c : Call = receive_call now datagram (Ok arrivals.Rtcp) in
+arrival_tally : (a : Arrival) (now : Ticks) (micros : Option ℕ) (datagram : Vec ℕ) (cs : List Call) (s t : Session) → Tally cs s → t.counts ≡ counted_as a s.counts
+    → Tally (cs ++ receive_call now micros datagram (Ok a) ∷ []) t
+arrival_tally arrivals.Rtcp now micros datagram cs s t got is =
+    let c : Call = receive_call now micros datagram (Ok arrivals.Rtcp) in
     record {
       received = ap (λ (x : _). x.received) is ∙ up s.counts.received (many is_any cs) (many is_any (cs ++ c ∷ [])) got.received (many_more is_any cs c);
       rtcp = ap (λ (x : _). x.rtcp) is ∙ up s.counts.rtcp (many is_rtcp cs) (many is_rtcp (cs ++ c ∷ [])) got.rtcp (many_more is_rtcp cs c);
@@ -62,8 +63,8 @@ arrival_tally arrivals.Rtcp now datagram cs s t got is =
       unassociated = ap (λ (x : _). x.unassociated) is ∙ same s.counts.unassociated (many is_unassociated cs) (many is_unassociated (cs ++ c ∷ [])) got.unassociated (many_more is_unassociated cs c);
       whole = omega (arith, got.whole, many_more is_any cs c, many_more is_rtcp cs c, many_more is_malformed cs c, many_more is_unknown cs c, many_more is_refused cs c, many_more is_unassociated cs c, many_more is_taken cs c);
     }
-arrival_tally arrivals.Malformed now datagram cs s t got is =
-    let c : Call = receive_call now datagram (Ok arrivals.Malformed) in
+arrival_tally arrivals.Malformed now micros datagram cs s t got is =
+    let c : Call = receive_call now micros datagram (Ok arrivals.Malformed) in
     record {
       received = ap (λ (x : _). x.received) is ∙ up s.counts.received (many is_any cs) (many is_any (cs ++ c ∷ [])) got.received (many_more is_any cs c);
       rtcp = ap (λ (x : _). x.rtcp) is ∙ same s.counts.rtcp (many is_rtcp cs) (many is_rtcp (cs ++ c ∷ [])) got.rtcp (many_more is_rtcp cs c);
@@ -73,8 +74,8 @@ arrival_tally arrivals.Malformed now datagram cs s t got is =
       unassociated = ap (λ (x : _). x.unassociated) is ∙ same s.counts.unassociated (many is_unassociated cs) (many is_unassociated (cs ++ c ∷ [])) got.unassociated (many_more is_unassociated cs c);
       whole = omega (arith, got.whole, many_more is_any cs c, many_more is_rtcp cs c, many_more is_malformed cs c, many_more is_unknown cs c, many_more is_refused cs c, many_more is_unassociated cs c, many_more is_taken cs c);
     }
-arrival_tally arrivals.Unknown now datagram cs s t got is =
-    let c : Call = receive_call now datagram (Ok arrivals.Unknown) in
+arrival_tally arrivals.Unknown now micros datagram cs s t got is =
+    let c : Call = receive_call now micros datagram (Ok arrivals.Unknown) in
     record {
       received = ap (λ (x : _). x.received) is ∙ up s.counts.received (many is_any cs) (many is_any (cs ++ c ∷ [])) got.received (many_more is_any cs c);
       rtcp = ap (λ (x : _). x.rtcp) is ∙ same s.counts.rtcp (many is_rtcp cs) (many is_rtcp (cs ++ c ∷ [])) got.rtcp (many_more is_rtcp cs c);
@@ -84,8 +85,8 @@ arrival_tally arrivals.Unknown now datagram cs s t got is =
       unassociated = ap (λ (x : _). x.unassociated) is ∙ same s.counts.unassociated (many is_unassociated cs) (many is_unassociated (cs ++ c ∷ [])) got.unassociated (many_more is_unassociated cs c);
       whole = omega (arith, got.whole, many_more is_any cs c, many_more is_rtcp cs c, many_more is_malformed cs c, many_more is_unknown cs c, many_more is_refused cs c, many_more is_unassociated cs c, many_more is_taken cs c);
     }
-arrival_tally arrivals.Refused now datagram cs s t got is =
-    let c : Call = receive_call now datagram (Ok arrivals.Refused) in
+arrival_tally arrivals.Refused now micros datagram cs s t got is =
+    let c : Call = receive_call now micros datagram (Ok arrivals.Refused) in
     record {
       received = ap (λ (x : _). x.received) is ∙ up s.counts.received (many is_any cs) (many is_any (cs ++ c ∷ [])) got.received (many_more is_any cs c);
       rtcp = ap (λ (x : _). x.rtcp) is ∙ same s.counts.rtcp (many is_rtcp cs) (many is_rtcp (cs ++ c ∷ [])) got.rtcp (many_more is_rtcp cs c);
@@ -95,8 +96,8 @@ arrival_tally arrivals.Refused now datagram cs s t got is =
       unassociated = ap (λ (x : _). x.unassociated) is ∙ same s.counts.unassociated (many is_unassociated cs) (many is_unassociated (cs ++ c ∷ [])) got.unassociated (many_more is_unassociated cs c);
       whole = omega (arith, got.whole, many_more is_any cs c, many_more is_rtcp cs c, many_more is_malformed cs c, many_more is_unknown cs c, many_more is_refused cs c, many_more is_unassociated cs c, many_more is_taken cs c);
     }
-arrival_tally arrivals.Unassociated now datagram cs s t got is =
-    let c : Call = receive_call now datagram (Ok arrivals.Unassociated) in
+arrival_tally arrivals.Unassociated now micros datagram cs s t got is =
+    let c : Call = receive_call now micros datagram (Ok arrivals.Unassociated) in
     record {
       received = ap (λ (x : _). x.received) is ∙ up s.counts.received (many is_any cs) (many is_any (cs ++ c ∷ [])) got.received (many_more is_any cs c);
       rtcp = ap (λ (x : _). x.rtcp) is ∙ same s.counts.rtcp (many is_rtcp cs) (many is_rtcp (cs ++ c ∷ [])) got.rtcp (many_more is_rtcp cs c);
@@ -106,8 +107,8 @@ arrival_tally arrivals.Unassociated now datagram cs s t got is =
       unassociated = ap (λ (x : _). x.unassociated) is ∙ up s.counts.unassociated (many is_unassociated cs) (many is_unassociated (cs ++ c ∷ [])) got.unassociated (many_more is_unassociated cs c);
       whole = omega (arith, got.whole, many_more is_any cs c, many_more is_rtcp cs c, many_more is_malformed cs c, many_more is_unknown cs c, many_more is_refused cs c, many_more is_unassociated cs c, many_more is_taken cs c);
     }
-arrival_tally (arrivals.Stream ssrc payload_type outcome) now datagram cs s t got is =
-    let c : Call = receive_call now datagram (Ok (arrivals.Stream ssrc payload_type outcome)) in
+arrival_tally (arrivals.Stream ssrc payload_type outcome) now micros datagram cs s t got is =
+    let c : Call = receive_call now micros datagram (Ok (arrivals.Stream ssrc payload_type outcome)) in
     record {
       received = ap (λ (x : _). x.received) is ∙ up s.counts.received (many is_any cs) (many is_any (cs ++ c ∷ [])) got.received (many_more is_any cs c);
       rtcp = ap (λ (x : _). x.rtcp) is ∙ same s.counts.rtcp (many is_rtcp cs) (many is_rtcp (cs ++ c ∷ [])) got.rtcp (many_more is_rtcp cs c);
@@ -117,8 +118,8 @@ arrival_tally (arrivals.Stream ssrc payload_type outcome) now datagram cs s t go
       unassociated = ap (λ (x : _). x.unassociated) is ∙ same s.counts.unassociated (many is_unassociated cs) (many is_unassociated (cs ++ c ∷ [])) got.unassociated (many_more is_unassociated cs c);
       whole = omega (arith, got.whole, many_more is_any cs c, many_more is_rtcp cs c, many_more is_malformed cs c, many_more is_unknown cs c, many_more is_refused cs c, many_more is_unassociated cs c, many_more is_taken cs c);
     }
-arrival_tally (arrivals.Faulty ssrc payload_type fault) now datagram cs s t got is =
-    let c : Call = receive_call now datagram (Ok (arrivals.Faulty ssrc payload_type fault)) in
+arrival_tally (arrivals.Faulty ssrc payload_type fault) now micros datagram cs s t got is =
+    let c : Call = receive_call now micros datagram (Ok (arrivals.Faulty ssrc payload_type fault)) in
     record {
       received = ap (λ (x : _). x.received) is ∙ up s.counts.received (many is_any cs) (many is_any (cs ++ c ∷ [])) got.received (many_more is_any cs c);
       rtcp = ap (λ (x : _). x.rtcp) is ∙ same s.counts.rtcp (many is_rtcp cs) (many is_rtcp (cs ++ c ∷ [])) got.rtcp (many_more is_rtcp cs c);
@@ -158,12 +159,12 @@ never_failed : (answer : Result Arrival AllocError) (a : Arrival) → answer ≡
 never_failed (Ok b) a is fails = absurd (cc)
 never_failed (Err e) a is fails = absurd (cc)
 
-receive_tally : (cs : List Call) (now : Ticks) (datagram : Vec ℕ) (arrival : Result Arrival AllocError) (s t : Session) → Tally cs s → Receives now datagram.items s arrival t
-    → Tally (cs ++ receive_call now datagram arrival ∷ []) t
-receive_tally cs now datagram (Ok a) s t got (inl it) = arrival_tally a now datagram cs s t got (ap (λ (z : Session). z.counts) it.left)
-receive_tally cs now datagram (Err e) s t got (inl it) = still_tally cs (receive_call now datagram (Err e)) s t got (ap (λ (z : Session). z.counts) it.left) (λ kind. refl)
-receive_tally cs now datagram (Ok a) s t got (inr it) = absurd (never_failed (Ok a) a refl it.fails)
-receive_tally cs now datagram (Err e) s t got (inr it) = still_tally cs (receive_call now datagram (Err e)) s t got (ap (λ (z : Session). z.counts) it.left) (λ kind. refl)
+receive_tally : (cs : List Call) (now : Ticks) (micros : Option ℕ) (datagram : Vec ℕ) (arrival : Result Arrival AllocError) (s t : Session) → Tally cs s → Receives now datagram.items s arrival t
+    → Tally (cs ++ receive_call now micros datagram arrival ∷ []) t
+receive_tally cs now micros datagram (Ok a) s t got (inl it) = arrival_tally a now micros datagram cs s t got (ap (λ (z : Session). z.counts) it.left)
+receive_tally cs now micros datagram (Err e) s t got (inl it) = still_tally cs (receive_call now micros datagram (Err e)) s t got (ap (λ (z : Session). z.counts) it.left) (λ kind. refl)
+receive_tally cs now micros datagram (Ok a) s t got (inr it) = absurd (never_failed (Ok a) a refl it.fails)
+receive_tally cs now micros datagram (Err e) s t got (inr it) = still_tally cs (receive_call now micros datagram (Err e)) s t got (ap (λ (z : Session). z.counts) it.left) (λ kind. refl)
 
 -- a pair counts nothing
 paired_tally : (cs : List Call) (s t : Session) → Tally cs s → t.counts ≡ s.counts → Tally cs t
@@ -177,24 +178,35 @@ paired_tally cs s t got is = record {
   whole = got.whole;
 }
 
-failed_tally : (cs : List Call) (now : Ticks) (datagram : Vec ℕ) (arrival : Result Arrival AllocError) (s t : Session) → Tally cs s → IsErr arrival → t ≡ s
-    → Tally (cs ++ receive_call now datagram arrival ∷ []) t
-failed_tally cs now datagram (Ok a) s t got fails same = absurd (never_failed (Ok a) a refl fails)
-failed_tally cs now datagram (Err e) s t got fails same = still_tally cs (receive_call now datagram (Err e)) s t got (ap (λ (z : Session). z.counts) same) (λ kind. refl)
+failed_tally : (cs : List Call) (now : Ticks) (micros : Option ℕ) (datagram : Vec ℕ) (arrival : Result Arrival AllocError) (s t : Session) → Tally cs s → IsErr arrival → t ≡ s
+    → Tally (cs ++ receive_call now micros datagram arrival ∷ []) t
+failed_tally cs now micros datagram (Ok a) s t got fails same = absurd (never_failed (Ok a) a refl fails)
+failed_tally cs now micros datagram (Err e) s t got fails same = still_tally cs (receive_call now micros datagram (Err e)) s t got (ap (λ (z : Session). z.counts) same) (λ kind. refl)
 
-associates_tally : (o : Option SsrcPair) (cs : List Call) (now : Ticks) (datagram : Vec ℕ) (arrival : Result Arrival AllocError) (s t : Session) → Tally cs s
-    → AssociatesBy o now datagram.items s arrival t → Tally (cs ++ receive_call now datagram arrival ∷ []) t
-associates_tally None cs now datagram arrival s t got it = receive_tally cs now datagram arrival s t got it
-associates_tally (Some pair) cs now datagram arrival s t got (inl it) =
-    receive_tally cs now datagram arrival it.0 t (paired_tally cs s it.0 got (ap (λ (z : Session). z.counts) it.1.left)) it.2
-associates_tally (Some pair) cs now datagram arrival s t got (inr it) = failed_tally cs now datagram arrival s t got it.0 it.1
+associates_tally : (o : Option SsrcPair) (cs : List Call) (now : Ticks) (micros : Option ℕ) (datagram : Vec ℕ) (arrival : Result Arrival AllocError) (s t : Session) → Tally cs s
+    → AssociatesBy o now datagram.items s arrival t → Tally (cs ++ receive_call now micros datagram arrival ∷ []) t
+associates_tally None cs now micros datagram arrival s t got it = receive_tally cs now micros datagram arrival s t got it
+associates_tally (Some pair) cs now micros datagram arrival s t got (inl it) =
+    receive_tally cs now micros datagram arrival it.0 t (paired_tally cs s it.0 got (ap (λ (z : Session). z.counts) it.1.left)) it.2
+associates_tally (Some pair) cs now micros datagram arrival s t got (inr it) = failed_tally cs now micros datagram arrival s t got it.0 it.1
+
+accepts_tally : (cs : List Call) (now : Ticks) (micros : Option ℕ) (datagram : Vec ℕ) (arrival : Result Arrival AllocError) (s t : Session) → Tally cs s → Accepts (time_for micros now s) now datagram.items s arrival t
+    → Tally (cs ++ receive_call now micros datagram arrival ∷ []) t
+accepts_tally cs now micros datagram arrival s t got (inl it) =
+    let noted : Session = noted_in (time_for micros now s) datagram.items s in
+    associates_tally (pair_at s.settings now.0 datagram.items s.port.streams) cs now micros datagram arrival noted t (paired_tally cs s noted got refl) it
+accepts_tally cs now micros datagram arrival s t got (inr it) = failed_tally cs now micros datagram arrival s t got it.fails it.left
 
 turn_same : (o : Option Event) (now : Ticks) (s : Session) (port : Port) (event : Option Event) (t : Session) → GoesOn o now.0 (record s { port = port }) event t → t.counts ≡ s.counts
 turn_same None now s port event t it = ap (λ (z : Session). z.counts) it.left
 turn_same (Some e) now s port event t it = ap (λ (z : Session). z.counts) it.1
 
+send_same : (o : Option Event) (now : Ticks) (s after : Session) (event : Option Event) (t : Session) → TurnsOrReports now s o after → SendsAfter o now.0 after event t → t.counts ≡ s.counts
+send_same None now s after event t turn it = ap (λ (z : Session). z.counts) it.left ∙ turn_same turn.event now s turn.port None after turn.goes_on
+send_same (Some e) now s after event t turn it = ap (λ (z : Session). z.counts) it.1 ∙ turn_same turn.event now s turn.port (Some e) after turn.goes_on
+
 poll_same : (ws : List _) (now : Ticks) (s : Session) (event : Option Event) (t : Session) → PollsAfter ws now s event t → t.counts ≡ s.counts
-poll_same [] now s event t it = turn_same it.event now s it.port event t it.goes_on
+poll_same [] now s event t it = send_same it.event now s it.after event t it.turn it.sends
 poll_same (w ∷ ws) now s event t it = ap (λ (z : Session). z.counts) it.1
 
 added_tally : (cs : List Call) (ssrc retransmission : ℕ) (added : Result Unit AllocError) (s t : Session) → Tally cs s → AddsPair ssrc retransmission s added t
@@ -205,8 +217,8 @@ added_tally cs ssrc retransmission (Err e) s t got it =
     still_tally cs (record { step = calls.AddPair ssrc retransmission; answer = answers.PairAdded (Err e) }) s t got (ap (λ (z : Session). z.counts) it.1) (λ kind. refl)
 
 tally_more : (cs : List Call) (step : SessionStep) (answer : StepAnswer) (s t : Session) → Tally cs s → Does step s answer t → Tally (cs ++ record { step = step; answer = answer } ∷ []) t
-tally_more cs (calls.Receive now datagram) answer s t got does =
-    subst (λ (a : StepAnswer). Tally (cs ++ record { step = calls.Receive now datagram; answer = a } ∷ []) t) (sym does.1) (associates_tally (pair_at s.settings now.0 datagram.items s.port.streams) cs now datagram does.0 s t got does.2)
+tally_more cs (calls.Receive now micros datagram) answer s t got does =
+    subst (λ (a : StepAnswer). Tally (cs ++ record { step = calls.Receive now micros datagram; answer = a } ∷ []) t) (sym does.1) (accepts_tally cs now micros datagram does.0 s t got does.2)
 tally_more cs (calls.Poll now) answer s t got does =
     subst (λ (a : StepAnswer). Tally (cs ++ record { step = calls.Poll now; answer = a } ∷ []) t) (sym does.1)
     (still_tally cs (record { step = calls.Poll now; answer = answers.Polled does.0 }) s t got (poll_same s.telephone.waiting now s does.0 t does.2) (λ kind. refl))
@@ -224,6 +236,9 @@ tally_more cs (calls.Report now ssrc payload_type) answer s t got does =
     (still_tally cs (record { step = calls.Report now ssrc payload_type; answer = answers.Reported does.0 }) s t got (ap (λ (z : Session). z.counts) does.2.left) (λ kind. refl))
 tally_more cs (calls.AddPair ssrc retransmission) answer s t got does =
     subst (λ (a : StepAnswer). Tally (cs ++ record { step = calls.AddPair ssrc retransmission; answer = a } ∷ []) t) (sym does.1) (added_tally cs ssrc retransmission does.0 s t got does.2)
+tally_more cs calls.RestartTransport answer s t got does =
+    subst (λ (a : StepAnswer). Tally (cs ++ record { step = calls.RestartTransport; answer = a } ∷ []) t) (sym does.0)
+    (still_tally cs (record { step = calls.RestartTransport; answer = answers.Done }) s t got (ap (λ (z : Session). z.counts) does.1) (λ kind. refl))
 tally_more cs (calls.RemovePair ssrc) answer s t got does =
     subst (λ (a : StepAnswer). Tally (cs ++ record { step = calls.RemovePair ssrc; answer = a } ∷ []) t) (sym does.0)
     (still_tally cs (record { step = calls.RemovePair ssrc; answer = answers.Done }) s t got (ap (λ (z : Session). z.counts) does.1.left) (λ kind. refl))

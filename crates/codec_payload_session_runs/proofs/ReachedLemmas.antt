@@ -5,9 +5,10 @@ use Rattle.std.specs.Global.{Vec}
 use Rattle.std.specs.declared.alloc.AllocError.{AllocError}
 use Rattle.codec_payload_base.specs.declared.wire.Ticks.{Ticks}
 use Rattle.codec_payload_session.specs.Arrivals.{Port}
+use Rattle.codec_payload_session.specs.Accepting.{Accepts, noted_in, time_for}
 use Rattle.codec_payload_session.specs.Associations.{AssociatesBy, pair_at}
 use Rattle.codec_payload_session.specs.Pairs.{Pairs, paired_where, with_pair}
-use Rattle.codec_payload_session.specs.Polls.{GoesOn, PollsAfter, report_event}
+use Rattle.codec_payload_session.specs.Polls.{GoesOn, PollsAfter, SendsAfter, SendsTransport, TurnsOrReports, report_event, transport_event}
 use Rattle.codec_payload_session.specs.Ports.{Receives, Session, everyone, new_session}
 use Rattle.codec_payload_session.specs.Reporting.{ReportsBy, ReportsEach, Reports, all_reported, is_report_due}
 use Rattle.codec_payload_session.specs.Reporting.{ReportsIf as ReportsWhen}
@@ -18,7 +19,7 @@ use Rattle.codec_payload_session.specs.declared.formats.Format.{Format}
 use Rattle.codec_payload_session.specs.declared.formats.SessionSettings.{SessionSettings}
 use Rattle.codec_payload_session.specs.declared.formats.SsrcPair.{SsrcPair}
 use Rattle.codec_payload_session.specs.declared.session.Arrival.{Arrival}
-use Rattle.codec_payload_session.specs.declared.session.Event.{Event}
+use Rattle.codec_payload_session.specs.Units.{Event}
 use Rattle.codec_payload_session.specs.declared.session.Event.TheVariants as events
 use Rattle.codec_payload_session.specs.declared.stream.Ending.{Ending}
 use Rattle.codec_payload_session.specs.declared.stream.StreamState.{StreamState}
@@ -81,6 +82,19 @@ quiet_or_reported (Some packet) given now idle ss ts us got (inr same) =
     subst (λ (zs : List StreamState). Evolves given (call_of (calls.Poll now) (answers.Polled (Some (events.Report packet)))) ss zs) (sym same)
     (reported_evolves given now idle (Some (events.Report packet)) ss ts (λ x. (refl, refl)) (λ s t. refl) got)
 
+quiet_or_sent : (packet : Option (Result (Vec ℕ) AllocError)) (given : SessionSettings) (now : Ticks) (idle : ℕ) (ss ts us : List StreamState) → AreQuiet now idle ss ts → (us ≡ ts) ⊎ (us ≡ all_reported ts)
+    → Evolves given (call_of (calls.Poll now) (answers.Polled (transport_event packet))) ss us
+quiet_or_sent None given now idle ss ts us got (inl same) =
+    subst (λ (zs : List StreamState). Evolves given (call_of (calls.Poll now) (answers.Polled None)) ss zs) (sym same) (quiet_evolves given now idle None ss ts (λ x. (refl, refl)) (λ s t. refl) got)
+quiet_or_sent None given now idle ss ts us got (inr same) =
+    subst (λ (zs : List StreamState). Evolves given (call_of (calls.Poll now) (answers.Polled None)) ss zs) (sym same) (reported_evolves given now idle None ss ts (λ x. (refl, refl)) (λ s t. refl) got)
+quiet_or_sent (Some packet) given now idle ss ts us got (inl same) =
+    subst (λ (zs : List StreamState). Evolves given (call_of (calls.Poll now) (answers.Polled (Some (events.TransportFeedback packet)))) ss zs) (sym same)
+    (quiet_evolves given now idle (Some (events.TransportFeedback packet)) ss ts (λ x. (refl, refl)) (λ s t. refl) got)
+quiet_or_sent (Some packet) given now idle ss ts us got (inr same) =
+    subst (λ (zs : List StreamState). Evolves given (call_of (calls.Poll now) (answers.Polled (Some (events.TransportFeedback packet)))) ss zs) (sym same)
+    (reported_evolves given now idle (Some (events.TransportFeedback packet)) ss ts (λ x. (refl, refl)) (λ s t. refl) got)
+
 turn_moves : (o : Option Event) (now : Ticks) (s : Session) (port : Port) (event : Option Event) (t : Session) → AreApart s.port.streams → TakesTurn now s.settings.idle_timeout s.port o port
     → GoesOn o now.0 (record s { port = port }) event t → Moves (call_of (calls.Poll now) (answers.Polled event)) s t
 turn_moves None now s port event t apart turn got =
@@ -96,47 +110,81 @@ turn_moves (Some e) now s port event t apart turn got =
     subst₂ (λ (o : Option Event) (z : Session). Moves (call_of (calls.Poll now) (answers.Polled o)) s z) (sym got.0) (sym got.1)
     (record { evolves = tells_evolve s.settings now s.settings.idle_timeout s.port e port apart turn; others = refl })
 
+-- the streams and the report have no event
+sent_moves : (o : Option Event) (now : Ticks) (s : Session) (port : Port) (after : Session) (event : Option Event) (t : Session) → TakesTurn now s.settings.idle_timeout s.port o port
+    → GoesOn o now.0 (record s { port = port }) None after → SendsTransport now.0 after event t → Moves (call_of (calls.Poll now) (answers.Polled event)) s t
+sent_moves None now s port after event t turn got sends =
+    let streams : port.streams ≡ turn.0 = ap (λ (p : Port). p.streams) turn.2 in
+    let quiet : AreQuiet now s.settings.idle_timeout s.port.streams port.streams = subst (λ (zs : List StreamState). AreQuiet now s.settings.idle_timeout s.port.streams zs) (sym streams) turn.1 in
+    let left : t ≡ record s { port = got.port; report_due = got.due; transport = sends.transport } =
+    sends.left ∙ ap (λ (z : Session). record z { transport = sends.transport }) got.left in
+    subst₂ (λ (e : Option Event) (z : Session). Moves (call_of (calls.Poll now) (answers.Polled e)) s z) (sym sends.answers) (sym left)
+    (record {
+      evolves = quiet_or_sent sends.packet s.settings now s.settings.idle_timeout s.port.streams port.streams got.port.streams quiet
+          (by_streams s.settings.feedback s.settings.tick_rate now.0 s.report_due port got.packet got.due got.port got.reports);
+      others = refl;
+    })
+sent_moves (Some e) now s port after event t turn got sends = let no : None ≡ Some e = got.0 in absurd (cc)
+
+send_moves : (o : Option Event) (now : Ticks) (s after : Session) (event : Option Event) (t : Session) → AreApart s.port.streams → TurnsOrReports now s o after → SendsAfter o now.0 after event t
+    → Moves (call_of (calls.Poll now) (answers.Polled event)) s t
+send_moves None now s after event t apart turn got = sent_moves turn.event now s turn.port after event t turn.turn turn.goes_on got
+send_moves (Some e) now s after event t apart turn got =
+    subst₂ (λ (o : Option Event) (z : Session). Moves (call_of (calls.Poll now) (answers.Polled o)) s z) (sym got.0) (sym got.1)
+    (turn_moves turn.event now s turn.port (Some e) after apart turn.turn turn.goes_on)
+
 poll_moves : (ws : List _) (now : Ticks) (s : Session) (event : Option Event) (t : Session) → AreApart s.port.streams → PollsAfter ws now s event t
     → Moves (call_of (calls.Poll now) (answers.Polled event)) s t
-poll_moves [] now s event t apart got = turn_moves got.event now s got.port event t apart got.turn got.goes_on
+poll_moves [] now s event t apart got = send_moves got.event now s got.after event t apart got.turn got.sends
 poll_moves (w ∷ ws) now s event t apart got =
     subst₂ (λ (o : Option Event) (z : Session). Moves (call_of (calls.Poll now) (answers.Polled o)) s z) (sym got.0) (sym got.1)
     (record { evolves = evolves_same s.settings _ s.port.streams (λ a b. refl) (λ a b. refl); others = refl })
 
-receive_moves : (now : Ticks) (datagram : Vec ℕ) (s : Session) (arrival : Result Arrival AllocError) (t : Session) → AreApart s.port.streams → AreKnown s.port.streams → Receives now datagram.items s arrival t
-    → Moves (call_of (calls.Receive now datagram) (answers.Received arrival)) s t
-receive_moves now datagram s arrival t apart known (inl got) =
-    subst (λ (z : Session). Moves (call_of (calls.Receive now datagram) (answers.Received arrival)) s z) (sym got.left)
-    (record { evolves = receive_evolves s.settings now datagram s.port arrival got.port apart known got.takes; others = refl })
-receive_moves now datagram s arrival t apart known (inr got) =
-    subst (λ (z : Session). Moves (call_of (calls.Receive now datagram) (answers.Received arrival)) s z) (sym got.left)
-    (record { evolves = failed_evolves s.settings now datagram arrival s.port.streams got.fails; others = refl })
+receive_moves : (now : Ticks) (micros : Option ℕ) (datagram : Vec ℕ) (s : Session) (arrival : Result Arrival AllocError) (t : Session) → AreApart s.port.streams → AreKnown s.port.streams → Receives now datagram.items s arrival t
+    → Moves (call_of (calls.Receive now micros datagram) (answers.Received arrival)) s t
+receive_moves now micros datagram s arrival t apart known (inl got) =
+    subst (λ (z : Session). Moves (call_of (calls.Receive now micros datagram) (answers.Received arrival)) s z) (sym got.left)
+    (record { evolves = receive_evolves s.settings now micros datagram s.port arrival got.port apart known got.takes; others = refl })
+receive_moves now micros datagram s arrival t apart known (inr got) =
+    subst (λ (z : Session). Moves (call_of (calls.Receive now micros datagram) (answers.Received arrival)) s z) (sym got.left)
+    (record { evolves = failed_evolves s.settings now micros datagram arrival s.port.streams got.fails; others = refl })
 
 -- the session first gets a pair
-paired_moves : (now : Ticks) (datagram : Vec ℕ) (s : Session) (pair : SsrcPair) (named : Vec SsrcPair) (arrival : Result Arrival AllocError) (t : Session) → AreApart s.port.streams
+paired_moves : (now : Ticks) (micros : Option ℕ) (datagram : Vec ℕ) (s : Session) (pair : SsrcPair) (named : Vec SsrcPair) (arrival : Result Arrival AllocError) (t : Session) → AreApart s.port.streams
     → IsFound s.settings datagram.items pair.retransmission
     → Receives now datagram.items (with_pairs s named (paired_where pair.ssrc (with_pair pair s.settings.pairs.items) s.port.streams)) arrival t
-    → Moves (call_of (calls.Receive now datagram) (answers.Received arrival)) s t
-paired_moves now datagram s pair named arrival t apart found (inl got) =
-    subst (λ (z : Session). Moves (call_of (calls.Receive now datagram) (answers.Received arrival)) s z) (sym got.left)
+    → Moves (call_of (calls.Receive now micros datagram) (answers.Received arrival)) s t
+paired_moves now micros datagram s pair named arrival t apart found (inl got) =
+    subst (λ (z : Session). Moves (call_of (calls.Receive now micros datagram) (answers.Received arrival)) s z) (sym got.left)
     (record {
-      evolves = paired_evolves s.settings now datagram pair named s.port.streams (record s.port { streams = paired_where pair.ssrc (with_pair pair s.settings.pairs.items) s.port.streams }) arrival got.port
+      evolves = paired_evolves s.settings now micros datagram pair named s.port.streams (record s.port { streams = paired_where pair.ssrc (with_pair pair s.settings.pairs.items) s.port.streams }) arrival got.port
           found refl apart got.takes;
       others = refl;
     })
-paired_moves now datagram s pair named arrival t apart found (inr got) =
-    subst (λ (z : Session). Moves (call_of (calls.Receive now datagram) (answers.Received arrival)) s z) (sym got.left)
-    (record { evolves = failed_paired s.settings now datagram pair arrival s.port.streams found got.fails; others = refl })
+paired_moves now micros datagram s pair named arrival t apart found (inr got) =
+    subst (λ (z : Session). Moves (call_of (calls.Receive now micros datagram) (answers.Received arrival)) s z) (sym got.left)
+    (record { evolves = failed_paired s.settings now micros datagram pair arrival s.port.streams found got.fails; others = refl })
 
-associates_moves : (o : Option SsrcPair) (now : Ticks) (datagram : Vec ℕ) (s : Session) (arrival : Result Arrival AllocError) (t : Session) → pair_at s.settings now.0 datagram.items s.port.streams ≡ o
-    → AreApart s.port.streams → AreKnown s.port.streams → AssociatesBy o now datagram.items s arrival t → Moves (call_of (calls.Receive now datagram) (answers.Received arrival)) s t
-associates_moves None now datagram s arrival t is apart known got = receive_moves now datagram s arrival t apart known got
-associates_moves (Some pair) now datagram s arrival t is apart known (inl got) =
-    paired_moves now datagram s pair got.1.named arrival t apart (found_pair s.settings now.0 datagram.items s.port.streams pair is)
+associates_moves : (o : Option SsrcPair) (now : Ticks) (micros : Option ℕ) (datagram : Vec ℕ) (s : Session) (arrival : Result Arrival AllocError) (t : Session) → pair_at s.settings now.0 datagram.items s.port.streams ≡ o
+    → AreApart s.port.streams → AreKnown s.port.streams → AssociatesBy o now datagram.items s arrival t → Moves (call_of (calls.Receive now micros datagram) (answers.Received arrival)) s t
+associates_moves None now micros datagram s arrival t is apart known got = receive_moves now micros datagram s arrival t apart known got
+associates_moves (Some pair) now micros datagram s arrival t is apart known (inl got) =
+    paired_moves now micros datagram s pair got.1.named arrival t apart (found_pair s.settings now.0 datagram.items s.port.streams pair is)
     (subst (λ (z : Session). Receives now datagram.items z arrival t) got.1.left got.2)
-associates_moves (Some pair) now datagram s arrival t is apart known (inr got) =
-    subst (λ (z : Session). Moves (call_of (calls.Receive now datagram) (answers.Received arrival)) s z) (sym got.1)
-    (record { evolves = failed_evolves s.settings now datagram arrival s.port.streams got.0; others = refl })
+associates_moves (Some pair) now micros datagram s arrival t is apart known (inr got) =
+    subst (λ (z : Session). Moves (call_of (calls.Receive now micros datagram) (answers.Received arrival)) s z) (sym got.1)
+    (record { evolves = failed_evolves s.settings now micros datagram arrival s.port.streams got.0; others = refl })
+
+accepts_moves : (now : Ticks) (micros : Option ℕ) (datagram : Vec ℕ) (s : Session) (arrival : Result Arrival AllocError) (t : Session) → AreApart s.port.streams → AreKnown s.port.streams
+    → Accepts (time_for micros now s) now datagram.items s arrival t → Moves (call_of (calls.Receive now micros datagram) (answers.Received arrival)) s t
+accepts_moves now micros datagram s arrival t apart known (inl got) =
+    let noted : Session = noted_in (time_for micros now s) datagram.items s in
+    let m : Moves (call_of (calls.Receive now micros datagram) (answers.Received arrival)) noted t =
+    associates_moves (pair_at s.settings now.0 datagram.items s.port.streams) now micros datagram noted arrival t refl apart known got in
+    record { evolves = m.evolves; others = m.others }
+accepts_moves now micros datagram s arrival t apart known (inr got) =
+    subst (λ (z : Session). Moves (call_of (calls.Receive now micros datagram) (answers.Received arrival)) s z) (sym got.left)
+    (record { evolves = failed_evolves s.settings now micros datagram arrival s.port.streams got.fails; others = refl })
 
 pair_moves : (step : SessionStep) (answer : StepAnswer) (ssrc : ℕ) (named : List SsrcPair) (s t : Session)
     → Evolves s.settings (call_of step answer) s.port.streams (paired_where ssrc named s.port.streams) → Pairs ssrc named s t → Moves (call_of step answer) s t
@@ -153,8 +201,8 @@ added_moves ssrc retransmission s (Err e) t got =
     (record { evolves = evolves_same s.settings _ s.port.streams (λ a b. refl) (λ a b. refl); others = refl })
 
 moves : (step : SessionStep) (answer : StepAnswer) (s t : Session) → AreApart s.port.streams → AreKnown s.port.streams → Does step s answer t → Moves (call_of step answer) s t
-moves (calls.Receive now datagram) answer s t apart known got =
-    subst (λ (a : StepAnswer). Moves (call_of (calls.Receive now datagram) a) s t) (sym got.1) (associates_moves (pair_at s.settings now.0 datagram.items s.port.streams) now datagram s got.0 t refl apart known got.2)
+moves (calls.Receive now micros datagram) answer s t apart known got =
+    subst (λ (a : StepAnswer). Moves (call_of (calls.Receive now micros datagram) a) s t) (sym got.1) (accepts_moves now micros datagram s got.0 t apart known got.2)
 moves (calls.Poll now) answer s t apart known got =
     subst (λ (a : StepAnswer). Moves (call_of (calls.Poll now) a) s t) (sym got.1) (poll_moves s.telephone.waiting now s got.0 t apart got.2)
 moves (calls.End now ssrc) answer s t apart known got =
@@ -171,6 +219,9 @@ moves (calls.Report now ssrc payload_type) answer s t apart known got =
     (record { evolves = report_evolves (position (is_of ssrc payload_type) s.port.streams) s.settings now ssrc payload_type s.settings.tick_rate s.port got.0 got.2.port apart refl got.2.reports; others = refl })
 moves (calls.AddPair ssrc retransmission) answer s t apart known got =
     subst (λ (a : StepAnswer). Moves (call_of (calls.AddPair ssrc retransmission) a) s t) (sym got.1) (added_moves ssrc retransmission s got.0 t got.2)
+moves calls.RestartTransport answer s t apart known got =
+    subst₂ (λ (a : StepAnswer) (z : Session). Moves (call_of calls.RestartTransport a) s z) (sym got.0) (sym got.1)
+    (record { evolves = evolves_same s.settings _ s.port.streams (λ a b. refl) (λ a b. refl); others = refl })
 moves (calls.RemovePair ssrc) answer s t apart known got =
     subst (λ (a : StepAnswer). Moves (call_of (calls.RemovePair ssrc) a) s t) (sym got.0)
     (pair_moves (calls.RemovePair ssrc) answers.Done ssrc _ s t

@@ -19,7 +19,7 @@ use Rattle.codec_payload_session.specs.Turns.{event_of, kept_after}
 use Rattle.codec_payload_session.specs.declared.formats.Format.{Format}
 use Rattle.codec_payload_session.specs.declared.formats.SsrcPair.{SsrcPair}
 use Rattle.codec_payload_session.specs.declared.session.Arrival.{Arrival}
-use Rattle.codec_payload_session.specs.declared.session.Event.{Event}
+use Rattle.codec_payload_session.specs.Units.{Event}
 use Rattle.codec_payload_session.specs.declared.session.Event.TheVariants as events
 use Rattle.codec_payload_session.specs.declared.stream.Ending.{Ending}
 use Rattle.codec_payload_session.specs.declared.stream.Stage.{Stage}
@@ -168,8 +168,8 @@ takes_heard now datagram probation x told y got =
     (unless_heard (is_no_memory told) now probation (is_accepted told) x.ssrc x.format x.told x.stage got.0 (received now.0 datagram.items (is_accepted told) got.0 x)
     (received_heard (is_accepted told) now datagram got.0 x))
 
-abbrev pub call_of : Ticks → Vec ℕ → Result Arrival AllocError → Call
-call_of now datagram answer = record { step = calls.Receive now datagram; answer = answers.Received answer }
+abbrev pub call_of : Ticks → Option ℕ → Vec ℕ → Result Arrival AllocError → Call
+call_of now micros datagram answer = record { step = calls.Receive now micros datagram; answer = answers.Received answer }
 
 -- the datagram that an arrival gives to its stream
 pub given_arrival : (ssrc payload_type : ℕ) (now : Ticks) (bytes : List ℕ) (s p : ℕ) (told : Result Outcome ReceiveError)
@@ -195,23 +195,23 @@ given_there : (b : Bool) (c : ReceiverCall) (given : List ReceiverCall) → b �
 given_there true c given is same = absurd (cc)
 given_there false c given is same = subst IsGiven same tt
 
-more_made : (accepted : Bool) (ssrc payload_type : ℕ) (now : Ticks) (datagram : Vec ℕ) (answer : Result Arrival AllocError) (more : List ReceiverCall)
-    → (accepted ≡ true → IsGiven (shown_in ssrc payload_type (call_of now datagram answer))) → IsMore accepted more → AreMadeBy ssrc payload_type (call_of now datagram answer) more
-more_made accepted ssrc payload_type now datagram answer more given (inl none) =
-    subst (λ (cs : List ReceiverCall). AreMadeBy ssrc payload_type (call_of now datagram answer) cs) (sym none) tt
-more_made accepted ssrc payload_type now datagram answer more given (inr one) =
-    subst (λ (cs : List ReceiverCall). AreMadeBy ssrc payload_type (call_of now datagram answer) cs) (sym one.2) (given one.0, tt)
+more_made : (accepted : Bool) (ssrc payload_type : ℕ) (now : Ticks) (micros : Option ℕ) (datagram : Vec ℕ) (answer : Result Arrival AllocError) (more : List ReceiverCall)
+    → (accepted ≡ true → IsGiven (shown_in ssrc payload_type (call_of now micros datagram answer))) → IsMore accepted more → AreMadeBy ssrc payload_type (call_of now micros datagram answer) more
+more_made accepted ssrc payload_type now micros datagram answer more given (inl none) =
+    subst (λ (cs : List ReceiverCall). AreMadeBy ssrc payload_type (call_of now micros datagram answer) cs) (sym none) tt
+more_made accepted ssrc payload_type now micros datagram answer more given (inr one) =
+    subst (λ (cs : List ReceiverCall). AreMadeBy ssrc payload_type (call_of now micros datagram answer) cs) (sym one.2) (given one.0, tt)
 
-heard_made : (now : Ticks) (datagram : Vec ℕ) (ssrc payload_type : ℕ) (told : Result Outcome ReceiveError) (answer : Result Arrival AllocError) (more : List ReceiverCall)
-    → IsMore (is_accepted told) more → Arrives (is_no_memory told) (arrival_of ssrc payload_type told) answer → AreMadeBy ssrc payload_type (call_of now datagram answer) more
-heard_made now datagram ssrc payload_type told answer more is arrives =
-    more_made (is_accepted told) ssrc payload_type now datagram answer more
+heard_made : (now : Ticks) (micros : Option ℕ) (datagram : Vec ℕ) (ssrc payload_type : ℕ) (told : Result Outcome ReceiveError) (answer : Result Arrival AllocError) (more : List ReceiverCall)
+    → IsMore (is_accepted told) more → Arrives (is_no_memory told) (arrival_of ssrc payload_type told) answer → AreMadeBy ssrc payload_type (call_of now micros datagram answer) more
+heard_made now micros datagram ssrc payload_type told answer more is arrives =
+    more_made (is_accepted told) ssrc payload_type now micros datagram answer more
     (λ accepted. given_there (is_no_memory told) (receives now datagram.items told) (given_by ssrc payload_type now datagram.items answer) (accepted_memory told accepted)
     (given_is (is_no_memory told) now datagram.items ssrc payload_type told answer arrives)) is
 
-pub fed_goes : (now : Ticks) (datagram : Vec ℕ) (probation : ℕ) (x : StreamState) (told : Result Outcome ReceiveError) (y : StreamState) (answer : Result Arrival AllocError)
-    → Takes now probation datagram.items x told y → Arrives (is_no_memory told) (arrival_of x.ssrc x.format.payload_type told) answer → Goes (call_of now datagram answer) x y
-fed_goes now datagram probation x told y answer got arrives =
+pub fed_goes : (now : Ticks) (micros : Option ℕ) (datagram : Vec ℕ) (probation : ℕ) (x : StreamState) (told : Result Outcome ReceiveError) (y : StreamState) (answer : Result Arrival AllocError)
+    → Takes now probation datagram.items x told y → Arrives (is_no_memory told) (arrival_of x.ssrc x.format.payload_type told) answer → Goes (call_of now micros datagram answer) x y
+fed_goes now micros datagram probation x told y answer got arrives =
     let h : Heard (is_accepted told) x.ssrc x.format x.told x.stage got.0 y = takes_heard now datagram probation x told y got in
     record {
       has = record {
@@ -220,7 +220,7 @@ fed_goes now datagram probation x told y answer got arrives =
         part = receives now datagram.items told ∷ h.more;
         alone = (got.0, got.1, h.run);
         is_part = record {
-          made = ((refl, refl), heard_made now datagram x.ssrc x.format.payload_type told answer h.more h.is_more arrives);
+          made = ((refl, refl), heard_made now micros datagram x.ssrc x.format.payload_type told answer h.more h.is_more arrives);
           one_pop = omega (arith, h.no_pop);
           one_end = omega (arith, h.no_end);
           pair_first = h.no_pair;
@@ -233,11 +233,11 @@ fed_goes now datagram probation x told y answer got arrives =
     }
 
 -- the same for a stream that first gets the SSRC of its retransmissions
-pub paired_fed_goes : (now : Ticks) (datagram : Vec ℕ) (probation : ℕ) (named : List SsrcPair) (b : Bool) (x : StreamState) (told : Result Outcome ReceiveError) (y : StreamState) (answer : Result Arrival AllocError)
+pub paired_fed_goes : (now : Ticks) (micros : Option ℕ) (datagram : Vec ℕ) (probation : ℕ) (named : List SsrcPair) (b : Bool) (x : StreamState) (told : Result Outcome ReceiveError) (y : StreamState) (answer : Result Arrival AllocError)
     → (b ≡ true → HasSsrcOf datagram.items (retransmission_for x.ssrc x.format.retransmission named)) → Takes now probation datagram.items (paired_when b named x) told y
-    → Arrives (is_no_memory told) (arrival_of (paired_when b named x).ssrc (paired_when b named x).format.payload_type told) answer → Goes (call_of now datagram answer) x y
-paired_fed_goes now datagram probation named false x told y answer names got arrives = fed_goes now datagram probation x told y answer got arrives
-paired_fed_goes now datagram probation named true x told y answer names got arrives =
+    → Arrives (is_no_memory told) (arrival_of (paired_when b named x).ssrc (paired_when b named x).format.payload_type told) answer → Goes (call_of now micros datagram answer) x y
+paired_fed_goes now micros datagram probation named false x told y answer names got arrives = fed_goes now micros datagram probation x told y answer got arrives
+paired_fed_goes now micros datagram probation named true x told y answer names got arrives =
     let z : StreamState = paired named x in
     let h : Heard (is_accepted told) x.ssrc x.format x.told x.stage got.0 y = takes_heard now datagram probation z told y got in
     record {
@@ -247,7 +247,7 @@ paired_fed_goes now datagram probation named true x told y answer names got arri
         part = pairs z.receiver.stream.retransmission ∷ receives now datagram.items told ∷ h.more;
         alone = (z.receiver, refl, (got.0, got.1, h.run));
         is_part = record {
-          made = (names refl, ((refl, refl), heard_made now datagram x.ssrc x.format.payload_type told answer h.more h.is_more arrives));
+          made = (names refl, ((refl, refl), heard_made now micros datagram x.ssrc x.format.payload_type told answer h.more h.is_more arrives));
           one_pop = omega (arith, h.no_pop);
           one_end = omega (arith, h.no_end);
           pair_first = (refl, h.no_pair);

@@ -20,7 +20,7 @@ use Rattle.codec_payload_session.specs.declared.formats.Format.{Format}
 use Rattle.codec_payload_session.specs.declared.formats.SessionSettings.{SessionSettings}
 use Rattle.codec_payload_session.specs.declared.session.Arrival.{Arrival}
 use Rattle.codec_payload_session.specs.declared.session.Arrival.TheVariants as arrivals
-use Rattle.codec_payload_session.specs.declared.session.Event.{Event}
+use Rattle.codec_payload_session.specs.Units.{Event}
 use Rattle.codec_payload_session.specs.declared.session.Event.TheVariants as events
 use Rattle.codec_payload_session.specs.declared.stream.Ending.{Ending}
 use Rattle.codec_payload_session.specs.declared.stream.StreamState.{StreamState}
@@ -97,6 +97,7 @@ released_by ssrc payload_type now (Some (events.Refused s p fault)) = one_call (
 released_by ssrc payload_type now (Some (events.Feedback s p packet)) = []
 released_by ssrc payload_type now (Some (events.Telephone s p time marker payload)) = []
 released_by ssrc payload_type now (Some (events.Report packet)) = []
+released_by ssrc payload_type now (Some (events.TransportFeedback packet)) = []
 released_by ssrc payload_type now (Some (events.Ended s p why)) = []
 
 abbrev pub released_as : (ssrc payload_type : ℕ) → Ticks → StepAnswer → List ReceiverCall
@@ -107,7 +108,7 @@ released_as ssrc payload_type now (answers.PairAdded added) = []
 released_as ssrc payload_type now answers.Done = []
 
 abbrev pub shown_by : (ssrc payload_type : ℕ) → SessionStep → StepAnswer → List ReceiverCall
-shown_by ssrc payload_type (steps.Receive now datagram) answer = given_as ssrc payload_type now datagram.items answer
+shown_by ssrc payload_type (steps.Receive now micros datagram) answer = given_as ssrc payload_type now datagram.items answer
 shown_by ssrc payload_type (steps.Poll now) answer = released_as ssrc payload_type now answer
 shown_by ssrc payload_type (steps.End now s) answer = []
 shown_by ssrc payload_type (steps.Finish now) answer = []
@@ -115,6 +116,7 @@ shown_by ssrc payload_type (steps.SetWaitLimits s p limits) answer = []
 shown_by ssrc payload_type (steps.Report now s p) answer = []
 shown_by ssrc payload_type (steps.AddPair s retransmission) answer = []
 shown_by ssrc payload_type (steps.RemovePair s) answer = []
+shown_by ssrc payload_type steps.RestartTransport answer = []
 
 -- what the answer of a call shows of the stream: the datagram that it took, or the unit or refused frame that left it
 abbrev pub shown_in : ℕ → ℕ → Call → List ReceiverCall
@@ -176,9 +178,9 @@ IsGiven (c ∷ cs) = Unit {0}
 -- whose stream is found, the stream gets its SSRC. A poll pops at its time, and may end the stream first and report it afterwards. A
 -- call for the wait limits or a report is passed on to the stream that it names, and a pair to the streams of its SSRC
 abbrev pub IsMadeAs : (ssrc payload_type : ℕ) → SessionStep → List ReceiverCall → ReceiverCall → Type 0
-IsMadeAs ssrc payload_type (steps.Receive now datagram) given (receives at bytes answer) = (at ≡ now) × (bytes ≡ datagram.items)
-IsMadeAs ssrc payload_type (steps.Receive now datagram) given (follows wait) = IsGiven given
-IsMadeAs ssrc payload_type (steps.Receive now datagram) given (pairs own) = HasSsrcOf datagram.items own
+IsMadeAs ssrc payload_type (steps.Receive now micros datagram) given (receives at bytes answer) = (at ≡ now) × (bytes ≡ datagram.items)
+IsMadeAs ssrc payload_type (steps.Receive now micros datagram) given (follows wait) = IsGiven given
+IsMadeAs ssrc payload_type (steps.Receive now micros datagram) given (pairs own) = HasSsrcOf datagram.items own
 IsMadeAs ssrc payload_type (steps.Poll now) given (pops at answer) = at ≡ now
 IsMadeAs ssrc payload_type (steps.Poll now) given finishes = Unit {0}
 IsMadeAs ssrc payload_type (steps.Poll now) given reports = Unit {0}
@@ -273,6 +275,7 @@ events_by ssrc payload_type (Some (events.Refused s p fault)) = one_event (is_sa
 events_by ssrc payload_type (Some (events.Feedback s p packet)) = one_event (is_same ssrc payload_type s p) (events.Feedback s p packet)
 events_by ssrc payload_type (Some (events.Telephone s p time marker payload)) = []
 events_by ssrc payload_type (Some (events.Report packet)) = []
+events_by ssrc payload_type (Some (events.TransportFeedback packet)) = []
 events_by ssrc payload_type (Some (events.Ended s p why)) = one_event (is_same ssrc payload_type s p) (events.Ended s p why)
 
 abbrev pub events_in : (ssrc payload_type : ℕ) → StepAnswer → List Event
@@ -299,6 +302,7 @@ AreInOrder told (events.Feedback s p packet ∷ es) after = (told ≡ true) × A
 AreInOrder told (events.Ended s p why ∷ es) after = (told ≡ true) × AreInOrder false es after
 AreInOrder told (events.Telephone s p time marker payload ∷ es) after = ⊥
 AreInOrder told (events.Report packet ∷ es) after = ⊥
+AreInOrder told (events.TransportFeedback packet ∷ es) after = ⊥
 
 -- the same, without an end
 abbrev pub AreOfOne : Bool → List Event → Bool → Type 0
@@ -311,6 +315,7 @@ AreOfOne told (events.Feedback s p packet ∷ es) after = (told ≡ true) × Are
 AreOfOne told (events.Ended s p why ∷ es) after = ⊥
 AreOfOne told (events.Telephone s p time marker payload ∷ es) after = ⊥
 AreOfOne told (events.Report packet ∷ es) after = ⊥
+AreOfOne told (events.TransportFeedback packet ∷ es) after = ⊥
 
 -- ---- streams
 

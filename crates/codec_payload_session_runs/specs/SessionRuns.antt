@@ -3,15 +3,15 @@ use Rattle.std.specs.Prelude.{◌≡◌, ℕ, List, [], ◌∷◌, Option, Some,
 use Rattle.std.specs.List.{position}
 use Rattle.std.specs.declared.alloc.AllocError.{AllocError}
 use Rattle.codec_payload_rtcp.specs.declared.items.ReportBlock.{ReportBlock}
+use Rattle.codec_payload_session.specs.Accepting.{Accepts, time_for}
 use Rattle.codec_payload_session.specs.Arrivals.{Port}
-use Rattle.codec_payload_session.specs.Associations.{Associates}
 use Rattle.codec_payload_session.specs.Pairs.{Pairs, with_pair, without_pair}
 use Rattle.codec_payload_session.specs.Polls.{Polls}
-use Rattle.codec_payload_session.specs.Ports.{ReportsIf, Session, ends_all, ends_of, waits_of}
+use Rattle.codec_payload_session.specs.Ports.{ReportsIf, Session, ends_all, ends_of, restarts_transport, waits_of}
 use Rattle.codec_payload_session.specs.Streams.{is_of}
 use Rattle.codec_payload_session.specs.declared.checks.SessionSettingsError.{SessionSettingsError}
 use Rattle.codec_payload_session.specs.declared.session.Arrival.{Arrival}
-use Rattle.codec_payload_session.specs.declared.session.Event.{Event}
+use Rattle.codec_payload_session.specs.Units.{Event}
 use Rattle.codec_payload_session_runs.specs.declared.run.NewRunError.{NewRunError}
 use Rattle.codec_payload_session_runs.specs.declared.run.NewRunError.TheVariants as refusals
 use Rattle.codec_payload_session_runs.specs.declared.run.SessionStep.{SessionStep}
@@ -44,13 +44,14 @@ AddsPair ssrc retransmission s added t =
 
 -- the session makes one call, with this answer
 abbrev pub Does : SessionStep → Session → StepAnswer → Session → Type 0
-Does (steps.Receive now datagram) s answer t = (arrival : Result Arrival AllocError) × (answer ≡ answers.Received arrival) × Associates now datagram.items s arrival t
+Does (steps.Receive now micros datagram) s answer t = (arrival : Result Arrival AllocError) × (answer ≡ answers.Received arrival) × Accepts (time_for micros now s) now datagram.items s arrival t
 Does (steps.Poll now) s answer t = (event : Option Event) × (answer ≡ answers.Polled event) × Polls now s event t
 Does (steps.End now ssrc) s answer t = (answer ≡ answers.Done) × (t ≡ ends_of ssrc now.0 s)
 Does (steps.Finish now) s answer t = (answer ≡ answers.Done) × (t ≡ ends_all now.0 s)
 Does (steps.SetWaitLimits ssrc payload_type limits) s answer t = (answer ≡ answers.Done) × (t ≡ waits_of ssrc payload_type limits s)
 Does (steps.Report now ssrc payload_type) s answer t = (block : Option ReportBlock) × (answer ≡ answers.Reported block) × Reports now.0 ssrc payload_type s block t
 Does (steps.AddPair ssrc retransmission) s answer t = (added : Result Unit AllocError) × (answer ≡ answers.PairAdded added) × AddsPair ssrc retransmission s added t
+Does steps.RestartTransport s answer t = (answer ≡ answers.Done) × (t ≡ restarts_transport s)
 Does (steps.RemovePair ssrc) s answer t = (answer ≡ answers.Done) × Pairs ssrc (without_pair ssrc s.settings.pairs.items) s t
 
 -- the calls in order, and nothing else

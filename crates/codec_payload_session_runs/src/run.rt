@@ -1,6 +1,7 @@
 //! Runs of a session: calls in order, with the answer of each.
 
 ghost use Rattle.std.specs.Prelude.{◌≡◌, length, IfErr, IfOk, OnErr, Option};
+ghost use Rattle.codec_payload_session.specs.Accepting.{Accepts, time_for};
 ghost use Rattle.codec_payload_session.specs.Checks.{fault_of};
 ghost use Rattle.codec_payload_session.specs.Ports.{new_session, taken_in, told_counts};
 ghost use Rattle.codec_payload_session.specs.declared.formats.SessionSettings.{SessionSettings as Settings};
@@ -20,9 +21,10 @@ use thiserror::Error;
 /// A call of a session that can change it.
 #[derive(Debug, Drop)]
 pub enum SessionStep {
-    /// [`Session::receive`].
+    /// [`Session::receive`], or with `micros` [`Session::receive_at`].
     Receive {
         now: Ticks,
+        micros: Option<u64>,
         datagram: Vec<u8>,
     },
     /// [`Session::poll`].
@@ -55,6 +57,8 @@ pub enum SessionStep {
         ssrc: u32,
         retransmission: u32,
     },
+    /// [`Session::restart_transport`].
+    RestartTransport,
     /// [`Session::remove_pair`].
     RemovePair {
         ssrc: u32,
@@ -64,7 +68,7 @@ pub enum SessionStep {
 /// The answer of a call of a session.
 #[derive(Debug, Drop)]
 pub enum StepAnswer {
-    /// The answer of [`Session::receive`].
+    /// The answer of [`Session::receive`] or [`Session::receive_at`].
     Received(Result<Arrival, AllocError>),
     /// The answer of [`Session::poll`].
     Polled(Option<Event>),
@@ -72,8 +76,8 @@ pub enum StepAnswer {
     Reported(Option<ReportBlock>),
     /// The answer of [`Session::add_pair`].
     PairAdded(Result<(), AllocError>),
-    /// A call without an answer: [`Session::end`], [`Session::finish`], [`Session::set_wait_limits`] or
-    /// [`Session::remove_pair`].
+    /// A call without an answer: [`Session::end`], [`Session::finish`], [`Session::set_wait_limits`],
+    /// [`Session::restart_transport`] or [`Session::remove_pair`].
     Done,
 }
 
@@ -173,9 +177,11 @@ fn do_step(session: &mut Session, step: &SessionStep) -> StepAnswer
     ensures { Does step.now session.old result session.new }
 {
     match step {
-        SessionStep::Receive { now, datagram } => {
-            StepAnswer::Received(session.receive(*now, datagram))
-        }
+        SessionStep::Receive {
+            now,
+            micros,
+            datagram,
+        } => StepAnswer::Received(receive(session, *now, *micros, datagram)),
         SessionStep::Poll { now } => StepAnswer::Polled(session.poll(*now)),
         SessionStep::End { now, ssrc } => {
             session.end(*now, *ssrc);
@@ -202,9 +208,28 @@ fn do_step(session: &mut Session, step: &SessionStep) -> StepAnswer
             ssrc,
             retransmission,
         } => StepAnswer::PairAdded(session.add_pair(*ssrc, *retransmission)),
+        SessionStep::RestartTransport => {
+            session.restart_transport();
+            StepAnswer::Done
+        }
         SessionStep::RemovePair { ssrc } => {
             session.remove_pair(*ssrc);
             StepAnswer::Done
         }
+    }
+}
+
+/// Receives a datagram that arrived at `micros`, or without it at `now`.
+fn receive(
+    session: &mut Session,
+    now: Ticks,
+    micros: Option<u64>,
+    datagram: &[u8],
+) -> Result<Arrival, AllocError>
+    ensures { Accepts (time_for micros now session.old) now datagram.now session.old result session.new }
+{
+    match micros {
+        Some(micros) => session.receive_at(now, micros, datagram),
+        None => session.receive(now, datagram),
     }
 }

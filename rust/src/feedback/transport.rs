@@ -8,7 +8,7 @@ use crate::feedback::requests::FeedbackSource;
 use crate::memory::AllocError;
 use crate::rtp::packet::{HeaderExtension, RtpPacket};
 use crate::rtp::values::extension_value;
-use crate::wire::Ticks;
+use crate::wire::{Frequency, Ticks};
 use alloc::vec::Vec;
 
 /// How the arrivals of a transport are reported.
@@ -65,6 +65,24 @@ fn most_of(size: usize) -> usize {
     most_reported(size).max(1)
 }
 
+/// Returns a time of your clock in quarters of a millisecond, rounded down, modulo 2^32.
+pub fn quarters_at(now: Ticks, tick_rate: Frequency) -> u32 {
+    (u128::from(now.0) * 4_000 / u128::from(tick_rate.get()) % 4_294_967_296) as u32
+}
+
+impl TransportSettings {
+    /// Returns settings for a clock in milliseconds: a feedback each 100 ms with at most 1,100 bytes of control information, and
+    /// 2,048 numbers. `extension_id` is the id of the header extension with the transport-wide number, 1 to 255.
+    pub fn live(extension_id: u8) -> TransportSettings {
+        TransportSettings {
+            extension_id,
+            interval: 100,
+            size: 1_100,
+            window: 2_048,
+        }
+    }
+}
+
 impl TransportReporter {
     /// Returns a reporter to which nothing arrived. Does not allocate.
     ///
@@ -91,9 +109,18 @@ impl TransportReporter {
     ///
     /// Out of memory: nothing changed.
     pub fn receive(&mut self, time: u32, datagram: &[u8]) -> Result<(), AllocError> {
-        let Ok(packet) = RtpPacket::parse(datagram) else {
-            return Ok(());
-        };
+        match RtpPacket::parse(datagram) {
+            Ok(packet) => self.receive_packet(time, &packet),
+            Err(_) => Ok(()),
+        }
+    }
+
+    /// Does the same for an RTP packet that was read.
+    ///
+    /// # Errors
+    ///
+    /// Out of memory: nothing changed.
+    pub fn receive_packet(&mut self, time: u32, packet: &RtpPacket<'_>) -> Result<(), AllocError> {
         let Some(number) = number_in(self.settings.extension_id, &packet.header.extension) else {
             return Ok(());
         };

@@ -2,6 +2,7 @@
 
 use super::section::join_ids;
 use super::{Media, Role};
+use crate::feedback::TransportSettings;
 use crate::jitter::WaitLimits;
 use crate::memory::{AllocError, TryVec};
 use crate::session::{Format, SessionSettings, SessionSettingsError, SsrcPair};
@@ -67,6 +68,8 @@ impl From<AllocError> for SessionError {
 /// - Types without media: comfort noise, error correction.
 /// - Pairs of SSRCs: those of [`pairs`].
 /// - Ids of header extensions: those of all sections.
+/// - Transport: [`TransportSettings::live`] with the id of transport-wide-cc, if a section has its `a=extmap` and a format of the
+///   session has `a=rtcp-fb` with `transport-cc`. So pass the description that both sides agreed on, or the offer if you accept both.
 /// - Wait limits: for live audio and video, with retransmission if a format of the kind has `nack`.
 /// - All else is as in [`SessionSettings::live`]. Nothing is requested until you set `feedback`.
 ///
@@ -99,6 +102,7 @@ pub fn session_settings(media: &[Media<'_>]) -> Result<SessionSettings, SessionE
         settings: SessionSettings::live(),
         roles: [None; PAYLOAD_TYPES],
         ids: Media::default(),
+        has_transport_feedback: false,
     };
     (port.settings.audio, port.settings.video) = (WaitLimits::live(), WaitLimits::live());
     for section in media.iter().filter(|section| section.is_rtp) {
@@ -115,6 +119,7 @@ pub fn session_settings(media: &[Media<'_>]) -> Result<SessionSettings, SessionE
         settings.pairs.try_push(pair)?;
     }
     settings.extension_ids = port.ids.extension_ids;
+    settings.transport = transport(&port.ids, port.has_transport_feedback);
     set_wait_limits(&mut settings);
     match settings.check() {
         Err(
@@ -123,6 +128,12 @@ pub fn session_settings(media: &[Media<'_>]) -> Result<SessionSettings, SessionE
         ) => Err(SessionError::PayloadType(payload_type)),
         _ => Ok(settings),
     }
+}
+
+/// How arrivals are reported, if these ids have one of transport-wide-cc and feedback about it is wanted.
+fn transport(ids: &Media<'_>, is_wanted: bool) -> Option<TransportSettings> {
+    let id = ids.other_ids.transport_cc.filter(|_| is_wanted)?;
+    Some(TransportSettings::live(id))
 }
 
 /// Sets how long frames wait: with retransmission if a format of their kind has `nack`.
@@ -183,6 +194,12 @@ impl Media<'_> {
         })
     }
 
+    /// Whether `a=rtcp-fb` of the payload type has `transport-cc`.
+    fn has_transport_feedback(&self, payload_type: u8) -> bool {
+        let format = self.format(payload_type);
+        format.is_some_and(|format| format.feedback.transport_cc)
+    }
+
     fn first_media(&self) -> Option<u8> {
         let mut formats = self.formats.iter();
         let first = formats.find(|format| matches!(format.role, Role::Media(_)));
@@ -197,6 +214,8 @@ struct Port {
     roles: [Option<Role>; PAYLOAD_TYPES],
     /// The ids of header extensions.
     ids: Media<'static>,
+    /// Whether a format of the session has feedback about the transport.
+    has_transport_feedback: bool,
 }
 
 impl Port {
@@ -236,6 +255,7 @@ impl Port {
         let Some(mut format) = section.session_format(payload_type) else {
             return Ok(());
         };
+        self.has_transport_feedback |= section.has_transport_feedback(payload_type);
         format.red = format.red.filter(|red| !self.has_red(red));
         self.settings.formats.try_push(format)
     }

@@ -2,6 +2,7 @@
 
 //! Whether a session can meet its settings.
 
+use crate::feedback::transport::TransportSettings;
 use crate::session::formats::{FeedbackSettings, Format, SessionSettings, is_among};
 use crate::session::requests::LONGEST_NAME;
 use crate::stream::receiver::RedSettings;
@@ -11,13 +12,16 @@ use core::fmt;
 /// The largest number of packets that a stream can hold.
 const LARGEST_LIMIT: usize = 65_536;
 
+/// The largest number of transport-wide numbers that are remembered: half of what 16 bits count.
+const LARGEST_WINDOW: usize = 32_768;
+
 /// The largest step of RED: its offsets have 14 bits (RFC 2198, section 3).
 const LARGEST_STEP: u32 = 16_383;
 
 /// The setting that no session can meet.
 ///
 /// The settings are checked in the order of the fields here: `limit`, `max_streams`, each format in order, `no_media`,
-/// `telephone_events`, the name of `feedback`. A format is checked in the order: codec, payload type, payload type and step of RED, payload type of
+/// `telephone_events`, the name of `feedback`, `transport`: its extension id and its window. A format is checked in the order: codec, payload type, payload type and step of RED, payload type of
 /// retransmissions, payload type of retransmitted RED packets.
 #[derive(Clone, Copy, Debug, PartialEq, Eq)]
 #[non_exhaustive]
@@ -44,6 +48,10 @@ pub enum SessionSettingsError {
     },
     /// `cname` of `feedback` has no byte, or more than 255.
     Cname,
+    /// `extension_id` of `transport` is 0, which is padding (RFC 8285, section 4.1.1).
+    TransportId,
+    /// `window` of `transport` is 0, or above 32,768.
+    TransportWindow,
 }
 
 impl fmt::Display for SessionSettingsError {
@@ -67,6 +75,12 @@ impl fmt::Display for SessionSettingsError {
             }
             SessionSettingsError::Cname => {
                 f.write_str("the canonical name does not have 1 to 255 bytes")
+            }
+            SessionSettingsError::TransportId => {
+                f.write_str("the extension id of the transport is 0")
+            }
+            SessionSettingsError::TransportWindow => {
+                f.write_str("the window of the transport is not 1 to 32768")
             }
         }
     }
@@ -99,7 +113,11 @@ impl SessionSettings {
         let listed = first_of(no_media, events);
         let numbers = first_of(limit_fault(self.limit), streams_fault(self.max_streams));
         let types = first_of(numbers, first_of(formats, listed));
-        first_of(types, feedback_fault(&self.feedback))
+        let feedback = first_of(
+            feedback_fault(&self.feedback),
+            transport_fault(self.transport),
+        );
+        first_of(types, feedback)
     }
 }
 
@@ -109,6 +127,25 @@ fn feedback_fault(feedback: &Option<FeedbackSettings>) -> Option<SessionSettings
         Some(feedback) => name_fault(feedback.cname.len()),
         None => None,
     }
+}
+
+/// Returns the first fault of the settings of a transport, if there are any.
+fn transport_fault(transport: Option<TransportSettings>) -> Option<SessionSettingsError> {
+    match transport {
+        Some(transport) => transport_settings_fault(transport),
+        None => None,
+    }
+}
+
+/// Returns the first fault of these settings of a transport.
+fn transport_settings_fault(transport: TransportSettings) -> Option<SessionSettingsError> {
+    if transport.extension_id == 0 {
+        return Some(SessionSettingsError::TransportId);
+    }
+    if transport.window == 0 || transport.window > LARGEST_WINDOW {
+        return Some(SessionSettingsError::TransportWindow);
+    }
+    None
 }
 
 /// Returns the fault of a canonical name with that number of bytes.

@@ -2,6 +2,7 @@
 
 //! The payload types of a port, and the settings of its streams.
 
+use crate::feedback::transport::TransportSettings;
 use crate::jitter::jitter_buffer::WaitLimits;
 use crate::keyframes::unit_gate::FromKeyframe;
 use crate::memory::{AllocError, TryVec};
@@ -132,6 +133,14 @@ pub struct SessionSettings {
     pub tick_rate: Frequency,
     /// Who requests what streams miss, and reports on them. `None`: the session requests nothing, and sends no reports.
     pub feedback: Option<FeedbackSettings>,
+    /// How the arrivals of packets are reported to the sender, for its congestion control (transport-wide-cc,
+    /// draft-holmer-rmcat-transport-wide-cc-extensions-01): [`Event::TransportFeedback`]. Set it exactly if your session
+    /// description accepts the header extension and `a=rtcp-fb` with `transport-cc`; a browser that finds them accepted and gets no
+    /// feedback sends almost nothing. It works only beside `feedback`, whose SSRC and name send the packets. The numbers count all
+    /// packets of one transport, so such a session has one peer. `None`: nothing is reported.
+    ///
+    /// [`Event::TransportFeedback`]: crate::session::sessions::Event::TransportFeedback
+    pub transport: Option<TransportSettings>,
 }
 
 /// The role of a payload type.
@@ -188,6 +197,7 @@ impl SessionSettings {
             bye_wait: 200,
             tick_rate: Frequency::make(1_000).unwrap(),
             feedback: None,
+            transport: None,
         }
     }
 

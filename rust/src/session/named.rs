@@ -2,6 +2,7 @@
 
 //! The receiver of a stream of a session: its settings name the SSRC, so no packet waits for the choice of a stream.
 
+use crate::buffer::PoppedUnit;
 use crate::codec::CodecDepacketizer;
 use crate::jitter::jitter_buffer::WaitLimits;
 use crate::jitter::outcome::Outcome;
@@ -48,10 +49,14 @@ impl NamedReceiver {
         self.receiver.receive_parsed(now, datagram)
     }
 
-    /// Returns the next unit or refused frame. See [`Receiver::pop`].
+    /// Pops the next unit into `unit`, or returns a refused frame. See [`Receiver::pop_unit`].
     #[inline(always)]
-    pub(crate) fn pop(&mut self, now: Ticks) -> Option<Result<Popped, AllocError>> {
-        self.receiver.pop(now)
+    pub(crate) fn pop_unit(
+        &mut self,
+        now: Ticks,
+        unit: &mut PoppedUnit,
+    ) -> Option<Result<Popped<()>, AllocError>> {
+        self.receiver.pop_unit(now, unit)
     }
 
     /// Ends the stream. Allocates nothing, since no packet waits. See [`Receiver::finish`].

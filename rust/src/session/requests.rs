@@ -245,7 +245,7 @@ fn spaced(nack: NackSettings) -> NackSettings {
 }
 
 /// Returns who sends the requests.
-fn source_for(settings: &FeedbackSettings) -> Result<FeedbackSource, AllocError> {
+pub(crate) fn source_for(settings: &FeedbackSettings) -> Result<FeedbackSource, AllocError> {
     let len = LONGEST_NAME.min(settings.cname.len());
     let cname = Vec::try_from_slice(&settings.cname[..len])?;
     Ok(FeedbackSource::new(settings.ssrc, cname, settings.has_report).unwrap())

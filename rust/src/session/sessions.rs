@@ -2,8 +2,10 @@
 
 //! A session: the datagrams of one port.
 
-use crate::buffer::Depacketized;
+use crate::buffer::PoppedUnit;
+use crate::congestion::arrivals::quarters;
 use crate::error::PacketError;
+use crate::feedback::transport::{TransportReporter, quarters_at};
 use crate::jitter::jitter_buffer::WaitLimits;
 use crate::jitter::outcome::Outcome;
 use crate::memory::AllocError;
@@ -17,6 +19,7 @@ use crate::session::reports::SenderClock;
 use crate::session::stream::{Ending, StreamInfo, earlier};
 use crate::session::streams::{Streams, Who, place_of};
 use crate::session::telephone::TelephoneQueue;
+use crate::session::transport::{note, reporter_for, restart, transport_deadline};
 use crate::session::waking::due_in;
 use crate::stream::parsed::ParsedDatagram;
 use crate::stream::receiver::{ReceiveError, Receiver};
@@ -61,10 +64,11 @@ pub enum Arrival {
     },
 }
 
-/// An event of a session.
+/// An event of a session. `U` is what it carries of a unit: the unit itself from [`Session::poll`], and `()` from
+/// [`Session::poll_into`], which writes the unit to memory of the caller.
 #[derive(Debug)]
 #[non_exhaustive]
-pub enum Event {
+pub enum Event<U = PoppedUnit> {
     /// A stream is announced. This is the first event of the stream.
     Begun { ssrc: u32, payload_type: u8 },
     /// A unit of a stream. If memory ran out for it, the frame is kept, and the next poll tries again. `rtp_time` is in ticks of
@@ -79,7 +83,7 @@ pub enum Event {
         rtp_time: Option<u64>,
         decodable: bool,
         keyframe: bool,
-        unit: Result<Depacketized, AllocError>,
+        unit: Result<U, AllocError>,
     },
     /// A unit of a stream with more bytes than `max_unit` of the settings. It counts as a refused frame: its packets count as
     /// `left`, for video the units after it follow a loss, and the stream continues. Any peer can send such a unit, so do not
@@ -87,7 +91,7 @@ pub enum Event {
     TooLarge {
         ssrc: u32,
         payload_type: u8,
-        unit: Depacketized,
+        unit: U,
     },
     /// A frame of a stream that the depacketizer refused, since its payloads are malformed. The frame was dropped, its packets
     /// count as `left`, and the stream continues. Any peer can send such a frame, so do not end a program for it. `fault` is
@@ -131,6 +135,16 @@ pub enum Event {
     ///
     /// [`FeedbackSettings::report_interval`]: crate::session::formats::FeedbackSettings::report_interval
     Report { packet: Result<Vec<u8>, AllocError> },
+    /// A packet of RTCP for the peer, which `packet` returns: transport-wide feedback, which says when each packet of the transport
+    /// arrived since the last one, or that it is missing (draft-holmer-rmcat-transport-wide-cc-extensions-01, section 3.1). Send it:
+    /// its arrivals count as reported. If memory ran out, nothing has changed, and the next poll tries again.
+    ///
+    /// It comes each [`TransportSettings::interval`] while packets arrive, in parts if it is larger than
+    /// [`TransportSettings::size`]. With `has_report` of the feedback's settings it follows an empty receiver report and the name.
+    ///
+    /// [`TransportSettings::interval`]: crate::feedback::transport::TransportSettings::interval
+    /// [`TransportSettings::size`]: crate::feedback::transport::TransportSettings::size
+    TransportFeedback { packet: Result<Vec<u8>, AllocError> },
     /// A stream was removed. This is the last event of the stream.
     Ended {
         ssrc: u32,
@@ -180,6 +194,8 @@ pub struct Session {
     telephone: TelephoneQueue,
     /// When the next report is due. `None`: no report is planned.
     report_due: Option<u64>,
+    /// What arrived on the transport. `None`: it is not reported.
+    transport: Option<TransportReporter>,
 }
 
 impl Session {
@@ -193,6 +209,7 @@ impl Session {
         match settings.fault() {
             Some(fault) => Err(fault),
             None => Ok(Session {
+                transport: reporter_for(&settings),
                 settings,
                 streams: Streams::none(),
                 counts: ArrivalCounts::none(),
@@ -222,15 +239,50 @@ impl Session {
     /// A packet of telephone events beside audio (`telephone_events` of the settings) is one without media, and waits for a poll
     /// once a stream took it ([`Event::Telephone`]). At most 32 of them wait; further ones are dropped and counted.
     ///
+    /// With `transport` of the settings the session also records when each RTP packet arrived that has a transport-wide number, whatever
+    /// is done with it: media, retransmissions, padding, unknown types, repetitions ([`Event::TransportFeedback`]). The time has the
+    /// resolution of your ticks; [`Session::receive_at`] takes a finer one.
+    ///
     /// # Errors
     ///
-    /// Out of memory: the datagram is not counted; you can pass it again. A pair may have been added.
+    /// Out of memory: the datagram is not counted; you can pass it again. A pair may have been added, and the arrival may be recorded for
+    /// the transport; the first time counts.
     ///
     /// [`Receiver::receive`]: crate::stream::receiver::Receiver::receive
     /// [`StreamInfo::sender_clock`]: crate::session::stream::StreamInfo::sender_clock
     /// [`Ending::Changed`]: crate::session::stream::Ending::Changed
     pub fn receive(&mut self, now: Ticks, datagram: &[u8]) -> Result<Arrival, AllocError> {
-        self.receive_parsed(now, &ParsedDatagram::parse(datagram))
+        let time = quarters_at(now, self.settings.tick_rate);
+        self.receive_timed(now, time, datagram)
+    }
+
+    /// Does what [`Session::receive`] does for a datagram that arrived at `micros`, in microseconds of any clock: the time stamp of your
+    /// socket, say. Feedback about the transport then reports this time instead of `now`. All else goes by `now`. Congestion control
+    /// estimates by differences of a millisecond, so a browser sends more if the times are finer than your ticks. Use one of the two
+    /// calls for all datagrams.
+    ///
+    /// # Errors
+    ///
+    /// Those of [`Session::receive`].
+    pub fn receive_at(
+        &mut self,
+        now: Ticks,
+        micros: u64,
+        datagram: &[u8],
+    ) -> Result<Arrival, AllocError> {
+        self.receive_timed(now, quarters(micros), datagram)
+    }
+
+    /// Receives a datagram that arrived on the transport at `time`, in quarters of a millisecond modulo 2^32.
+    fn receive_timed(
+        &mut self,
+        now: Ticks,
+        time: u32,
+        datagram: &[u8],
+    ) -> Result<Arrival, AllocError> {
+        let datagram = ParsedDatagram::parse(datagram);
+        note(&mut self.transport, time, &datagram)?;
+        self.receive_parsed(now, &datagram)
     }
 
     /// Receives a datagram that was read. No later step reads it again.
@@ -260,26 +312,59 @@ impl Session {
     /// that has no more events of the first streams, and each later one an interval after the previous one was sent. Once all
     /// announced streams have ended, it begins so again. A report costs one step for each pair of streams.
     ///
+    /// With `transport` of the settings a poll without another event returns the feedback about what arrived, if it is due
+    /// (`TransportFeedback`): the first one at once, each later one an interval after the previous one, if something arrived since.
+    ///
     /// If a poll returns `None` and no packet left a stream in it, no poll before [`Session::next_deadline`] has an event, until
     /// the next call of another kind. The one exception is a request for which memory runs out. A poll without an event in which
     /// packets left has skipped frames or dropped units: the next poll can have an event at any time.
     pub fn poll(&mut self, now: Ticks) -> Option<Event> {
-        match self.telephone.take() {
-            Some(event) => Some(event),
-            None => self.turn(now),
+        let mut unit = PoppedUnit::new();
+        match self.poll_into(now, &mut unit) {
+            Some(event) => Some(with_unit(event, unit)),
+            None => None,
         }
     }
 
+    /// Does the same as [`Session::poll`], and writes the unit of the event to `unit`, in place of what that has. Pass the same
+    /// unit to each poll, and its memory is used again: once it has room for the largest unit, a poll with a unit allocates
+    /// nothing for it.
+    ///
+    /// `unit` has the unit of an [`Event::Unit`] without an error, or of an [`Event::TooLarge`]. After any other answer its
+    /// contents are unspecified.
+    pub fn poll_into(&mut self, now: Ticks, unit: &mut PoppedUnit) -> Option<Event<()>> {
+        match self.telephone.take() {
+            Some(event) => Some(event),
+            None => self.turn_or_feedback(now, unit),
+        }
+    }
+
+    /// Returns the next event of the streams or the report, or else the feedback about the transport, if it is due.
+    fn turn_or_feedback(&mut self, now: Ticks, unit: &mut PoppedUnit) -> Option<Event<()>> {
+        match self.turn(now, unit) {
+            Some(event) => Some(event),
+            None => self.send_transport(now),
+        }
+    }
+
+    /// Returns the feedback about the transport, if it is due.
+    fn send_transport(&mut self, now: Ticks) -> Option<Event<()>> {
+        let packet = self
+            .streams
+            .transport_due(&self.settings, now, &mut self.transport);
+        transport_event(packet)
+    }
+
     /// Returns the next event of the streams, or else the report about them, if one is due.
-    fn turn(&mut self, now: Ticks) -> Option<Event> {
-        match self.streams.turn(now, self.settings.idle_timeout) {
+    fn turn(&mut self, now: Ticks, unit: &mut PoppedUnit) -> Option<Event<()>> {
+        match self.streams.turn(now, self.settings.idle_timeout, unit) {
             Some(event) => Some(event),
             None => self.report_streams(now),
         }
     }
 
     /// Returns the report about the streams, if one is due.
-    fn report_streams(&mut self, now: Ticks) -> Option<Event> {
+    fn report_streams(&mut self, now: Ticks) -> Option<Event<()>> {
         let packet = self
             .streams
             .report_due(&self.settings, now, &mut self.report_due);
@@ -287,20 +372,28 @@ impl Session {
     }
 
     /// Returns when a poll may have an event without a datagram: `Ticks(0)` while telephone events wait, else the time of a
-    /// stream, or of the next report if a stream is announced. `None`: there is no such time. The cost is one step for each
+    /// stream, of the next report if a stream is announced, or of the next feedback about the transport. `None`: there is no such time. The cost is one step for each
     /// stream.
     pub fn next_deadline(&self) -> Option<Ticks> {
         if !self.telephone.is_empty() {
             return Some(Ticks(0));
         }
         let streams = due_in(&self.streams.list, self.settings.idle_timeout);
+        let report = report_deadline(&self.streams.list, self.report_due);
         match earlier(
-            streams,
-            report_deadline(&self.streams.list, self.report_due),
+            earlier(streams, report),
+            transport_deadline(&self.transport),
         ) {
             Some(at) => Some(Ticks(at)),
             None => None,
         }
+    }
+
+    /// Forgets which packets of the transport arrived. Call it if another peer takes over the transport, or the peer counts anew: without
+    /// this call, numbers behind the last 2,048 (`window`) are ignored until they pass the highest one, up to 32,768 packets later.
+    /// Without `transport` of the settings nothing changes.
+    pub fn restart_transport(&mut self) {
+        restart(&mut self.transport);
     }
 
     /// Ends the streams of this SSRC: polls return the units that are complete, and then `Ended`.
@@ -445,10 +538,92 @@ impl Session {
 }
 
 /// Returns the event of a report, if there is one.
-fn report_event(packet: Option<Result<Vec<u8>, AllocError>>) -> Option<Event> {
+fn report_event(packet: Option<Result<Vec<u8>, AllocError>>) -> Option<Event<()>> {
     match packet {
         Some(packet) => Some(Event::Report { packet }),
         None => None,
+    }
+}
+
+/// Returns the event of a feedback about the transport, if there is one.
+fn transport_event(packet: Option<Result<Vec<u8>, AllocError>>) -> Option<Event<()>> {
+    match packet {
+        Some(packet) => Some(Event::TransportFeedback { packet }),
+        None => None,
+    }
+}
+
+/// Returns an event with its unit, if it has one.
+fn with_unit(event: Event<()>, unit: PoppedUnit) -> Event {
+    match event {
+        Event::Begun { ssrc, payload_type } => Event::Begun { ssrc, payload_type },
+        Event::Unit {
+            ssrc,
+            payload_type,
+            rtp_time,
+            decodable,
+            keyframe,
+            unit: popped,
+        } => Event::Unit {
+            ssrc,
+            payload_type,
+            rtp_time,
+            decodable,
+            keyframe,
+            unit: match popped {
+                Ok(()) => Ok(unit),
+                Err(e) => Err(e),
+            },
+        },
+        Event::TooLarge {
+            ssrc, payload_type, ..
+        } => Event::TooLarge {
+            ssrc,
+            payload_type,
+            unit,
+        },
+        Event::Refused {
+            ssrc,
+            payload_type,
+            fault,
+        } => Event::Refused {
+            ssrc,
+            payload_type,
+            fault,
+        },
+        Event::Feedback {
+            ssrc,
+            payload_type,
+            packet,
+        } => Event::Feedback {
+            ssrc,
+            payload_type,
+            packet,
+        },
+        Event::Telephone {
+            ssrc,
+            payload_type,
+            rtp_time,
+            marker,
+            payload,
+        } => Event::Telephone {
+            ssrc,
+            payload_type,
+            rtp_time,
+            marker,
+            payload,
+        },
+        Event::Report { packet } => Event::Report { packet },
+        Event::TransportFeedback { packet } => Event::TransportFeedback { packet },
+        Event::Ended {
+            ssrc,
+            payload_type,
+            why,
+        } => Event::Ended {
+            ssrc,
+            payload_type,
+            why,
+        },
     }
 }
 

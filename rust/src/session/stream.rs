@@ -2,7 +2,7 @@
 
 //! One stream of a session: its receiver, and when it begins and ends.
 
-use crate::buffer::Depacketized;
+use crate::buffer::PoppedUnit;
 use crate::codec::CodecDepacketizer;
 use crate::error::PacketError;
 use crate::jitter::jitter_buffer::WaitLimits;
@@ -91,14 +91,14 @@ pub(crate) struct StreamState {
     work: u64,
 }
 
-/// A step of a stream: its next event, or nothing.
+/// A step of a stream: its next event, or nothing. `U` is what it carries of a unit.
 #[derive(Debug)]
-pub(crate) enum Step {
+pub(crate) enum Step<U> {
     Begun,
     /// A unit. If memory ran out for it, the frame is kept.
-    Unit(Result<Depacketized, AllocError>),
+    Unit(Result<U, AllocError>),
     /// A unit above the bound of the settings.
-    TooLarge(Depacketized),
+    TooLarge(U),
     /// A frame that the depacketizer refused.
     Refused(PacketError),
     /// A packet of RTCP to send. If memory ran out, its requests stay due.
@@ -276,12 +276,17 @@ impl StreamState {
         }
     }
 
-    /// Returns the next event of the stream. A stream that is known to have none is not asked.
-    pub(crate) fn step(&mut self, now: Ticks, idle_timeout: u64) -> Step {
+    /// Returns the next event of the stream, and writes its unit to `unit`. A stream that is known to have none is not asked.
+    pub(crate) fn step(
+        &mut self,
+        now: Ticks,
+        idle_timeout: u64,
+        unit: &mut PoppedUnit,
+    ) -> Step<()> {
         if self.is_quiet(now, idle_timeout) {
             Step::Nothing
         } else {
-            self.ask(now, idle_timeout)
+            self.ask(now, idle_timeout, unit)
         }
     }
 
@@ -291,7 +296,7 @@ impl StreamState {
     }
 
     /// Asks the stream for its next event.
-    fn ask(&mut self, now: Ticks, idle_timeout: u64) -> Step {
+    fn ask(&mut self, now: Ticks, idle_timeout: u64, unit: &mut PoppedUnit) -> Step<()> {
         if is_probation(self.stage) {
             return Step::Nothing;
         }
@@ -301,14 +306,14 @@ impl StreamState {
             return Step::Begun;
         }
         self.drain(now.0, idle_timeout);
-        self.pop(now)
+        self.pop(now, unit)
     }
 
     /// Returns the next unit or refused frame of the stream, or what follows without one.
-    fn pop(&mut self, now: Ticks) -> Step {
+    fn pop(&mut self, now: Ticks, unit: &mut PoppedUnit) -> Step<()> {
         self.quiet_until = 0;
         let held = self.receiver.inner().held();
-        match self.receiver.pop(now) {
+        match self.receiver.pop_unit(now, unit) {
             Some(popped) => step_with(popped),
             None => {
                 let step = self.rest(now);
@@ -338,7 +343,7 @@ impl StreamState {
     }
 
     /// Returns the step of a stream without a unit: its end, or what it requests.
-    fn rest(&mut self, now: Ticks) -> Step {
+    fn rest(&mut self, now: Ticks) -> Step<()> {
         match self.stage {
             Stage::Playing => self.request(now),
             Stage::Draining(why) => Step::Ended(why),
@@ -347,7 +352,7 @@ impl StreamState {
     }
 
     /// Returns the requests that are due, by what the receiver misses now.
-    fn request(&mut self, now: Ticks) -> Step {
+    fn request(&mut self, now: Ticks) -> Step<()> {
         self.quiet_until = 0;
         if let Some(feedback) = &mut self.feedback {
             return step_of(feedback.take_due(now, self.last, self.receiver.inner()));
@@ -453,12 +458,12 @@ fn or_max(time: Option<u64>) -> u64 {
 }
 
 /// Returns whether a step has no event.
-pub(crate) fn is_nothing(step: &Step) -> bool {
+pub(crate) fn is_nothing(step: &Step<()>) -> bool {
     matches!(step, Step::Nothing)
 }
 
 /// Returns the step of a stream with this answer of a pop.
-fn step_with(popped: Result<Popped, AllocError>) -> Step {
+fn step_with(popped: Result<Popped<()>, AllocError>) -> Step<()> {
     match popped {
         Ok(Popped::Unit(unit)) => Step::Unit(Ok(unit)),
         Ok(Popped::TooLarge(unit)) => Step::TooLarge(unit),
@@ -468,7 +473,7 @@ fn step_with(popped: Result<Popped, AllocError>) -> Step {
 }
 
 /// Returns the step of a stream with these requests.
-fn step_of(packet: Result<Option<Vec<u8>>, AllocError>) -> Step {
+fn step_of(packet: Result<Option<Vec<u8>>, AllocError>) -> Step<()> {
     match packet {
         Ok(Some(packet)) => Step::Feedback(Ok(packet)),
         Ok(None) => Step::Nothing,

@@ -2,6 +2,7 @@
 
 //! The streams of a session, in the order in which they began.
 
+use crate::buffer::PoppedUnit;
 use crate::jitter::jitter_buffer::WaitLimits;
 use crate::jitter::outcome::Outcome;
 use crate::memory::{AllocError, TryVec};
@@ -35,9 +36,9 @@ pub(crate) struct Streams {
 
 /// The step of the stream at a place.
 #[derive(Debug)]
-pub(crate) struct Turn {
+pub(crate) struct Turn<U> {
     pub(crate) place: usize,
-    pub(crate) step: Step,
+    pub(crate) step: Step<U>,
 }
 
 /// The streams to end.
@@ -223,27 +224,37 @@ impl Streams {
         self.ended = self.ended.wrapping_add(gone.taken);
     }
 
-    /// Returns the next event.
-    pub(crate) fn turn(&mut self, now: Ticks, idle_timeout: u64) -> Option<Event> {
-        match self.step(now, idle_timeout) {
+    /// Returns the next event, and writes its unit to `unit`.
+    pub(crate) fn turn(
+        &mut self,
+        now: Ticks,
+        idle_timeout: u64,
+        unit: &mut PoppedUnit,
+    ) -> Option<Event<()>> {
+        match self.step(now, idle_timeout, unit) {
             Some(turn) => self.tell(turn),
             None => None,
         }
     }
 
     /// Returns the first step with an event. As long as the bound holds, only the stream that is excepted is asked.
-    fn step(&mut self, now: Ticks, idle_timeout: u64) -> Option<Turn> {
+    fn step(&mut self, now: Ticks, idle_timeout: u64, unit: &mut PoppedUnit) -> Option<Turn<()>> {
         if self.waking.holds(now, idle_timeout) {
-            step_excepted(&mut self.list, self.waking, now, idle_timeout)
+            step_excepted(&mut self.list, self.waking, now, idle_timeout, unit)
         } else {
-            self.step_all(now, idle_timeout)
+            self.step_all(now, idle_timeout, unit)
         }
     }
 
     /// Asks all streams in order, until one has an event. Without an event it is known until when they have none.
-    fn step_all(&mut self, now: Ticks, idle_timeout: u64) -> Option<Turn> {
+    fn step_all(
+        &mut self,
+        now: Ticks,
+        idle_timeout: u64,
+        unit: &mut PoppedUnit,
+    ) -> Option<Turn<()>> {
         self.waking = Waking::unknown();
-        let turn = step_first(&mut self.list, now, idle_timeout);
+        let turn = step_first(&mut self.list, now, idle_timeout, unit);
         if turn.is_none() {
             self.waking = Waking::of(&self.list);
         }
@@ -251,7 +262,7 @@ impl Streams {
     }
 
     /// Returns the event of the stream at a place. A stream that ended is removed.
-    fn tell(&mut self, turn: Turn) -> Option<Event> {
+    fn tell(&mut self, turn: Turn<()>) -> Option<Event<()>> {
         let stream = &self.list[turn.place];
         let (ssrc, payload_type) = (stream.ssrc, stream.format.payload_type);
         match turn.step {
@@ -404,9 +415,14 @@ fn leaving(max_streams: usize, streams: &[StreamState]) -> Option<usize> {
 }
 
 /// Asks the streams for an event, in order, until one has an event.
-fn step_first(streams: &mut [StreamState], now: Ticks, idle_timeout: u64) -> Option<Turn> {
+fn step_first(
+    streams: &mut [StreamState],
+    now: Ticks,
+    idle_timeout: u64,
+    unit: &mut PoppedUnit,
+) -> Option<Turn<()>> {
     for place in 0..streams.len() {
-        let step = streams[place].step(now, idle_timeout);
+        let step = streams[place].step(now, idle_timeout, unit);
         if !is_nothing(&step) {
             return Some(Turn { place, step });
         }

@@ -2,6 +2,7 @@
 
 //! Until when the streams of a session have no event, so that a poll asks only the stream that got a datagram.
 
+use crate::buffer::PoppedUnit;
 use crate::session::stream::{StreamState, earlier, is_nothing};
 use crate::session::streams::Turn;
 use crate::wire::Ticks;
@@ -76,12 +77,13 @@ pub(crate) fn step_excepted(
     waking: Waking,
     now: Ticks,
     idle_timeout: u64,
-) -> Option<Turn> {
+    unit: &mut PoppedUnit,
+) -> Option<Turn<()>> {
     let place = waking.fed;
     if place >= streams.len() {
         return None;
     }
-    let step = streams[place].step(now, idle_timeout);
+    let step = streams[place].step(now, idle_timeout, unit);
     if is_nothing(&step) {
         None
     } else {

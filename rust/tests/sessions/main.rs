@@ -7,6 +7,7 @@ mod deadlines;
 mod many;
 mod model;
 mod pairs;
+mod polls_into;
 mod reporting;
 mod reports;
 mod requests;
@@ -14,6 +15,7 @@ mod runs;
 mod settings;
 mod streams;
 mod telephone;
+mod transport;
 
 use std::alloc::{GlobalAlloc, Layout, System};
 use std::cell::Cell;
@@ -23,13 +25,15 @@ type Fail = Box<dyn std::error::Error>;
 
 thread_local! {
     static LIVE: Cell<usize> = const { Cell::new(0) };
+    static MADE: Cell<usize> = const { Cell::new(0) };
 }
 
-/// The system's allocator, which counts the bytes that each thread holds.
+/// The system's allocator, which counts the bytes that each thread holds, and its allocations.
 struct Counting;
 
 fn count(more: usize, less: usize) {
     LIVE.set(LIVE.get().wrapping_add(more).wrapping_sub(less));
+    MADE.set(MADE.get() + usize::from(more > 0));
 }
 
 // SAFETY: it passes each call on to `System`.
@@ -56,4 +60,11 @@ static ALLOCATOR: Counting = Counting;
 /// How many bytes this thread allocated more than it gave back, modulo 2^64: other threads may give them back.
 fn live_bytes() -> usize {
     LIVE.get()
+}
+
+/// How many allocations this call makes, and what it returns.
+fn allocations<T>(call: impl FnOnce() -> T) -> (usize, T) {
+    let before = MADE.get();
+    let returned = call();
+    (MADE.get() - before, returned)
 }

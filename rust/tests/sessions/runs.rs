@@ -16,6 +16,7 @@ fn settings() -> SessionSettings {
 
 fn receive(now: u64, datagram: Vec<u8>) -> SessionStep {
     SessionStep::Receive {
+        micros: None,
         now: Ticks(now),
         datagram,
     }

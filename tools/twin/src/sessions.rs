@@ -145,6 +145,10 @@ fn told(event: Event) -> ([u64; 12], Vec<u8>, Option<String>) {
             stream(5, 0, 0);
             return (it, packet.expect("there is memory"), None);
         }
+        Event::TransportFeedback { packet } => {
+            stream(7, 0, 0);
+            return (it, packet.expect("there is memory"), None);
+        }
         Event::Ended {
             ssrc,
             payload_type,

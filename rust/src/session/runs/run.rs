@@ -15,8 +15,12 @@ use core::fmt;
 /// A call of a session that can change it.
 #[derive(Debug)]
 pub enum SessionStep {
-    /// [`Session::receive`].
-    Receive { now: Ticks, datagram: Vec<u8> },
+    /// [`Session::receive`], or with `micros` [`Session::receive_at`].
+    Receive {
+        now: Ticks,
+        micros: Option<u64>,
+        datagram: Vec<u8>,
+    },
     /// [`Session::poll`].
     Poll { now: Ticks },
     /// [`Session::end`].
@@ -37,6 +41,8 @@ pub enum SessionStep {
     },
     /// [`Session::add_pair`].
     AddPair { ssrc: u32, retransmission: u32 },
+    /// [`Session::restart_transport`].
+    RestartTransport,
     /// [`Session::remove_pair`].
     RemovePair { ssrc: u32 },
 }
@@ -44,7 +50,7 @@ pub enum SessionStep {
 /// The answer of a call of a session.
 #[derive(Debug)]
 pub enum StepAnswer {
-    /// The answer of [`Session::receive`].
+    /// The answer of [`Session::receive`] or [`Session::receive_at`].
     Received(Result<Arrival, AllocError>),
     /// The answer of [`Session::poll`].
     Polled(Option<Event>),
@@ -52,8 +58,8 @@ pub enum StepAnswer {
     Reported(Option<ReportBlock>),
     /// The answer of [`Session::add_pair`].
     PairAdded(Result<(), AllocError>),
-    /// A call without an answer: [`Session::end`], [`Session::finish`], [`Session::set_wait_limits`] or
-    /// [`Session::remove_pair`].
+    /// A call without an answer: [`Session::end`], [`Session::finish`], [`Session::set_wait_limits`],
+    /// [`Session::restart_transport`] or [`Session::remove_pair`].
     Done,
 }
 
@@ -140,9 +146,11 @@ pub fn run_new_session(
 /// Makes one call, and returns its answer.
 fn do_step(session: &mut Session, step: &SessionStep) -> StepAnswer {
     match step {
-        SessionStep::Receive { now, datagram } => {
-            StepAnswer::Received(session.receive(*now, datagram))
-        }
+        SessionStep::Receive {
+            now,
+            micros,
+            datagram,
+        } => StepAnswer::Received(receive(session, *now, *micros, datagram)),
         SessionStep::Poll { now } => StepAnswer::Polled(session.poll(*now)),
         SessionStep::End { now, ssrc } => {
             session.end(*now, *ssrc);
@@ -169,9 +177,26 @@ fn do_step(session: &mut Session, step: &SessionStep) -> StepAnswer {
             ssrc,
             retransmission,
         } => StepAnswer::PairAdded(session.add_pair(*ssrc, *retransmission)),
+        SessionStep::RestartTransport => {
+            session.restart_transport();
+            StepAnswer::Done
+        }
         SessionStep::RemovePair { ssrc } => {
             session.remove_pair(*ssrc);
             StepAnswer::Done
         }
+    }
+}
+
+/// Receives a datagram that arrived at `micros`, or without it at `now`.
+fn receive(
+    session: &mut Session,
+    now: Ticks,
+    micros: Option<u64>,
+    datagram: &[u8],
+) -> Result<Arrival, AllocError> {
+    match micros {
+        Some(micros) => session.receive_at(now, micros, datagram),
+        None => session.receive(now, datagram),
     }
 }

@@ -4,7 +4,8 @@
 //!
 //! - WAY: `bare` is one receiver for each stream, of which the one that got the datagram is popped until it has no unit. `unit`
 //!   is the same by `pop_unit`. `once` is one `pop_unit` after each datagram. `poll` is a session that is polled until it has no
-//!   event. `deadline` also asks for the next deadline then. `receive` is a session that is not polled.
+//!   event, and `into` is the same by `poll_into`. `deadline` also asks for the next deadline then. `receive` is a session that
+//!   is not polled.
 //! - KIND: `audio` is Opus, 120 bytes a packet. `video` is VP8, three packets of 1,000 bytes a frame. `requests` is the same
 //!   video, and the session requests what it misses; nothing is lost. After two packets of audio of each stream, `goodbyes` are
 //!   datagrams of 300 BYEs that name nobody, and `strays` are packets of ever new SSRCs, each of which takes the place of the
@@ -132,6 +133,12 @@ impl Load {
         }
         self.session.receive(now, datagram).unwrap();
         if way == "receive" {
+            return;
+        }
+        if way == "into" {
+            while let Some(event) = self.session.poll_into(now, &mut self.unit) {
+                self.units += u64::from(matches!(event, Event::Unit { unit: Ok(()), .. }));
+            }
             return;
         }
         while let Some(event) = self.session.poll(now) {

@@ -21,6 +21,7 @@ returns-clause-ok c =
         idle_timeout = plain.idle_timeout;
         bye_wait = plain.bye_wait;
         tick_rate = plain.tick_rate;
+        transport = plain.transport;
       };
       formats_are = lists.ensures;
       no_media_are = lists.ensures'';

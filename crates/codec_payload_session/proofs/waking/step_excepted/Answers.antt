@@ -1,5 +1,7 @@
 use Rattle.std.proofs.Common.{◌≡◌, ◌∙◌, arith, false, refl, sym, true}
 use Rattle.codec_payload_session.specs.Turns.{is_nothing}
+use Rattle.codec_payload_session.specs.Units.{step_to}
+use Rattle.codec_payload_session.proofs.UnitLemmas.{nothing_to}
 use Rattle.codec_payload_session.proofs.WakingLemmas.{bound_set, fed_steps, none_steps, nothing_steps}
 use Rattle.codec_payload_session.proofs.waking.step_excepted.Goals as goal
 
@@ -8,8 +10,8 @@ returns-then-place-streams-clause-first c = none_steps c.args.waking c.args.now 
 
 pub returns-then-is_nothing-clause-first : goal.returns-then-is_nothing-clause-first
 returns-then-is_nothing-clause-first c =
-    let tells : is_nothing c.step-step.result ≡ true = sym c.is_nothing.ensures ∙ c.if-is_nothing.true in
-    nothing_steps c.args.waking c.args.now c.args.idle_timeout c.index-streams-place.result c.step-step.new.self c.args.streams.now c.step-step.result (omega (arith, c.if-place-streams.false))
+    let tells : is_nothing (step_to c.step-step.result c.step-step.new.unit) ≡ true = nothing_to c.step-step.result c.step-step.new.unit ∙ sym c.is_nothing.ensures ∙ c.if-is_nothing.true in
+    nothing_steps c.args.waking c.args.now c.args.idle_timeout c.index-streams-place.result c.step-step.new.self c.args.streams.now (step_to c.step-step.result c.step-step.new.unit) (omega (arith, c.if-place-streams.false))
     c.requires.bound c.requires.holds c.step-step.ensures tells
 
 pub returns-then-is_nothing-clause-bound : goal.returns-then-is_nothing-clause-bound
@@ -17,8 +19,8 @@ returns-then-is_nothing-clause-bound c = bound_set c.args.waking c.args.waking.f
 
 pub returns-else-is_nothing-clause-first : goal.returns-else-is_nothing-clause-first
 returns-else-is_nothing-clause-first c =
-    let tells : is_nothing c.step-step.result ≡ false = sym c.is_nothing.ensures ∙ c.if-is_nothing.false in
-    fed_steps c.args.waking c.args.now c.args.idle_timeout c.index-streams-place.result c.step-step.new.self c.args.streams.now c.step-step.result (omega (arith, c.if-place-streams.false))
+    let tells : is_nothing (step_to c.step-step.result c.step-step.new.unit) ≡ false = nothing_to c.step-step.result c.step-step.new.unit ∙ sym c.is_nothing.ensures ∙ c.if-is_nothing.false in
+    fed_steps c.args.waking c.args.now c.args.idle_timeout c.index-streams-place.result c.step-step.new.self c.args.streams.now (step_to c.step-step.result c.step-step.new.unit) (omega (arith, c.if-place-streams.false))
     c.requires.bound c.requires.holds c.step-step.ensures tells
 
 pub returns-else-is_nothing-clause-bound : goal.returns-else-is_nothing-clause-bound

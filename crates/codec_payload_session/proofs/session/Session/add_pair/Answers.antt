@@ -19,7 +19,7 @@ invariant_of-self c =
 pub returns-clause-ok : goal.returns-clause-ok
 returns-clause-ok c =
     let pair : SsrcPair = record { ssrc = c.args.ssrc; retransmission = c.args.retransmission } in
-    let s : Session = record { settings = c.self.inside.settings; port = c.self.inside.streams; counts = c.self.inside.counts; telephone = c.self.inside.telephone; report_due = c.self.inside.report_due } in
+    let s : Session = record { settings = c.self.inside.settings; port = c.self.inside.streams; counts = c.self.inside.counts; telephone = c.self.inside.telephone; report_due = c.self.inside.report_due; transport = c.self.inside.transport } in
     let t : Session = record s { settings = c.add_pair.new.settings; port = c.add_pair.new.streams } in
     subst (λ (x : Session). OnOk c.add_pair.result (Pairs c.args.ssrc (with_pair pair x.settings.pairs.items) x t)) c.self.view_is
     (named_pair c.add_pair.result pair s c.add_pair.new.settings c.add_pair.new.streams c.add_pair.ensures.ok)

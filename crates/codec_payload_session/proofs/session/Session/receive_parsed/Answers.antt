@@ -36,8 +36,8 @@ pub returns : goal.returns
 returns c =
     let taken : Bool = is_without_media c.take_in-answer.result in
     let told : Option Packet = telephone_at c.self.inside.settings c.args.datagram.now in
-    let s : Session = record { settings = c.self.inside.settings; port = c.self.inside.streams; counts = c.self.inside.counts; telephone = c.self.inside.telephone; report_due = c.self.inside.report_due } in
-    let t : Session = record { settings = c.take_in-answer.new.settings; port = c.take_in-answer.new.streams; counts = c.with_answer-self-inside.result; telephone = c.settle.new.self; report_due = c.self.inside.report_due } in
+    let s : Session = record { settings = c.self.inside.settings; port = c.self.inside.streams; counts = c.self.inside.counts; telephone = c.self.inside.telephone; report_due = c.self.inside.report_due; transport = c.self.inside.transport } in
+    let t : Session = record { settings = c.take_in-answer.new.settings; port = c.take_in-answer.new.streams; counts = c.with_answer-self-inside.result; telephone = c.settle.new.self; report_due = c.self.inside.report_due; transport = c.self.inside.transport } in
     let pair : Option SsrcPair = pair_at c.self.inside.settings c.args.now.0 c.args.datagram.now c.self.inside.streams.streams in
     subst (λ (x : Session). Associates c.args.now c.args.datagram.now x c.take_in-answer.result t) c.self.view_is
     (subst (λ (n : ArrivalCounts). AssociatesBy pair c.args.now c.args.datagram.now s c.take_in-answer.result (record t { counts = n })) (sym c.with_answer-self-inside.ensures)

@@ -20,7 +20,7 @@ invariant_of-self c =
 pub returns : goal.returns
 returns c =
     let changed : SessionSettings = record c.self.inside.settings { pairs = c.remove_pair.new.pairs } in
-    let t : Session = record { settings = changed; port = c.pair.new.self; counts = c.self.inside.counts; telephone = c.self.inside.telephone; report_due = c.self.inside.report_due } in
+    let t : Session = record { settings = changed; port = c.pair.new.self; counts = c.self.inside.counts; telephone = c.self.inside.telephone; report_due = c.self.inside.report_due; transport = c.self.inside.transport } in
     let are : c.deref.result.now ≡ without_pair c.args.ssrc c.self.inside.settings.pairs.items = c.deref.ensures.value ∙ c.remove_pair.ensures in
     subst (λ (s : Session). Pairs c.args.ssrc (without_pair c.args.ssrc s.settings.pairs.items) s t) c.self.view_is
     (record {

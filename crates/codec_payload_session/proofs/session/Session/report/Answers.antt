@@ -15,6 +15,6 @@ invariant_of-self c = record {
 
 pub returns-clause-reports : goal.returns-clause-reports
 returns-clause-reports c =
-    let t : Session = record { settings = c.self.inside.settings; port = c.report.new.self; counts = c.self.inside.counts; telephone = c.self.inside.telephone; report_due = c.self.inside.report_due } in
+    let t : Session = record { settings = c.self.inside.settings; port = c.report.new.self; counts = c.self.inside.counts; telephone = c.self.inside.telephone; report_due = c.self.inside.report_due; transport = c.self.inside.transport } in
     subst (λ (s : Session). (x : Port) × ReportsIf (position (is_of c.args.ssrc c.args.payload_type) s.port.streams) s.settings.tick_rate c.args.now.0 s.port c.report.result x × (t ≡ record s { port = x })) c.self.view_is
     (c.report.new.self, c.report.ensures.reports, refl)

@@ -14,7 +14,7 @@ invariant_of-self c = record {
 
 pub returns : goal.returns
 returns c =
-    let t : Session = record { settings = c.self.inside.settings; port = c.report_due-packet.new.self; counts = c.self.inside.counts; telephone = c.self.inside.telephone; report_due = c.report_due-packet.new.due } in
+    let t : Session = record { settings = c.self.inside.settings; port = c.report_due-packet.new.self; counts = c.self.inside.counts; telephone = c.self.inside.telephone; report_due = c.report_due-packet.new.due; transport = c.self.inside.transport } in
     subst (λ (s : Session). SendsReport c.args.now.0 s c.report_event.result t) c.self.view_is
     (record {
       packet = c.report_due-packet.result;

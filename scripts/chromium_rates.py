@@ -1,0 +1,216 @@
+#!/usr/bin/env python3
+"""Which bitrate Chromium gives its encoder of VP8, beside the bitrate that libwebrtc's own receiver makes it give.
+
+    scripts/chromium_rates.py                      a row for each loss: 0, 2 and 5 %
+    scripts/chromium_rates.py --losses 5 --runs 3 --intervals 50,100
+
+For each loss a headless Chromium sends for `--seconds` to a session of this library (rust/examples/port_peer.rs), which reports the
+arrivals of its transport, and then to a second peer connection of its page. Both go through the same network: the same losses, delay
+and jitter, from the same seeds. Prints kbit/s after 5 s, after 10 s and at the end: each the mean of three seconds. Fails unless the
+session reaches 95 % of the other bitrate within 10 s without losses, and 80 % of it at the end with losses.
+"""
+
+import argparse
+import contextlib
+import heapq
+import itertools
+import json
+import os
+import pathlib
+import random
+import re
+import select
+import shutil
+import signal
+import socket
+import statistics
+import subprocess
+import sys
+import tempfile
+import threading
+import time
+
+from chromium_peer import ROOT, SWITCHES, Server, browse
+from peer_relay import LOOPBACK, Network, Relay, answer_to, is_stun, sections_of
+
+import http.server
+
+# A description of a browser that is not to be sent further: its addresses.
+CANDIDATE = re.compile(r"a=(candidate:.*|end-of-candidates)\r\n")
+
+
+class DirectRelay(threading.Thread):
+    """Two ports between two peer connections: what comes to one goes out of the other, late and with losses."""
+
+    def __init__(self, network):
+        super().__init__(daemon=True)
+        self.network, self.running, self.addresses = network, True, [None, None]
+        self.ports = [socket.socket(socket.AF_INET, socket.SOCK_DGRAM) for _ in range(2)]
+        for port in self.ports:
+            port.bind((LOOPBACK, 0))
+        self.chances = [random.Random(network.seed), random.Random(network.seed + 1)]
+        self.pending, self.order = [], itertools.count()
+
+    def description(self, side, text):
+        """The description of a side for the other one, with the port of the relay, which learns the side's own."""
+        port = re.search(rf"a=candidate:\S+ 1 udp \d+ {re.escape(LOOPBACK)} (\d+)", text)
+        self.addresses[side] = (LOOPBACK, int(port[1]))
+        mine = self.ports[1 - side].getsockname()[1]
+        lines = f"a=candidate:1 1 udp 2130706431 {LOOPBACK} {mine} typ host\r\na=end-of-candidates\r\n"
+        return re.sub(r"(a=ice-ufrag)", lambda it: lines + it[1], CANDIDATE.sub("", text))
+
+    def run(self):
+        while self.running:
+            left = self.pending[0][0] - time.monotonic() if self.pending else 0.1
+            for port in select.select(self.ports, [], [], min(max(left, 0), 0.1))[0]:
+                side = self.ports.index(port)
+                data, self.addresses[side] = port.recvfrom(2048)
+                self.pass_on(side, data)
+            while self.pending and self.pending[0][0] <= time.monotonic():
+                _, _, to, data = heapq.heappop(self.pending)
+                self.ports[to].sendto(data, self.addresses[to])
+
+    def pass_on(self, side, data):
+        """What peer_relay.Relay does to datagrams; those of ICE pass at once."""
+        if is_stun(data):
+            self.ports[1 - side].sendto(data, self.addresses[1 - side])
+            return
+        chance, network = self.chances[side], self.network
+        lost, more = chance.uniform(0, 100) < network.loss, chance.uniform(0, network.jitter)
+        if not lost:
+            arrival = time.monotonic() + (network.delay + more) / 1000
+            heapq.heappush(self.pending, (arrival, next(self.order), 1 - side, data))
+
+    def stop(self):
+        self.running = False
+        if self.is_alive():
+            self.join()
+        for port in self.ports:
+            port.close()
+
+
+class Call:
+    """A call of a page: to the session, or with `direct` to a second connection of the page."""
+
+    def __init__(self, network, program=None, interval=None, folder=None):
+        self.network, self.program, self.interval, self.folder = network, program, interval, folder
+        self.rates, self.failure, self.process = [], None, None
+        self.relay = DirectRelay(network) if program is None else Relay(network)
+        self.ended = threading.Event()
+
+    def post(self, path, text):
+        if path == "/offer":
+            return self.relay.description(0, text) if self.program is None else self.answer(text)
+        if path == "/answer":
+            answer = self.relay.description(1, text)
+            self.relay.start()
+            return answer
+        self.rates, self.failure = (json.loads(text), None) if path == "/rates" else ([], text)
+        self.ended.set()
+        return ""
+
+    def answer(self, offer):
+        """Starts the program and the relay, and returns the answer."""
+        path = pathlib.Path(self.folder, "offer.sdp")
+        path.write_text(offer, encoding="ascii")
+        words = [self.program, path, f"{LOOPBACK}:{self.relay.inner_port}", *([str(self.interval)] if self.interval else [])]
+        self.process = subprocess.Popen(words, stdout=subprocess.PIPE, text=True)
+        self.relay.program = int(self.process.stdout.readline().split()[1])
+        threading.Thread(target=lambda: [None for _ in self.process.stdout], daemon=True).start()
+        self.relay.start()
+        return answer_to(offer, self.relay.port, self.relay.user, self.relay.password, len(sections_of(offer)[1]))
+
+    def finish(self):
+        self.relay.stop()
+        if self.process:
+            with contextlib.suppress(subprocess.TimeoutExpired):
+                self.process.wait(5)
+            self.process.kill()
+            self.process.wait()
+
+
+def handler_of(call):
+    class Handler(http.server.SimpleHTTPRequestHandler):
+        protocol_version = "HTTP/1.1"
+
+        def __init__(self, *words):
+            super().__init__(*words, directory=ROOT / "scripts")
+
+        def do_POST(self):
+            text = self.rfile.read(int(self.headers["Content-Length"])).decode()
+            answer = call.post(self.path, text).encode()
+            self.send_response(200)
+            self.send_header("Content-Length", str(len(answer)))
+            self.end_headers()
+            self.wfile.write(answer)
+
+        def log_message(self, *_):
+            pass
+
+    return Handler
+
+
+def rates_of(call, seconds):
+    """The bitrate of each second."""
+    server = Server((LOOPBACK, 0), handler_of(call))
+    threading.Thread(target=server.serve_forever, daemon=True).start()
+    query = f"seconds={seconds}" + ("&direct=1" if call.program is None else "")
+    try:
+        browse(call, f"http://{LOOPBACK}:{server.server_address[1]}/chromium_rates.html?{query}")
+    finally:
+        server.shutdown()
+        server.server_close()
+        call.finish()
+    if call.failure:
+        raise SystemExit(f"chromium_rates: {call.failure}")
+    return call.rates
+
+
+def figures_of(rates):
+    """After 5 s, after 10 s, and at the end."""
+    return [round(statistics.mean(rates[at - 3 : at])) for at in (5, 10, len(rates))]
+
+
+def built(folder):
+    target = os.environ.get("CARGO_TARGET_DIR", f"{folder}/target")
+    subprocess.run(["cargo", "build", "--offline", "--quiet", "--release", "--example", "port_peer"], cwd=ROOT / "rust",
+                   env={**os.environ, "CARGO_TARGET_DIR": target}, check=True)
+    return f"{target}/release/examples/port_peer"
+
+
+def main(words):
+    parser = argparse.ArgumentParser(description=__doc__.splitlines()[0])
+    parser.add_argument("--losses", default="0,2,5", help="percent, each way")
+    parser.add_argument("--round-trip", type=float, default=80, help="milliseconds; 80 by default")
+    parser.add_argument("--jitter", type=float, default=5, help="milliseconds; 5 by default")
+    parser.add_argument("--seconds", type=int, default=20)
+    parser.add_argument("--seed", type=int, default=1)
+    parser.add_argument("--runs", type=int, default=1)
+    parser.add_argument("--intervals", default="", help="milliseconds between two feedbacks; the default of the settings if absent")
+    settings = parser.parse_args(words)
+    if not shutil.which("chromium"):
+        print("chromium_rates: skipped, there is no chromium")
+        return 0
+    signal.signal(signal.SIGTERM, lambda *_: sys.exit("terminated"))
+    intervals = [int(word) for word in settings.intervals.split(",") if word] or [None]
+    faults = []
+    names = ["session" if interval is None else f"session, {interval} ms" for interval in intervals]
+    print(f"| loss | {' | '.join(names)} | Chromium to Chromium |\n|---{'|---' * len(names)}|---|", flush=True)
+    with tempfile.TemporaryDirectory() as folder:
+        program = built(folder)
+        for loss in map(float, settings.losses.split(",")):
+            for run in range(settings.runs):
+                network = Network(loss, settings.round_trip / 2, settings.jitter, settings.seed + 2 * run)
+                found = [figures_of(rates_of(Call(network, program, interval, folder), settings.seconds)) for interval in intervals]
+                found.append(figures_of(rates_of(Call(network), settings.seconds)))
+                print(f"| {loss:g} % | " + " | ".join(", ".join(map(str, each)) for each in found) + " |", flush=True)
+                for name, each in zip(names, found):
+                    place, share = (1, 0.95) if loss == 0 else (2, 0.8)
+                    if each[place] < share * found[-1][place]:
+                        faults.append(f"{name} at {loss:g} %: {each[place]} of {found[-1][place]} kbit/s")
+    print("\n".join([*faults, f"chromium_rates: {len(faults)} faults"]))
+    return 1 if faults else 0
+
+
+if __name__ == "__main__":
+    sys.exit(main(sys.argv[1:]))
