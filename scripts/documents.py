@@ -284,7 +284,7 @@ def glossary():
 
 def lemmas():
     """docs/VERIFICATION.md has each field of KeepsPromises with its lemma, and the files exist."""
-    crate = "crates/codec_payload_runs"
+    crate = "crates/codec_payload_buffer_runs"
     fields = re.search(r"record KeepsPromisesIf .*?\n\n", read(f"{crate}/specs/RunPromises.antt"), re.S)[0]
     proof, page = read(f"{crate}/proofs/order/RunLogs.antt"), read("docs/VERIFICATION.md")
     for field in re.findall(r"^  pub (\w+) :", fields, re.M):

@@ -385,9 +385,9 @@ class Theorem:
 ROOT = os.path.dirname(os.path.dirname(os.path.realpath(__file__)))
 # The files, and what each states.
 FILES = {
-    "SAFETY": ("codec_payload_runs", "RunPromises", "IsSafe"),
-    "COMPLETENESS": ("codec_payload_runs", "RunPromises", "IsExact"),
-    "LOSS": ("codec_payload_runs", "RunPromises", "LosesNothingSilently"),
+    "SAFETY": ("codec_payload_buffer_runs", "RunPromises", "IsSafe"),
+    "COMPLETENESS": ("codec_payload_buffer_runs", "RunPromises", "IsExact"),
+    "LOSS": ("codec_payload_buffer_runs", "RunPromises", "LosesNothingSilently"),
     "STREAM": ("codec_payload_session_runs", "Lives", "IsAlone"),
 }
 

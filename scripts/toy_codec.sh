@@ -36,8 +36,8 @@ step cargo test --quiet --lib
 cd ..
 step "${CC:-cc}" -std=c11 -Wall -Werror -fsyntax-only -Iinclude c/vectors.c
 if [ "${1:-}" = prove ]; then
-    for crate in codec_payload_base codec_payload_audio codec_payload_codec codec_payload_buffer codec_payload_send \
-        codec_payload_runs codec_payload_handle payload_vectors; do
+    for crate in codec_payload_base codec_payload_audio codec_payload_codec codec_payload_buffer codec_payload_payloader \
+        codec_payload_buffer_runs codec_payload_handle payload_vectors; do
         cd "$copy/crates/$crate"
         step rt check
     done

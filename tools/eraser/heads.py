@@ -133,7 +133,7 @@ def of_facade(sources, crate, module):
 def head_files(sources, passed_on):
     """Path below `rust/src`, source and text of each file that names modules."""
     for crate in LIBRARY:
-        if crate in ("send", "runs"):
+        if crate in ("payloader", "buffer_runs"):
             module = PLACES[crate]
             yield f"{module}.rs", f"crates/codec_payload_core/src/{module}.rt", of_facade(sources, crate, module)
         elif crate in PLACES:

@@ -1,21 +1,21 @@
 """Where the modules of the proved crates go in the one crate of plain Rust."""
 
 # The crates of the library, each after the crates that it uses.
-LIBRARY = ["base", "audio", "vp8", "vp9", "av1", "red", "rtp", "red_writer", "rtcp", "congestion", "history", "forward", "vpx", "media", "keyframes", "requests", "feedback", "transport", "ccfb", "adaptive_wait", "queue", "codec", "buffer", "jitter", "stream", "session", "sender",
-           "send", "runs", "wire", "session_runs"]
+LIBRARY = ["base", "audio", "vp8", "vp9", "av1", "red", "rtp", "sending_red", "rtcp", "feedback_congestion", "sending_history", "sending_forward", "vpx", "media", "keyframes", "feedback_requests", "feedback", "feedback_transport", "feedback_ccfb", "feedback_wait", "queue", "codec", "buffer", "jitter", "receiver", "session", "sending",
+           "payloader", "buffer_runs", "datagram_runs", "session_runs"]
 # The library for C.
 NOT_HERE = {"handle", "c"}
 # Names the users' modules of the library again.
 FACADE = "core"
 # The module below which a crate's modules go. Modules of all other crates go to the root.
-PLACES = {"queue": "queue", "rtp": "rtp", "rtcp": "rtcp", "congestion": "congestion", "vpx": "media::vpx", "media": "media", "keyframes": "keyframes", "history": "history", "forward": "forward", "requests": "requests", "feedback": "feedback", "transport": "transport", "ccfb": "ccfb", "adaptive_wait": "waiting", "jitter": "jitter", "stream": "stream", "session": "session", "send": "payload",
-          "runs": "schedule", "wire": "schedule::datagrams", "session_runs": "session::runs"}
+PLACES = {"queue": "queue", "rtp": "rtp", "rtcp": "rtcp", "feedback_congestion": "congestion", "vpx": "media::vpx", "media": "media", "keyframes": "keyframes", "sending_history": "history", "sending_forward": "forward", "feedback_requests": "requests", "feedback": "feedback", "feedback_transport": "transport", "feedback_ccfb": "ccfb", "feedback_wait": "waiting", "jitter": "jitter", "receiver": "stream", "session": "session", "payloader": "payload",
+          "buffer_runs": "schedule", "datagram_runs": "schedule::datagrams", "session_runs": "session::runs"}
 # Modules with another name in the one crate.
 RENAMED_MODULES = {("rtp", "rtp"): "packet", ("jitter", "jitter"): "jitter_buffer", ("session", "session"): "sessions"}
 # Types with another name in the one crate, since another type has theirs: crate, module, name.
-RENAMED_TYPES = {("stream", "receiver", "Settings"): "ReceiverSettings"}
+RENAMED_TYPES = {("receiver", "receiver", "Settings"): "ReceiverSettings"}
 # Crates whose public modules are hidden: what they hold is public in the module above them.
-FLAT = {"rtp", "rtcp", "congestion", "history", "forward", "vpx", "media", "keyframes", "requests", "feedback", "transport", "ccfb", "adaptive_wait", "jitter", "stream", "session", "wire", "session_runs"}
+FLAT = {"rtp", "rtcp", "feedback_congestion", "sending_history", "sending_forward", "vpx", "media", "keyframes", "feedback_requests", "feedback", "feedback_transport", "feedback_ccfb", "feedback_wait", "jitter", "receiver", "session", "datagram_runs", "session_runs"}
 # Modules that are left out of the documentation of the one crate: runs are there for its tests alone.
 UNDOCUMENTED_MODULES = {"session::runs"}
 # Public functions that are left out of it too, since only other modules and ports of `str0m` call them.

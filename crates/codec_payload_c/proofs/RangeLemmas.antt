@@ -4,16 +4,16 @@ use Rattle.codec_payload_c.specs.StreamReceivers.{AreSettings, is_in_range, red_
 use Rattle.codec_payload_c.specs.Inspect.{given_if}
 use Rattle.codec_payload_core.specs.Depacketizers.{DepacketizerState}
 use Rattle.codec_payload_jitter.specs.Numbers.{Numbering, numbering_within}
-use Rattle.codec_payload_stream.specs.declared.datagram.RedStream.{RedStream}
-use Rattle.codec_payload_stream.specs.Sessions.{red_by, red_within, retransmission_fits, session_by, session_in, session_within}
+use Rattle.codec_payload_receiver.specs.declared.datagram.RedStream.{RedStream}
+use Rattle.codec_payload_receiver.specs.Sessions.{red_by, red_within, retransmission_fits, session_by, session_in, session_within}
 use Rattle.codec_payload_c.specs.declared.receiver.ReceiverSettings.{ReceiverSettings}
 use Rattle.codec_payload_jitter.specs.declared.numbers.WindowError.{WindowError}
 use Rattle.codec_payload_jitter.specs.declared.numbers.WindowError.TheVariants as windows
-use Rattle.codec_payload_stream.specs.declared.receiver.RedSettings.{RedSettings}
-use Rattle.codec_payload_stream.specs.declared.receiver.Retransmission.{Retransmission}
-use Rattle.codec_payload_stream.specs.declared.receiver.Settings.{Settings}
-use Rattle.codec_payload_stream.specs.declared.receiver.SettingsError.{SettingsError}
-use Rattle.codec_payload_stream.specs.declared.receiver.SettingsError.TheVariants as settings
+use Rattle.codec_payload_receiver.specs.declared.receiver.RedSettings.{RedSettings}
+use Rattle.codec_payload_receiver.specs.declared.receiver.Retransmission.{Retransmission}
+use Rattle.codec_payload_receiver.specs.declared.receiver.Settings.{Settings}
+use Rattle.codec_payload_receiver.specs.declared.receiver.SettingsError.{SettingsError}
+use Rattle.codec_payload_receiver.specs.declared.receiver.SettingsError.TheVariants as settings
 
 ok_if : {A E : Type 0} (b : Bool) (x : Result A E) (e : E) → is_ok (if b then x else Err e) ≡ (b && is_ok x)
 ok_if true x e = refl

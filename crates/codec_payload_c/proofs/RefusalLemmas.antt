@@ -4,7 +4,7 @@ use Rattle.std.specs.Prelude.{◌≢◌}
 use Rattle.codec_payload_core.specs.Faults.{fault_number}
 use Rattle.codec_payload_core.specs.declared.error.PacketError.{PacketError}
 use Rattle.codec_payload_core.specs.declared.error.PacketError.TheVariants as faults
-use Rattle.codec_payload_stream.specs.Pops.{is_memory}
+use Rattle.codec_payload_receiver.specs.Pops.{is_memory}
 
 -- each is above 0, and none is out of memory
 pub some_number : (fault : PacketError) → is_memory fault ≡ false → fault_number fault ≢ 0

@@ -1,10 +1,10 @@
 -- A sender is made exactly if its settings are in range.
 use Rattle.std.proofs.Common.{◌≡◌, inl, inr, ap, refl, subst, ℕ, Bool, true, false, Some, None, Result, Ok, Err, ◌&&◌, not, nat_le, nat_lt, if◌then◌else◌, IfSome, arith}
 use Rattle.codec_payload_rtp.specs.ExtensionWriting.{ids_fit}
-use Rattle.codec_payload_sender.specs.Senders.{refusal_of}
-use Rattle.codec_payload_sender.specs.declared.sender.SenderError.{SenderError}
-use Rattle.codec_payload_sender.specs.declared.sender.SenderError.TheVariants as errors
-use Rattle.codec_payload_sender.specs.declared.sender.SenderSettings.{SenderSettings as Settings}
+use Rattle.codec_payload_sending.specs.Senders.{refusal_of}
+use Rattle.codec_payload_sending.specs.declared.sender.SenderError.{SenderError}
+use Rattle.codec_payload_sending.specs.declared.sender.SenderError.TheVariants as errors
+use Rattle.codec_payload_sending.specs.declared.sender.SenderSettings.{SenderSettings as Settings}
 use Rattle.codec_payload_c.specs.Ids.{ids_given}
 use Rattle.codec_payload_c.specs.Refusals.{RefusesSettings}
 use Rattle.codec_payload_c.specs.StreamSenders.{is_in_range, refusal_status, settings_for}

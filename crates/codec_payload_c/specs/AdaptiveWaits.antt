@@ -1,7 +1,7 @@
 -- The calls on a limit of waiting that follows how late missing packets arrive.
 use Rattle.std.specs.Prelude.{◌≡◌, ℕ, List, [], ◌∷◌}
-use Rattle.codec_payload_adaptive_wait.specs.Waits.{Wait, after_arrival, after_missing, limit_of, new_wait}
-use Rattle.codec_payload_adaptive_wait.specs.declared.adaptive_wait.AdaptiveWaitSettings.{AdaptiveWaitSettings as Settings}
+use Rattle.codec_payload_feedback_wait.specs.Waits.{Wait, after_arrival, after_missing, limit_of, new_wait}
+use Rattle.codec_payload_feedback_wait.specs.declared.adaptive_wait.AdaptiveWaitSettings.{AdaptiveWaitSettings as Settings}
 use Rattle.codec_payload_handle.specs.declared.object.Object.{Object}
 use Rattle.codec_payload_handle.specs.declared.object.Object.TheVariants as objects
 use Rattle.codec_payload_c.specs.declared.adaptive_wait.AdaptiveWaitSettings.{AdaptiveWaitSettings}

@@ -2,22 +2,22 @@
 use Rattle.std.specs.Prelude.{◌≡◌, ◌⊎◌, ℕ, ◌+◌, ◌%◌, nat_le, Bool, true, false, List, [], ◌∷◌, ◌++◌, length, drop, slice_get, Option, Some, None, Result, Ok, Err}
 use Rattle.std.specs.Int.{w32, from_be_bytes, to_be_bytes}
 use Rattle.std.specs.List.{flat_map}
-use Rattle.codec_payload_congestion.specs.Feedback.{Reported, feedback_at}
-use Rattle.codec_payload_congestion.specs.Packet.{AppendsRembPacket}
-use Rattle.codec_payload_congestion.specs.Remb.{Estimate, remb_at}
-use Rattle.codec_payload_congestion.specs.declared.remb.RembFault.{RembFault}
-use Rattle.codec_payload_congestion.specs.declared.remb.RembFault.TheVariants as remb
-use Rattle.codec_payload_congestion.specs.declared.transport.TransportError.{TransportError}
-use Rattle.codec_payload_congestion.specs.declared.transport.TransportError.TheVariants as failures
-use Rattle.codec_payload_congestion.specs.declared.transport.TransportFault.{TransportFault}
-use Rattle.codec_payload_congestion.specs.declared.transport.TransportFault.TheVariants as faults
+use Rattle.codec_payload_feedback_congestion.specs.Feedback.{Reported, feedback_at}
+use Rattle.codec_payload_feedback_congestion.specs.Packet.{AppendsRembPacket}
+use Rattle.codec_payload_feedback_congestion.specs.Remb.{Estimate, remb_at}
+use Rattle.codec_payload_feedback_congestion.specs.declared.remb.RembFault.{RembFault}
+use Rattle.codec_payload_feedback_congestion.specs.declared.remb.RembFault.TheVariants as remb
+use Rattle.codec_payload_feedback_congestion.specs.declared.transport.TransportError.{TransportError}
+use Rattle.codec_payload_feedback_congestion.specs.declared.transport.TransportError.TheVariants as failures
+use Rattle.codec_payload_feedback_congestion.specs.declared.transport.TransportFault.{TransportFault}
+use Rattle.codec_payload_feedback_congestion.specs.declared.transport.TransportFault.TheVariants as faults
 use Rattle.codec_payload_handle.specs.Bytes.{filled}
 use Rattle.codec_payload_rtcp.specs.RtcpPackets.{Feedback}
 use Rattle.codec_payload_rtcp.specs.declared.packet.RtcpError.{RtcpError}
-use Rattle.codec_payload_transport.specs.Messages.{messages_at}
-use Rattle.codec_payload_transport.specs.Numbering.{AppendsNumbered, IsUnnumbered}
-use Rattle.codec_payload_transport.specs.declared.numbering.NumberingError.{NumberingError}
-use Rattle.codec_payload_transport.specs.declared.numbering.NumberingError.TheVariants as numbering
+use Rattle.codec_payload_feedback_transport.specs.Messages.{messages_at}
+use Rattle.codec_payload_feedback_transport.specs.Numbering.{AppendsNumbered, IsUnnumbered}
+use Rattle.codec_payload_feedback_transport.specs.declared.numbering.NumberingError.{NumberingError}
+use Rattle.codec_payload_feedback_transport.specs.declared.numbering.NumberingError.TheVariants as numbering
 use Rattle.codec_payload_c.specs.Histories.{put_first, rtcp_status}
 use Rattle.codec_payload_c.specs.RtpFields.{rtp_status}
 use Rattle.codec_payload_c.specs.TransportReporters.{Writing}

@@ -5,14 +5,14 @@ use Rattle.codec_payload_core.specs.declared.wire.Codec.TheVariants as codecs
 use Rattle.codec_payload_rtp.specs.RtpPackets.{Packet}
 use Rattle.codec_payload_rtp.specs.RtpReading.{rtp_at}
 use Rattle.codec_payload_rtp.specs.declared.rtp.RtpError.{RtpError}
-use Rattle.codec_payload_history.specs.Packets.{Past}
-use Rattle.codec_payload_history.specs.declared.retransmission.RetransmissionStream.{RetransmissionStream}
-use Rattle.codec_payload_forward.specs.Counting.{after_answer, after_resent, no_counts}
-use Rattle.codec_payload_forward.specs.Forwarding.{Forward, Forwards, IsNotRequested, IsRequested, Leaves, Repeats, forward_by, size_again, forwarded_size, time_for}
-use Rattle.codec_payload_forward.specs.declared.counts.ForwardCounts.{ForwardCounts}
-use Rattle.codec_payload_forward.specs.declared.forwarder.ForwardSettings.{ForwardSettings}
-use Rattle.codec_payload_forward.specs.declared.forwarder.Forwarded.{Forwarded}
-use Rattle.codec_payload_forward.specs.declared.forwarder.Forwarded.TheVariants as answers
+use Rattle.codec_payload_sending_history.specs.Packets.{Past}
+use Rattle.codec_payload_sending_history.specs.declared.retransmission.RetransmissionStream.{RetransmissionStream}
+use Rattle.codec_payload_sending_forward.specs.Counting.{after_answer, after_resent, no_counts}
+use Rattle.codec_payload_sending_forward.specs.Forwarding.{Forward, Forwards, IsNotRequested, IsRequested, Leaves, Repeats, forward_by, size_again, forwarded_size, time_for}
+use Rattle.codec_payload_sending_forward.specs.declared.counts.ForwardCounts.{ForwardCounts}
+use Rattle.codec_payload_sending_forward.specs.declared.forwarder.ForwardSettings.{ForwardSettings}
+use Rattle.codec_payload_sending_forward.specs.declared.forwarder.Forwarded.{Forwarded}
+use Rattle.codec_payload_sending_forward.specs.declared.forwarder.Forwarded.TheVariants as answers
 use Rattle.codec_payload_handle.specs.Bytes.{filled}
 use Rattle.codec_payload_handle.specs.Kinds.{is_packet_history}
 use Rattle.codec_payload_handle.specs.Settings.{codec_numbered}

@@ -4,18 +4,18 @@ use Rattle.std.specs.declared.alloc.AllocError.{AllocError}
 use Rattle.codec_payload_base.specs.declared.wire.Ticks.{Ticks}
 use Rattle.codec_payload_rtcp.specs.declared.packet.RtcpError.{RtcpError}
 use Rattle.codec_payload_rtcp.specs.declared.packet.RtcpError.TheVariants as rtcp
-use Rattle.codec_payload_history.specs.Histories.{HasNot, IsAt, IsFault, Keeps, KeepsOnce, Resends, ResendsWithin, history_by, is_too_soon}
-use Rattle.codec_payload_history.specs.Packets.{Sent, stream_fits}
-use Rattle.codec_payload_history.specs.declared.feedback.Request.{Request}
-use Rattle.codec_payload_history.specs.declared.feedback.Request.TheVariants as requests
-use Rattle.codec_payload_history.specs.declared.retransmission.HistorySettings.{HistorySettings as Settings}
-use Rattle.codec_payload_history.specs.declared.retransmission.Kept.TheVariants as kept
-use Rattle.codec_payload_history.specs.declared.retransmission.KeptOnce.TheVariants as once
-use Rattle.codec_payload_history.specs.declared.retransmission.KeepError.{KeepError}
-use Rattle.codec_payload_history.specs.declared.retransmission.KeepError.TheVariants as faults
-use Rattle.codec_payload_history.specs.declared.retransmission.Resent.{Resent}
-use Rattle.codec_payload_history.specs.declared.retransmission.Resent.TheVariants as results
-use Rattle.codec_payload_history.specs.declared.retransmission.RetransmissionStream.{RetransmissionStream}
+use Rattle.codec_payload_sending_history.specs.Histories.{HasNot, IsAt, IsFault, Keeps, KeepsOnce, Resends, ResendsWithin, history_by, is_too_soon}
+use Rattle.codec_payload_sending_history.specs.Packets.{Sent, stream_fits}
+use Rattle.codec_payload_sending_history.specs.declared.feedback.Request.{Request}
+use Rattle.codec_payload_sending_history.specs.declared.feedback.Request.TheVariants as requests
+use Rattle.codec_payload_sending_history.specs.declared.retransmission.HistorySettings.{HistorySettings as Settings}
+use Rattle.codec_payload_sending_history.specs.declared.retransmission.Kept.TheVariants as kept
+use Rattle.codec_payload_sending_history.specs.declared.retransmission.KeptOnce.TheVariants as once
+use Rattle.codec_payload_sending_history.specs.declared.retransmission.KeepError.{KeepError}
+use Rattle.codec_payload_sending_history.specs.declared.retransmission.KeepError.TheVariants as faults
+use Rattle.codec_payload_sending_history.specs.declared.retransmission.Resent.{Resent}
+use Rattle.codec_payload_sending_history.specs.declared.retransmission.Resent.TheVariants as results
+use Rattle.codec_payload_sending_history.specs.declared.retransmission.RetransmissionStream.{RetransmissionStream}
 use Rattle.codec_payload_handle.specs.Bytes.{filled}
 use Rattle.codec_payload_handle.specs.declared.object.Object.{Object}
 use Rattle.codec_payload_handle.specs.declared.object.Object.TheVariants as objects

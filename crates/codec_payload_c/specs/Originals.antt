@@ -1,9 +1,9 @@
 -- The call that writes the packet that a retransmission repeats.
 use Rattle.std.specs.Prelude.{◌≡◌, ◌⊎◌, ℕ, List}
-use Rattle.codec_payload_history.specs.Originals.{IsRefused, WritesOriginal}
-use Rattle.codec_payload_history.specs.declared.original.OriginalError.{OriginalError}
-use Rattle.codec_payload_history.specs.declared.original.OriginalError.TheVariants as errors
-use Rattle.codec_payload_history.specs.declared.original.OriginalStream.{OriginalStream}
+use Rattle.codec_payload_sending_history.specs.Originals.{IsRefused, WritesOriginal}
+use Rattle.codec_payload_sending_history.specs.declared.original.OriginalError.{OriginalError}
+use Rattle.codec_payload_sending_history.specs.declared.original.OriginalError.TheVariants as errors
+use Rattle.codec_payload_sending_history.specs.declared.original.OriginalStream.{OriginalStream}
 use Rattle.codec_payload_c.specs.Congestion.{IsUnwritten, PutsPacket}
 use Rattle.codec_payload_c.specs.RtpFields.{rtp_status}
 use Rattle.codec_payload_c.specs.TransportReporters.{Writing}

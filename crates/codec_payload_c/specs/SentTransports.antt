@@ -1,6 +1,6 @@
 -- The calls on the packets that were sent on a transport.
 use Rattle.std.specs.Prelude.{◌≡◌, ◌⊎◌, ℕ, ◌&&◌, nat_le, Bool}
-use Rattle.codec_payload_transport.specs.Sent.{Sent, after_sent, none_sent}
+use Rattle.codec_payload_feedback_transport.specs.Sent.{Sent, after_sent, none_sent}
 use Rattle.codec_payload_handle.specs.declared.object.Object.{Object}
 use Rattle.codec_payload_handle.specs.declared.object.Object.TheVariants as objects
 

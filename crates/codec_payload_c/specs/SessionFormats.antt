@@ -13,7 +13,7 @@ use Rattle.codec_payload_session.specs.declared.formats.FeedbackSettings.{Feedba
 use Rattle.codec_payload_session.specs.declared.formats.Format.{Format}
 use Rattle.codec_payload_session.specs.declared.formats.SessionSettings.{SessionSettings as Settings}
 use Rattle.codec_payload_session.specs.declared.formats.SsrcPair.{SsrcPair as Pair}
-use Rattle.codec_payload_stream.specs.declared.receiver.RedSettings.{RedSettings}
+use Rattle.codec_payload_receiver.specs.declared.receiver.RedSettings.{RedSettings}
 use Rattle.codec_payload_c.specs.Ids.{ids_given}
 use Rattle.codec_payload_c.specs.Inspect.{given_if}
 use Rattle.codec_payload_c.specs.StreamReceivers.{bound_given, from_keyframe_numbered, wait_limits_given}

@@ -11,7 +11,7 @@ use Rattle.codec_payload_session.specs.Streams.{is_of}
 use Rattle.codec_payload_session.specs.declared.stream.Stage.{Stage}
 use Rattle.codec_payload_session.specs.declared.stream.Stage.TheVariants as stages
 use Rattle.codec_payload_session.specs.declared.stream.StreamState.{StreamState}
-use Rattle.codec_payload_stream.specs.Sessions.{Session as Receiver}
+use Rattle.codec_payload_receiver.specs.Sessions.{Session as Receiver}
 use Rattle.codec_payload_c.specs.Sessions.{ending_number}
 use Rattle.codec_payload_c.specs.StreamReceivers.{TellsCounts, without_units}
 use Rattle.codec_payload_c.specs.declared.session_streams.SessionCountsInfo.{SessionCountsInfo}

@@ -22,7 +22,7 @@ use Rattle.codec_payload_session.specs.Units.{Event}
 use Rattle.codec_payload_session.specs.declared.session.Event.TheVariants as events
 use Rattle.codec_payload_session.specs.declared.stream.Ending.{Ending}
 use Rattle.codec_payload_session.specs.declared.stream.Ending.TheVariants as endings
-use Rattle.codec_payload_stream.specs.declared.receiver.ReceiveError.{ReceiveError}
+use Rattle.codec_payload_receiver.specs.declared.receiver.ReceiveError.{ReceiveError}
 use Rattle.codec_payload_c.specs.StreamReceivers.{Tells, time_or}
 use Rattle.codec_payload_c.specs.declared.session.Arrival.{Arrival as CArrival}
 use Rattle.codec_payload_c.specs.declared.session.Event.{Event as CEvent}

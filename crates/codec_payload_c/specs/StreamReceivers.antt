@@ -8,16 +8,16 @@ use Rattle.codec_payload_jitter.specs.declared.outcome.Outcome.{Outcome}
 use Rattle.codec_payload_jitter.specs.declared.outcome.Outcome.TheVariants as outcomes
 use Rattle.codec_payload_keyframes.specs.declared.unit_gate.FromKeyframe.{FromKeyframe}
 use Rattle.codec_payload_keyframes.specs.declared.unit_gate.FromKeyframe.TheVariants as modes
-use Rattle.codec_payload_stream.specs.Kinds.{retransmitted_under}
-use Rattle.codec_payload_stream.specs.Bounds.{counters_with}
-use Rattle.codec_payload_stream.specs.Pops.{PopsGated, is_large}
-use Rattle.codec_payload_stream.specs.Sessions.{Finishes, ReceivesBytes, Session, restarted, session_by}
-use Rattle.codec_payload_stream.specs.declared.receiver.ReceiveError.{ReceiveError}
-use Rattle.codec_payload_stream.specs.declared.receiver.ReceiveError.TheVariants as errors
-use Rattle.codec_payload_stream.specs.declared.receiver.RedSettings.{RedSettings}
-use Rattle.codec_payload_stream.specs.declared.receiver.Retransmission.{Retransmission}
-use Rattle.codec_payload_stream.specs.declared.receiver.Settings.{Settings}
-use Rattle.codec_payload_stream.specs.declared.reports.ReceptionReport.{ReceptionReport}
+use Rattle.codec_payload_receiver.specs.Kinds.{retransmitted_under}
+use Rattle.codec_payload_receiver.specs.Bounds.{counters_with}
+use Rattle.codec_payload_receiver.specs.Pops.{PopsGated, is_large}
+use Rattle.codec_payload_receiver.specs.Sessions.{Finishes, ReceivesBytes, Session, restarted, session_by}
+use Rattle.codec_payload_receiver.specs.declared.receiver.ReceiveError.{ReceiveError}
+use Rattle.codec_payload_receiver.specs.declared.receiver.ReceiveError.TheVariants as errors
+use Rattle.codec_payload_receiver.specs.declared.receiver.RedSettings.{RedSettings}
+use Rattle.codec_payload_receiver.specs.declared.receiver.Retransmission.{Retransmission}
+use Rattle.codec_payload_receiver.specs.declared.receiver.Settings.{Settings}
+use Rattle.codec_payload_receiver.specs.declared.reports.ReceptionReport.{ReceptionReport}
 use Rattle.codec_payload_base.specs.declared.wire.Ticks.{Ticks}
 use Rattle.codec_payload_core.specs.Release.{Release}
 use Rattle.codec_payload_core.specs.declared.buffer.RtpMeta.{RtpMeta}

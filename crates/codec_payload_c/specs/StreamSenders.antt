@@ -5,11 +5,11 @@ use Rattle.codec_payload_base.specs.declared.wire.extension.ExtensionValues.{Ext
 use Rattle.codec_payload_core.specs.Faults.{fault_number}
 use Rattle.codec_payload_core.specs.Packetizers.{PacketizerState}
 use Rattle.codec_payload_rtp.specs.ExtensionWriting.{ids_fit}
-use Rattle.codec_payload_sender.specs.Datagrams.{Sample}
-use Rattle.codec_payload_sender.specs.Senders.{Sends, Refuses as RefusesSample, report_of, sender_by, with_format}
-use Rattle.codec_payload_sender.specs.declared.sender.SenderError.{SenderError}
-use Rattle.codec_payload_sender.specs.declared.sender.SenderError.TheVariants as errors
-use Rattle.codec_payload_sender.specs.declared.sender.SenderSettings.{SenderSettings as Settings}
+use Rattle.codec_payload_sending.specs.Datagrams.{Sample}
+use Rattle.codec_payload_sending.specs.Senders.{Sends, Refuses as RefusesSample, report_of, sender_by, with_format}
+use Rattle.codec_payload_sending.specs.declared.sender.SenderError.{SenderError}
+use Rattle.codec_payload_sending.specs.declared.sender.SenderError.TheVariants as errors
+use Rattle.codec_payload_sending.specs.declared.sender.SenderSettings.{SenderSettings as Settings}
 use Rattle.codec_payload_handle.specs.Bytes.{filled}
 use Rattle.codec_payload_handle.specs.HeaderValues.{values_given}
 use Rattle.codec_payload_handle.specs.declared.object.Object.{Object}

@@ -4,8 +4,8 @@ ghost use Rattle.std.specs.Prelude.{◌≡◌, ◌≢◌, Bool};
 ghost use Rattle.codec_payload_handle.specs.Kinds.{Makes, OnAdaptiveWait, Refuses, is_adaptive_wait};
 ghost use Rattle.codec_payload_c.specs.AdaptiveWaits.{IsAdaptiveWaitOf, NotesArrival, NotesMissing, TellsLimit, after_all_missing, settings_given};
 
-use codec_payload_adaptive_wait::adaptive_wait::{AdaptiveWait, AdaptiveWaitSettings as Settings};
 use codec_payload_core::wire::Ticks;
+use codec_payload_feedback_wait::adaptive_wait::{AdaptiveWait, AdaptiveWaitSettings as Settings};
 use codec_payload_handle::handle::Handle;
 use codec_payload_handle::object::Object;
 use codec_payload_handle::status;

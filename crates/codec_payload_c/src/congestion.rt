@@ -2,24 +2,24 @@
 
 ghost use Rattle.std.specs.Prelude.{◌≡◌, ◌≢◌, ◌*◌, ◌≤◌, ◌++◌, [], drop, length, set, slice_get, IfOk};
 ghost use Rattle.codec_payload_base.specs.Answers.{Finds, seen};
-ghost use Rattle.codec_payload_congestion.specs.Feedback.{reported_of};
-ghost use Rattle.codec_payload_congestion.specs.Packet.{AppendsRembPacket};
-ghost use Rattle.codec_payload_congestion.specs.Remb.{remb_at};
-ghost use Rattle.codec_payload_transport.specs.Messages.{feedback_of, messages_left, type_of_kind};
+ghost use Rattle.codec_payload_feedback_congestion.specs.Feedback.{reported_of};
+ghost use Rattle.codec_payload_feedback_congestion.specs.Packet.{AppendsRembPacket};
+ghost use Rattle.codec_payload_feedback_congestion.specs.Remb.{remb_at};
+ghost use Rattle.codec_payload_feedback_transport.specs.Messages.{feedback_of, messages_left, type_of_kind};
 ghost use Rattle.codec_payload_c.specs.Histories.{put_first};
 ghost use Rattle.codec_payload_c.specs.Congestion.{PutsArrivals, PutsPacket, ReadsArrivals, ReadsEstimate, ReadsRemb, ReadsTransport, WritesNumbered, WritesRemb, arrival_of, arrivals_from, info_of, message_with, numbering_status, remb_status, ssrc_bytes, ssrcs_in, transport_status};
 
 use crate::history::{rtcp_status, rule_of};
 use crate::rtp::status_of;
-use codec_payload_congestion::packet::write_remb_packet;
-use codec_payload_congestion::remb::{RembFault, read_remb};
-use codec_payload_congestion::transport::{
+use codec_payload_feedback_congestion::packet::write_remb_packet;
+use codec_payload_feedback_congestion::remb::{RembFault, read_remb};
+use codec_payload_feedback_congestion::transport::{
     TransportError, TransportFault, TransportFeedback, read_transport_feedback,
 };
+use codec_payload_feedback_transport::messages::{Message, MessageKind, Messages, read_messages};
+use codec_payload_feedback_transport::numbering::{NumberingError, write_numbered};
 use codec_payload_handle::bytes::fill;
 use codec_payload_handle::status;
-use codec_payload_transport::messages::{Message, MessageKind, Messages, read_messages};
-use codec_payload_transport::numbering::{NumberingError, write_numbered};
 use std::alloc::{AllocError, Global};
 
 /// What a transport-wide feedback reports on.

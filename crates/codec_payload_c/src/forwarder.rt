@@ -8,15 +8,17 @@ ghost use Rattle.codec_payload_c.specs.StreamReceivers.{TellsNumber};
 use crate::rtp::status_of;
 use crate::sender::SenderReportInfo;
 use codec_payload_core::wire::Codec;
-use codec_payload_forward::counts::ForwardCounts;
-use codec_payload_forward::forwarder::{ForwardSettings, Forwarded, Forwarder, forwarded_size};
 use codec_payload_handle::bytes::fill;
 use codec_payload_handle::handle::Handle;
 use codec_payload_handle::object::{Object, PacketForwarder};
 use codec_payload_handle::settings::codec_of;
 use codec_payload_handle::status;
-use codec_payload_history::retransmission::{History, RetransmissionStream};
 use codec_payload_rtp::rtp::RtpPacket;
+use codec_payload_sending_forward::counts::ForwardCounts;
+use codec_payload_sending_forward::forwarder::{
+    ForwardSettings, Forwarded, Forwarder, forwarded_size,
+};
+use codec_payload_sending_history::retransmission::{History, RetransmissionStream};
 use std::alloc::Global;
 
 /// How a viewer's stream is sent.

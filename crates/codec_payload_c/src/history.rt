@@ -1,8 +1,8 @@
 //! Histories: sent packets are kept, and resent when RTCP feedback requests them.
 
 ghost use Rattle.std.specs.Prelude.{◌≡◌, ◌≢◌, ◌+◌, ◌-◌, ◌^◌, ◌≤◌, length, min, set, Bool, IfNone, IfSome, Ok};
-ghost use Rattle.codec_payload_history.specs.Histories.{history_by};
-ghost use Rattle.codec_payload_history.specs.Requests.{requests_at, requests_left};
+ghost use Rattle.codec_payload_sending_history.specs.Histories.{history_by};
+ghost use Rattle.codec_payload_sending_history.specs.Requests.{requests_at, requests_left};
 ghost use Rattle.codec_payload_rtcp.specs.Compound.{is_full};
 ghost use Rattle.codec_payload_c.specs.Histories.{IsPacketHistoryOf, KeepsDatagram, KeepsDatagramOnce, ReadsRequests, ResendsPacket, asks_keyframe, is_in_range, numbers_asked, put_first, rtcp_status, settings_set};
 ghost use Rattle.codec_payload_handle.specs.Kinds.{Makes, OnPacketHistory, Refuses, is_packet_history};
@@ -13,12 +13,12 @@ use codec_payload_handle::bytes::fill;
 use codec_payload_handle::handle::Handle;
 use codec_payload_handle::object::{Object, PacketHistory};
 use codec_payload_handle::status;
-use codec_payload_history::feedback::{Request, Requests, read_requests};
-use codec_payload_history::retransmission::{
-    History, HistorySettings as Settings, KeepError, Kept, KeptOnce, Resent, RetransmissionStream,
-};
 use codec_payload_rtcp::compound::CompoundRule;
 use codec_payload_rtcp::packet::RtcpError;
+use codec_payload_sending_history::feedback::{Request, Requests, read_requests};
+use codec_payload_sending_history::retransmission::{
+    History, HistorySettings as Settings, KeepError, Kept, KeptOnce, Resent, RetransmissionStream,
+};
 use std::alloc::Global;
 
 /// What a history keeps, and how it resends.

@@ -6,7 +6,7 @@ ghost use Rattle.codec_payload_c.specs.Originals.{WritesOriginalOf, original_sta
 use crate::congestion::put_packet;
 use crate::rtp::status_of;
 use codec_payload_handle::status;
-use codec_payload_history::original::{OriginalError, OriginalStream};
+use codec_payload_sending_history::original::{OriginalError, OriginalStream};
 use std::alloc::Global;
 
 /// Returns the status for a datagram that repeats no packet.

@@ -4,8 +4,8 @@ ghost use Rattle.std.specs.Prelude.{◌≡◌, ◌≢◌, ◌&&◌, ◌++◌, dr
 ghost use Rattle.codec_payload_core.specs.Depacketizers.{depacketizer_state_of};
 ghost use Rattle.codec_payload_jitter.specs.Missing.{missing_numbers};
 ghost use Rattle.codec_payload_jitter.specs.Receiving.{deadline_of};
-ghost use Rattle.codec_payload_stream.specs.Reports.{report_of, reported};
-ghost use Rattle.codec_payload_stream.specs.Sessions.{restarted};
+ghost use Rattle.codec_payload_receiver.specs.Reports.{report_of, reported};
+ghost use Rattle.codec_payload_receiver.specs.Sessions.{restarted};
 ghost use Rattle.codec_payload_c.specs.Refusals.{RefusesSettings};
 ghost use Rattle.codec_payload_c.specs.StreamReceivers.{AreSettings, EndsWith, IsNewStream, IsStreamReceiverOf, Takes, Tells, TellsCounts, TellsMissing, TellsNumber, TellsReport, at_once_if, without_units, bound_given, from_keyframe_numbered, is_in_range, outcome_number, red_rtx_in_range, red_set, rtx_set, restarted_as, wait_limits_given, waiting_by};
 ghost use Rattle.codec_payload_handle.specs.Kinds.{Makes, OnStreamReceiver, Refuses, is_stream_receiver};
@@ -22,10 +22,10 @@ use codec_payload_handle::slot::{TakenPackets, UnitSlot};
 use codec_payload_handle::status;
 use codec_payload_jitter::jitter::WaitLimits as Waiting;
 use codec_payload_jitter::outcome::Outcome;
-use codec_payload_stream::receiver::{
+use codec_payload_receiver::receiver::{
     ReceiveError, Receiver, RedSettings, Retransmission, Settings,
 };
-use codec_payload_stream::unit_gate::FromKeyframe;
+use codec_payload_receiver::unit_gate::FromKeyframe;
 use std::alloc::Global;
 
 /// The settings of a receiver.

@@ -10,8 +10,8 @@ use codec_payload_handle::handle::Handle;
 use codec_payload_handle::object::{Object, StreamReceiver};
 use codec_payload_handle::status;
 use codec_payload_handle::unit::{Unit, refused_unit, too_large_unit};
-use codec_payload_stream::pops::Popped;
-use codec_payload_stream::receiver::Receiver;
+use codec_payload_receiver::pops::Popped;
+use codec_payload_receiver::receiver::Receiver;
 use std::alloc::Global;
 
 /// Adds what a receiver knows of the unit that it released to the description: its extended RTP time, and whether it is

@@ -4,8 +4,8 @@ ghost use Rattle.std.specs.Prelude.{◌≡◌, ◌≢◌, ◌&&◌, is_some, nat
 ghost use Rattle.codec_payload_core.specs.Packetizers.{packetizer_state_of};
 ghost use Rattle.codec_payload_core.specs.Extensions.{no_values};
 ghost use Rattle.codec_payload_rtp.specs.ExtensionWriting.{ids_fit};
-ghost use Rattle.codec_payload_sender.specs.Datagrams.{sample_of};
-ghost use Rattle.codec_payload_sender.specs.Senders.{sender_by};
+ghost use Rattle.codec_payload_sending.specs.Datagrams.{sample_of};
+ghost use Rattle.codec_payload_sending.specs.Senders.{sender_by};
 ghost use Rattle.codec_payload_c.specs.Ids.{ids_given};
 ghost use Rattle.codec_payload_c.specs.Refusals.{RefusesSettings};
 ghost use Rattle.codec_payload_c.specs.StreamSenders.{GivesDatagram, GivesWithTail, IsStreamSenderOf, SendsFrame, SetsFormat, TellsCounts, is_in_range, refusal_status, reported_at, sample_given, sample_with, settings_for};
@@ -21,7 +21,7 @@ use codec_payload_handle::handle::Handle;
 use codec_payload_handle::object::{Object, StreamSender};
 use codec_payload_handle::settings::{Spec, packetizer_of};
 use codec_payload_handle::status;
-use codec_payload_sender::sender::{
+use codec_payload_sending::sender::{
     Sample as TimedFrame, Sender, SenderError, SenderSettings as Settings,
 };
 use std::alloc::Global;

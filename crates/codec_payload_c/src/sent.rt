@@ -1,16 +1,16 @@
 //! The packets that were sent on a transport: their numbers and times.
 
 ghost use Rattle.std.specs.Prelude.{◌≡◌, ◌≢◌};
-ghost use Rattle.codec_payload_transport.specs.Sent.{sent_at};
+ghost use Rattle.codec_payload_feedback_transport.specs.Sent.{sent_at};
 ghost use Rattle.codec_payload_handle.specs.Kinds.{Makes, OnSentPackets, Refuses, is_sent_packets};
 ghost use Rattle.codec_payload_c.specs.StreamReceivers.{TellsNumber};
 ghost use Rattle.codec_payload_c.specs.SentTransports.{AssignsNumber, IsSentPacketsOf, is_limit};
 
 use codec_payload_base::wire::Ticks;
+use codec_payload_feedback_transport::sent::SentPackets;
 use codec_payload_handle::handle::Handle;
 use codec_payload_handle::object::Object;
 use codec_payload_handle::status;
-use codec_payload_transport::sent::SentPackets;
 use std::alloc::Global;
 
 /// Counts the next packet, and writes its number.

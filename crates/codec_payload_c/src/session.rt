@@ -24,9 +24,9 @@ use codec_payload_handle::object::{Object, PortSession};
 use codec_payload_handle::status;
 use codec_payload_handle::unit::{Unit, describe_popped, no_unit};
 use codec_payload_jitter::outcome::Outcome;
+use codec_payload_receiver::receiver::ReceiveError;
 use codec_payload_session::session::{Arrival as Arrived, Event as SessionEvent};
 use codec_payload_session::stream::Ending;
-use codec_payload_stream::receiver::ReceiveError;
 use std::alloc::{AllocError, Global};
 
 /// What a session did with a datagram.

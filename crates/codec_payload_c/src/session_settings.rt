@@ -8,17 +8,17 @@ use crate::extension::{ExtensionIds, ids_of};
 use crate::receiver::{WaitLimits, bound_of, from_keyframe_of, waiting_for};
 use codec_payload_core::wire::{CodecSpec, Frequency};
 use codec_payload_feedback::transport::TransportSettings;
+use codec_payload_feedback_requests::nack::NackSettings;
 use codec_payload_handle::event_slot::EventSlot;
 use codec_payload_handle::object::PortSession;
 use codec_payload_handle::settings::{Spec, codec_of};
 use codec_payload_handle::slot::TakenPackets;
 use codec_payload_handle::status;
-use codec_payload_requests::nack::NackSettings;
+use codec_payload_receiver::receiver::RedSettings;
 use codec_payload_session::formats::{
     FeedbackSettings, Format, SessionSettings as Settings, SsrcPair as Pair,
 };
 use codec_payload_session::session::Session;
-use codec_payload_stream::receiver::RedSettings;
 use std::alloc::{AllocError, Global};
 
 /// A payload format of a port.

@@ -5,8 +5,8 @@ use Rattle.std.proofs.lemmas.List.{append-nil}
 use Rattle.codec_payload_rtcp.specs.RtcpPackets.{Packet}
 use Rattle.codec_payload_rtcp.specs.RtcpWriting.{Appends, AreUnpadded}
 use Rattle.codec_payload_rtcp.specs.NackNumbers.{Packs, numbers_in}
-use Rattle.codec_payload_requests.specs.NackSchedule.{Schedule, due_numbers, followed, is_due, low_bits}
-use Rattle.codec_payload_requests.specs.declared.nack.PendingRequest.{PendingRequest}
+use Rattle.codec_payload_feedback_requests.specs.NackSchedule.{Schedule, due_numbers, followed, is_due, low_bits}
+use Rattle.codec_payload_feedback_requests.specs.declared.nack.PendingRequest.{PendingRequest}
 use Rattle.codec_payload_feedback.specs.Feedback.{AppendsAll, AppendsNack, Bounded, IsFeedback, Source, description_part, has_any, keyframe_part, nack_by, report_part}
 
 -- ---- packets

@@ -1,10 +1,10 @@
 -- The requests of a stream, and the compound packets that carry them.
 use Rattle.std.specs.Prelude.{◌≡◌, ◌≤◌, ℕ, min, nat_le, if◌then◌else◌, Bool, true, false, List, [], ◌∷◌, ◌++◌, length, map, Option, Some, None}
-use Rattle.codec_payload_requests.specs.KeyframeRequests.{after_request, deadline_of as keyframe_deadline, is_due, new_requests as no_keyframes}
-use Rattle.codec_payload_requests.specs.NackSchedule.{Schedule, after_answer, after_due, due_numbers, earliest_of, low_bits, new_schedule, refreshed}
-use Rattle.codec_payload_requests.specs.Requests.{earlier}
-use Rattle.codec_payload_requests.specs.declared.keyframe.KeyframeRequests.{KeyframeRequests}
-use Rattle.codec_payload_requests.specs.declared.nack.NackSettings.{NackSettings}
+use Rattle.codec_payload_feedback_requests.specs.KeyframeRequests.{after_request, deadline_of as keyframe_deadline, is_due, new_requests as no_keyframes}
+use Rattle.codec_payload_feedback_requests.specs.NackSchedule.{Schedule, after_answer, after_due, due_numbers, earliest_of, low_bits, new_schedule, refreshed}
+use Rattle.codec_payload_feedback_requests.specs.Requests.{earlier}
+use Rattle.codec_payload_feedback_requests.specs.declared.keyframe.KeyframeRequests.{KeyframeRequests}
+use Rattle.codec_payload_feedback_requests.specs.declared.nack.NackSettings.{NackSettings}
 use Rattle.codec_payload_rtcp.specs.NackNumbers.{numbers_in}
 use Rattle.codec_payload_rtcp.specs.RtcpPackets.{Packet, nack, picture_loss, receiver_report, source_description}
 use Rattle.codec_payload_rtcp.specs.RtcpWriting.{AreUnpadded, cname_chunk}

@@ -1,12 +1,12 @@
 -- Feedback about the arrival of each packet of a transport.
 use Rattle.std.specs.Prelude.{◌≡◌, ℕ, ◌+◌, ◌-◌, ◌*◌, ◌/◌, ◌%◌, ◌^◌, nat_lt, max, min, if◌then◌else◌, Bool, true, false, List, [], ◌∷◌, ◌++◌, length, Option, Some, None, Result, Ok, Err}
 use Rattle.std.specs.Int.{w16, from_be_bytes}
-use Rattle.codec_payload_congestion.specs.Arrivals.{Log, after_reported, arrived, log_by, new_log}
-use Rattle.codec_payload_congestion.specs.Feedback.{AppendsReported}
-use Rattle.codec_payload_congestion.specs.Packet.{transport_feedback}
-use Rattle.codec_payload_congestion.specs.Report.{count_reported, most_reported, report}
-use Rattle.codec_payload_congestion.specs.declared.arrivals.ArrivalLogError.{ArrivalLogError}
-use Rattle.codec_payload_requests.specs.Requests.{has_come}
+use Rattle.codec_payload_feedback_congestion.specs.Arrivals.{Log, after_reported, arrived, log_by, new_log}
+use Rattle.codec_payload_feedback_congestion.specs.Feedback.{AppendsReported}
+use Rattle.codec_payload_feedback_congestion.specs.Packet.{transport_feedback}
+use Rattle.codec_payload_feedback_congestion.specs.Report.{count_reported, most_reported, report}
+use Rattle.codec_payload_feedback_congestion.specs.declared.arrivals.ArrivalLogError.{ArrivalLogError}
+use Rattle.codec_payload_feedback_requests.specs.Requests.{has_come}
 use Rattle.codec_payload_rtcp.specs.RtcpWriting.{AreUnpadded}
 use Rattle.codec_payload_rtp.specs.Elements.{Element}
 use Rattle.codec_payload_rtp.specs.ExtensionFormats.{bytes_for, elements_of}

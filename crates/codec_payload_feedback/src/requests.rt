@@ -2,16 +2,16 @@
 
 ghost use Rattle.std.specs.Prelude.{◌≡◌, ◌≤◌, ◌/◌, ◌%◌, ◌∷◌, [], ◌++◌, IfErr, IfOk, OnErr, OnOk, length};
 ghost use Rattle.codec_payload_rtcp.specs.RtcpWriting.{AreUnpadded};
-ghost use Rattle.codec_payload_congestion.specs.Packet.{transport_feedback};
+ghost use Rattle.codec_payload_feedback_congestion.specs.Packet.{transport_feedback};
 ghost use Rattle.std.specs.Option.{option_map};
-ghost use Rattle.codec_payload_requests.specs.NackSchedule.{requested_by};
-ghost use Rattle.codec_payload_requests.specs.Requests.{earlier};
+ghost use Rattle.codec_payload_feedback_requests.specs.NackSchedule.{requested_by};
+ghost use Rattle.codec_payload_feedback_requests.specs.Requests.{earlier};
 ghost use Rattle.codec_payload_feedback.specs.Feedback.{AppendsAll, AppendsNack, IsFeedback, after_answered, after_feedback, deadline_of, description_part, has_any, keyframe_is_due, keyframe_part, new_requests, numbers_due, report_part, source_by, updated};
 
 use codec_payload_base::wire::Ticks;
-use codec_payload_congestion::packet::write_transport_packet;
-use codec_payload_requests::keyframe::KeyframeRequests;
-use codec_payload_requests::nack::{NackSchedule, NackSettings};
+use codec_payload_feedback_congestion::packet::write_transport_packet;
+use codec_payload_feedback_requests::keyframe::KeyframeRequests;
+use codec_payload_feedback_requests::nack::{NackSchedule, NackSettings};
 use codec_payload_rtcp::nack::pack_numbers;
 use codec_payload_rtcp::packet::{Nack, PictureLoss, ReceiverReport};
 use codec_payload_rtcp::writing::write_cname;

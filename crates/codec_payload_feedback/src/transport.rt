@@ -2,15 +2,15 @@
 
 ghost use Rattle.std.specs.Prelude.{◌≡◌, ◌+◌, ◌<◌, ◌≤◌, max, min, IfOk, OnErr, OnOk};
 ghost use Rattle.std.specs.Option.{option_map};
-ghost use Rattle.codec_payload_requests.specs.Requests.{has_come};
+ghost use Rattle.codec_payload_feedback_requests.specs.Requests.{has_come};
 ghost use Rattle.codec_payload_rtp.specs.ExtensionFormats.{elements_of};
 ghost use Rattle.codec_payload_rtp.specs.RtpValues.{extension_of, packet_of};
 ghost use Rattle.codec_payload_feedback.specs.Transport.{IsTransportFeedback, due_at, live_transport, most_of, noted, noted_packet, number_in, quarters_at, reporter_by, restarted};
 
 use crate::requests::FeedbackSource;
 use codec_payload_base::wire::{Frequency, Ticks};
-use codec_payload_congestion::arrivals::{ArrivalLog, ArrivalLogError};
-use codec_payload_congestion::report::{append_report, most_reported};
+use codec_payload_feedback_congestion::arrivals::{ArrivalLog, ArrivalLogError};
+use codec_payload_feedback_congestion::report::{append_report, most_reported};
 use codec_payload_rtp::rtp::{HeaderExtension, RtpPacket};
 use codec_payload_rtp::values::extension_value;
 use std::alloc::{AllocError, Global};
@@ -131,9 +131,9 @@ impl TransportReporter {
     }
 
     /// Records the arrival of a datagram at `time`, in quarters of a millisecond modulo 2^32
-    /// ([`quarters`](codec_payload_congestion::arrivals::quarters)). A datagram that is no RTP packet, or that has no number, changes
+    /// ([`quarters`](codec_payload_feedback_congestion::arrivals::quarters)). A datagram that is no RTP packet, or that has no number, changes
     /// nothing. The first time of a number counts, and a number before the window is ignored
-    /// ([`ArrivalLog::arrived`](codec_payload_congestion::arrivals::ArrivalLog::arrived)).
+    /// ([`ArrivalLog::arrived`](codec_payload_feedback_congestion::arrivals::ArrivalLog::arrived)).
     ///
     /// # Errors
     ///

@@ -1,6 +1,6 @@
 -- The contents of a handle before and after a call.
 use Rattle.std.specs.Prelude.{◌≡◌, ◌⊎◌, ℕ, Bool, true, false, Option, Some, None}
-use Rattle.codec_payload_adaptive_wait.specs.Waits.{Wait}
+use Rattle.codec_payload_feedback_wait.specs.Waits.{Wait}
 use Rattle.codec_payload_core.specs.RedLevels.{Sender as RedSender}
 use Rattle.codec_payload_handle.specs.declared.object.Assembler.{Assembler}
 use Rattle.codec_payload_handle.specs.declared.object.Object.{Object}
@@ -13,7 +13,7 @@ use Rattle.codec_payload_handle.specs.declared.object.PeerReporter.{PeerReporter
 use Rattle.codec_payload_handle.specs.declared.object.PortSession.{PortSession}
 use Rattle.codec_payload_handle.specs.declared.object.StreamReceiver.{StreamReceiver}
 use Rattle.codec_payload_handle.specs.declared.object.StreamSender.{StreamSender}
-use Rattle.codec_payload_transport.specs.Sent.{Sent}
+use Rattle.codec_payload_feedback_transport.specs.Sent.{Sent}
 
 -- if the handle holds a packetizer, it holds one afterwards, after this step
 abbrev pub StaysFrameSender : (FrameSender → Type 0) → Option Object → Type 0

@@ -12,8 +12,8 @@ use Rattle.codec_payload_handle.specs.declared.extension_values.ExtensionValues.
 use Rattle.codec_payload_handle.specs.declared.unit.Unit.{Unit as CUnit}
 use Rattle.codec_payload_session.specs.Units.{Event}
 use Rattle.codec_payload_session.specs.declared.session.Event.TheVariants as events
-use Rattle.codec_payload_stream.specs.declared.pops.Popped.{Popped as Pop}
-use Rattle.codec_payload_stream.specs.declared.pops.Popped.TheVariants as popped
+use Rattle.codec_payload_receiver.specs.declared.pops.Popped.{Popped as Pop}
+use Rattle.codec_payload_receiver.specs.declared.pops.Popped.TheVariants as popped
 
 -- `Popped`: a pop gave this answer. Its unit, if there is one, is in the slot afterwards; otherwise the slot has none
 abbrev pub PopsTo : (Popped : Answer → Type 0) → Option (Result ⊤ PacketError) → Option Release → Type 0

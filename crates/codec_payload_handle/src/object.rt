@@ -2,7 +2,6 @@
 
 use crate::event_slot::EventSlot;
 use crate::slot::{TakenPackets, UnitSlot};
-use codec_payload_adaptive_wait::adaptive_wait::AdaptiveWait;
 use codec_payload_core::buffer::DepacketizingBuffer;
 use codec_payload_core::codec::{CodecDepacketizer, CodecExtra, CodecPacketizer};
 use codec_payload_core::payloads::Payloads;
@@ -10,13 +9,14 @@ use codec_payload_core::red::RedSender;
 use codec_payload_core::wire::Frequency;
 use codec_payload_feedback::requests::FeedbackSource;
 use codec_payload_feedback::transport::TransportReporter;
-use codec_payload_forward::counts::ForwardCounts;
-use codec_payload_forward::forwarder::Forwarder;
-use codec_payload_history::retransmission::History;
-use codec_payload_sender::sender::Sender as DatagramSender;
+use codec_payload_feedback_transport::sent::SentPackets;
+use codec_payload_feedback_wait::adaptive_wait::AdaptiveWait;
+use codec_payload_receiver::receiver::Receiver as DatagramReceiver;
+use codec_payload_sending::sender::Sender as DatagramSender;
+use codec_payload_sending_forward::counts::ForwardCounts;
+use codec_payload_sending_forward::forwarder::Forwarder;
+use codec_payload_sending_history::retransmission::History;
 use codec_payload_session::session::Session;
-use codec_payload_stream::receiver::Receiver as DatagramReceiver;
-use codec_payload_transport::sent::SentPackets;
 
 /// A packetizer, and the packets of its latest frame.
 #[derive(Drop)]

@@ -2,7 +2,7 @@
 
 ghost use Rattle.std.specs.Prelude.{◌≡◌, ◌<◌, IsSome, None, Some, is_some, length, option_map};
 ghost use Rattle.codec_payload_core.specs.Steps.{Pops};
-ghost use Rattle.codec_payload_stream.specs.Pops.{NamesFault, PopsGated, is_large};
+ghost use Rattle.codec_payload_receiver.specs.Pops.{NamesFault, PopsGated, is_large};
 ghost use Rattle.codec_payload_handle.specs.Slots.{IsWritten, PopsFrom, PopsTo, TellsValuesOf};
 
 use crate::bytes::fill;
@@ -11,8 +11,8 @@ use crate::unit::{Unit, describe_popped};
 use codec_payload_core::buffer::{DepacketizingBuffer, PoppedPackets, PoppedUnit};
 use codec_payload_core::error::PacketError;
 use codec_payload_core::wire::Ticks;
-use codec_payload_stream::pops::Popped;
-use codec_payload_stream::receiver::Receiver;
+use codec_payload_receiver::pops::Popped;
+use codec_payload_receiver::receiver::Receiver;
 use std::alloc::{AllocError, Global};
 use std::marker::Model;
 

@@ -1,5 +1,5 @@
 //! Sequence numbers and a jitter buffer for the packets of one sender: 16-bit sequence numbers are extended, and frames wait
-//! for missing packets by time and by count. Users depend on `codec_payload_stream`, which re-exports this crate.
+//! for missing packets by time and by count. Users depend on `codec_payload_receiver`, which re-exports this crate.
 #![tactic(auto)]
 
 pub mod jitter;

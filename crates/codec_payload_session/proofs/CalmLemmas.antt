@@ -3,8 +3,8 @@ use Rattle.std.proofs.Common.{◌≡◌, ◌∙◌, refl, ap, sym, subst, ℕ, z
 use Rattle.std.proofs.lemmas.Bool.{false≢true}
 use Rattle.codec_payload_feedback.specs.Feedback.{Requests, after_feedback, deadline_of, updated}
 use Rattle.codec_payload_jitter.specs.Missing.{missing_numbers, missing_of}
-use Rattle.codec_payload_requests.specs.NackSchedule.{refreshed_with}
-use Rattle.codec_payload_stream.specs.Sessions.{Session as Receiver}
+use Rattle.codec_payload_feedback_requests.specs.NackSchedule.{refreshed_with}
+use Rattle.codec_payload_receiver.specs.Sessions.{Session as Receiver}
 use Rattle.codec_payload_session.specs.Quiet.{AsksNothing, IsBefore, MayRest, is_calm, is_none}
 use Rattle.codec_payload_session.specs.Requests.{Asking, Asks, Sends, is_heard, refreshed}
 use Rattle.codec_payload_session.proofs.DueLemmas.{nothing_due, nothing_sent, updated_again}

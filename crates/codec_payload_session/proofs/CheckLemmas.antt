@@ -6,14 +6,14 @@ use Rattle.codec_payload_base.specs.declared.wire.Ticks.{Ticks}
 use Rattle.codec_payload_codec.specs.Depacketizers.{DepacketizerState, depacketizer_state_for}
 use Rattle.codec_payload_jitter.specs.Numbers.{Numbering, numbering_within}
 use Rattle.codec_payload_jitter.specs.declared.numbers.WindowError.{WindowError}
-use Rattle.codec_payload_stream.specs.Kinds.{is_among}
-use Rattle.codec_payload_stream.specs.Sessions.{Session as Receiver, red_within, retransmission_fits, session_by, session_in, session_within}
-use Rattle.codec_payload_stream.specs.declared.datagram.RedStream.{RedStream}
-use Rattle.codec_payload_stream.specs.declared.receiver.RedSettings.{RedSettings}
-use Rattle.codec_payload_stream.specs.declared.receiver.Retransmission.{Retransmission}
-use Rattle.codec_payload_stream.specs.declared.receiver.Settings.{Settings}
-use Rattle.codec_payload_stream.specs.declared.receiver.SettingsError.{SettingsError}
-use Rattle.codec_payload_stream.specs.declared.receiver.SettingsError.TheVariants as errors
+use Rattle.codec_payload_receiver.specs.Kinds.{is_among}
+use Rattle.codec_payload_receiver.specs.Sessions.{Session as Receiver, red_within, retransmission_fits, session_by, session_in, session_within}
+use Rattle.codec_payload_receiver.specs.declared.datagram.RedStream.{RedStream}
+use Rattle.codec_payload_receiver.specs.declared.receiver.RedSettings.{RedSettings}
+use Rattle.codec_payload_receiver.specs.declared.receiver.Retransmission.{Retransmission}
+use Rattle.codec_payload_receiver.specs.declared.receiver.Settings.{Settings}
+use Rattle.codec_payload_receiver.specs.declared.receiver.SettingsError.{SettingsError}
+use Rattle.codec_payload_receiver.specs.declared.receiver.SettingsError.TheVariants as errors
 use Rattle.codec_payload_session.specs.Arrivals.{Port}
 use Rattle.codec_payload_session.specs.Associations.{AddsPair, TakesInBy}
 use Rattle.codec_payload_session.specs.Checks.{at_most_127, can_begin, fault_of, feedback_fault, first_of, format_fault, format_fits, formats_fault, is_payload_type, is_named, limit_fault, listed_fault, red_fault, red_fits, red_retransmission_fault, retransmission_fault, step_fault, streams_fault, transport_fault, type_fault, types_fault}

@@ -4,12 +4,12 @@ use Rattle.std.specs.Prelude.{nat_le}
 use Rattle.std.proofs.lemmas.Bool.{eqb-true}
 use Rattle.std.proofs.lemmas.Bool.Decides.{nat_tests}
 use Rattle.codec_payload_feedback.specs.Feedback.{Requests, after_feedback, deadline_of, has_any, keyframe_is_due, numbers_due, updated}
-use Rattle.codec_payload_requests.specs.KeyframeRequests.{after_request, deadline_of as keyframe_deadline, is_due as is_keyframe_due}
-use Rattle.codec_payload_requests.specs.NackSchedule.{earliest_of, followed, is_due, kept_or_new, low_bits, new_request, numbers_of, refreshed_with, request_of, retry_time, tried, tried_if_due, tried_in}
-use Rattle.codec_payload_requests.specs.Requests.{earlier, has_come, later}
-use Rattle.codec_payload_requests.specs.declared.keyframe.KeyframeRequests.{KeyframeRequests}
-use Rattle.codec_payload_requests.specs.declared.nack.NackSettings.{NackSettings}
-use Rattle.codec_payload_requests.specs.declared.nack.PendingRequest.{PendingRequest}
+use Rattle.codec_payload_feedback_requests.specs.KeyframeRequests.{after_request, deadline_of as keyframe_deadline, is_due as is_keyframe_due}
+use Rattle.codec_payload_feedback_requests.specs.NackSchedule.{earliest_of, followed, is_due, kept_or_new, low_bits, new_request, numbers_of, refreshed_with, request_of, retry_time, tried, tried_if_due, tried_in}
+use Rattle.codec_payload_feedback_requests.specs.Requests.{earlier, has_come, later}
+use Rattle.codec_payload_feedback_requests.specs.declared.keyframe.KeyframeRequests.{KeyframeRequests}
+use Rattle.codec_payload_feedback_requests.specs.declared.nack.NackSettings.{NackSettings}
+use Rattle.codec_payload_feedback_requests.specs.declared.nack.PendingRequest.{PendingRequest}
 use Rattle.codec_payload_session.specs.Quiet.{IsBefore}
 
 -- ---- the same missing numbers

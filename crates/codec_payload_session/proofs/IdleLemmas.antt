@@ -10,11 +10,11 @@ use Rattle.codec_payload_buffer.specs.Release.{Release}
 use Rattle.codec_payload_feedback.specs.Feedback.{Requests, deadline_of as deadline_of_requests, has_any, keyframe_is_due, numbers_due}
 use Rattle.codec_payload_feedback.specs.Transport.{Reporter, due_at}
 use Rattle.codec_payload_jitter.specs.Receiving.{Receiving, deadline_of}
-use Rattle.codec_payload_requests.specs.Requests.{has_come}
-use Rattle.codec_payload_stream.specs.Pops.{DropsUnits, PopsGated, PopsOnce, answer_of, bound_if, gates_if, has_left, is_large, none_dropped, one_more, time_if, without_unit}
-use Rattle.codec_payload_stream.specs.Sessions.{Session as Receiver}
-use Rattle.codec_payload_stream.specs.declared.pops.Popped.{Popped}
-use Rattle.codec_payload_stream.specs.declared.pops.Popped.TheVariants as popped
+use Rattle.codec_payload_feedback_requests.specs.Requests.{has_come}
+use Rattle.codec_payload_receiver.specs.Pops.{DropsUnits, PopsGated, PopsOnce, answer_of, bound_if, gates_if, has_left, is_large, none_dropped, one_more, time_if, without_unit}
+use Rattle.codec_payload_receiver.specs.Sessions.{Session as Receiver}
+use Rattle.codec_payload_receiver.specs.declared.pops.Popped.{Popped}
+use Rattle.codec_payload_receiver.specs.declared.pops.Popped.TheVariants as popped
 use Rattle.codec_payload_session.specs.Arrivals.{Port}
 use Rattle.codec_payload_session.specs.Idle.{IsIdle, IsNoEvent, held_in, next_of}
 use Rattle.codec_payload_session.specs.Polls.{GoesOn, Polls, PollsAfter, SendsAfter, SendsReport, SendsTransport, TurnsOrReports, TurnsOrSends, report_event, transport_event}

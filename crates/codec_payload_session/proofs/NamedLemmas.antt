@@ -9,14 +9,14 @@ use Rattle.codec_payload_jitter.specs.Numbers.{Numbering, numbering_within}
 use Rattle.codec_payload_jitter.specs.declared.numbers.WindowError.{WindowError}
 use Rattle.codec_payload_jitter.specs.declared.numbers.WindowError.TheVariants as windows
 use Rattle.codec_payload_jitter.specs.declared.outcome.Outcome.{Outcome}
-use Rattle.codec_payload_stream.specs.Kinds.{AgainEmpty, AgainInRed, Again, Datagram, InRed, Malformed, OfOthers, RtcpPacket, WithMedia, WithoutMedia, datagram_at}
-use Rattle.codec_payload_stream.specs.Pops.{DropsUnits, PopsGated, PopsOnce, none_dropped, one_more}
-use Rattle.codec_payload_stream.specs.Sessions.{Heard, ReceivesBy, ReceivesBytes, Session as Receiver, is_none_of, red_within, retransmission_fits, session_by, session_in, session_with, session_within, ssrc_after, verdict_in}
-use Rattle.codec_payload_stream.specs.declared.receiver.ReceiveError.{ReceiveError}
-use Rattle.codec_payload_stream.specs.declared.receiver.ReceiveError.TheVariants as errors
-use Rattle.codec_payload_stream.specs.declared.receiver.Settings.{Settings}
-use Rattle.codec_payload_stream.specs.declared.receiver.SettingsError.{SettingsError}
-use Rattle.codec_payload_stream.specs.declared.receiver.SettingsError.TheVariants as settings
+use Rattle.codec_payload_receiver.specs.Kinds.{AgainEmpty, AgainInRed, Again, Datagram, InRed, Malformed, OfOthers, RtcpPacket, WithMedia, WithoutMedia, datagram_at}
+use Rattle.codec_payload_receiver.specs.Pops.{DropsUnits, PopsGated, PopsOnce, none_dropped, one_more}
+use Rattle.codec_payload_receiver.specs.Sessions.{Heard, ReceivesBy, ReceivesBytes, Session as Receiver, is_none_of, red_within, retransmission_fits, session_by, session_in, session_with, session_within, ssrc_after, verdict_in}
+use Rattle.codec_payload_receiver.specs.declared.receiver.ReceiveError.{ReceiveError}
+use Rattle.codec_payload_receiver.specs.declared.receiver.ReceiveError.TheVariants as errors
+use Rattle.codec_payload_receiver.specs.declared.receiver.Settings.{Settings}
+use Rattle.codec_payload_receiver.specs.declared.receiver.SettingsError.{SettingsError}
+use Rattle.codec_payload_receiver.specs.declared.receiver.SettingsError.TheVariants as settings
 use Rattle.codec_payload_session.specs.Named.{IsNamed}
 
 -- ---- a new receiver

@@ -15,10 +15,10 @@ use Rattle.codec_payload_buffer.specs.declared.buffer.unit.RtpMeta.{RtpMeta}
 use Rattle.codec_payload_buffer.proofs.FrameParts.{IsRun}
 use Rattle.codec_payload_buffer.proofs.PopLemmas.{order_due, part_due}
 use Rattle.codec_payload_jitter.specs.Receiving.{PopsWith, Receiving, settled, waiting_at}
-use Rattle.codec_payload_stream.specs.Pops.{PopsGated, answer_of}
-use Rattle.codec_payload_stream.specs.Sessions.{Session as Receiver}
-use Rattle.codec_payload_stream.specs.declared.pops.Popped.{Popped}
-use Rattle.codec_payload_stream.specs.declared.pops.Popped.TheVariants as popped
+use Rattle.codec_payload_receiver.specs.Pops.{PopsGated, answer_of}
+use Rattle.codec_payload_receiver.specs.Sessions.{Session as Receiver}
+use Rattle.codec_payload_receiver.specs.declared.pops.Popped.{Popped}
+use Rattle.codec_payload_receiver.specs.declared.pops.Popped.TheVariants as popped
 use Rattle.codec_payload_session.specs.Arrivals.{Port}
 use Rattle.codec_payload_session.specs.Polls.{GoesOn, Polls, PollsAfter, SendsAfter, TurnsOrReports, report_event, transport_event}
 use Rattle.codec_payload_session.specs.Ports.{Session}

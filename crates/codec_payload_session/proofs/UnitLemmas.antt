@@ -5,9 +5,9 @@ use Rattle.std.specs.Global.{Vec}
 use Rattle.std.specs.declared.alloc.AllocError.{AllocError}
 use Rattle.codec_payload_buffer.specs.Release.{Release}
 use Rattle.codec_payload_buffer.specs.Steps.{popped_to}
-use Rattle.codec_payload_stream.specs.Pops.{NamesFault, answer_of, is_too_large}
-use Rattle.codec_payload_stream.specs.declared.pops.Popped.{Popped}
-use Rattle.codec_payload_stream.specs.declared.pops.Popped.TheVariants as popped
+use Rattle.codec_payload_receiver.specs.Pops.{NamesFault, answer_of, is_too_large}
+use Rattle.codec_payload_receiver.specs.declared.pops.Popped.{Popped}
+use Rattle.codec_payload_receiver.specs.declared.pops.Popped.TheVariants as popped
 use Rattle.codec_payload_session.specs.Arrivals.{Port}
 use Rattle.codec_payload_session.specs.Polls.{SendsReport, SendsTransport, report_event, transport_event}
 use Rattle.codec_payload_session.specs.Ports.{Session}

@@ -9,7 +9,7 @@ use Rattle.codec_payload_jitter.specs.declared.outcome.Outcome.{Outcome}
 use Rattle.codec_payload_rtcp.specs.RtcpPackets.{Packet, sender_report, receiver_report, source_description, goodbye, nack, picture_loss, full_intra, other}
 use Rattle.codec_payload_rtcp.specs.RtcpReading.{compound_at}
 use Rattle.codec_payload_rtcp.specs.declared.packet.RtcpError.{RtcpError}
-use Rattle.codec_payload_stream.specs.declared.receiver.ReceiveError.{ReceiveError}
+use Rattle.codec_payload_receiver.specs.declared.receiver.ReceiveError.{ReceiveError}
 use Rattle.codec_payload_session.specs.Reports.{noted_at}
 use Rattle.codec_payload_session.specs.Changes.{continued, continues}
 use Rattle.codec_payload_session.specs.Streams.{Begins, Takes, is_no_memory, is_of, is_probation, left_when}

@@ -7,7 +7,7 @@ use Rattle.codec_payload_base.specs.declared.wire.Ticks.{Ticks}
 use Rattle.codec_payload_rtp.specs.RtpPackets.{Packet, is_rtcp}
 use Rattle.codec_payload_rtp.specs.RtpReading.{rtp_at}
 use Rattle.codec_payload_rtp.specs.declared.rtp.RtpError.{RtpError}
-use Rattle.codec_payload_stream.specs.Reports.{transit_change}
+use Rattle.codec_payload_receiver.specs.Reports.{transit_change}
 use Rattle.codec_payload_session.specs.Arrivals.{Port, TakesIn}
 use Rattle.codec_payload_session.specs.Changes.{is_playing}
 use Rattle.codec_payload_session.specs.Formats.{role_of, stream_of}

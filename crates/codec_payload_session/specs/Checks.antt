@@ -2,8 +2,8 @@
 use Rattle.std.specs.Prelude.{ℕ, ◌==◌, ◌&&◌, ◌||◌, not, nat_le, nat_lt, if◌then◌else◌, Bool, true, false, List, [], ◌∷◌, ◌++◌, Option, Some, None, Result, Ok, Err, ⊤, is_some, length}
 use Rattle.codec_payload_codec.specs.Depacketizers.{depacketizer_state_for}
 use Rattle.codec_payload_feedback.specs.declared.transport.TransportSettings.{TransportSettings}
-use Rattle.codec_payload_stream.specs.Kinds.{is_among}
-use Rattle.codec_payload_stream.specs.declared.receiver.RedSettings.{RedSettings}
+use Rattle.codec_payload_receiver.specs.Kinds.{is_among}
+use Rattle.codec_payload_receiver.specs.declared.receiver.RedSettings.{RedSettings}
 use Rattle.codec_payload_session.specs.Formats.{has_type, resends}
 use Rattle.codec_payload_session.specs.declared.checks.SessionSettingsError.{SessionSettingsError}
 use Rattle.codec_payload_session.specs.declared.checks.SessionSettingsError.TheVariants as faults

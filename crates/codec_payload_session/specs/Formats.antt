@@ -5,13 +5,13 @@ use Rattle.codec_payload_base.specs.declared.wire.Codec.TheVariants as codecs
 use Rattle.codec_payload_jitter.specs.declared.waiting.WaitLimits.{WaitLimits}
 use Rattle.codec_payload_jitter.specs.Waiting.{waits_for}
 use Rattle.codec_payload_keyframes.specs.declared.unit_gate.FromKeyframe.TheVariants as gates
-use Rattle.codec_payload_stream.specs.Defaults.{no_ids}
-use Rattle.codec_payload_stream.specs.Kinds.{is_among}
-use Rattle.codec_payload_stream.specs.declared.receiver.RedSettings.{RedSettings}
-use Rattle.codec_payload_stream.specs.declared.receiver.Retransmission.{Retransmission}
-use Rattle.codec_payload_stream.specs.declared.receiver.Settings.{Settings}
+use Rattle.codec_payload_receiver.specs.Defaults.{no_ids}
+use Rattle.codec_payload_receiver.specs.Kinds.{is_among}
+use Rattle.codec_payload_receiver.specs.declared.receiver.RedSettings.{RedSettings}
+use Rattle.codec_payload_receiver.specs.declared.receiver.Retransmission.{Retransmission}
+use Rattle.codec_payload_receiver.specs.declared.receiver.Settings.{Settings}
 use Rattle.codec_payload_base.specs.declared.wire.CodecSpec.{CodecSpec}
-use Rattle.codec_payload_requests.specs.declared.nack.NackSettings.{NackSettings}
+use Rattle.codec_payload_feedback_requests.specs.declared.nack.NackSettings.{NackSettings}
 use Rattle.codec_payload_session.specs.declared.formats.FeedbackSettings.{FeedbackSettings}
 use Rattle.codec_payload_session.specs.declared.formats.Format.{Format}
 use Rattle.codec_payload_session.specs.declared.formats.Role.{Role}

@@ -13,7 +13,7 @@ use Rattle.codec_payload_session.specs.Telephone.{MayLackMemory, Queue, QueuesIf
 use Rattle.codec_payload_session.specs.Transports.{reporter_for, restarted_if}
 use Rattle.codec_payload_jitter.specs.declared.waiting.WaitLimits.{WaitLimits}
 use Rattle.codec_payload_rtcp.specs.declared.items.ReportBlock.{ReportBlock}
-use Rattle.codec_payload_stream.specs.Sessions.{Session as Receiver}
+use Rattle.codec_payload_receiver.specs.Sessions.{Session as Receiver}
 use Rattle.codec_payload_session.specs.declared.checks.SessionSettingsError.{SessionSettingsError}
 use Rattle.codec_payload_session.specs.declared.formats.SessionSettings.{SessionSettings}
 use Rattle.codec_payload_session.specs.declared.session.Arrival.{Arrival}

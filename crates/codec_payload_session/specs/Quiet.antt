@@ -2,7 +2,7 @@
 use Rattle.std.specs.Prelude.{◌≡◌, ◌⊎◌, ◌<◌, ℕ, zero, suc, min, ◌^◌, ◌==◌, ◌&&◌, not, if◌then◌else◌, Bool, true, false, List, [], ◌∷◌, Option, Some, None, Ok}
 use Rattle.codec_payload_jitter.specs.Missing.{missing_numbers}
 use Rattle.codec_payload_jitter.specs.Receiving.{PopsWith, Receiving, deadline_of, settled, waiting_at}
-use Rattle.codec_payload_stream.specs.Sessions.{Session as Receiver}
+use Rattle.codec_payload_receiver.specs.Sessions.{Session as Receiver}
 use Rattle.codec_payload_session.specs.Requests.{Asking, Asks, is_heard}
 use Rattle.codec_payload_session.specs.Streams.{StreamState, earlier, request_deadline, work_deadline}
 use Rattle.codec_payload_session.specs.declared.stream.Stage.{Stage}

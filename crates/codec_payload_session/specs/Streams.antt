@@ -9,15 +9,15 @@ use Rattle.codec_payload_jitter.specs.Receiving.{deadline_of, next}
 use Rattle.codec_payload_jitter.specs.declared.outcome.Outcome.{Outcome}
 use Rattle.codec_payload_jitter.specs.declared.waiting.WaitLimits.{WaitLimits}
 use Rattle.codec_payload_jitter.specs.declared.outcome.Outcome.TheVariants as outcomes
-use Rattle.codec_payload_stream.specs.Bounds.{counters_with}
-use Rattle.codec_payload_stream.specs.Pops.{NamesFault, PopsGated, answer_of, is_large, is_too_large}
-use Rattle.codec_payload_stream.specs.Sessions.{Ends, ReceivesBytes, Session as Receiver, session_by}
-use Rattle.codec_payload_stream.specs.declared.pops.Popped.{Popped}
-use Rattle.codec_payload_stream.specs.declared.pops.Popped.TheVariants as popped
-use Rattle.codec_payload_stream.specs.declared.receiver.Counters.{Counters}
-use Rattle.codec_payload_stream.specs.declared.receiver.ReceiveError.{ReceiveError}
-use Rattle.codec_payload_stream.specs.declared.receiver.ReceiveError.TheVariants as errors
-use Rattle.codec_payload_stream.specs.declared.receiver.Settings.{Settings}
+use Rattle.codec_payload_receiver.specs.Bounds.{counters_with}
+use Rattle.codec_payload_receiver.specs.Pops.{NamesFault, PopsGated, answer_of, is_large, is_too_large}
+use Rattle.codec_payload_receiver.specs.Sessions.{Ends, ReceivesBytes, Session as Receiver, session_by}
+use Rattle.codec_payload_receiver.specs.declared.pops.Popped.{Popped}
+use Rattle.codec_payload_receiver.specs.declared.pops.Popped.TheVariants as popped
+use Rattle.codec_payload_receiver.specs.declared.receiver.Counters.{Counters}
+use Rattle.codec_payload_receiver.specs.declared.receiver.ReceiveError.{ReceiveError}
+use Rattle.codec_payload_receiver.specs.declared.receiver.ReceiveError.TheVariants as errors
+use Rattle.codec_payload_receiver.specs.declared.receiver.Settings.{Settings}
 use Rattle.codec_payload_session.specs.Formats.{HasSettings, is_video, limits_for}
 use Rattle.codec_payload_session.specs.Requests.{Asking, Asks, feedback_by, heard_by, is_heard, number_at, requests_due, round_trip_of, wait_by}
 use Rattle.codec_payload_session.specs.declared.formats.Format.{Format}

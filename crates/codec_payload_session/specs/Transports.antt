@@ -4,10 +4,10 @@ use Rattle.std.specs.Global.{Vec}
 use Rattle.std.specs.Option.{is_some}
 use Rattle.std.specs.declared.alloc.AllocError.{AllocError}
 use Rattle.codec_payload_base.specs.declared.wire.Ticks.{Ticks}
-use Rattle.codec_payload_congestion.specs.declared.arrivals.ArrivalLogError.{ArrivalLogError}
+use Rattle.codec_payload_feedback_congestion.specs.declared.arrivals.ArrivalLogError.{ArrivalLogError}
 use Rattle.codec_payload_feedback.specs.Transport.{IsTransportFeedback, Reporter, due_at, noted, reporter_by, restarted}
 use Rattle.codec_payload_feedback.specs.declared.transport.TransportSettings.{TransportSettings}
-use Rattle.codec_payload_requests.specs.Requests.{has_come}
+use Rattle.codec_payload_feedback_requests.specs.Requests.{has_come}
 use Rattle.codec_payload_rtp.specs.RtpPackets.{is_rtcp}
 use Rattle.codec_payload_session.specs.Requests.{source_for}
 use Rattle.codec_payload_session.specs.declared.formats.FeedbackSettings.{FeedbackSettings}

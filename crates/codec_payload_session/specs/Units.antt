@@ -2,8 +2,8 @@
 use Rattle.std.specs.Prelude.{◌<◌, ⊤, Option, Some, None, Result, Ok, Err, length}
 use Rattle.std.specs.declared.alloc.AllocError.{AllocError}
 use Rattle.codec_payload_buffer.specs.Release.{Release}
-use Rattle.codec_payload_stream.specs.declared.pops.Popped.{Popped}
-use Rattle.codec_payload_stream.specs.declared.pops.Popped.TheVariants as popped
+use Rattle.codec_payload_receiver.specs.declared.pops.Popped.{Popped}
+use Rattle.codec_payload_receiver.specs.declared.pops.Popped.TheVariants as popped
 use Rattle.codec_payload_session.specs.declared.session.Event.{Event as EventWith}
 use Rattle.codec_payload_session.specs.declared.session.Event.TheVariants as events
 use Rattle.codec_payload_session.specs.declared.stream.Step.{Step as StepWith}

@@ -3,7 +3,7 @@ use Rattle.std.specs.Prelude.{◌≡◌, ◌<◌, ℕ, zero, suc, ◌-◌, ◌^�
 use Rattle.std.specs.declared.alloc.AllocError.{AllocError}
 use Rattle.codec_payload_base.specs.declared.wire.Ticks.{Ticks}
 use Rattle.codec_payload_jitter.specs.declared.outcome.Outcome.{Outcome}
-use Rattle.codec_payload_stream.specs.declared.receiver.ReceiveError.{ReceiveError}
+use Rattle.codec_payload_receiver.specs.declared.receiver.ReceiveError.{ReceiveError}
 use Rattle.codec_payload_session.specs.Arrivals.{Arrives, Port, arrival_of}
 use Rattle.codec_payload_session.specs.Streams.{Steps, StreamState, Takes, is_no_memory}
 use Rattle.codec_payload_session.specs.Turns.{StepsFirst}

@@ -11,8 +11,8 @@ use crate::session::Arrival;
 use crate::stream::{StreamState, is_playing};
 use crate::streams::Streams;
 use codec_payload_base::wire::Ticks;
+use codec_payload_receiver::parsed::ParsedDatagram;
 use codec_payload_rtp::rtp::RtpPacket;
-use codec_payload_stream::parsed::ParsedDatagram;
 use std::alloc::AllocError;
 
 /// How far the RTP time of a retransmission may be from the clock of its stream's sender, in seconds.

@@ -2,14 +2,14 @@
 
 ghost use Rattle.std.specs.Prelude.{◌≡◌, [], is_some};
 ghost use Rattle.codec_payload_codec.specs.Depacketizers.{depacketizer_state_for};
-ghost use Rattle.codec_payload_stream.specs.Kinds.{is_among};
+ghost use Rattle.codec_payload_receiver.specs.Kinds.{is_among};
 ghost use Rattle.codec_payload_session.specs.Checks.{checked, fault_of, feedback_fault, first_of, format_fault, formats_fault, is_named, is_payload_type, limit_fault, listed_fault, name_fault, red_fault, red_retransmission_fault, retransmission_fault, step_fault, streams_fault, transport_fault, transport_settings_fault, type_fault};
 
 use crate::formats::{FeedbackSettings, Format, SessionSettings, is_among};
 use crate::requests::LONGEST_NAME;
 use codec_payload_base::wire::Codec;
 use codec_payload_feedback::transport::TransportSettings;
-use codec_payload_stream::receiver::RedSettings;
+use codec_payload_receiver::receiver::RedSettings;
 use thiserror::Error;
 
 /// The largest number of packets that a stream can hold.

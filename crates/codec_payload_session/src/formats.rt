@@ -2,15 +2,15 @@
 
 ghost use Rattle.std.specs.Prelude.{◌≡◌, IfOk};
 ghost use Rattle.codec_payload_session.specs.Formats.{HasSettings, IsLive, IsLiveFeedback, has_type, is_no_media, is_telephone, is_type, is_video, limits_for, plain_format, resends, resends_red, retransmission_for, retransmission_of, role_by, role_of, stream_of};
-ghost use Rattle.codec_payload_stream.specs.Kinds.{is_among};
+ghost use Rattle.codec_payload_receiver.specs.Kinds.{is_among};
 
 use codec_payload_base::wire::{Codec, CodecSpec, Frequency};
 use codec_payload_feedback::transport::TransportSettings;
+use codec_payload_feedback_requests::nack::NackSettings;
 use codec_payload_jitter::jitter::WaitLimits;
 use codec_payload_keyframes::unit_gate::FromKeyframe;
-use codec_payload_requests::nack::NackSettings;
+use codec_payload_receiver::receiver::{RedSettings, Retransmission, Settings};
 use codec_payload_rtp::values::ExtensionIds;
-use codec_payload_stream::receiver::{RedSettings, Retransmission, Settings};
 use std::alloc::{AllocError, Global};
 
 /// The default number of accepted datagrams after which a new stream is announced.

@@ -2,22 +2,22 @@
 
 ghost use Rattle.std.specs.Prelude.{◌≡◌, false};
 ghost use Rattle.codec_payload_codec.specs.Depacketizers.{depacketizer_state_of};
-ghost use Rattle.codec_payload_stream.specs.Pops.{NamesFault, PopsGated, answer_of, is_large, is_too_large};
+ghost use Rattle.codec_payload_receiver.specs.Pops.{NamesFault, PopsGated, answer_of, is_large, is_too_large};
 ghost use Rattle.codec_payload_session.specs.Units.{popped_with};
-ghost use Rattle.codec_payload_stream.specs.Reports.{report_of, reported};
-ghost use Rattle.codec_payload_stream.specs.Sessions.{Ends, ReceivesBytes, is_none_of, session_by};
+ghost use Rattle.codec_payload_receiver.specs.Reports.{report_of, reported};
+ghost use Rattle.codec_payload_receiver.specs.Sessions.{Ends, ReceivesBytes, is_none_of, session_by};
 
 use codec_payload_base::wire::Ticks;
 use codec_payload_buffer::buffer::PoppedUnit;
 use codec_payload_codec::codec::CodecDepacketizer;
 use codec_payload_jitter::jitter::WaitLimits;
 use codec_payload_jitter::outcome::Outcome;
-use codec_payload_stream::parsed::ParsedDatagram;
-use codec_payload_stream::pops::Popped;
-use codec_payload_stream::receiver::{
+use codec_payload_receiver::parsed::ParsedDatagram;
+use codec_payload_receiver::pops::Popped;
+use codec_payload_receiver::receiver::{
     ReceiveError, Receiver, Retransmission, Settings, SettingsError,
 };
-use codec_payload_stream::reports::ReceptionReport;
+use codec_payload_receiver::reports::ReceptionReport;
 use std::alloc::{AllocError, Global};
 use std::marker::Model;
 
@@ -28,7 +28,7 @@ pub(crate) struct NamedReceiver {
 }
 
 impl Model for NamedReceiver {
-    ghost use Rattle.codec_payload_stream.specs.Sessions.{Session};
+    ghost use Rattle.codec_payload_receiver.specs.Sessions.{Session};
 
     ghost Value = { Session };
 

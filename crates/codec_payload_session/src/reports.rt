@@ -7,9 +7,9 @@ ghost use Rattle.codec_payload_session.specs.Reports.{block_about, block_of, clo
 
 use crate::stream::StreamState;
 use codec_payload_base::wire::{Frequency, Ticks};
+use codec_payload_receiver::reports::ReceptionReport;
 use codec_payload_rtcp::items::ReportBlock;
 use codec_payload_rtcp::packet::{RtcpPacket, SenderReport};
-use codec_payload_stream::reports::ReceptionReport;
 
 /// The clock of a stream's sender, as its latest sender report states it (RFC 3550, section 6.4.1): one moment by the sender's
 /// wall clock and as an RTP time.

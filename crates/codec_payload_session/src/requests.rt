@@ -8,9 +8,9 @@ ghost use Rattle.codec_payload_session.specs.Requests.{Asks, Refreshes, after_nu
 use crate::formats::{FeedbackSettings, Format, is_video};
 use codec_payload_base::wire::Ticks;
 use codec_payload_feedback::requests::{FeedbackSource, StreamRequests};
-use codec_payload_requests::nack::NackSettings;
-use codec_payload_stream::parsed::ParsedDatagram;
-use codec_payload_stream::receiver::Receiver;
+use codec_payload_feedback_requests::nack::NackSettings;
+use codec_payload_receiver::parsed::ParsedDatagram;
+use codec_payload_receiver::receiver::Receiver;
 use std::alloc::{AllocError, Global};
 use std::marker::Model;
 

@@ -29,13 +29,13 @@ use crate::waking::due_in;
 use codec_payload_base::error::PacketError;
 use codec_payload_base::wire::Ticks;
 use codec_payload_buffer::buffer::PoppedUnit;
-use codec_payload_congestion::arrivals::quarters;
 use codec_payload_feedback::transport::{TransportReporter, quarters_at};
+use codec_payload_feedback_congestion::arrivals::quarters;
 use codec_payload_jitter::jitter::WaitLimits;
 use codec_payload_jitter::outcome::Outcome;
+use codec_payload_receiver::parsed::ParsedDatagram;
+use codec_payload_receiver::receiver::{ReceiveError, Receiver};
 use codec_payload_rtcp::items::ReportBlock;
-use codec_payload_stream::parsed::ParsedDatagram;
-use codec_payload_stream::receiver::{ReceiveError, Receiver};
 use std::alloc::{AllocError, Global};
 use std::marker::Model;
 
@@ -57,7 +57,7 @@ pub enum Arrival {
     /// The stream of this SSRC and payload type received the datagram. `outcome` is what [`Receiver::receive`] returned: the
     /// packet was stored, or why it was dropped.
     ///
-    /// [`Receiver::receive`]: codec_payload_stream::receiver::Receiver::receive
+    /// [`Receiver::receive`]: codec_payload_receiver::receiver::Receiver::receive
     Stream {
         ssrc: u32,
         payload_type: u8,
@@ -68,7 +68,7 @@ pub enum Arrival {
     /// datagram, so do not end a program for it. `fault` is the error of [`Receiver::receive`], and never
     /// [`ReceiveError::OutOfMemory`].
     ///
-    /// [`Receiver::receive`]: codec_payload_stream::receiver::Receiver::receive
+    /// [`Receiver::receive`]: codec_payload_receiver::receiver::Receiver::receive
     Faulty {
         ssrc: u32,
         payload_type: u8,
@@ -89,8 +89,8 @@ pub enum Event<U = PoppedUnit> {
     /// the RTP clock, without wrapping. A decoder can show the unit if it is `decodable`: see [`Receiver::unit_is_decodable`],
     /// and [`Receiver::unit_is_keyframe`] for `keyframe`.
     ///
-    /// [`Receiver::unit_is_decodable`]: codec_payload_stream::receiver::Receiver::unit_is_decodable
-    /// [`Receiver::unit_is_keyframe`]: codec_payload_stream::receiver::Receiver::unit_is_keyframe
+    /// [`Receiver::unit_is_decodable`]: codec_payload_receiver::receiver::Receiver::unit_is_decodable
+    /// [`Receiver::unit_is_keyframe`]: codec_payload_receiver::receiver::Receiver::unit_is_keyframe
     Unit {
         ssrc: u32,
         payload_type: u8,
@@ -203,7 +203,7 @@ pub(crate) struct ArrivalCounts {
 /// Each SSRC with each media format is a stream, with its own [`Receiver`]. [`Session::receive`] finds the stream of a
 /// datagram, or begins one. [`Session::poll`] reports when streams begin and end, and returns their units.
 ///
-/// [`Receiver`]: codec_payload_stream::receiver::Receiver
+/// [`Receiver`]: codec_payload_receiver::receiver::Receiver
 #[derive(Debug, Drop)]
 pub struct Session {
     settings: SessionSettings,
@@ -278,7 +278,7 @@ impl Session {
     /// Out of memory: the datagram is not counted; you can pass it again. A pair may have been added, and the arrival may be recorded for
     /// the transport; the first time counts.
     ///
-    /// [`Receiver::receive`]: codec_payload_stream::receiver::Receiver::receive
+    /// [`Receiver::receive`]: codec_payload_receiver::receiver::Receiver::receive
     /// [`StreamInfo::sender_clock`]: crate::stream::StreamInfo::sender_clock
     /// [`Ending::Changed`]: crate::stream::Ending::Changed
     pub fn receive(&mut self, now: Ticks, datagram: &[u8]) -> Result<Arrival, AllocError>
@@ -476,7 +476,7 @@ impl Session {
     /// changes. See [`Receiver::set_wait_limits`]. If waiting follows the round trip ([`FeedbackSettings::longest_wait`]), later
     /// packets replace `max_wait`.
     ///
-    /// [`Receiver::set_wait_limits`]: codec_payload_stream::receiver::Receiver::set_wait_limits
+    /// [`Receiver::set_wait_limits`]: codec_payload_receiver::receiver::Receiver::set_wait_limits
     /// [`FeedbackSettings::longest_wait`]: crate::formats::FeedbackSettings::longest_wait
     pub fn set_wait_limits(&mut self, ssrc: u32, payload_type: u8, wait_limits: WaitLimits)
         ensures { self.new ≡ waits_of ssrc payload_type wait_limits self.old }
@@ -493,7 +493,7 @@ impl Session {
     /// without one both of its fields are 0. The delay since then is in 1/65,536 s, by `tick_rate` of the settings, and at most
     /// 18 hours.
     ///
-    /// [`Receiver::report`]: codec_payload_stream::receiver::Receiver::report
+    /// [`Receiver::report`]: codec_payload_receiver::receiver::Receiver::report
     /// [`StreamInfo::sender_clock`]: crate::stream::StreamInfo::sender_clock
     pub fn report(&mut self, now: Ticks, ssrc: u32, payload_type: u8) -> Option<ReportBlock>
         ensures reports { (port : Port) × ReportsIf (position (is_of ssrc payload_type) self.old.port.streams) self.old.settings.tick_rate now.0 self.old.port result port × (self.new ≡ record self.old { port = port }) }
@@ -587,8 +587,8 @@ impl Session {
     /// Lends the receiver of the stream at a place, in the order in which the streams began. It reports what to request
     /// ([`Receiver::missing`], [`Receiver::wants_keyframe`]), and its counters.
     ///
-    /// [`Receiver::missing`]: codec_payload_stream::receiver::Receiver::missing
-    /// [`Receiver::wants_keyframe`]: codec_payload_stream::receiver::Receiver::wants_keyframe
+    /// [`Receiver::missing`]: codec_payload_receiver::receiver::Receiver::missing
+    /// [`Receiver::wants_keyframe`]: codec_payload_receiver::receiver::Receiver::wants_keyframe
     pub fn receiver_at(&self, place: usize) -> Option<&Receiver>
         ensures { option_map (λ receiver. receiver.now) result ≡ option_map (λ stream. stream.receiver) (slice_get self.now.port.streams place) }
     {
@@ -601,8 +601,8 @@ impl Session {
     /// Lends the receiver of the stream with this SSRC and payload type. After a poll that gave a unit of the stream it reports
     /// what the unit is ([`Receiver::unit_is_decodable`], [`Receiver::unit_is_keyframe`]).
     ///
-    /// [`Receiver::unit_is_decodable`]: codec_payload_stream::receiver::Receiver::unit_is_decodable
-    /// [`Receiver::unit_is_keyframe`]: codec_payload_stream::receiver::Receiver::unit_is_keyframe
+    /// [`Receiver::unit_is_decodable`]: codec_payload_receiver::receiver::Receiver::unit_is_decodable
+    /// [`Receiver::unit_is_keyframe`]: codec_payload_receiver::receiver::Receiver::unit_is_keyframe
     pub fn receiver_of(&self, ssrc: u32, payload_type: u8) -> Option<&Receiver>
         ensures { option_map (λ receiver. receiver.now) result ≡ receiver_among (position (is_of ssrc payload_type) self.now.port.streams) self.now.port.streams }
     {

@@ -24,9 +24,9 @@ use codec_payload_buffer::buffer::PoppedUnit;
 use codec_payload_codec::codec::CodecDepacketizer;
 use codec_payload_jitter::jitter::WaitLimits;
 use codec_payload_jitter::outcome::Outcome;
-use codec_payload_stream::parsed::ParsedDatagram;
-use codec_payload_stream::pops::Popped;
-use codec_payload_stream::receiver::{Counters, ReceiveError};
+use codec_payload_receiver::parsed::ParsedDatagram;
+use codec_payload_receiver::pops::Popped;
+use codec_payload_receiver::receiver::{Counters, ReceiveError};
 use std::alloc::{AllocError, Global};
 use std::marker::Model;
 

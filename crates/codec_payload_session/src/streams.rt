@@ -30,11 +30,11 @@ use codec_payload_base::wire::{Frequency, Ticks};
 use codec_payload_buffer::buffer::PoppedUnit;
 use codec_payload_jitter::jitter::WaitLimits;
 use codec_payload_jitter::outcome::Outcome;
+use codec_payload_receiver::parsed::ParsedDatagram;
+use codec_payload_receiver::receiver::ReceiveError;
 use codec_payload_rtcp::compound::{CompoundRule, Packets, read_compound};
 use codec_payload_rtcp::items::ReportBlock;
 use codec_payload_rtp::rtp::PacketHeader;
-use codec_payload_stream::parsed::ParsedDatagram;
-use codec_payload_stream::receiver::ReceiveError;
 use std::alloc::{AllocError, Global};
 use std::marker::Model;
 

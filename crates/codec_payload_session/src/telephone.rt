@@ -8,8 +8,8 @@ ghost use Rattle.codec_payload_session.specs.Telephone.{Gives, IsCopy, MayLackMe
 use crate::formats::SessionSettings;
 use crate::session::{Arrival, Event};
 use codec_payload_jitter::outcome::Outcome;
+use codec_payload_receiver::parsed::ParsedDatagram;
 use codec_payload_rtp::rtp::RtpPacket;
-use codec_payload_stream::parsed::ParsedDatagram;
 use std::alloc::{AllocError, Global};
 use std::marker::Model;
 

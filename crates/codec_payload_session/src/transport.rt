@@ -3,7 +3,7 @@
 ghost use Rattle.std.specs.Prelude.{◌≡◌, IfOk, OnErr, OnOk, true};
 ghost use Rattle.std.specs.Option.{is_some, option_map};
 ghost use Rattle.codec_payload_feedback.specs.Transport.{IsTransportFeedback, restarted};
-ghost use Rattle.codec_payload_requests.specs.Requests.{has_come};
+ghost use Rattle.codec_payload_feedback_requests.specs.Requests.{has_come};
 ghost use Rattle.codec_payload_session.specs.Requests.{source_for};
 ghost use Rattle.codec_payload_session.specs.Transports.{Sends, SendsBy, is_transport_due, noted_at, noted_by, reporter_for, restarted_if, transport_deadline};
 
@@ -12,7 +12,7 @@ use crate::requests::source_for;
 use crate::streams::Streams;
 use codec_payload_base::wire::Ticks;
 use codec_payload_feedback::transport::TransportReporter;
-use codec_payload_stream::parsed::ParsedDatagram;
+use codec_payload_receiver::parsed::ParsedDatagram;
 use std::alloc::{AllocError, Global};
 
 /// Returns the reporter of a new session. Does not allocate.

@@ -10,8 +10,8 @@ use Rattle.codec_payload_rtcp.specs.RtcpReading.{compound_at}
 use Rattle.codec_payload_rtp.specs.RtpPackets.{Packet, is_rtcp}
 use Rattle.codec_payload_rtp.specs.RtpReading.{rtp_at}
 use Rattle.codec_payload_rtp.specs.declared.rtp.RtpError.{RtpError}
-use Rattle.codec_payload_stream.specs.Kinds.{is_among}
-use Rattle.codec_payload_stream.specs.declared.receiver.Retransmission.{Retransmission}
+use Rattle.codec_payload_receiver.specs.Kinds.{is_among}
+use Rattle.codec_payload_receiver.specs.declared.receiver.Retransmission.{Retransmission}
 use Rattle.codec_payload_session.specs.Arrivals.{Arrives, Feeds, FeedsIf, Port, TakesIn, TakesInAs, arrival_of}
 use Rattle.codec_payload_session.specs.Associations.{owner_of, pair_at, pair_of, pair_with, unpaired_at, unpaired_by, unpaired_rtp}
 use Rattle.codec_payload_session.specs.Formats.{has_type, resends, retransmission_for, retransmission_of, role_by, stream_of}

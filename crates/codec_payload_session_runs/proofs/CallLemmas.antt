@@ -15,8 +15,8 @@ use Rattle.codec_payload_rtcp.specs.declared.packet.RtcpError.{RtcpError}
 use Rattle.codec_payload_rtp.specs.RtpPackets.{Packet as RtpPacket, is_rtcp}
 use Rattle.codec_payload_rtp.specs.RtpReading.{rtp_at}
 use Rattle.codec_payload_rtp.specs.declared.rtp.RtpError.{RtpError}
-use Rattle.codec_payload_stream.specs.Kinds.{is_among}
-use Rattle.codec_payload_stream.specs.declared.receiver.ReceiveError.{ReceiveError}
+use Rattle.codec_payload_receiver.specs.Kinds.{is_among}
+use Rattle.codec_payload_receiver.specs.declared.receiver.ReceiveError.{ReceiveError}
 use Rattle.codec_payload_session.specs.Arrivals.{Arrives, BeginsIf, BeginsOrFeeds, BeginsWith, Feeds, FeedsIf, Port, TakesIn, TakesInAs, TakesMedia, arrival_of, goodbye_at, has_place, has_ssrc, left_if, on_probation, without}
 use Rattle.codec_payload_session.specs.Changes.{continued, continues, is_left_behind, left_behind}
 use Rattle.codec_payload_session.specs.Pairs.{paired_if, paired_when}

@@ -7,13 +7,13 @@ use Rattle.codec_payload_jitter.specs.declared.outcome.Outcome.{Outcome}
 use Rattle.codec_payload_jitter.specs.declared.waiting.WaitLimits.{WaitLimits}
 use Rattle.codec_payload_rtp.specs.RtpPackets.{Packet}
 use Rattle.codec_payload_rtp.specs.RtpReading.{rtp_at}
-use Rattle.codec_payload_stream.specs.Pops.{NamesFault, PopsGated, answer_of, is_large, is_too_large}
-use Rattle.codec_payload_stream.specs.Reports.{reported}
-use Rattle.codec_payload_stream.specs.Sessions.{Ends, ReceivesBytes, Session as Receiver}
-use Rattle.codec_payload_stream.specs.declared.pops.Popped.{Popped}
-use Rattle.codec_payload_stream.specs.declared.pops.Popped.TheVariants as popped
-use Rattle.codec_payload_stream.specs.declared.receiver.ReceiveError.{ReceiveError}
-use Rattle.codec_payload_stream.specs.declared.receiver.Retransmission.{Retransmission}
+use Rattle.codec_payload_receiver.specs.Pops.{NamesFault, PopsGated, answer_of, is_large, is_too_large}
+use Rattle.codec_payload_receiver.specs.Reports.{reported}
+use Rattle.codec_payload_receiver.specs.Sessions.{Ends, ReceivesBytes, Session as Receiver}
+use Rattle.codec_payload_receiver.specs.declared.pops.Popped.{Popped}
+use Rattle.codec_payload_receiver.specs.declared.pops.Popped.TheVariants as popped
+use Rattle.codec_payload_receiver.specs.declared.receiver.ReceiveError.{ReceiveError}
+use Rattle.codec_payload_receiver.specs.declared.receiver.Retransmission.{Retransmission}
 use Rattle.codec_payload_session.specs.Ports.{Session, new_session}
 use Rattle.codec_payload_session.specs.Streams.{Begins, is_no_memory, is_of}
 use Rattle.codec_payload_session.specs.declared.formats.Format.{Format}

@@ -3,7 +3,7 @@
 use codec_payload_base::wire::{Codec, ExtensionValues, Frequency, MediaTime};
 use codec_payload_codec::codec::{CodecPacketizer, NoBox};
 use codec_payload_rtp::values::ExtensionIds;
-use codec_payload_sender::sender::{Counts, Sample, Sender, SenderSettings};
+use codec_payload_sending::sender::{Counts, Sample, Sender, SenderSettings};
 use std::process::Abort;
 use std::test::Fail;
 

@@ -1,5 +1,5 @@
 use Rattle.std.proofs.Common.{◌≡◌, slice_get}
-use Rattle.codec_payload_transport.specs.Messages.{messages_left}
+use Rattle.codec_payload_feedback_transport.specs.Messages.{messages_left}
 use Rattle.codec_payload_c.proofs.congestion.nth.Given as goal
 
 abbrev pub invariant-loop-message : goal.invariant-loop-message

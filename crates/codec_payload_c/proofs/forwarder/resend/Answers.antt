@@ -1,6 +1,6 @@
 use Rattle.std.proofs.Common.{◌≡◌, refl, rules, subst, Bool, true, false, [], inl, inr}
 use Rattle.codec_payload_rtp.specs.RtpValues.{packet_of}
-use Rattle.codec_payload_forward.specs.Forwarding.{Repeats}
+use Rattle.codec_payload_sending_forward.specs.Forwarding.{Repeats}
 use Rattle.codec_payload_c.proofs.forwarder.resend.Goals as goal
 
 pub returns-in-Ok-true-clause-resends : goal.returns-in-Ok-true-clause-resends

@@ -1,7 +1,7 @@
 use Rattle.std.proofs.Common.{◌≡◌, ◌∙◌, ap, sym, arith, suc, ℕ, ◌-◌, ◌^◌, ◌||◌, List, ◌∷◌, length, set}
-use Rattle.codec_payload_history.specs.Requests.{requests_left}
-use Rattle.codec_payload_history.specs.declared.feedback.Request.{Request}
-use Rattle.codec_payload_history.specs.declared.feedback.Request.TheVariants as requests
+use Rattle.codec_payload_sending_history.specs.Requests.{requests_left}
+use Rattle.codec_payload_sending_history.specs.declared.feedback.Request.{Request}
+use Rattle.codec_payload_sending_history.specs.declared.feedback.Request.TheVariants as requests
 use Rattle.codec_payload_c.specs.Histories.{asks_keyframe, numbers_asked}
 use Rattle.codec_payload_c.proofs.AskedNumbers.{put_all, put_from, set_least}
 use Rattle.codec_payload_c.proofs.history.collect.Goals as goal

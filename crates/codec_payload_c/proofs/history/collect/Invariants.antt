@@ -1,6 +1,6 @@
 use Rattle.std.proofs.Common.{◌≡◌, ℕ, ◌+◌, ◌-◌, ◌^◌, ◌||◌, length}
 use Rattle.std.specs.Prelude.{min}
-use Rattle.codec_payload_history.specs.Requests.{requests_left}
+use Rattle.codec_payload_sending_history.specs.Requests.{requests_left}
 use Rattle.codec_payload_c.specs.Histories.{asks_keyframe, numbers_asked}
 use Rattle.codec_payload_c.proofs.AskedNumbers.{put_from}
 use Rattle.codec_payload_c.proofs.history.collect.Given as goal

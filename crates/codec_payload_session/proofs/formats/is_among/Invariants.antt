@@ -1,5 +1,5 @@
 use Rattle.std.proofs.Common.{◌≡◌, drop}
-use Rattle.codec_payload_stream.specs.Kinds.{is_among}
+use Rattle.codec_payload_receiver.specs.Kinds.{is_among}
 use Rattle.codec_payload_session.proofs.formats.is_among.Given as goal
 
 abbrev pub invariant-loop-t : goal.invariant-loop-t

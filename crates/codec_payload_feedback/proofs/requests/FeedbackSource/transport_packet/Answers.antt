@@ -1,7 +1,7 @@
 use Rattle.std.proofs.Common.{◌≡◌, [], ap, subst, rules}
 use Rattle.codec_payload_rtcp.specs.RtcpPackets.{Packet}
 use Rattle.codec_payload_rtcp.specs.RtcpWriting.{Appends}
-use Rattle.codec_payload_congestion.specs.Packet.{transport_feedback}
+use Rattle.codec_payload_feedback_congestion.specs.Packet.{transport_feedback}
 use Rattle.codec_payload_feedback.specs.Feedback.{Source}
 use Rattle.codec_payload_feedback.proofs.FeedbackLemmas.{all_three}
 use Rattle.codec_payload_feedback.proofs.requests.FeedbackSource.transport_packet.Goals as goal

@@ -1,7 +1,7 @@
 use Rattle.std.proofs.Common.{◌≡◌, ◌∙◌, ap, subst, sym}
 use Rattle.codec_payload_buffer.specs.Steps.{popped_to}
-use Rattle.codec_payload_stream.specs.Pops.{Answer, PopsGated, answer_of, is_large, is_too_large}
-use Rattle.codec_payload_stream.specs.Sessions.{Session as Receiver}
+use Rattle.codec_payload_receiver.specs.Pops.{Answer, PopsGated, answer_of, is_large, is_too_large}
+use Rattle.codec_payload_receiver.specs.Sessions.{Session as Receiver}
 use Rattle.codec_payload_session.specs.Units.{popped_with}
 use Rattle.codec_payload_session.proofs.NamedLemmas.{pops_named}
 use Rattle.codec_payload_session.proofs.UnitLemmas.{answer_with, large_with, names_with}

@@ -1,8 +1,8 @@
 use Rattle.std.proofs.Common.{◌∙◌, ap, refl, sym, subst, Result, IsOk}
 use Rattle.codec_payload_codec.specs.Depacketizers.{DepacketizerState, depacketizer_state_for, depacketizer_state_of}
 use Rattle.codec_payload_jitter.specs.declared.waiting.WaitLimits.{WaitLimits}
-use Rattle.codec_payload_stream.specs.Sessions.{Session as Receiver, session_by}
-use Rattle.codec_payload_stream.specs.declared.receiver.SettingsError.{SettingsError}
+use Rattle.codec_payload_receiver.specs.Sessions.{Session as Receiver, session_by}
+use Rattle.codec_payload_receiver.specs.declared.receiver.SettingsError.{SettingsError}
 use Rattle.codec_payload_session.proofs.CheckLemmas.{fits, known_by, receiver_made, some_mapped}
 use Rattle.codec_payload_session.specs.Requests.{feedback_by}
 use Rattle.codec_payload_session.proofs.stream.StreamState.begin.Goals as goal

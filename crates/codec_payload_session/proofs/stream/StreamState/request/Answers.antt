@@ -1,5 +1,5 @@
 use Rattle.std.proofs.Common.{◌≡◌, Option, Some, arith, refl, subst}
-use Rattle.codec_payload_stream.specs.Sessions.{Session as Receiver}
+use Rattle.codec_payload_receiver.specs.Sessions.{Session as Receiver}
 use Rattle.codec_payload_session.specs.Requests.{Asking, Asks, is_heard}
 use Rattle.codec_payload_session.specs.Streams.{RequestsBy, StreamState}
 use Rattle.codec_payload_session.proofs.SkipLemmas.{seen}

@@ -1,5 +1,5 @@
 use Rattle.std.proofs.Common.{◌≡◌, ◌∙◌, ℕ, List, Bool, true, false, ap, refl, subst}
-use Rattle.codec_payload_stream.specs.Sessions.{Session as Receiver}
+use Rattle.codec_payload_receiver.specs.Sessions.{Session as Receiver}
 use Rattle.codec_payload_session.specs.Streams.{StreamState, Takes, heard_unless, is_no_memory, received}
 use Rattle.codec_payload_session.proofs.SkipLemmas.{seen}
 use Rattle.codec_payload_session.proofs.stream.StreamState.take.Goals as goal

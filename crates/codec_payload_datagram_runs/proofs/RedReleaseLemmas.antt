@@ -1,0 +1,384 @@
+-- The units that a run in RED releases, from three parts: what it sends, what it receives, and the theorem of the buffer.
+use Rattle.std.proofs.Common.{◌≡◌, ◌∙◌, refl, sym, ap, subst, ℕ, ◌+◌, ◌-◌, ◌%◌, ◌^◌, ◌<◌, ◌≤◌, ◌&&◌, List, [], ◌∷◌, ◌++◌, inr, inl, Bool, true, false, not, eqb, ltb, leb, Option, None, Some, Result, Ok, Err, length, arith}
+use Rattle.std.proofs.lemmas.Bool.{and_parts, eq-eqb, leb-true}
+use Rattle.std.proofs.lemmas.Option.{slice_get_within}
+use Rattle.codec_payload_buffer.proofs.MemberLemmas.{IsIn, in_contains, in_right}
+use Rattle.codec_payload_buffer.specs.ContiguityTable.{contiguity_for}
+use Rattle.codec_payload_buffer.specs.declared.buffer.unit.RtpMeta.{RtpMeta}
+use Rattle.codec_payload_codec.proofs.CodecLemmas.{codec_payloads, marker_free}
+use Rattle.codec_payload_codec.specs.Depacketizers.{DepacketizerKind, DepacketizerState, is_built_in_depacketizer, is_codec, kind_of_depacketizer}
+use Rattle.codec_payload_codec.specs.Packetizers.{may_split, payloads_by}
+use Rattle.codec_payload_jitter.specs.NotedTimes.{AreTimesOf}
+use Rattle.codec_payload_jitter.specs.Numbers.{Numbering, no_numbers, numbering_within}
+use Rattle.codec_payload_jitter.specs.declared.numbers.WindowError.{WindowError}
+use Rattle.codec_payload_jitter.specs.declared.numbers.WindowError.TheVariants as windows
+use Rattle.codec_payload_red.specs.RedRun.{IsRecoverable}
+use Rattle.codec_payload_sending_red.specs.Writers.{Writer}
+use Rattle.codec_payload_buffer_runs.proofs.order.RunSettings.{empty, fresh, may_go, setting}
+use Rattle.codec_payload_buffer_runs.proofs.order.SafetyLemmas.{SendsAll, all_end, sends_all}
+use Rattle.codec_payload_buffer_runs.proofs.order.TurnLemmas.{Setting}
+use Rattle.codec_payload_buffer_runs.proofs.units.BuiltInRuns.{plainly, unused_exactly}
+use Rattle.codec_payload_buffer_runs.proofs.units.StreamLemmas.{Streams, streams}
+use Rattle.codec_payload_buffer_runs.proofs.units.UnitRows.{IsFaithful}
+use Rattle.codec_payload_buffer_runs.specs.Exact.{AnswersAll}
+use Rattle.codec_payload_buffer_runs.specs.Headline.{IsUnused}
+use Rattle.codec_payload_buffer_runs.specs.LawfulUnits.{AllLawful}
+use Rattle.codec_payload_buffer_runs.specs.RedSchedule.{all_remembered}
+use Rattle.codec_payload_buffer_runs.specs.ReportedIds.{read_by}
+use Rattle.codec_payload_buffer_runs.specs.Schedule.{Answer, RunState}
+use Rattle.codec_payload_buffer_runs.specs.SentStream.{SentUnit, packets_of, units_of_run}
+use Rattle.codec_payload_buffer_runs.specs.declared.run.Step.{Step}
+use Rattle.codec_payload_payloader.specs.Packets.{Packet}
+use Rattle.codec_payload_payloader.specs.Sending.{Sample}
+use Rattle.codec_payload_sending.specs.Senders.{Sending}
+use Rattle.codec_payload_receiver.specs.SeenTimes.{is_seen, none_seen}
+use Rattle.codec_payload_receiver.specs.Sessions.{Session, red_by, red_within, retransmission_fits, session_by, session_in, session_with, session_within}
+use Rattle.codec_payload_receiver.specs.declared.datagram.RedStream.{RedStream}
+use Rattle.codec_payload_receiver.specs.declared.receiver.RedSettings.{RedSettings}
+use Rattle.codec_payload_receiver.specs.declared.receiver.Settings.{Settings}
+use Rattle.codec_payload_receiver.specs.declared.receiver.SettingsError.{SettingsError}
+use Rattle.codec_payload_receiver.specs.declared.receiver.SettingsError.TheVariants as settings_errors
+use Rattle.codec_payload_datagram_runs.proofs.Courses.{proceeds}
+use Rattle.codec_payload_datagram_runs.proofs.DeliveredLemmas.{AllIn}
+use Rattle.codec_payload_datagram_runs.proofs.EventLemmas.{times_from}
+use Rattle.codec_payload_datagram_runs.proofs.NewReceivers.{IsBegun, new_is_begun, passed}
+use Rattle.codec_payload_datagram_runs.proofs.ReceivingLemmas.{AllNumbered}
+use Rattle.codec_payload_datagram_runs.proofs.RedCourses.{Course, course_in_order, fed_before}
+use Rattle.codec_payload_datagram_runs.proofs.RedExactLemmas.{IsFillingUp, NearNumbers, answers_exactly, fills}
+use Rattle.codec_payload_datagram_runs.proofs.RedReadingLemmas.{IsRedFor, entries_are, written_at}
+use Rattle.codec_payload_datagram_runs.proofs.RedReceivingLemmas.{IsTuned, RedSide, Timely, red_course}
+use Rattle.codec_payload_datagram_runs.proofs.RedStepLemmas.{RedComes, RedTakes, SendsAlone, only_sends, red_comes_to, same_sends, same_times, sends_alone, writes_count, written_in}
+use Rattle.codec_payload_datagram_runs.proofs.ReleaseLemmas.{AllBelow, first_for, first_low, first_small, numbered_within}
+use Rattle.codec_payload_datagram_runs.proofs.SendingLemmas.{SendsRun, running, same_count, sends_run, times_in}
+use Rattle.codec_payload_datagram_runs.proofs.TimelyLemmas.{StayTimely, stay_timely}
+use Rattle.codec_payload_receiver.proofs.BlockTimeLemmas.{new_has_no_block}
+use Rattle.codec_payload_receiver.specs.RedOnce.{HasNoBlock}
+use Rattle.codec_payload_datagram_runs.specs.RedReleases.{AllComeInRed, IsInRedWithinWindows, IsRedDelivery, ReleaseInRed, ReleasesUnitsInRed, entries_in, is_ssrc_of, red_receiver}
+use Rattle.codec_payload_datagram_runs.specs.RedRuns.{RedRuns, RedWire, WritesAll, begins_in_red}
+use Rattle.codec_payload_datagram_runs.specs.Releases.{AreDatagrams, ComeWithin, delivered, received_steps, sending_steps, times_sent}
+use Rattle.codec_payload_datagram_runs.specs.WireRuns.{begins}
+use Rattle.codec_payload_datagram_runs.specs.declared.run.DatagramStep.{DatagramStep}
+use Rattle.codec_payload_datagram_runs.specs.declared.run.DatagramStep.TheVariants as steps
+use Rattle.codec_payload_datagram_runs.specs.declared.run.SentSample.{SentSample}
+
+-- A new receiver of RED
+
+red_in : (s : Settings) (depacketizer : DepacketizerState) (r : Result (Option RedStream) SettingsError) (receiver : Session) → session_in s depacketizer r ≡ Ok receiver → r ≡ Ok receiver.stream.red
+red_in s depacketizer (Err fault) receiver e = absurd (cc)
+red_in s depacketizer (Ok red) receiver e = by_windows (numbering_within s.forward s.backward) e
+  where
+    by_windows : (n : Result Numbering WindowError) → session_within s depacketizer red n ≡ Ok receiver → ◌≡◌ {A = Result (Option RedStream) SettingsError} (Ok red) (Ok receiver.stream.red)
+    by_windows (Ok numbering) same = let made : session_with s depacketizer red numbering ≡ receiver = cc in ap (λ (x : Session). Ok x.stream.red) made
+    by_windows (Err windows.Forward) same = absurd (cc)
+    by_windows (Err windows.Backward) same = absurd (cc)
+
+-- how a receiver with these settings uses RED
+abbrev pub stream_of_red : Settings → RedSettings → RedStream
+stream_of_red s red = record { payload_type = red.payload_type; receiver = red_receiver s red; retransmission = red.retransmission }
+
+pub record UsesRed (s : Settings) (red : RedSettings) (receiver : Session) : Type 0 where
+  pub used : receiver.stream.red ≡ Some (stream_of_red s red)
+  pub other_type : eqb red.payload_type s.payload_type ≡ false
+  pub small : s.payload_type ≤ 127
+  pub room : s.limit ≤ 65536
+
+not_true : (b : Bool) → not b ≡ true → b ≡ false
+not_true true h = absurd (cc)
+not_true false h = refl
+
+pub uses_red : (s : Settings) (depacketizer : DepacketizerState) (receiver : Session) (red : RedSettings) → session_by s depacketizer ≡ Ok receiver → s.red ≡ Some red → UsesRed s red receiver
+uses_red s depacketizer receiver red e is =
+    let a = passed (leb s.payload_type 127) _ settings_errors.PayloadType receiver e in
+    let b = passed (leb 1 s.limit && leb s.limit 65536) _ settings_errors.Limit receiver a.1 in
+    let c = passed (retransmission_fits s.retransmission) _ settings_errors.RetransmissionPayloadType receiver b.1 in
+    let made : red_within s.payload_type s.red ≡ Ok receiver.stream.red = red_in s depacketizer (red_within s.payload_type s.red) receiver c.1 in
+    let by : red_by s.payload_type red ≡ Ok receiver.stream.red = sym (ap (red_within s.payload_type) is) ∙ made in
+    let d = passed (leb red.payload_type 127 && not (eqb red.payload_type s.payload_type)) _ settings_errors.RedPayloadType receiver.stream.red by in
+    let f = passed (ltb 0 red.step && leb red.step 16383) _ settings_errors.RedStep receiver.stream.red d.1 in
+    let types = and_parts (leb red.payload_type 127) (not (eqb red.payload_type s.payload_type)) d.0 in
+    let limits = and_parts (leb 1 s.limit) (leb s.limit 65536) b.0 in
+    let same : Some (stream_of_red s red) ≡ receiver.stream.red = cc in
+    record {
+      used = sym same;
+      other_type = not_true (eqb red.payload_type s.payload_type) types.1;
+      small = leb-true s.payload_type 127 a.0;
+      room = leb-true s.limit 65536 limits.1;
+    }
+
+-- the numbers of datagrams that were sent
+takes_below : (later : List DatagramStep) (written : List (List ℕ)) (s t : Session) (answers : List Answer) → RedTakes later written s answers t → AllBelow (length written) (delivered later)
+takes_below [] written s t answers takes = tt
+takes_below (steps.Send i ∷ later) written s t answers takes = takes_below later written s t answers takes
+takes_below (steps.Deliver k now ∷ later) written s t answers takes = (slice_get_within written k takes.0 takes.1, takes_below later written takes.3 t answers takes.5)
+takes_below (steps.Pop now ∷ later) written s t answers takes = takes_below later written takes.2 t takes.1 takes.6
+takes_below (steps.Finish ∷ later) written s t answers takes = takes_below later written takes.0 t answers takes.2
+
+-- at first no time was seen
+none_is_seen : (time : ℕ) → is_seen time none_seen.places ≡ true → ⊥
+none_is_seen time is = absurd (cc)
+
+-- The theorem
+
+module _ (samples : List Sample) (all_steps : List DatagramStep) (sender : Sending) (writer : Writer) (receiver : Session) (t : RedWire)
+    (run : RedRuns samples all_steps (begins_in_red sender writer receiver) t) (within : IsInRedWithinWindows samples all_steps (begins_in_red sender writer receiver) t) where
+  abbrev received : List DatagramStep
+  received = received_steps samples 0 all_steps t.wire.sends
+
+  abbrev rate : ℕ
+  rate = sender.stream.clock_rate
+
+  abbrev number : ℕ
+  number = sender.stream.number % 65536
+
+  low : number < 65536
+  low = omega arith
+
+  abbrev first : ℕ
+  first = first_for number (delivered received)
+
+  abbrev forward : ℕ
+  forward = within.plain.settings.forward
+
+  abbrev backward : ℕ
+  backward = within.plain.settings.backward
+
+  comes : RedComes samples all_steps (begins_in_red sender writer receiver) t
+  comes = red_comes_to samples all_steps (begins_in_red sender writer receiver) t run
+
+  takes : RedTakes received t.written receiver t.wire.pops t.wire.session
+  takes = subst (λ (answers : List Answer). RedTakes received t.written receiver answers t.wire.session) (sym comes.pops)
+      (subst (λ (sends : List SentSample). RedTakes (received_steps samples 0 all_steps sends) t.written receiver comes.answers t.wire.session) (sym comes.sends) comes.takes)
+
+  alone : SendsAlone samples all_steps (begins sender receiver) t
+  alone = sends_alone samples all_steps (begins sender receiver) (begins_in_red sender writer receiver) t run (refl, refl, refl)
+
+  begun : IsBegun within.plain.settings within.plain.depacketizer receiver
+  begun = new_is_begun within.plain.settings within.plain.depacketizer receiver within.plain.new
+
+  -- from a number with these low bits on
+  sends_from : (start : ℕ) → start < 2 ^ 63 → sender.stream.number % 2 ^ 16 ≡ (start + 0) % 2 ^ 16
+      → SendsRun receiver.packets.buffer sender.stream sender.mtu start 0 samples (only_sends all_steps) (begins sender receiver) alone.end []
+  sends_from start small same =
+      sends_run receiver.packets.buffer sender.stream sender.mtu start small samples None 0 (only_sends all_steps) (begins sender receiver) alone.end []
+      (record { mtu = refl; built_in = within.plain.one_stream.built_in; kept = refl; number = same; reads = tt; numbered = tt; few = omega arith })
+      (proceeds None samples (only_sends all_steps) (begins sender receiver) alone.end alone.runs)
+
+  few : length t.wire.datagrams < 2 ^ 63
+  few =
+      let any = sends_from number (omega arith) (omega arith) in
+      omega (arith, any.at.few, same_count sender.stream any.all alone.end.datagrams any.at.reads, ap length alone.datagrams)
+
+  wrote : WritesAll writer t.wire.datagrams t.written t.writer
+  wrote = written_in samples all_steps writer (begins_in_red sender writer receiver) t run (refl, refl)
+
+  below : AllBelow (length t.wire.datagrams) (delivered received)
+  below = subst (λ (n : ℕ). AllBelow n (delivered received)) (writes_count writer t.wire.datagrams t.written t.writer wrote) (takes_below received t.written receiver t.wire.session t.wire.pops takes)
+
+  numbers : AllNumbered first receiver.packets.numbering (delivered received)
+  numbers = subst (λ (n : Numbering). AllNumbered first n (delivered received)) (sym (ap (λ (x : Session). x.packets.numbering) begun.is))
+      (numbered_within forward backward number (length t.wire.datagrams) (delivered received) begun.windows low few below within.plain.within)
+
+  sent : SendsRun receiver.packets.buffer sender.stream sender.mtu first 0 samples (only_sends all_steps) (begins sender receiver) alone.end []
+  sent = sends_from first (first_small forward backward number (delivered received) low within.plain.within) (first_low forward backward sender.stream.number (delivered received) within.plain.within)
+
+  -- The units of the samples
+
+  abbrev start : RunState
+  start = running receiver.packets.buffer first rate sender []
+
+  abbrev after : RunState
+  after = running receiver.packets.buffer first rate alone.end.sending sent.all
+
+  unused : IsUnused start
+  unused = record {
+    built_in = within.plain.one_stream.built_in;
+    nothing_sent = refl;
+    nothing_held = ap (λ (x : Session). x.packets.buffer.held) begun.is;
+    no_cutoff = ap (λ (x : Session). x.packets.buffer.cutoff) begun.is;
+    no_mark = ap (λ (x : Session). x.packets.buffer.evicted) begun.is;
+    alike = ap (λ (x : Session). kind_of_depacketizer x.packets.buffer.depacketizer) begun.is ∙ within.plain.one_stream.alike;
+    nothing_read = ap (λ (x : Session). read_by x.packets.buffer.depacketizer) begun.is ∙ within.plain.one_stream.nothing_read;
+    nothing_kept = ap (λ (x : Session). x.packets.buffer.contiguity) begun.is ∙ sym (ap (λ (x : Session). contiguity_for (kind_of_depacketizer x.packets.buffer.depacketizer)) begun.is);
+  }
+
+  abbrev sends : List Step
+  sends = sending_steps sender.mtu (only_sends all_steps)
+
+  units_sent : Streams samples sends start after
+  units_sent = streams plainly samples 0 sends start after sent.entries [] (unused_exactly samples sends start sent.entries [] after unused sent.runs)
+
+  whole : SendsAll start after units_sent.units
+  whole = sends_all samples sends start after unused units_sent
+
+  abbrev units : List SentUnit
+  units = units_sent.units
+
+  abbrev kind : DepacketizerKind
+  kind = payloads_by sender.packetizer
+
+  abbrev splits : Bool
+  splits = may_split sender.packetizer
+
+  lawful : AllLawful kind splits units
+  lawful = units_sent.lawful within.plain.readable
+
+  abbrev Known : ℕ → Packet → RtpMeta → Type 0
+  Known = IsRedDelivery receiver.stream.ids sender.stream writer t.wire.datagrams received
+
+  faithful : IsFaithful Known rate kind
+  faithful = record {
+    number = λ k q m known. known.number;
+    time = λ k q m known. known.time;
+    tail = λ k q m known. marker_free sender.packetizer within.no_video m.header.marker q.marker q.payload;
+  }
+
+  -- the buffer's part of the run
+  abbrev here : Setting
+  here = setting samples sends start after units_sent unused within.plain.readable Known faithful units lawful (sym whole.whole)
+
+  -- The datagrams in RED
+
+  abbrev packets : List Packet
+  packets = packets_of units
+
+  reads : AreDatagrams sender.stream packets t.wire.datagrams
+  reads = subst (λ (ps : List Packet). AreDatagrams sender.stream ps t.wire.datagrams) whole.whole (subst (AreDatagrams sender.stream sent.all) alone.datagrams sent.at.reads)
+
+  entries : entries_in t.wire.datagrams ≡ all_remembered packets
+  entries = entries_are sender.stream packets t.wire.datagrams reads
+
+  abbrev red : RedStream
+  red = stream_of_red within.plain.settings within.red
+
+  uses : UsesRed within.plain.settings within.red receiver
+  uses = uses_red within.plain.settings within.plain.depacketizer receiver within.red within.plain.new within.one_red.used
+
+  is_red : IsRedFor sender.stream writer receiver.stream red
+  is_red = record {
+    used = uses.used;
+    red_type = within.one_red.red_type;
+    other_type = ap (λ (n : ℕ). eqb writer.red_type n) (ap (λ (x : Session). x.stream.payload_type) begun.is)
+        ∙ (ap (λ (n : ℕ). eqb n within.plain.settings.payload_type) (sym within.one_red.red_type) ∙ uses.other_type);
+    not_rtcp = within.one_red.not_rtcp;
+    not_again = ap (λ (x : Session). is_ssrc_of x.stream.retransmission sender.stream.ssrc) begun.is ∙ within.one_red.not_again;
+  }
+
+  own_type : eqb (writer.red.primary_pt % 128) receiver.stream.payload_type ≡ true
+  own_type =
+      let small = uses.small in
+      let type_is : receiver.stream.payload_type ≡ within.plain.settings.payload_type = ap (λ (x : Session). x.stream.payload_type) begun.is in
+      let same : within.plain.settings.payload_type % 128 ≡ writer.red.primary_pt % 128 = within.recoverable.same_type in
+      eq-eqb (writer.red.primary_pt % 128) receiver.stream.payload_type (omega (arith, same, type_is, small))
+
+  abbrev side : RedSide
+  side = record {
+    c = here;
+    stream = sender.stream;
+    writer = writer;
+    datagrams = t.wire.datagrams;
+    entries = entries;
+    kinds = receiver.stream;
+    received = received;
+    told = λ k q m known. known;
+    forward = forward;
+    backward = backward;
+    apart = within.apart;
+    some = begun.windows.some;
+    red = red;
+    is_red = is_red;
+    given = subst (IsRecoverable writer.red red.receiver writer.budget) entries within.recoverable;
+    written = t.written;
+    each = λ k bytes there. written_at sender.stream packets writer t.wire.datagrams t.written t.writer k bytes within.one_red.media_type reads wrote there;
+    own_type = own_type;
+  }
+
+  nothing_noted : AreTimesOf (times_from first packets) receiver.packets.noted
+  nothing_noted = subst (λ (x : Session). AreTimesOf (times_from first packets) x.packets.noted) (sym begun.is) tt
+
+  tuned : IsTuned sender.stream receiver.stream forward backward (times_from first packets) receiver
+  tuned = record {
+    kinds_are = refl;
+    named = ap (λ (x : Session). x.named) begun.is ∙ within.plain.one_stream.ssrc;
+    ssrc = ap (λ (x : Session). x.ssrc) begun.is ∙ within.plain.one_stream.ssrc;
+    drops_none = ap (λ (x : Session). x.gates.drops) begun.is ∙ within.plain.one_stream.drops_none;
+    steady = record {
+      rate = ap (λ (x : Session). x.packets.rate) begun.is ∙ within.plain.one_stream.clock_rate;
+      running = ap (λ (x : Session). x.packets.is_restarting) begun.is;
+      of_codec = ap (λ (x : Session). is_built_in_depacketizer x.packets.buffer.depacketizer) begun.is
+          ∙ (ap is_codec within.plain.one_stream.alike ∙ codec_payloads sender.packetizer within.plain.one_stream.built_in);
+      forward_is = ap (λ (x : Session). x.packets.numbering.forward) begun.is;
+      backward_is = ap (λ (x : Session). x.packets.numbering.backward) begun.is;
+      times = nothing_noted;
+    };
+  }
+
+  times : times_in packets ≡ times_sent rate samples all_steps t.wire.sends
+  times = ap times_in (sym whole.whole) ∙ (sent.times ∙ (ap (times_sent rate samples (only_sends all_steps)) (sym sent.sends_are ∙ alone.sends) ∙ same_times rate samples all_steps t.wire.sends))
+
+  in_time : Timely side receiver (delivered received)
+  in_time = (
+    inl (subst HasNoBlock (sym (ap (λ (x : Session). x.seen) begun.is)) new_has_no_block),
+    subst (λ (x : Session). StayTimely rate first packets x.packets.first (delivered received)) (sym begun.is)
+        (stay_timely rate first packets (times_sent rate samples all_steps t.wire.sends) (delivered received) times within.plain.timely),
+  )
+
+  course : Course Known packets received receiver.packets.buffer t.wire.pops t.wire.session.packets.buffer
+  course = red_course side received receiver t.wire.session t.wire.pops tuned numbers in_time (λ step is. is) takes
+
+  -- All units
+
+  limit_is : receiver.packets.buffer.limit ≡ within.plain.settings.limit
+  limit_is = ap (λ (x : Session). x.packets.buffer.limit) begun.is
+
+  numbering_is : receiver.packets.numbering ≡ no_numbers forward backward
+  numbering_is = ap (λ (x : Session). x.packets.numbering) begun.is
+
+  answers_all : AllComeInRed receiver.packets.buffer.limit (length t.wire.datagrams) receiver.packets.numbering writer t.wire.datagrams received → AnswersAll Known 0 units t.wire.pops
+  answers_all come =
+      let count : length packets ≡ length t.wire.datagrams = same_count sender.stream packets t.wire.datagrams reads in
+      let few_here = come.few in
+      let room = uses.room in
+      let small : length packets ≤ 65536 = omega (arith, count, few_here, limit_is, room) in
+      let all_fit : length sent.all ≤ receiver.packets.buffer.limit = omega (arith, ap length whole.whole, count, few_here) in
+      let back_is : receiver.packets.numbering.backward ≡ backward = ap (λ (n : Numbering). n.backward) numbering_is in
+      let forward_is : receiver.packets.numbering.forward ≡ forward = ap (λ (n : Numbering). n.forward) numbering_is in
+      let wide = come.wide in
+      let back : ℕ = receiver.packets.numbering.backward - 8 in
+      let near : NearNumbers first forward back receiver.packets.numbering (delivered come.before) =
+      inl (ap (λ (n : Numbering). n.greatest) numbering_is, subst (λ (f : ℕ). ComeWithin f back (delivered come.before)) forward_is come.near) in
+      let filling = empty samples sends start after units_sent unused within.plain.readable Known faithful units lawful (sym whole.whole) all_fit in
+      let none_seen_yet : IsFillingUp side receiver.packets.buffer own_type small receiver.packets receiver.seen = record {
+        filling = filling;
+        no_media = ap (λ (x : Session). x.packets.no_media_numbers) begun.is;
+        seen_held = λ time is. absurd (not_seen time is);
+      } in
+      let inside : (step : DatagramStep) → IsIn step (come.before ++ steps.Finish ∷ come.after) → IsIn step received = λ step is. subst (IsIn step) (sym come.whole) is in
+      let all = fills side receiver.packets.buffer own_type small back (omega (arith, wide, back_is)) come.before come.after receiver t.wire.session t.wire.pops come.no_pops tuned
+      (subst (λ (ss : List DatagramStep). AllNumbered first receiver.packets.numbering (delivered ss)) come.whole numbers) near
+      (subst (λ (ss : List DatagramStep). Timely side receiver (delivered ss)) come.whole in_time) none_seen_yet inside
+      (subst (λ (ss : List DatagramStep). RedTakes ss t.written receiver t.wire.pops t.wire.session) come.whole takes) in
+      answers_exactly side receiver.packets.buffer own_type small come.before come.after receiver t.wire.session t.wire.pops
+      (may_go samples sends start after units_sent unused within.plain.readable Known faithful) all
+      (λ step is. inside step (in_right step come.before (steps.Finish ∷ come.after) (inr is)))
+      (λ j less.
+      let by = come.each j (omega (arith, less, count)) in
+      all.has by.0 j (in_contains by.0 (delivered come.before) by.1) less by.2)
+    where
+      not_seen : (time : ℕ) → is_seen time receiver.seen.places ≡ true → ⊥
+      not_seen time is = none_is_seen time (subst (λ (x : Session). is_seen time x.seen.places ≡ true) begun.is is)
+
+  pub releases_units : ReleasesUnitsInRed samples all_steps (begins_in_red sender writer receiver) t
+  releases_units = record {
+    units = units;
+    canonical = units_sent.canonical ∙ ap (units_of_run sender.packetizer samples) (same_sends sender.mtu all_steps);
+    datagrams = reads;
+    ends = all_end kind splits units lawful;
+    in_order = course_in_order here 0 received receiver.packets.buffer t.wire.session.packets.buffer t.wire.pops
+        (fresh samples sends start after units_sent unused within.plain.readable Known faithful units lawful (sym whole.whole)) course;
+    before_pops = fed_before Known packets received [] receiver.packets.buffer t.wire.session.packets.buffer t.wire.pops course
+        (subst (λ (x : Session). AllIn [] x.packets.buffer.held) (sym begun.is) tt);
+    exactly = answers_all;
+  }
+
+pub release_in_red : ReleaseInRed
+release_in_red samples all_steps sender writer receiver t run within = releases_units samples all_steps sender writer receiver t run within

@@ -1,0 +1,364 @@
+-- The units that a run over datagrams releases, from three parts: what it sends, what it receives, and the theorem of the
+-- buffer.
+use Rattle.std.proofs.Common.{◌≡◌, ◌∙◌, refl, sym, ap, subst, ℕ, ◌+◌, ◌-◌, ◌*◌, ◌/◌, ◌%◌, ◌^◌, ◌<◌, max, List, [], ◌∷◌, map, false, Bool, Option, None, Some, length, arith}
+use Rattle.std.proofs.lemmas.Option.{same_Some, slice_get_within}
+use Rattle.codec_payload_buffer.proofs.MemberLemmas.{contains_in, in_contains}
+use Rattle.codec_payload_buffer.specs.ContiguityTable.{contiguity_for}
+use Rattle.codec_payload_codec.specs.Depacketizers.{DepacketizerKind, is_built_in_depacketizer, is_codec, kind_of_depacketizer, tail_in}
+use Rattle.codec_payload_codec.proofs.CodecLemmas.{codec_payloads}
+use Rattle.codec_payload_codec.specs.Packetizers.{payloads_by, may_split}
+use Rattle.codec_payload_buffer.specs.declared.buffer.unit.RtpMeta.{RtpMeta}
+use Rattle.codec_payload_sending_history.specs.declared.retransmission.RetransmissionStream.{RetransmissionStream}
+use Rattle.codec_payload_buffer_runs.proofs.order.ArrivalLemmas.{AllKnown, met_all, met_in_order}
+use Rattle.codec_payload_buffer_runs.proofs.units.BuiltInRuns.{plainly, unused_exactly}
+use Rattle.codec_payload_buffer_runs.proofs.order.RunSettings.{empty, fresh, may_go, nothing, ready, setting, tracked}
+use Rattle.codec_payload_buffer_runs.proofs.order.SafetyLemmas.{SendsAll, all_end, sends_all}
+use Rattle.codec_payload_buffer_runs.proofs.units.StreamLemmas.{Streams, streams}
+use Rattle.codec_payload_buffer_runs.proofs.order.TurnLemmas.{IsReady, Setting}
+use Rattle.codec_payload_buffer_runs.proofs.units.UnitRows.{IsFaithful}
+use Rattle.codec_payload_buffer_runs.specs.Arrivals.{AllArriveFirst, Event, Meets}
+use Rattle.codec_payload_buffer_runs.specs.Exact.{AnswersAll}
+use Rattle.codec_payload_buffer_runs.specs.Headline.{IsUnused}
+use Rattle.codec_payload_buffer_runs.specs.LawfulUnits.{AllLawful}
+use Rattle.codec_payload_buffer_runs.specs.Log as runs
+use Rattle.codec_payload_buffer_runs.specs.RunValues.{values_of_run}
+use Rattle.codec_payload_buffer_runs.specs.SentStream.{SentUnit, packets_of}
+use Rattle.codec_payload_buffer_runs.specs.declared.run.Step.{Step}
+use Rattle.codec_payload_payloader.specs.Packets.{Packet}
+use Rattle.codec_payload_buffer_runs.specs.Schedule.{Answer, RunState}
+use Rattle.codec_payload_payloader.specs.Sending.{Sample}
+use Rattle.codec_payload_buffer_runs.specs.ReportedIds.{read_by}
+use Rattle.codec_payload_jitter.specs.NotedTimes.{AreTimesOf}
+use Rattle.codec_payload_jitter.proofs.NumbersLemmas.{are_true_numbers, none_restarts}
+use Rattle.codec_payload_jitter.specs.Numbers.{StayNear, GoOn, IsNumbering, Numbering, answer_for, numbering_after, is_restart, low_bits, moved, no_numbers, number_for, number_in, numbers_for}
+use Rattle.codec_payload_jitter.specs.declared.numbers.Extended.{Extended}
+use Rattle.codec_payload_jitter.specs.declared.numbers.Extended.TheVariants as extended
+use Rattle.codec_payload_sending.specs.Senders.{Sending}
+use Rattle.codec_payload_receiver.specs.Sessions.{Session}
+use Rattle.codec_payload_receiver.specs.RedOnce.{HasNoBlock}
+use Rattle.codec_payload_receiver.proofs.BlockTimeLemmas.{new_has_no_block}
+use Rattle.codec_payload_datagram_runs.proofs.Courses.{Proceeds, proceeds}
+use Rattle.codec_payload_datagram_runs.proofs.DeliveredLemmas.{AllIn, delivered_before}
+use Rattle.codec_payload_datagram_runs.proofs.TimelyLemmas.{StayTimely, stay_timely}
+use Rattle.codec_payload_datagram_runs.proofs.EventLemmas.{Brings, HasLog, IsMet, IsRead, delivery_of, met, split_at_end, times_from}
+use Rattle.codec_payload_datagram_runs.proofs.GapLemmas.{only_past_gap}
+use Rattle.codec_payload_datagram_runs.proofs.LogLemmas.{Chained, all_follow, chained, log_known, none_is_lost, none_passed, stretches}
+use Rattle.codec_payload_datagram_runs.proofs.NewReceivers.{IsBegun, new_is_begun}
+use Rattle.codec_payload_datagram_runs.proofs.ReceivingLemmas.{AllNumbered, IsListening}
+use Rattle.codec_payload_datagram_runs.proofs.SendingLemmas.{SendsRun, running, same_count, sends_run}
+use Rattle.codec_payload_datagram_runs.proofs.StepLemmas.{ComesTo, Takes, comes_to}
+use Rattle.codec_payload_datagram_runs.proofs.ValueLemmas.{has_values}
+use Rattle.codec_payload_datagram_runs.specs.HistoryReleases.{AreHeard}
+use Rattle.codec_payload_datagram_runs.specs.Releases.{is_sent_again_by, AllComeFirst, AreDatagrams, ComeWithin, HasValuesOf, StayWithin, IsDelivery, times_sent}
+use Rattle.codec_payload_datagram_runs.specs.Releases.{IsWithinWindows, ReleaseOverDatagrams, ReleasesUnits, delivered, received_steps, sending_steps}
+use Rattle.codec_payload_datagram_runs.specs.WireLogs.{IsLogOf, KeepsPromises, PromisesOverDatagrams, WireLog}
+use Rattle.codec_payload_datagram_runs.specs.WireRuns.{Wire, begins}
+use Rattle.codec_payload_datagram_runs.specs.declared.run.DatagramStep.{DatagramStep}
+use Rattle.codec_payload_datagram_runs.specs.declared.run.DatagramStep.TheVariants as steps
+use Rattle.codec_payload_datagram_runs.specs.declared.run.SentSample.{SentSample}
+
+-- Numbers
+
+number_is : (e : Extended) (n : ℕ) → number_in e ≡ Some n → is_restart e ≡ false → e ≡ extended.Number n
+number_is (extended.Number m) n is on = ap (λ (x : ℕ). extended.Number x) (same_Some m n is)
+number_is (extended.Restarted m) n is on = absurd (cc)
+number_is extended.Suspect n is on = absurd (cc)
+number_is extended.Spent n is on = absurd (cc)
+
+-- the true numbers of the datagrams with these indices, if the first sent datagram has `number`
+abbrev trues : ℕ → List ℕ → List ℕ
+trues number ks = map (λ (j : ℕ). number + j) ks
+
+-- the number of the first sent datagram, if the true numbers are moved by one constant
+all_numbered : (number first reach : ℕ) (s : Numbering) (ks : List ℕ) → first + 65536 * (reach / 65536) ≡ number + 65536
+    → numbers_for s (map low_bits (trues number ks)) ≡ map (moved reach) (trues number ks)
+    → GoOn s (map low_bits (trues number ks)) → AllNumbered first s ks
+all_numbered number first reach s [] is numbers on = tt
+all_numbered number first reach s (k ∷ ks) is numbers on =
+    let low : ℕ = (number + k) % 65536 in
+    let head : number_for s low ≡ Some (number + k + 65536 - 65536 * (reach / 65536)) = cc in
+    let rest : numbers_for (numbering_after s low) (map low_bits (trues number ks)) ≡ map (moved reach) (trues number ks) = cc in
+    let same_low : low ≡ (first + k) % 2 ^ 16 = omega (arith, is) in
+    let same : number + k + 65536 - 65536 * (reach / 65536) ≡ first + k = omega (arith, is) in
+    let answer : answer_for s low ≡ extended.Number (first + k) = number_is (answer_for s low) _ head on.0 ∙ ap (λ (x : ℕ). extended.Number x) same in
+    subst (λ (n : ℕ). (answer_for s n ≡ extended.Number (first + k)) × AllNumbered first (numbering_after s n) ks) same_low
+    (answer, all_numbered number first reach (numbering_after s low) ks is rest on.1)
+
+-- the number of the first sent datagram, as the receiver extends it with the others
+abbrev pub first_for : ℕ → List ℕ → ℕ
+first_for number [] = number % 65536
+first_for number (k ∷ ks) = number + 65536 - 65536 * ((number + k) / 65536)
+
+-- a number of 16 bits occurs
+pub first_small : (forward backward number : ℕ) (ks : List ℕ) → number < 65536 → ComeWithin forward backward ks → first_for number ks < 2 ^ 63
+first_small forward backward number [] low within = omega arith
+first_small forward backward number (k ∷ ks) low within = omega (arith, low, within.0)
+
+pub first_low : (forward backward number : ℕ) (ks : List ℕ) → ComeWithin forward backward ks → number % 2 ^ 16 ≡ (first_for (number % 65536) ks + 0) % 2 ^ 16
+first_low forward backward number [] within = omega arith
+first_low forward backward number (k ∷ ks) within = omega (arith, within.0)
+
+-- all of them are below a number
+abbrev pub AllBelow : ℕ → List ℕ → Type 0
+AllBelow bound [] = Unit {0}
+AllBelow bound (k ∷ ks) = (k < bound) × AllBelow bound ks
+
+-- the numbers of datagrams that were sent
+takes_below : (again : Option RetransmissionStream) (later : List DatagramStep) (datagrams : List (List ℕ)) (s t : Session) (answers : List Answer) → Takes again later datagrams s answers t → AllBelow (length datagrams) (delivered later)
+takes_below again [] datagrams s t answers takes = tt
+takes_below again (steps.Send i ∷ later) datagrams s t answers takes = takes_below again later datagrams s t answers takes
+takes_below again (steps.Deliver k now ∷ later) datagrams s t answers takes = (slice_get_within datagrams k takes.0 takes.1, takes_below again later datagrams takes.5 t answers takes.7)
+takes_below again (steps.Pop now ∷ later) datagrams s t answers takes = takes_below again later datagrams takes.2 t takes.1 takes.6
+takes_below again (steps.Finish ∷ later) datagrams s t answers takes = takes_below again later datagrams takes.0 t answers takes.2
+
+max_more : (number g k : ℕ) → max (number + g) (number + k) ≡ number + max g k
+max_more number g k = omega arith
+
+-- facts about indices apply to numbers
+stay_near : (forward backward number bound g : ℕ) (ks : List ℕ) → number < 65536 → bound < 2 ^ 63 → AllBelow bound ks → StayWithin forward backward g ks
+    → StayNear forward backward (number + g) (trues number ks)
+stay_near forward backward number bound g [] low few below within = tt
+stay_near forward backward number bound g (k ∷ ks) low few below within = (
+  omega (arith, within.0),
+  omega (arith, within.1),
+  omega (arith, low, few, below.0),
+  subst (λ (m : ℕ). StayNear forward backward m (trues number ks)) (sym (max_more number g k)) (stay_near forward backward number bound (max g k) ks low few below.1 within.2),
+)
+
+pub numbered_within : (forward backward number bound : ℕ) (ks : List ℕ) → IsNumbering (no_numbers forward backward) → number < 65536 → bound < 2 ^ 63 → AllBelow bound ks → ComeWithin forward backward ks
+    → AllNumbered (first_for number ks) (no_numbers forward backward) ks
+numbered_within forward backward number bound [] windows low few below within = tt
+numbered_within forward backward number bound (k ∷ ks) windows low few below within =
+    let fits : number + k + 65536 < 2 ^ 64 = omega (arith, low, within.0) in
+    let near = stay_near forward backward number bound k ks low few below.1 within.1 in
+    all_numbered number (first_for number (k ∷ ks)) (number + k) (no_numbers forward backward) (k ∷ ks) (omega (arith, low, within.0))
+    (are_true_numbers forward backward windows (number + k) (trues number ks) fits near) (none_restarts forward backward windows (number + k) (trues number ks) fits near)
+
+-- The theorem
+
+module _ (again : Option RetransmissionStream) (samples : List Sample) (all_steps : List DatagramStep) (sender : Sending) (receiver : Session) (t : Wire)
+    (run : Proceeds again samples all_steps (begins sender receiver) t) (hears : AreHeard again receiver.stream.retransmission)
+    (within : IsWithinWindows samples all_steps sender receiver t.sends) where
+  abbrev received : List DatagramStep
+  received = received_steps samples 0 all_steps t.sends
+
+  abbrev rate : ℕ
+  rate = sender.stream.clock_rate
+
+  abbrev number : ℕ
+  number = sender.stream.number % 65536
+
+  low : number < 65536
+  low = omega arith
+
+  abbrev first : ℕ
+  first = first_for number (delivered received)
+
+  comes : ComesTo again samples all_steps (begins sender receiver) t
+  comes = comes_to again samples all_steps (begins sender receiver) t run
+
+  takes : Takes again received t.datagrams receiver t.pops t.session
+  takes = subst (λ (answers : List Answer). Takes again received t.datagrams receiver answers t.session) (sym comes.pops)
+      (subst (λ (sends : List SentSample). Takes again (received_steps samples 0 all_steps sends) t.datagrams receiver comes.answers t.session) (sym comes.sends) comes.takes)
+
+  abbrev forward : ℕ
+  forward = within.settings.forward
+
+  abbrev backward : ℕ
+  backward = within.settings.backward
+
+  begun : IsBegun within.settings within.depacketizer receiver
+  begun = new_is_begun within.settings within.depacketizer receiver within.new
+
+  listening : IsListening again sender.stream receiver
+  listening = record {
+    payload_type = ap (λ (x : Session). x.stream.payload_type) begun.is ∙ within.one_stream.payload_type;
+    named = ap (λ (x : Session). x.named) begun.is ∙ within.one_stream.ssrc;
+    ssrc = ap (λ (x : Session). x.ssrc) begun.is ∙ within.one_stream.ssrc;
+    not_again = ap (λ (x : Session). is_sent_again_by x.stream.retransmission sender.stream) begun.is ∙ within.one_stream.not_again;
+    rate = ap (λ (x : Session). x.packets.rate) begun.is ∙ within.one_stream.clock_rate;
+    running = ap (λ (x : Session). x.packets.is_restarting) begun.is;
+    none_noted = ap (λ (x : Session). x.packets.no_media_numbers) begun.is;
+    of_codec = ap (λ (x : Session). is_built_in_depacketizer x.packets.buffer.depacketizer) begun.is ∙ (ap is_codec within.one_stream.alike ∙ codec_payloads sender.packetizer within.one_stream.built_in);
+    no_block_seen = subst HasNoBlock (sym (ap (λ (x : Session). x.seen) begun.is)) new_has_no_block;
+    drops_none = ap (λ (x : Session). x.gates.drops) begun.is ∙ within.one_stream.drops_none;
+    heard = hears;
+  }
+
+  -- from a number with these low bits on
+  sends_from : (start : ℕ) → start < 2 ^ 63 → sender.stream.number % 2 ^ 16 ≡ (start + 0) % 2 ^ 16
+      → SendsRun receiver.packets.buffer sender.stream sender.mtu start 0 samples all_steps (begins sender receiver) t []
+  sends_from start small same =
+      sends_run receiver.packets.buffer sender.stream sender.mtu start small samples again 0 all_steps (begins sender receiver) t []
+      (record { mtu = refl; built_in = within.one_stream.built_in; kept = refl; number = same; reads = tt; numbered = tt; few = omega arith }) run
+
+  few : length t.datagrams < 2 ^ 63
+  few = let any = sends_from number (omega arith) (omega arith) in omega (arith, any.at.few, same_count sender.stream any.all t.datagrams any.at.reads)
+
+  numbers : AllNumbered first receiver.packets.numbering (delivered received)
+  numbers = subst (λ (n : Numbering). AllNumbered first n (delivered received)) (sym (ap (λ (x : Session). x.packets.numbering) begun.is))
+      (numbered_within forward backward number (length t.datagrams) (delivered received) begun.windows low few (takes_below again received t.datagrams receiver t.session t.pops takes) within.within)
+
+  sent : SendsRun receiver.packets.buffer sender.stream sender.mtu first 0 samples all_steps (begins sender receiver) t []
+  sent = sends_from first (first_small forward backward number (delivered received) low within.within) (first_low forward backward sender.stream.number (delivered received) within.within)
+
+  nothing_noted : AreTimesOf (times_from first sent.all) receiver.packets.noted
+  nothing_noted = subst (λ (x : Session). AreTimesOf (times_from first sent.all) x.packets.noted) (sym begun.is) tt
+
+  timely : StayTimely rate first sent.all receiver.packets.first (delivered received)
+  timely = subst (λ (x : Session). StayTimely rate first sent.all x.packets.first (delivered received)) (sym begun.is)
+      (stay_timely rate first sent.all (times_sent rate samples all_steps t.sends) (delivered received)
+      (sent.times ∙ ap (times_sent rate samples all_steps) (sym sent.sends_are)) within.timely)
+
+  come : IsMet receiver.packets sender.stream sent.all received receiver t.pops t.session
+  come = met again sender.stream within.one_stream.not_rtcp first sent.all t.datagrams sent.at.reads sent.at.numbered receiver.packets received receiver t.session t.pops listening (record { wait_limits = refl; room = refl }) numbers timely nothing_noted takes
+
+  abbrev start : RunState
+  start = running receiver.packets.buffer first rate sender []
+
+  unused : IsUnused start
+  unused = record {
+    built_in = within.one_stream.built_in;
+    nothing_sent = refl;
+    nothing_held = ap (λ (x : Session). x.packets.buffer.held) begun.is;
+    no_cutoff = ap (λ (x : Session). x.packets.buffer.cutoff) begun.is;
+    no_mark = ap (λ (x : Session). x.packets.buffer.evicted) begun.is;
+    alike = ap (λ (x : Session). kind_of_depacketizer x.packets.buffer.depacketizer) begun.is ∙ within.one_stream.alike;
+    nothing_read = ap (λ (x : Session). read_by x.packets.buffer.depacketizer) begun.is ∙ within.one_stream.nothing_read;
+    nothing_kept = ap (λ (x : Session). x.packets.buffer.contiguity) begun.is ∙ sym (ap (λ (x : Session). contiguity_for (kind_of_depacketizer x.packets.buffer.depacketizer)) begun.is);
+  }
+
+  -- the units of the samples
+
+  abbrev after : RunState
+  after = running receiver.packets.buffer first rate t.sending sent.all
+
+  abbrev sends : List Step
+  sends = sending_steps sender.mtu all_steps
+
+  units_sent : Streams samples sends start after
+  units_sent = streams plainly samples 0 sends start after sent.entries [] (unused_exactly samples sends start sent.entries [] after unused sent.runs)
+
+  whole : SendsAll start after units_sent.units
+  whole = sends_all samples sends start after unused units_sent
+
+  abbrev units : List SentUnit
+  units = units_sent.units
+
+  abbrev kind : DepacketizerKind
+  kind = payloads_by sender.packetizer
+
+  abbrev splits : Bool
+  splits = may_split sender.packetizer
+
+  lawful : AllLawful kind splits units
+  lawful = units_sent.lawful within.readable
+
+  abbrev Known : ℕ → Packet → RtpMeta → Type 0
+  Known = IsDelivery receiver.stream.ids sender.stream (packets_of units) received
+
+  faithful : IsFaithful Known rate kind
+  faithful = record {
+    number = λ k q m known. known.1.number;
+    time = λ k q m known. known.1.time;
+    tail = λ k q m known. ap (λ b. tail_in kind b q.payload) known.1.marker;
+  }
+
+  -- the buffer's part of the run
+  abbrev here : Setting
+  here = setting samples sends start after units_sent unused within.readable Known faithful units lawful (sym whole.whole)
+
+  known : AllKnown here come.events
+  known k meta is q tells = (
+    contains_in (steps.Deliver k meta.received) received (delivery_of receiver.packets.ended received come.events k meta come.brings is),
+    tells,
+    subst (λ (ps : List Packet). HasValuesOf receiver.stream.ids sender.stream ps k meta) whole.whole (come.values k meta is),
+  )
+
+  meets : Meets rate (packets_of units) come.events receiver.packets.buffer t.pops t.session.packets.buffer
+  meets = subst (λ (ps : List Packet). Meets rate ps come.events receiver.packets.buffer t.pops t.session.packets.buffer) whole.whole come.meets
+
+  all_come : AllComeFirst receiver.packets.buffer.limit (length t.datagrams) received → AllArriveFirst receiver.packets.buffer.limit sent.all come.events
+  all_come come_first =
+      let split = split_at_end receiver.packets.ended come_first.before come_first.after come.events come_first.no_pops
+      (subst (λ (es : List DatagramStep). Brings receiver.packets.ended es come.events) come_first.whole come.brings) in
+      let count : length sent.all ≡ length t.datagrams = same_count sender.stream sent.all t.datagrams sent.at.reads in
+      record {
+        few = omega (arith, come_first.few, count);
+        before = split.first;
+        after = split.rest;
+        whole = split.whole;
+        no_pops = split.only;
+        each = λ k l. split.has k (in_contains k (delivered come_first.before) (come_first.each k (omega (arith, l, count))));
+        made = split.made;
+      }
+
+  answers_all : AllComeFirst receiver.packets.buffer.limit (length t.datagrams) received → AnswersAll Known 0 units t.pops
+  answers_all come_first =
+      let first_all = all_come come_first in
+      met_all here first_all.before first_all.after receiver.packets.buffer t.session.packets.buffer t.pops (subst (AllKnown here) first_all.whole known) first_all.no_pops first_all.made
+      (empty samples sends start after units_sent unused within.readable Known faithful units lawful (sym whole.whole) first_all.few)
+      (may_go samples sends start after units_sent unused within.readable Known faithful)
+      (λ k l. first_all.each k (subst (λ (ps : List Packet). k < length ps) (sym whole.whole) l))
+      (subst (λ (es : List Event). Meets rate (packets_of units) es receiver.packets.buffer t.pops t.session.packets.buffer) first_all.whole meets)
+
+  abbrev releases_units : ReleasesUnits samples all_steps (begins sender receiver) t
+  releases_units = record {
+    units = units;
+    canonical = units_sent.canonical;
+    datagrams = subst (λ (ps : List Packet). AreDatagrams sender.stream ps t.datagrams) whole.whole sent.at.reads;
+    ends = all_end kind splits units lawful;
+    in_order = met_in_order here 0 come.events receiver.packets.buffer t.session.packets.buffer t.pops known
+        (fresh samples sends start after units_sent unused within.readable Known faithful units lawful (sym whole.whole)) meets;
+    before_pops = delivered_before rate sent.all receiver.packets.ended received [] come.events receiver.packets.buffer t.session.packets.buffer t.pops come.brings come.meets
+        (subst (λ (x : Session). AllIn [] x.packets.buffer.held) (sym begun.is) tt);
+    exactly = answers_all;
+    extension_values = λ video ids place r is. has_values receiver.stream.ids sender.stream received kind splits units (values_of_run sender.packetizer samples sends)
+        (all_end kind splits units lawful) (units_sent.values video) ids.same ids.fit place r is;
+  }
+
+  -- Pop by pop
+
+  abbrev readies : IsReady here 0 receiver.packets.buffer
+  readies = ready samples sends start after units_sent unused within.readable Known faithful units lawful (sym whole.whole)
+
+  log : HasLog (IsRead receiver.stream.ids sender.stream sent.all) sent.all receiver.packets receiver.packets.ended received (runs.begun receiver.packets.buffer) t.pops t.session.packets.buffer
+  log = come.logs (runs.begun receiver.packets.buffer) refl
+
+  is_log : IsLogOf Known (packets_of units) receiver.packets receiver.packets.ended received (runs.begun receiver.packets.buffer) log.turns log.end
+  is_log =
+      log_known received (IsRead receiver.stream.ids sender.stream (packets_of units)) Known (packets_of units) receiver.packets
+      (λ k q m is read. (contains_in (steps.Deliver k m.received) received is, read.0, read.1)) receiver.packets.ended received (λ step is. is)
+      (runs.begun receiver.packets.buffer) log.turns log.end
+      (subst (λ (ps : List Packet). IsLogOf (IsRead receiver.stream.ids sender.stream ps) ps receiver.packets receiver.packets.ended received (runs.begun receiver.packets.buffer) log.turns log.end) whole.whole log.is_log)
+
+  chain : (l : WireLog samples all_steps (begins sender receiver) t units) → Chained here receiver.packets.buffer l.turns l.end
+  chain l = chained here receiver.packets receiver.packets.ended received 0 (runs.begun receiver.packets.buffer) l.turns l.end readies (record { sent = tt; now = refl }) l.is_log
+
+  pub keeps_promises : KeepsPromises samples all_steps (begins sender receiver) t
+  keeps_promises = record {
+    released = releases_units;
+    first = first;
+    numbered = whole.numbered;
+    logged = record { turns = log.turns; end = log.end; is_log = is_log; answers = log.answers_are; left = log.left };
+    order = λ l. stretches here 0 receiver.packets.buffer l.turns l.end readies (chain l);
+    contiguous = λ plain l. all_follow here 0 None false receiver.packets.buffer l.turns l.end plain readies
+        (tracked samples sends start after units_sent unused within.readable Known faithful units lawful (sym whole.whole)) (chain l);
+    no_silent_loss = λ l. none_is_lost here 0 receiver.packets.buffer l.turns l.end readies (chain l);
+    none_skipped = λ plain l. none_passed here 0 receiver.packets.buffer l.turns l.end plain readies (chain l);
+    skipped_past_gap = λ l. only_past_gap here receiver.packets.buffer l.turns l.end readies
+        (nothing samples sends start after units_sent unused within.readable Known faithful units lawful (sym whole.whole)) (chain l);
+  }
+
+  pub releases_all : ReleasesUnits samples all_steps (begins sender receiver) t
+  releases_all = releases_units
+
+-- Runs without retransmissions
+
+pub promises_over_datagrams : PromisesOverDatagrams
+promises_over_datagrams samples all_steps sender receiver t run within =
+    keeps_promises None samples all_steps sender receiver t (proceeds None samples all_steps (begins sender receiver) t run) tt within
+
+pub release_over_datagrams : ReleaseOverDatagrams
+release_over_datagrams samples all_steps sender receiver t run within =
+    releases_all None samples all_steps sender receiver t (proceeds None samples all_steps (begins sender receiver) t run) tt within

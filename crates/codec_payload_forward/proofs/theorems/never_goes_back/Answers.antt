@@ -1,5 +1,0 @@
-use Rattle.codec_payload_forward.proofs.TimeLemmas.{never_goes_back as lemma}
-use Rattle.codec_payload_forward.proofs.theorems.never_goes_back.Goals as goal
-
-pub returns : goal.returns
-returns c = lemma

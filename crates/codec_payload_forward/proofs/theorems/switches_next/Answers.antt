@@ -1,5 +1,0 @@
-use Rattle.codec_payload_forward.proofs.NumberRunLemmas.{switches_next as lemma}
-use Rattle.codec_payload_forward.proofs.theorems.switches_next.Goals as goal
-
-pub returns : goal.returns
-returns c = lemma

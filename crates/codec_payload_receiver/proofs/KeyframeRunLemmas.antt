@@ -1,0 +1,109 @@
+-- The keyframe gate of a receiver follows the events of a run.
+use Rattle.std.proofs.Common.{◌≡◌, ◌∙◌, ◌↔◌, ◌&&◌, ◌||◌, not, Bool, true, false, List, [], ◌∷◌, Option, Some, None, Result, Ok, Err, ℕ, refl, sym, ap, subst, inl, inr}
+use Rattle.std.specs.declared.alloc.AllocError.{AllocError}
+use Rattle.codec_payload_base.specs.declared.wire.Codec.{Codec}
+use Rattle.codec_payload_base.specs.declared.wire.Ticks.{Ticks}
+use Rattle.codec_payload_jitter.specs.declared.outcome.Outcome.{Outcome}
+use Rattle.codec_payload_keyframes.specs.Keyframes.{Event, ShowsLast, WantsKeyframe, after_loss, after_skip, after_unit, gate_after, is_key_unit, is_video, lost, new_gate, released, shows_unit, skipped}
+use Rattle.codec_payload_keyframes.specs.UnitGates.{Gating, is_passed, is_shown}
+use Rattle.codec_payload_keyframes.proofs.GateLemmas.{gates_agree, units_follow_keyframes}
+use Rattle.codec_payload_receiver.specs.KeyframeRuns.{DatagramsLeaveTheGate, DropsFollowKeyframes, GateRun, PopsFollowKeyframes, answer_events, begins, fault_events, others, pop_events, pops, restarts}
+use Rattle.codec_payload_receiver.specs.Kinds.{Datagram}
+use Rattle.codec_payload_receiver.specs.Pops.{Answer, after_fault, gates_after, gates_if, has_left, is_large, is_memory}
+use Rattle.codec_payload_receiver.specs.Sessions.{Finishes, HearsIf, Heard, Keeps, ReceivesBy, ReceivesBytes, Session, SettlesOn, first_waiting, opened_if}
+use Rattle.codec_payload_receiver.specs.declared.choice.Candidate.{Candidate}
+use Rattle.codec_payload_receiver.specs.declared.choice.Verdict.{Verdict}
+use Rattle.codec_payload_receiver.specs.declared.choice.Verdict.TheVariants as verdicts
+use Rattle.codec_payload_receiver.specs.declared.receiver.ReceiveError.{ReceiveError}
+use Rattle.codec_payload_receiver.specs.declared.receiver.ReceiveError.TheVariants as errors
+
+-- the gate after a fault
+after_fault_is : (codec : Codec) (g : Gating) (memory left : Bool) (before : List Event) → g.gate ≡ gate_after codec before
+    → (after_fault memory g left).gate ≡ gate_after codec (fault_events memory left before)
+after_fault_is codec g true true before is = ap after_skip is
+after_fault_is codec g true false before is = is
+after_fault_is codec g false left before is = ap after_loss is
+
+after_answer : (codec : Codec) (g : Gating) (left : Bool) (answer : Answer) (before : List Event) → g.gate ≡ gate_after codec before
+    → (gates_after g left answer).gate ≡ gate_after codec (answer_events g left answer before)
+after_answer codec g true None before is = ap after_skip is
+after_answer codec g false None before is = is
+after_answer codec g left (Some (Err fault)) before is = after_fault_is codec g (is_memory fault) left before is
+after_answer codec g left (Some (Ok unit)) before is = ap (λ k. after_unit k (is_key_unit g.gate unit.bytes) unit.contiguous) is
+
+-- the gate after a pop
+after_pop : (codec : Codec) (large : Bool) (g : Gating) (left : Bool) (answer : Answer) (before : List Event) → g.gate ≡ gate_after codec before
+    → (gates_if large g left answer).gate ≡ gate_after codec (pop_events large g left answer before)
+after_pop codec true g left answer before is = ap after_loss is
+after_pop codec false g left answer before is = after_answer codec g left answer before is
+
+-- the gate of a run is the gate of its events
+gate_of_run : (codec : Codec) (s t : Session) (events : List Event) → s.gates.gate ≡ new_gate codec → GateRun s events t → t.gates.gate ≡ gate_after codec events
+gate_of_run codec s t events new begins = new
+gate_of_run codec s t events new (pops {mid = mid} {before = before} now answer run once is) =
+    ap (λ (x : Session). x.gates.gate) once.2
+    ∙ after_pop codec (is_large mid.bound.most answer) mid.gates (has_left mid.packets once.0) answer before (gate_of_run codec s mid before new run)
+    ∙ ap (gate_after codec) (sym is)
+gate_of_run codec s t events new (restarts {mid = mid} {before = before} ssrc named run same is) =
+    ap (λ (x : Session). x.gates.gate) is ∙ ap (λ (k : Gating). after_skip k.gate) same ∙ ap after_skip (gate_of_run codec s mid before new run)
+gate_of_run codec s t events new (others {mid = mid} run same) = ap (λ (k : Gating). k.gate) same ∙ gate_of_run codec s mid events new run
+
+pub pops_follow_keyframes : PopsFollowKeyframes
+pops_follow_keyframes codec s t events video new run =
+    let is = sym (gate_of_run codec s t events new run) in
+    subst (λ k. ((k.shows ≡ true) ↔ ShowsLast events) × ((k.wants ≡ true) ↔ WantsKeyframe events)) is (gates_agree codec events video)
+
+-- a unit that is passed on is decodable, if units are dropped
+shown_if_passed : (drops shown : Bool) → drops ≡ true → (not drops || shown) ≡ true → shown ≡ true
+shown_if_passed true shown dropping passed = passed
+shown_if_passed false shown dropping passed = cc
+
+pub drops_follow_keyframes : DropsFollowKeyframes
+drops_follow_keyframes codec s mid events unit video new run dropping passed =
+    let is = gate_of_run codec s mid events new run in
+    let key = is_key_unit mid.gates.gate unit.bytes in
+    units_follow_keyframes codec events key unit.contiguous video
+    (subst (λ k. shows_unit k key unit.contiguous ≡ true) is (shown_if_passed mid.gates.drops (is_shown mid.gates unit.bytes unit.contiguous) dropping passed))
+
+-- a datagram leaves the gate unchanged
+heard_leaves : (now : Ticks) (d : Datagram) (s t : Session) (answer : Result Outcome ReceiveError) → Heard now d s answer t → t.gates ≡ s.gates
+heard_leaves now d s t (Ok outcome) heard = ap (λ (x : Session). x.gates) heard.left
+heard_leaves now d s t (Err errors.OutOfMemory) heard = ap (λ (x : Session). x.gates) heard.0
+heard_leaves now d s t (Err (errors.Rtp e)) heard = ap (λ (x : Session). x.gates) heard.left
+heard_leaves now d s t (Err errors.Red) heard = ap (λ (x : Session). x.gates) heard.left
+heard_leaves now d s t (Err errors.Retransmission) heard = ap (λ (x : Session). x.gates) heard.left
+heard_leaves now d s t (Err errors.BlocksOutOfMemory) heard = ap (λ (x : Session). x.gates) heard.left
+
+settles_leaves : (o : Option Candidate) (whole : Bool) (s t : Session) → SettlesOn o whole s t → t.gates ≡ s.gates
+settles_leaves None whole s t settles = ap (λ (x : Session). x.gates) settles.1
+settles_leaves (Some c) true s t settles = ap (λ (x : Session). x.gates) settles.left ∙ heard_leaves c.received _ _ settles.mid settles.answer settles.heard
+settles_leaves (Some c) false s t settles = ap (λ (x : Session). x.gates) settles
+
+hears_leaves : (whole : Bool) (now : Ticks) (bytes : List ℕ) (s t : Session) (answer : Result Outcome ReceiveError) → HearsIf whole now bytes s answer t → t.gates ≡ s.gates
+hears_leaves true now bytes s t answer hears = heard_leaves now _ s t answer hears
+hears_leaves false now bytes s t answer hears = ap (λ (x : Session). x.gates) hears.1
+
+keeps_leaves : (now : Ticks) (bytes : List ℕ) (s t : Session) (answer : Result Outcome ReceiveError) (o : _) → Keeps now o bytes s answer t → t.gates ≡ s.gates
+keeps_leaves now bytes s t (Ok outcome) o keeps = ap (λ (x : Session). x.gates) keeps.1.left
+keeps_leaves now bytes s t (Err fault) o keeps = ap (λ (x : Session). x.gates) keeps.1
+
+opened_leaves : (b : Bool) (s : Session) → (opened_if b s).gates ≡ s.gates
+opened_leaves true s = refl
+opened_leaves false s = refl
+
+receives_by_leaves : (v : Verdict) (now : Ticks) (bytes : List ℕ) (s : Session) (answer : Result Outcome ReceiveError) (t : Session) → ReceivesBy v now bytes s answer t → t.gates ≡ s.gates
+receives_by_leaves verdicts.Hear now bytes s answer t got = heard_leaves now _ s t answer got
+receives_by_leaves (verdicts.Keep o) now bytes s answer t got = keeps_leaves now bytes s t answer o got
+receives_by_leaves (verdicts.Choose place) now bytes s answer t got =
+    hears_leaves got.whole now bytes got.mid t answer got.hears ∙ settles_leaves _ got.whole _ got.mid got.settles ∙ opened_leaves _ s
+
+receives_leaves : (now : Ticks) (bytes : List ℕ) (s : Session) (answer : Result Outcome ReceiveError) (t : Session) → ReceivesBytes now bytes s answer t → t.gates ≡ s.gates
+receives_leaves now bytes s answer t (inl got) = receives_by_leaves _ now bytes s answer t got
+receives_leaves now bytes s answer t (inr got) = ap (λ (x : Session). x.gates) got.1
+
+finishes_leaves : (s t : Session) (done : Result Unit AllocError) → Finishes s done t → t.gates ≡ s.gates
+finishes_leaves s t (Ok done) got = ap (λ (x : Session). x.gates) got.2 ∙ settles_leaves (first_waiting s) true s got.0 got.1
+finishes_leaves s t (Err e) got = ap (λ (x : Session). x.gates) got.1
+
+pub datagrams_leave : DatagramsLeaveTheGate
+datagrams_leave = (receives_leaves, finishes_leaves)

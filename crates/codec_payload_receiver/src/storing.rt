@@ -1,0 +1,324 @@
+//! How the datagrams of a stream reach its jitter buffer.
+
+ghost use Rattle.std.specs.Prelude.{◌≡◌, ◌||◌, not, map, IfOk, OnErr, false, true};
+ghost use Rattle.codec_payload_rtp.specs.RtpValues.{header_of, packet_of};
+ghost use Rattle.codec_payload_codec.specs.Depacketizers.{is_built_in_depacketizer};
+ghost use Rattle.codec_payload_jitter.specs.OwnReceiving.{OwnStores};
+ghost use Rattle.codec_payload_jitter.specs.Receiving.{Notes, Receives, ReceivesAgain, would_store};
+ghost use Rattle.codec_payload_jitter.specs.declared.outcome.Outcome.TheVariants as outcomes;
+ghost use Rattle.codec_payload_receiver.specs.Kinds.{Again, WithMedia, datagram_of, header_for, original_of, takes_memory};
+ghost use Rattle.codec_payload_receiver.specs.Sessions.{NotesAgain, TakesDatagram, copied, has_restarted, packet_seen, primary_seen, seen_past};
+ghost use Rattle.codec_payload_receiver.specs.Storing.{Stores, TakesBrought, brought_of};
+
+use crate::blocks::recover_all;
+use crate::brought::Brought;
+use crate::datagram::{Datagram, SentAgain, StreamKinds};
+use crate::seen_times::{LazySeenTimes, SeenTime, SeenTimes};
+use codec_payload_base::wire::{Pt, RtpHeader, Ticks};
+use codec_payload_buffer::buffer::PackedHeader;
+use codec_payload_codec::codec::Depacketizer;
+use codec_payload_jitter::jitter::{JitterBuffer, Outcome};
+use codec_payload_rtp::rtp::{PacketHeader, RtpPacket};
+use std::alloc::AllocError;
+
+/// The result of receiving a datagram.
+#[derive(Clone, Copy, Debug)]
+pub(crate) struct Taken {
+    pub(crate) outcome: Outcome,
+    /// False if memory ran out for a redundant block.
+    pub(crate) whole: bool,
+}
+
+impl StreamKinds {
+    /// Returns the header of a packet, with the fields that payloads of the stream have.
+    #[inline(always)]
+    fn header_for(&self, header: &PacketHeader<'_>) -> RtpHeader
+        ensures { result ≡ header_for self.now (header_of header.now) }
+    {
+        RtpHeader {
+            payload_type: Pt::new_with_value(self.payload_type),
+            sequence_number: header.sequence_number,
+            timestamp: header.timestamp,
+            ssrc: header.ssrc,
+            marker: header.marker,
+            ext_vals: self.ids.values(&header.extension),
+        }
+    }
+
+    /// Returns the same header, packed. Allocates only for rare values.
+    #[inline(always)]
+    fn packed_header_for(&self, header: &PacketHeader<'_>) -> Result<PackedHeader, AllocError>
+        ensures { IfOk result (λ packed. packed ≡ header_for self.now (header_of header.now)) }
+    {
+        if header.extension.is_some() {
+            return PackedHeader::new(self.alloc, &self.header_for(header));
+        }
+        Ok(PackedHeader::plain(
+            Pt::new_with_value(self.payload_type),
+            header.sequence_number,
+            header.timestamp,
+            header.ssrc,
+            header.marker,
+        ))
+    }
+
+    /// Stores a packet with media in the jitter buffer.
+    #[inline(always)]
+    fn push<B: Depacketizer>(
+        &self,
+        packets: &mut JitterBuffer<B>,
+        now: Ticks,
+        header: &PacketHeader<'_>,
+        payload: &[u8],
+    ) -> Result<Outcome, AllocError>
+        ensures ok { IfOk result (λ outcome. Receives (record { now = now; header = header_for self.now (header_of header.now); bytes = payload.now }) packets.old outcome packets.new) }
+        ensures err { OnErr result (packets.new ≡ packets.old) }
+        ensures own { is_built_in_depacketizer packets.old.buffer.depacketizer ≡ false → OwnStores B.is_head B.is_tail packets.old.buffer packets.new.buffer }
+    {
+        let payload = Vec::from_slice(self.alloc, payload)?;
+        match packets.push_packed(now, self.packed_header_for(header)?, payload) {
+            Ok(outcome) => Ok(outcome),
+            Err(_) => Err(AllocError),
+        }
+    }
+
+    /// Stores a retransmitted packet, whose header has the original number and SSRC.
+    fn push_again<B: Depacketizer>(
+        &self,
+        packets: &mut JitterBuffer<B>,
+        now: Ticks,
+        header: &PacketHeader<'_>,
+        payload: &[u8],
+    ) -> Result<Outcome, AllocError>
+        ensures ok { IfOk result (λ outcome. ReceivesAgain (record { now = now; header = header_for self.now (header_of header.now); bytes = payload.now }) packets.old outcome packets.new) }
+        ensures err { OnErr result (packets.new ≡ packets.old) }
+        ensures own { is_built_in_depacketizer packets.old.buffer.depacketizer ≡ false → OwnStores B.is_head B.is_tail packets.old.buffer packets.new.buffer }
+    {
+        let payload = Vec::from_slice(self.alloc, payload)?;
+        match packets.push_retransmitted(now, self.header_for(header), payload) {
+            Ok(outcome) => Ok(outcome),
+            Err(_) => Err(AllocError),
+        }
+    }
+
+    /// Stores the packet that a datagram brings, if it is media of the stream and repeats no block: no block with its time was
+    /// stored under another number. Otherwise its number has no media; that of a retransmission only if it is missing.
+    fn store_packet<B: Depacketizer>(
+        &self,
+        packets: &mut JitterBuffer<B>,
+        seen: &SeenTimes,
+        now: Ticks,
+        brought: &Brought<'_>,
+    ) -> Result<Outcome, AllocError>
+        ensures ok { IfOk result (λ outcome. Stores self.now now (brought_of brought.now) seen.now packets.old outcome packets.new) }
+        ensures err { OnErr result (packets.new ≡ packets.old) }
+        ensures own { is_built_in_depacketizer packets.old.buffer.depacketizer ≡ false → OwnStores B.is_head B.is_tail packets.old.buffer packets.new.buffer }
+    {
+        let header = &brought.header;
+        let (time, number) = (header.timestamp, header.sequence_number);
+        if !brought.is_media {
+            return note_number(packets, number, brought.is_again);
+        }
+        if self.red.is_some() && seen.has_block(time) && packets.would_store(number) {
+            return note_number(packets, number, false);
+        }
+        if brought.is_again {
+            self.push_again(packets, now, header, brought.payload)
+        } else {
+            self.push(packets, now, header, brought.payload)
+        }
+    }
+
+    /// Stores what a datagram brings to a stream with RED: its packet, then the missing packets of its blocks, unless the packet
+    /// is suspect. Notes the times of all that is media.
+    #[inline(never)]
+    fn store<B: Depacketizer>(
+        &self,
+        packets: &mut JitterBuffer<B>,
+        seen: &mut LazySeenTimes,
+        now: Ticks,
+        brought: Brought<'_>,
+    ) -> Result<Taken, AllocError>
+        ensures ok { IfOk result (λ taken. TakesBrought self.now now (brought_of brought.entry) (map (copied now) brought.entry.copies.items) (record { packets = packets.old; seen = seen.old }) taken.outcome taken.whole (record { packets = packets.new; seen = seen.new })) }
+        ensures err { OnErr result ((packets.new ≡ packets.old) × (seen.new ≡ seen.old)) }
+        ensures own { is_built_in_depacketizer packets.old.buffer.depacketizer ≡ false → OwnStores B.is_head B.is_tail packets.old.buffer packets.new.buffer }
+    {
+        let mut times = seen.take(self.alloc)?;
+        let restarts = packets.counters().restarts;
+        let Ok(outcome) = self.store_packet(packets, &times, now, &brought) else {
+            seen.put(times);
+            return Err(AllocError);
+        };
+        note_primary(
+            &mut times,
+            brought.is_media,
+            outcome,
+            brought.header.timestamp,
+            packets.counters().restarts != restarts,
+        );
+        if !brought.is_again && outcome == Outcome::Suspect {
+            seen.put(times);
+            return Ok(Taken {
+                outcome,
+                whole: true,
+            });
+        }
+        let whole = recover_all(packets, &mut times, now, brought.copies);
+        seen.put(times);
+        Ok(Taken { outcome, whole })
+    }
+
+    /// Stores a packet with media. A stream without RED notes no times.
+    #[inline(always)]
+    pub(crate) fn take_media<B: Depacketizer>(
+        &self,
+        packets: &mut JitterBuffer<B>,
+        seen: &mut LazySeenTimes,
+        now: Ticks,
+        packet: &RtpPacket<'_>,
+    ) -> Result<Outcome, AllocError>
+        ensures ok { IfOk result (λ outcome. TakesDatagram self.now now (WithMedia (packet_of packet.now)) (record { packets = packets.old; seen = seen.old }) outcome true (record { packets = packets.new; seen = seen.new })) }
+        ensures err { OnErr result ((packets.new ≡ packets.old) × (seen.new ≡ seen.old)) }
+        ensures own { is_built_in_depacketizer packets.old.buffer.depacketizer ≡ false → OwnStores B.is_head B.is_tail packets.old.buffer packets.new.buffer }
+    {
+        if self.red.is_none() {
+            return self.push(packets, now, &packet.header, packet.payload);
+        }
+        let brought = Brought::alone(self.alloc, packet.header, packet.payload, false);
+        let taken = self.store(packets, seen, now, brought)?;
+        Ok(taken.outcome)
+    }
+
+    /// Stores a retransmitted packet, as [`StreamKinds::take_media`] stores others.
+    fn take_again<B: Depacketizer>(
+        &self,
+        packets: &mut JitterBuffer<B>,
+        seen: &mut LazySeenTimes,
+        now: Ticks,
+        sent: &SentAgain<'_>,
+    ) -> Result<Outcome, AllocError>
+        ensures ok { IfOk result (λ outcome. TakesDatagram self.now now (Again (original_of sent.now)) (record { packets = packets.old; seen = seen.old }) outcome true (record { packets = packets.new; seen = seen.new })) }
+        ensures err { OnErr result ((packets.new ≡ packets.old) × (seen.new ≡ seen.old)) }
+        ensures own { is_built_in_depacketizer packets.old.buffer.depacketizer ≡ false → OwnStores B.is_head B.is_tail packets.old.buffer packets.new.buffer }
+    {
+        let header = PacketHeader {
+            sequence_number: sent.number,
+            ssrc: sent.ssrc,
+            ..sent.header
+        };
+        if self.red.is_none() {
+            return self.push_again(packets, now, &header, sent.payload);
+        }
+        let brought = Brought::alone(self.alloc, header, sent.payload, true);
+        let taken = self.store(packets, seen, now, brought)?;
+        Ok(taken.outcome)
+    }
+
+    /// Stores a datagram of the stream in the jitter buffer, or counts it there.
+    #[inline(always)]
+    pub(crate) fn take<B: Depacketizer>(
+        &self,
+        packets: &mut JitterBuffer<B>,
+        seen: &mut LazySeenTimes,
+        now: Ticks,
+        datagram: &Datagram<'_>,
+    ) -> Result<Taken, AllocError>
+        ensures ok { IfOk result (λ taken. TakesDatagram self.now now (datagram_of datagram.now) (record { packets = packets.old; seen = seen.old }) taken.outcome taken.whole (record { packets = packets.new; seen = seen.new })) }
+        ensures err { OnErr result ((packets.new ≡ packets.old) × (seen.new ≡ seen.old)) }
+        ensures memory { OnErr result (takes_memory (datagram_of datagram.now) ≡ true) }
+        ensures own { is_built_in_depacketizer packets.old.buffer.depacketizer ≡ false → OwnStores B.is_head B.is_tail packets.old.buffer packets.new.buffer }
+    {
+        let outcome = match datagram {
+            Datagram::Rtcp | Datagram::Malformed(_) => Outcome::Rtcp,
+            Datagram::OtherStream => Outcome::OtherStream,
+            Datagram::NoMedia(packet) => {
+                note_without_media(packets, seen, packet.header.sequence_number)?
+            }
+            Datagram::Nothing => {
+                packets.push_nothing();
+                Outcome::NoMedia
+            }
+            Datagram::Media(packet) => self.take_media(packets, seen, now, packet)?,
+            Datagram::SentAgain(sent) => self.take_again(packets, seen, now, sent)?,
+            Datagram::Red(red) => {
+                let brought = Brought::in_red(self, red, false)?;
+                return self.store(packets, seen, now, brought);
+            }
+            Datagram::RedAgain(red) => {
+                let brought = Brought::in_red(self, red, true)?;
+                return self.store(packets, seen, now, brought);
+            }
+        };
+        Ok(Taken {
+            outcome,
+            whole: true,
+        })
+    }
+}
+
+/// Records that this number has no media, or counts a packet without a number: if `is_again`, and no packet with the number would
+/// be stored.
+fn note_number<B: Depacketizer>(
+    packets: &mut JitterBuffer<B>,
+    number: u16,
+    is_again: bool,
+) -> Result<Outcome, AllocError>
+    ensures ok { IfOk result (λ outcome. NotesAgain (not is_again || would_store packets.old number) number packets.old outcome packets.new) }
+    ensures err { OnErr result (packets.new ≡ packets.old) }
+    ensures own { is_built_in_depacketizer packets.old.buffer.depacketizer ≡ false → OwnStores B.is_head B.is_tail packets.old.buffer packets.new.buffer }
+{
+    if !is_again || packets.would_store(number) {
+        return match packets.push_no_media(number) {
+            Ok(()) => Ok(Outcome::NoMedia),
+            Err(_) => Err(AllocError),
+        };
+    }
+    packets.push_nothing();
+    Ok(Outcome::NoMedia)
+}
+
+/// Records that this number has no media. A restart that it confirms forgets all earlier times.
+fn note_without_media<B: Depacketizer>(
+    packets: &mut JitterBuffer<B>,
+    seen: &mut LazySeenTimes,
+    number: u16,
+) -> Result<Outcome, AllocError>
+    ensures ok { IfOk result (λ outcome. (outcome ≡ outcomes.NoMedia) × Notes number packets.old packets.new × (seen.new ≡ seen_past (has_restarted packets.old packets.new) seen.old)) }
+    ensures err { OnErr result ((packets.new ≡ packets.old) × (seen.new ≡ seen.old)) }
+    ensures own { is_built_in_depacketizer packets.old.buffer.depacketizer ≡ false → OwnStores B.is_head B.is_tail packets.old.buffer packets.new.buffer }
+{
+    let restarts = packets.counters().restarts;
+    let outcome = note_number(packets, number, false)?;
+    seen.forget_if(packets.counters().restarts != restarts);
+    Ok(outcome)
+}
+
+/// Notes the time of a packet with media. A restart forgets all earlier times, also if a packet without media confirms it.
+fn note_primary(
+    seen: &mut SeenTimes,
+    is_media: bool,
+    outcome: Outcome,
+    time: u32,
+    has_restarted: bool,
+)
+    ensures { seen.new ≡ primary_seen is_media outcome time has_restarted seen.old }
+{
+    if is_media {
+        note_packet(seen, outcome, time);
+    } else if has_restarted {
+        *seen = SeenTimes::none();
+    }
+}
+
+/// Notes the time of a packet with media. A restart forgets all earlier times.
+fn note_packet(seen: &mut SeenTimes, outcome: Outcome, time: u32)
+    ensures { seen.new ≡ packet_seen true outcome time seen.old }
+{
+    if matches!(outcome, Outcome::Restarted(_)) {
+        *seen = SeenTimes::none();
+    }
+    seen.note(SeenTime {
+        time,
+        is_block: false,
+    });
+}

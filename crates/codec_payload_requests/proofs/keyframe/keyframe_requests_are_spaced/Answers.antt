@@ -1,5 +1,0 @@
-use Rattle.codec_payload_requests.proofs.KeyframeLemmas.{spacing}
-use Rattle.codec_payload_requests.proofs.keyframe.keyframe_requests_are_spaced.Goals as goal
-
-pub returns : goal.returns
-returns c = spacing

@@ -1,5 +1,0 @@
-use Rattle.codec_payload_runs.proofs.in_red.RedAlike.{red_sets_count}
-use Rattle.codec_payload_runs.proofs.theorems.order_of_red_runs.Goals as goal
-
-pub returns : goal.returns
-returns c = red_sets_count

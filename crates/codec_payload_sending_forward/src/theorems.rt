@@ -1,0 +1,45 @@
+//! Theorems about the numbers, times and packets of a viewer's stream. These functions exist for what they prove; they do nothing.
+
+ghost use Rattle.codec_payload_sending_forward.specs.Forwarding.{RepeatsWhatWasSent};
+ghost use Rattle.codec_payload_sending_forward.specs.NumberRuns.{KeepsGaps, KeepsNumbers, Renumbers, SendsGiven, SwitchesNext};
+ghost use Rattle.codec_payload_sending_forward.specs.Times.{NeverGoesBack, Retimes};
+
+/// Proves for each sequence of calls: the number on the wire is the number received plus an offset, less the packets left out
+/// before it since the last switch.
+pub fn renumbers()
+    ensures numbers { Renumbers }
+    ensures sent { SendsGiven }
+{}
+
+/// Proves that two packets of a stretch have different numbers, as far apart as those of the source, less the packets left out
+/// between them. So a loss stays a gap of the same size.
+pub fn keeps_gaps()
+    ensures { KeepsGaps }
+{}
+
+/// Proves that a number keeps its place while other packets come: late packets and retransmissions fit in.
+pub fn keeps_numbers()
+    ensures { KeepsNumbers }
+{}
+
+/// Proves that at a switch the first packet has the number after the highest one so far.
+pub fn switches_next()
+    ensures { SwitchesNext }
+{}
+
+/// Proves for each sequence of calls: the time on the wire is the time received plus an offset, if each packet's time is less than
+/// 2^31 ticks from the highest time that was sent before it.
+pub fn retimes()
+    ensures { Retimes }
+{}
+
+/// Proves that the time goes on by the given ticks at a switch, from the highest time that was sent, and never goes back.
+pub fn never_goes_back()
+    ensures { NeverGoesBack }
+{}
+
+/// Proves that a packet is written again as it was sent: its number, its time and its payload stay the same while other packets are
+/// written.
+pub fn repeats_what_was_sent()
+    ensures { RepeatsWhatWasSent }
+{}

@@ -1,5 +1,0 @@
-use Rattle.codec_payload_stream.proofs.RedRuleLemmas.{stored_by_rule}
-use Rattle.codec_payload_stream.proofs.theorems.receives_by_rule.Goals as goal
-
-pub returns : goal.returns
-returns c = stored_by_rule

@@ -1,7 +1,0 @@
-use Rattle.std.proofs.Common.{◌≡◌, ◌++◌, take}
-use Rattle.codec_payload_wire.specs.WireRuns.{bytes_in}
-use Rattle.codec_payload_wire.proofs.run.copy_datagrams.Given as goal
-
--- the datagrams in front of this place were copied
-abbrev pub invariant-loop-place : goal.invariant-loop-place
-invariant-loop-place g l = bytes_in l.datagrams.items ≡ bytes_in l.fn.datagrams.items ++ take l.place l.sender.datagrams

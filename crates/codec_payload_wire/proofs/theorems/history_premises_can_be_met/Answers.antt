@@ -1,5 +1,0 @@
-use Rattle.codec_payload_wire.proofs.HistoryRunExamples.{history_can_be_met}
-use Rattle.codec_payload_wire.proofs.theorems.history_premises_can_be_met.Goals as goal
-
-pub returns : goal.returns
-returns c = history_can_be_met
