@@ -90,7 +90,9 @@ fn a_thousand_missing_numbers_are_requested() -> Result<(), Fail> {
 #[test]
 fn a_thousand_streams_are_received_and_reported() -> Result<(), Fail> {
     let mut session = session(|settings| {
-        settings.feedback.as_mut().unwrap().report_interval = Some(1_000);
+        let feedback = settings.feedback.as_mut().unwrap();
+        feedback.report_interval = Some(1_000);
+        feedback.max_report = usize::MAX;
     });
     for number in 0..3 {
         for ssrc in 0..1_000 {

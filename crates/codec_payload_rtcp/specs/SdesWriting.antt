@@ -2,7 +2,9 @@
 use Rattle.std.specs.Prelude.{◌≡◌, ℕ, ◌&&◌, nat_le, Bool, true, false, List, [], ◌∷◌, ◌++◌, length, Result, Ok, Err}
 use Rattle.codec_payload_rtcp.specs.declared.packet.RtcpError.{RtcpError}
 use Rattle.codec_payload_rtcp.specs.Steps.{fault_of}
-use Rattle.codec_payload_rtcp.specs.Sdes.{Item, Chunk, FitsChunk, IsChunk}
+use Rattle.std.specs.Int.{w32, to_be_bytes}
+use Rattle.codec_payload_rtcp.specs.RtcpWriting.{ending_zeros}
+use Rattle.codec_payload_rtcp.specs.Sdes.{Item, Chunk, FitsChunk, IsChunk, items_bytes}
 use Rattle.codec_payload_rtcp.specs.SdesReading.{chunks_at, chunks_in}
 use Rattle.codec_payload_rtcp.specs.RtcpItems.{are_items}
 
@@ -25,6 +27,10 @@ description_fits count chunks = nat_le count 31 && are_items 4 0 262140 (length 
 -- new is old with the bytes of the chunk at its end, which fits
 abbrev pub AppendsChunk : List ℕ → List ℕ → Chunk → Type 0
 AppendsChunk old new c = (written : List ℕ) × FitsChunk c × IsChunk c written × (new ≡ old ++ written)
+
+-- the SSRC, the items, and the fewest zeros that end them and a word
+abbrev pub chunk_bytes : Chunk → List ℕ
+chunk_bytes c = to_be_bytes w32 c.ssrc ++ (items_bytes c.items ++ ending_zeros (length (items_bytes c.items)))
 
 -- these chunks, and nothing after them
 abbrev pub AreWholeChunks : List Chunk → List ℕ → Type 0

@@ -8,7 +8,7 @@ ghost use Rattle.codec_payload_rtcp.specs.RtcpItems.{are_items, reason_short, re
 ghost use Rattle.codec_payload_rtcp.specs.RtcpValues.{description_of, leaving_of, sender_of, receiver_of, nack_of, picture_loss_of, full_intra_of};
 ghost use Rattle.codec_payload_base.specs.Flags.{AreBytes};
 ghost use Rattle.codec_payload_rtcp.specs.SdesWriting.{description_fits};
-ghost use Rattle.codec_payload_rtcp.specs.RtcpWriting.{Appends, AppendsPadded, OneMore, AreCompound, LastPadded, padding_fits, feedback_head, sender_head, receiver_head, cname_head, cname_chunk};
+ghost use Rattle.codec_payload_rtcp.specs.RtcpWriting.{Appends, AppendsPadded, OneMore, AreCompound, LastPadded, padding_fits, feedback_head, sender_head, receiver_head, cname_bytes, cname_head, cname_chunk, leaving_bytes, padded_bytes};
 
 use crate::packet::{
     FullIntraRequest, Goodbye, Nack, PictureLoss, ReceiverReport, SenderReport, SourceDescription,
@@ -224,7 +224,8 @@ fn cname_head(words: u16, ssrc: u32, len: u8) -> [u8; 10]
 /// Appends a source description of one source with its canonical name, at most 255 bytes.
 pub fn write_cname(ssrc: u32, cname: &[u8], out: &mut Vec<u8>) -> Result<(), AllocError>
     requires { length cname.now ≤ 255 }
-    ensures { OnOk result (Appends out.old.items out.new.items (source_description (cname_chunk ssrc cname.now ∷ []))) }
+    ensures packet { OnOk result (Appends out.old.items out.new.items (source_description (cname_chunk ssrc cname.now ∷ []))) }
+    ensures exact { OnOk result (out.new.items ≡ out.old.items ++ cname_bytes ssrc cname.now) }
 {
     let zeros = 4 - (cname.len() + 2) % 4;
     let words = (6 + cname.len() + zeros) / 4;
@@ -252,7 +253,8 @@ impl<'a> SourceDescription<'a> {
     /// [`crate::sdes::write_chunk`] are read without a fault.
     pub fn write(&self, out: &mut Vec<u8>) -> Result<(), AllocError>
         requires { IsTrue (description_fits self.now.count self.now.chunks.now) }
-        ensures { OnOk result (Appends out.old.items out.new.items (source_description (description_of self.now))) }
+        ensures packet { OnOk result (Appends out.old.items out.new.items (source_description (description_of self.now))) }
+        ensures exact { OnOk result (out.new.items ≡ out.old.items ++ (header_bytes false self.now.count 202 (length self.now.chunks.now / 4) ++ self.now.chunks.now)) }
     {
         known_bytes(self.chunks);
         let words = (self.chunks.len() / 4) as u16;
@@ -264,7 +266,8 @@ impl<'a> SourceDescription<'a> {
 fn write_leaving(ssrcs: &[u8], out: &mut Vec<u8>) -> Result<(), AllocError>
     requires whole { length ssrcs.now % 4 ≡ 0 }
     requires few { length ssrcs.now ≤ 124 }
-    ensures { OnOk result (Appends out.old.items out.new.items (goodbye (record { ssrcs = ssrcs.now; reason = None }))) }
+    ensures packet { OnOk result (Appends out.old.items out.new.items (goodbye (record { ssrcs = ssrcs.now; reason = None }))) }
+    ensures exact { OnOk result (out.new.items ≡ out.old.items ++ leaving_bytes (record { ssrcs = ssrcs.now; reason = None })) }
 {
     let words = (ssrcs.len() / 4) as u16;
     write_parts(&header(words as u8, 203, words), ssrcs, &[], out)
@@ -275,7 +278,8 @@ fn write_leaving_for(ssrcs: &[u8], reason: &[u8], out: &mut Vec<u8>) -> Result<(
     requires whole { length ssrcs.now % 4 ≡ 0 }
     requires few { length ssrcs.now ≤ 124 }
     requires short { length reason.now ≤ 255 }
-    ensures { OnOk result (Appends out.old.items out.new.items (goodbye (record { ssrcs = ssrcs.now; reason = Some reason.now }))) }
+    ensures packet { OnOk result (Appends out.old.items out.new.items (goodbye (record { ssrcs = ssrcs.now; reason = Some reason.now }))) }
+    ensures exact { OnOk result (out.new.items ≡ out.old.items ++ leaving_bytes (record { ssrcs = ssrcs.now; reason = Some reason.now })) }
 {
     let zeros = 3 - reason.len() % 4;
     let words = (ssrcs.len() + 1 + reason.len() + zeros) / 4;
@@ -302,7 +306,8 @@ impl<'a> Goodbye<'a> {
         requires whole { length self.now.ssrcs.now % 4 ≡ 0 }
         requires few { length self.now.ssrcs.now ≤ 124 }
         requires short { IfSome self.now.reason (λ r. length r.now ≤ 255) }
-        ensures { OnOk result (Appends out.old.items out.new.items (goodbye (leaving_of self.now))) }
+        ensures packet { OnOk result (Appends out.old.items out.new.items (goodbye (leaving_of self.now))) }
+        ensures exact { OnOk result (out.new.items ≡ out.old.items ++ leaving_bytes (leaving_of self.now)) }
     {
         match self.reason {
             None => write_leaving(self.ssrcs, out),
@@ -327,7 +332,8 @@ pub fn padding_fits(packet: &[u8], padding: u8) -> bool
 /// packet of a datagram may have padding: write that packet into a separate vector first.
 pub fn write_padded(packet: &[u8], padding: u8, out: &mut Vec<u8>) -> Result<(), AllocError>
     requires { IsTrue (padding_fits padding packet.now) }
-    ensures { OnOk result (AppendsPadded padding out.old.items out.new.items packet.now) }
+    ensures packet { OnOk result (AppendsPadded padding out.old.items out.new.items packet.now) }
+    ensures exact { OnOk result (out.new.items ≡ out.old.items ++ padded_bytes padding packet.now) }
 {
     let words = ((packet.len() + usize::from(padding)) / 4 - 1) as u16;
     let [l1, l0] = words.to_be_bytes();

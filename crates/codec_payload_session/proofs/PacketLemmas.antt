@@ -1,13 +1,14 @@
 -- Receiver reports that are written one after another, with blocks in groups.
-use Rattle.std.proofs.Common.{◌≡◌, ◌≤◌, ◌∙◌, ℕ, ◌*◌, ◌%◌, List, [], ◌∷◌, ◌++◌, length, map, true, Result, Ok, Err, OnOk, ap, refl, sym, subst, arith, append_assoc, length-append}
-use Rattle.std.proofs.lemmas.List.{append-nil, map-append}
+use Rattle.std.proofs.Common.{◌≡◌, ◌<◌, ◌≤◌, ◌∙◌, ◌⊎◌, inl, inr, ℕ, suc, max, min, ◌+◌, ◌-◌, ◌*◌, ◌/◌, ◌%◌, List, [], ◌∷◌, ◌++◌, length, map, true, Result, Ok, Err, OnOk, ap, refl, sym, subst, arith, append_assoc, length-append}
+use Rattle.std.proofs.lemmas.Bool.{cases_lt}
+use Rattle.std.proofs.lemmas.List.{append-nil, length-take, map-append}
 use Rattle.codec_payload_feedback.specs.Feedback.{AppendsAll, cname_part}
 use Rattle.codec_payload_rtcp.specs.RtcpItems.{block_bytes}
-use Rattle.codec_payload_rtcp.specs.RtcpPackets.{IsCompound, Packet}
-use Rattle.codec_payload_rtcp.specs.RtcpWriting.{Appends, AreCompound, AreUnpadded}
+use Rattle.codec_payload_rtcp.specs.RtcpPackets.{IsCompound, IsPacket, Packet}
+use Rattle.codec_payload_rtcp.specs.RtcpWriting.{Appends, AreCompound, AreUnpadded, cname_bytes, ending_zeros}
 use Rattle.codec_payload_rtcp.specs.declared.items.ReportBlock.{ReportBlock}
 use Rattle.codec_payload_session.specs.Requests.{source_for}
-use Rattle.codec_payload_session.specs.Reporting.{AppendsGroups, AreGroups, IsReport, bytes_of, report_of_group, report_packets}
+use Rattle.codec_payload_session.specs.Reporting.{AppendsGroups, AreGroups, IsReport, blocks_within, bytes_of, most_blocks, name_length, report_of_group, report_packets}
 use Rattle.codec_payload_session.specs.declared.formats.FeedbackSettings.{FeedbackSettings}
 
 -- ---- blocks of 24 bytes
@@ -77,6 +78,81 @@ pub writes_last : {X E : Type 0} (result : Result X E) (ssrc : ℕ) (blocks rest
 writes_last (Ok x) ssrc blocks rest a b c got few more = (got.0 ++ rest ∷ [], got.1 (rest ∷ []) (refl, few), one_group ssrc got.0 rest a b c got.2 more)
 writes_last (Err e) ssrc blocks rest a b c got few more = tt
 
+-- ---- lengths
+
+group_length : (ssrc : ℕ) (g front : List ℕ) → IsPacket 0 front (report_of_group ssrc g) → length front ≡ 8 + length g
+group_length ssrc g front is =
+    omega (arith, ap (λ (l : List ℕ). length l) is.is, length-append is.body is.tail, ap (λ (l : List ℕ). length l) is.is_body, ap (λ (l : List ℕ). length l) is.is_padding, length-append g [])
+
+total : List (List ℕ) → ℕ
+total [] = 0
+total (g ∷ gs) = length g + total gs
+
+groups_length : (ssrc : ℕ) (gs : List (List ℕ)) (bytes : List ℕ) → AreUnpadded (map (report_of_group ssrc) gs) bytes → length bytes ≡ 8 * length gs + total gs
+groups_length ssrc [] bytes are = ap (λ (l : List ℕ). length l) are
+groups_length ssrc (g ∷ gs) bytes are =
+    omega (arith, ap (λ (l : List ℕ). length l) are.4, length-append are.0 are.1, group_length ssrc g are.0 are.2, groups_length ssrc gs are.1 are.3)
+
+total_is : (gs : List (List ℕ)) (blocks : List ℕ) → AreGroups gs blocks → total gs ≡ length blocks
+total_is [] blocks are = absurd are
+total_is (g ∷ []) blocks are = omega (arith, ap (λ (l : List ℕ). length l) are.0)
+total_is (g ∷ h ∷ gs) blocks are = omega (arith, ap (λ (l : List ℕ). length l) are.1, length-append g are.0, total_is (h ∷ gs) are.0 are.4)
+
+-- one group, or groups of which all but the last are full
+Few : ℕ → ℕ → Type 0
+Few groups long = ((groups ≡ 1) × (long ≤ 744)) ⊎ (744 * groups < long + 744)
+
+more_groups : (groups rest long : ℕ) → Few groups rest → 1 ≤ rest → long ≡ 744 + rest → Few (suc groups) long
+more_groups groups rest long (inl few) some is = inr (omega (arith, few.0, some, is))
+more_groups groups rest long (inr few) some is = inr (omega (arith, few, is))
+
+few_groups : (gs : List (List ℕ)) (blocks : List ℕ) → AreGroups gs blocks → Few (length gs) (length blocks)
+few_groups [] blocks are = absurd are
+few_groups (g ∷ []) blocks are = inl (refl, omega (arith, ap (λ (l : List ℕ). length l) are.0, are.1))
+few_groups (g ∷ h ∷ gs) blocks are =
+    more_groups (length (h ∷ gs)) (length are.0) (length blocks) (few_groups (h ∷ gs) are.0 are.4) are.3
+    (omega (arith, ap (λ (l : List ℕ). length l) are.1, length-append g are.0, are.2))
+
+one_fits : (groups long name size : ℕ) → Few groups long → long ≤ 24 → 8 * groups + long + name ≤ max size (32 + name)
+one_fits groups long name size (inl few) short = omega (arith, few.0, short)
+one_fits groups long name size (inr few) short = omega (arith, few, short)
+
+-- q full reports, and t blocks in the rest of r bytes
+some_fit : (groups long q r t : ℕ) → Few groups long → 24 < long → long ≤ 24 * (31 * q + t) → 24 * t ≤ r - 8 → r < 752 → 8 * groups + long ≤ 752 * q + r
+some_fit groups long q r t (inl few) many within blocks rest = omega (arith, few.0, few.1, many, within, blocks, rest)
+some_fit groups long q r t (inr few) many within blocks rest = omega (arith, few, many, within, blocks, rest)
+
+all_fit : (groups long name size : ℕ) → Few groups long → 24 < long → long ≤ 24 * max 1 (blocks_within (size - name)) → 8 * groups + long + name ≤ max size (32 + name)
+all_fit groups long name size few many within =
+    let room : ℕ = size - name in
+    let q : ℕ = room / 752 in
+    let r : ℕ = room % 752 in
+    let t : ℕ = (r - 8) / 24 in
+    let blocks : long ≤ 24 * (31 * q + t) = omega (arith, many, within) in
+    let fit : 8 * groups + long ≤ 752 * q + r = some_fit groups long q r t few many blocks (omega arith) (omega arith) in
+    omega (arith, fit, many)
+
+fits_either : (groups long name size : ℕ) → Few groups long → long ≤ 24 * max 1 (blocks_within (size - name)) → (long ≤ 24) ⊎ (24 < long) → 8 * groups + long + name ≤ max size (32 + name)
+fits_either groups long name size few within (inl short) = one_fits groups long name size few short
+fits_either groups long name size few within (inr many) = all_fit groups long name size few many within
+
+within_or_more : (long : ℕ) → (long ≤ 24) ⊎ (24 < long)
+within_or_more long = swapped (cases_lt 24 long)
+  where
+    swapped : (24 < long) ⊎ (long ≤ 24) → (long ≤ 24) ⊎ (24 < long)
+    swapped (inl many) = inr many
+    swapped (inr short) = inl short
+
+-- a source description with a name
+cname_length : (ssrc : ℕ) (name : List ℕ) → length (cname_bytes ssrc name) ≡ 12 + 4 * ((length name + 2) / 4)
+cname_length ssrc name =
+    omega (arith, length-append name (ending_zeros (length name + 2)), length-take {A = ℕ} (4 - (length name + 2) % 4) (0 ∷ 0 ∷ 0 ∷ 0 ∷ []))
+
+pub name_written : {X E : Type 0} (result : Result X E) (ssrc : ℕ) (name a b : List ℕ) → 1 ≤ length name → OnOk result (b ≡ a ++ cname_bytes ssrc name) → OnOk result (length b ≡ length a + name_length (length name))
+name_written (Ok x) ssrc [] a b some written = absurd (omega (arith, some))
+name_written (Ok x) ssrc (n ∷ ns) a b some written = omega (arith, ap (λ (l : List ℕ). length l) written, length-append a (cname_bytes ssrc (n ∷ ns)), cname_length ssrc (n ∷ ns))
+name_written (Err e) ssrc name a b some written = tt
+
 -- ---- the packet
 
 compound_by : (f : FeedbackSettings) (groups : List (List ℕ)) (blocks bytes : List ℕ) → AreCompound → AreGroups groups blocks → AreUnpadded (report_packets f groups) bytes
@@ -87,12 +163,18 @@ compound_by f (g ∷ gs) blocks bytes all groups are = record {
   report = λ full. refl;
 }
 
-pub is_report : (f : FeedbackSettings) (blocks a b c : List ℕ) → AreCompound → a ≡ [] → AppendsGroups f.ssrc blocks a b → AppendsAll (cname_part (source_for f)) b c → IsReport f blocks c
-is_report f blocks a b c all none groups name =
+pub is_report : (f : FeedbackSettings) (blocks a b c : List ℕ) → AreCompound → a ≡ [] → AppendsGroups f.ssrc blocks a b → AppendsAll (cname_part (source_for f)) b c
+    → length blocks ≤ 24 * most_blocks f → length c ≡ length b + name_length (min 255 (length f.cname.items)) → IsReport f blocks c
+is_report f blocks a b c all none groups name few named =
+    let sized : length groups.2.0 ≡ 8 * length groups.0 + total groups.0 = groups_length f.ssrc groups.0 groups.2.0 groups.2.1 in
+    let reports : length b ≡ 8 * length groups.0 + length blocks =
+    omega (arith, sized, total_is groups.0 blocks groups.1, ap (λ (l : List ℕ). length l) groups.2.2, ap (λ (l : List ℕ). length l) none, length-append a groups.2.0) in
     let written : AppendsAll (report_packets f groups.0) a c = both (map (report_of_group f.ssrc) groups.0) (cname_part (source_for f)) a b c groups.2 name in
     let are : AreUnpadded (report_packets f groups.0) c =
     subst (λ (l : List ℕ). AreUnpadded (report_packets f groups.0) l) (sym (written.2 ∙ ap (λ (l : List ℕ). l ++ written.0) none)) written.1 in
     record {
+      fits = omega (arith, reports, named,
+          fits_either (length groups.0) (length blocks) (name_length (min 255 (length f.cname.items))) f.max_report (few_groups groups.0 blocks groups.1) few (within_or_more (length blocks)));
       groups = groups.0;
       are_groups = groups.1;
       unpadded = are;

@@ -4,30 +4,31 @@ use Rattle.std.specs.Global.{Vec}
 use Rattle.std.specs.declared.alloc.AllocError.{AllocError}
 use Rattle.codec_payload_session.specs.Arrivals.{Port}
 use Rattle.codec_payload_session.specs.Ports.{IsPort, taken_in}
-use Rattle.codec_payload_session.specs.Reporting.{Reports, ReportsBy, ReportsEach, ReportsIf, all_reported, is_report_due, is_reported, reported_if}
+use Rattle.codec_payload_session.specs.Reporting.{Reports, ReportsBy, ReportsEach, ReportsIf, all_reported, is_chosen, is_new_round, is_report_due, most_blocks, reported_if, room_after}
 use Rattle.codec_payload_session.specs.declared.formats.FeedbackSettings.{FeedbackSettings}
 use Rattle.codec_payload_session.specs.declared.formats.SessionSettings.{SessionSettings}
 use Rattle.codec_payload_session.specs.declared.session.ArrivalCounts.{ArrivalCounts}
 use Rattle.codec_payload_session.specs.declared.stream.StreamState.{StreamState}
 
-taken_if : (b : Bool) (s : StreamState) → (reported_if b s).taken ≡ s.taken
-taken_if true s = refl
-taken_if false s = refl
+taken_if : (b is_new : Bool) (s : StreamState) → (reported_if b is_new s).taken ≡ s.taken
+taken_if true is_new s = refl
+taken_if false is_new s = refl
 
-taken_reported : (ss : List StreamState) → taken_in (all_reported ss) ≡ taken_in ss
-taken_reported [] = refl
-taken_reported (s ∷ ss) = omega (arith, taken_if (is_reported s ss) s, taken_reported ss)
+taken_reported : (is_new : Bool) (room : ℕ) (ss : List StreamState) → taken_in (all_reported is_new room ss) ≡ taken_in ss
+taken_reported is_new room [] = refl
+taken_reported is_new room (s ∷ ss) =
+    omega (arith, taken_if (is_chosen is_new room s ss) is_new s, taken_reported is_new (room_after (is_chosen is_new room s ss) room) ss)
 
-length_reported : (ss : List StreamState) → length (all_reported ss) ≡ length ss
-length_reported [] = refl
-length_reported (s ∷ ss) = ap suc (length_reported ss)
+length_reported : (is_new : Bool) (room : ℕ) (ss : List StreamState) → length (all_reported is_new room ss) ≡ length ss
+length_reported is_new room [] = refl
+length_reported is_new room (s ∷ ss) = ap suc (length_reported is_new (room_after (is_chosen is_new room s ss) room) ss)
 
-all_keep : (settings : SessionSettings) (c : ArrivalCounts) (p q : Port) → q ≡ record p { streams = all_reported p.streams } → IsPort settings p c → IsPort settings q c
-all_keep settings c p q is kept =
+all_keep : (settings : SessionSettings) (c : ArrivalCounts) (is_new : Bool) (room : ℕ) (p q : Port) → q ≡ record p { streams = all_reported is_new room p.streams } → IsPort settings p c → IsPort settings q c
+all_keep settings c is_new room p q is kept =
     subst (λ (x : Port). IsPort settings x c) (sym is)
     (record {
-      accounted = omega (arith, kept.accounted, taken_reported p.streams);
-      bounded = omega (arith, kept.bounded, length_reported p.streams);
+      accounted = omega (arith, kept.accounted, taken_reported is_new room p.streams);
+      bounded = omega (arith, kept.bounded, length_reported is_new room p.streams);
     })
 
 none_keeps : (settings : SessionSettings) (c : ArrivalCounts) (p q : Port) → q ≡ p → IsPort settings p c → IsPort settings q c
@@ -35,7 +36,7 @@ none_keeps settings c p q is kept = subst (λ (x : Port). IsPort settings x c) (
 
 sent_keeps : (settings : SessionSettings) (c : ArrivalCounts) (f : FeedbackSettings) (interval tick_rate now : ℕ) (due : Option ℕ) (p : Port) (packet : Result (Vec ℕ) AllocError) (next : Option ℕ) (q : Port)
     → Reports f interval tick_rate now due p packet next q → IsPort settings p c → IsPort settings q c
-sent_keeps settings c f interval tick_rate now due p (Ok packet) next q got kept = all_keep settings c p q got.2 kept
+sent_keeps settings c f interval tick_rate now due p (Ok packet) next q got kept = all_keep settings c (is_new_round (most_blocks f) p.streams) (most_blocks f) p q got.2 kept
 sent_keeps settings c f interval tick_rate now due p (Err e) next q got kept = none_keeps settings c p q got.1 kept
 
 if_keeps : (b : Bool) (settings : SessionSettings) (c : ArrivalCounts) (f : FeedbackSettings) (interval tick_rate now : ℕ) (due : Option ℕ) (p : Port) (answer : Option (Result (Vec ℕ) AllocError)) (next : Option ℕ) (q : Port)

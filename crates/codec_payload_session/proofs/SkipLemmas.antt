@@ -188,4 +188,5 @@ seen s = record {
   last = s.last;
   feedback = s.feedback;
   sender_clock = s.sender_clock;
+  was_reported = s.was_reported;
 }

@@ -173,3 +173,4 @@ pub record IsLiveFeedback (ssrc : ℕ) (name : List ℕ) (f : FeedbackSettings) 
   pub silence : f.silence ≡ 2000
   pub longest_wait : f.longest_wait ≡ Some 800
   pub report_interval : f.report_interval ≡ Some 1000
+  pub max_report : f.max_report ≡ 1200

@@ -1,5 +1,5 @@
 -- The receiver reports that a session sends by itself (RFC 3550, sections 6.1 and 6.4.2).
-use Rattle.std.specs.Prelude.{◌≡◌, ◌≤◌, ℕ, max, ◌==◌, ◌&&◌, ◌||◌, not, nat_le, Bool, true, false, List, [], ◌∷◌, ◌++◌, map, Option, Some, None, Result, Ok, Err, length}
+use Rattle.std.specs.Prelude.{◌≡◌, ◌≤◌, ℕ, zero, suc, ◌+◌, ◌-◌, ◌*◌, ◌/◌, ◌%◌, max, min, ◌==◌, ◌&&◌, ◌||◌, not, nat_le, Bool, true, false, List, [], ◌∷◌, ◌++◌, map, Option, Some, None, Result, Ok, Err, length}
 use Rattle.std.specs.Global.{Vec}
 use Rattle.std.specs.List.{flat_map}
 use Rattle.std.specs.declared.alloc.AllocError.{AllocError}
@@ -30,6 +30,44 @@ abbrev pub is_first_reported : List StreamState → Bool
 is_first_reported [] = false
 is_first_reported (s ∷ later) = is_reported s later
 
+-- the stream is reported, and this round of reports had no block about it; in a new round none was
+abbrev pub is_due : Bool → StreamState → List StreamState → Bool
+is_due is_new s later = is_reported s later && (is_new || not s.was_reported)
+
+abbrev pub is_first_due : Bool → List StreamState → Bool
+is_first_due is_new [] = false
+is_first_due is_new (s ∷ later) = is_due is_new s later
+
+abbrev pub any_due : List StreamState → Bool
+any_due [] = false
+any_due (s ∷ ss) = is_due false s ss || any_due ss
+
+abbrev pub one_if : Bool → ℕ
+one_if true = 1
+one_if false = 0
+
+-- how many streams are reported
+abbrev pub reported_count : List StreamState → ℕ
+reported_count [] = 0
+reported_count (s ∷ ss) = one_if (is_reported s ss) + reported_count ss
+
+-- a new round of reports begins with each report that has room for all streams, and once no stream is left that this round had no
+-- block about
+abbrev pub is_new_round : ℕ → List StreamState → Bool
+is_new_round room ss = nat_le (reported_count ss) room || not (any_due ss)
+
+-- the stream has a block, if the report has room for one
+abbrev pub is_chosen : Bool → ℕ → StreamState → List StreamState → Bool
+is_chosen is_new room s later = nat_le 1 room && is_due is_new s later
+
+abbrev pub is_first_chosen : Bool → ℕ → List StreamState → Bool
+is_first_chosen is_new room [] = false
+is_first_chosen is_new room (s ∷ later) = is_chosen is_new room s later
+
+abbrev pub room_after : Bool → ℕ → ℕ
+room_after true room = room - 1
+room_after false room = room
+
 abbrev pub blocks_with : Option ReportBlock → List ReportBlock → List ReportBlock
 blocks_with None bs = bs
 blocks_with (Some b) bs = b ∷ bs
@@ -38,21 +76,40 @@ abbrev pub blocks_if : Bool → ℕ → ℕ → StreamState → List ReportBlock
 blocks_if true tick_rate now s bs = blocks_with (block_of tick_rate now s) bs
 blocks_if false tick_rate now s bs = bs
 
--- the blocks about the reported streams that have one, in the order in which the streams began
-abbrev pub blocks_of : ℕ → ℕ → List StreamState → List ReportBlock
-blocks_of tick_rate now [] = []
-blocks_of tick_rate now (s ∷ ss) = blocks_if (is_reported s ss) tick_rate now s (blocks_of tick_rate now ss)
+-- the blocks about the first due streams that have one, for as many streams as there is room, in the order in which they began
+abbrev pub blocks_of : Bool → ℕ → ℕ → ℕ → List StreamState → List ReportBlock
+blocks_of is_new room tick_rate now [] = []
+blocks_of is_new room tick_rate now (s ∷ ss) =
+    blocks_if (is_chosen is_new room s ss) tick_rate now s (blocks_of is_new (room_after (is_chosen is_new room s ss) room) tick_rate now ss)
 
-abbrev pub reported_if : Bool → StreamState → StreamState
-reported_if true s = reported_by s
-reported_if false s = s
+-- the next report of a reported stream starts its fraction here
+abbrev pub reported_if : Bool → Bool → StreamState → StreamState
+reported_if true is_new s = record (reported_by s) { was_reported = true }
+reported_if false is_new s = record s { was_reported = not is_new && s.was_reported }
 
--- the next report of each reported stream starts its fraction here
-abbrev pub all_reported : List StreamState → List StreamState
-all_reported [] = []
-all_reported (s ∷ ss) = reported_if (is_reported s ss) s ∷ all_reported ss
+-- the streams after a report of this round
+abbrev pub all_reported : Bool → ℕ → List StreamState → List StreamState
+all_reported is_new room [] = []
+all_reported is_new room (s ∷ ss) = reported_if (is_chosen is_new room s ss) is_new s ∷ all_reported is_new (room_after (is_chosen is_new room s ss) room) ss
 
 -- ---- the packet
+
+-- the bytes of the description of a source with a name of that many bytes (RFC 3550, section 6.5)
+abbrev pub name_length : ℕ → ℕ
+name_length zero = 0
+name_length (suc n) = 12 + 4 * ((suc n + 2) / 4)
+
+-- the blocks that fit into so many bytes: receiver reports of 8 bytes and 31 blocks, and one with the rest
+abbrev pub blocks_within : ℕ → ℕ
+blocks_within bytes = 31 * (bytes / 752) + (bytes % 752 - 8) / 24
+
+-- as many blocks as fit beside the name; at least one
+abbrev pub most_blocks : FeedbackSettings → ℕ
+most_blocks f = max 1 (blocks_within (f.max_report - name_length (min 255 (length f.cname.items))))
+
+-- the bytes of a report with one block
+abbrev pub least_report : FeedbackSettings → ℕ
+least_report f = 32 + name_length (min 255 (length f.cname.items))
 
 -- the blocks as they are in a packet, 24 bytes each
 abbrev pub bytes_of : List ReportBlock → List ℕ
@@ -79,8 +136,10 @@ abbrev pub report_packets : FeedbackSettings → List (List ℕ) → List Packet
 report_packets f groups = map (report_of_group f.ssrc) groups ++ cname_part (source_for f)
 
 -- a compound packet: receiver reports with the bytes of these blocks, 31 blocks in each but the last, and the name of the
--- session, if it has one. Without a block there is one empty report
+-- session, if it has one. Without a block there is one empty report. The packet fits into the bytes of the settings, unless these
+-- have no room for one block
 pub record IsReport (f : FeedbackSettings) (blocks : List ℕ) (bytes : List ℕ) : Type 0 where
+  pub fits : length bytes ≤ max f.max_report (least_report f)
   pub groups : List (List ℕ)
   pub are_groups : AreGroups groups blocks
   pub unpadded : AreUnpadded (report_packets f groups) bytes
@@ -114,11 +173,12 @@ abbrev pub due_after : Result (Vec ℕ) AllocError → ℕ → ℕ → Option �
 due_after (Ok packet) interval now due = later now (max 1 interval)
 due_after (Err e) interval now due = due
 
--- the packet has the blocks of all reported streams, and the next one is due one interval later; if memory runs out nothing has
--- changed
+-- the packet has the blocks of the streams whose turn it is, and the next one is due one interval later; if memory runs out nothing
+-- has changed
 abbrev pub Reports : FeedbackSettings → (interval tick_rate now : ℕ) → Option ℕ → Port → Result (Vec ℕ) AllocError → Option ℕ → Port → Type 0
 Reports f interval tick_rate now due p (Ok packet) next q =
-    IsReport f (bytes_of (blocks_of tick_rate now p.streams)) packet.items × (next ≡ later now (max 1 interval)) × (q ≡ record p { streams = all_reported p.streams })
+    IsReport f (bytes_of (blocks_of (is_new_round (most_blocks f) p.streams) (most_blocks f) tick_rate now p.streams)) packet.items × (next ≡ later now (max 1 interval))
+    × (q ≡ record p { streams = all_reported (is_new_round (most_blocks f) p.streams) (most_blocks f) p.streams })
 Reports f interval tick_rate now due p (Err e) next q = (next ≡ due) × (q ≡ p)
 
 abbrev pub ReportsIf : Bool → FeedbackSettings → (interval tick_rate now : ℕ) → Option ℕ → Port → Option (Result (Vec ℕ) AllocError) → Option ℕ → Port → Type 0

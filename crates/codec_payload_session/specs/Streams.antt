@@ -33,7 +33,8 @@ use Rattle.codec_payload_session.specs.declared.reports.SenderClock.{SenderClock
 use Rattle.codec_payload_session.specs.declared.stream.StreamInfo.{StreamInfo}
 
 -- a stream, as contracts see it: its SSRC and format; its receiver; its stage; whether it was announced; how many datagrams it
--- took, and how many of them were accepted; when the latest one arrived; what it requests; the clock of its sender
+-- took, and how many of them were accepted; when the latest one arrived; what it requests; the clock of its sender; whether this
+-- round of reports had a block about it
 pub record StreamState : Type 0 where
   pub ssrc : ℕ
   pub format : Format
@@ -45,6 +46,7 @@ pub record StreamState : Type 0 where
   pub last : ℕ
   pub feedback : Option Asking
   pub sender_clock : Option SenderClock
+  pub was_reported : Bool
 
 -- the stream has this SSRC and payload type
 abbrev pub is_of : ℕ → ℕ → StreamState → Bool
@@ -62,6 +64,7 @@ pub record Begins (settings : SessionSettings) (ssrc : ℕ) (f : Format) (s : St
   pub last : s.last ≡ 0
   pub feedback : s.feedback ≡ feedback_by settings.feedback ssrc f (limits_for settings (is_video f.spec.codec)).max_wait
   pub sender_clock : s.sender_clock ≡ None
+  pub was_reported : s.was_reported ≡ false
   pub depacketizer : DepacketizerState
   pub known : depacketizer_state_for f.spec.codec ≡ Some depacketizer
   pub receiver_settings : Settings

@@ -1,10 +1,10 @@
 //! The receiver reports that a session sends by itself (RFC 3550, sections 6.1 and 6.4.2): about which streams, when, and as
 //! which packet.
 
-ghost use Rattle.std.specs.Prelude.{◌≡◌, ◌++◌, ◌<◌, ◌≤◌, ◌%◌, drop, max, IfErr, IfOk, IfSome, OnOk, length};
+ghost use Rattle.std.specs.Prelude.{◌≡◌, ◌++◌, ◌+◌, ◌*◌, min, ◌<◌, ◌≤◌, ◌%◌, drop, max, IfErr, IfOk, IfSome, OnOk, length};
 ghost use Rattle.codec_payload_feedback.specs.Feedback.{AppendsAll, cname_by, cname_part};
 ghost use Rattle.codec_payload_rtcp.specs.RtcpWriting.{Appends};
-ghost use Rattle.codec_payload_session.specs.Reporting.{AppendsGroups, IsReport, ReportsBy, ReportsEach, all_reported, any_announced, blocks_of, bytes_if, bytes_of, due_after, has_announced, is_first_reported, is_report_due, is_time, planned, report_deadline, report_of_group, reported_if};
+ghost use Rattle.codec_payload_session.specs.Reporting.{AppendsGroups, IsReport, ReportsBy, ReportsEach, all_reported, any_announced, any_due, blocks_of, blocks_within, bytes_if, bytes_of, due_after, has_announced, is_first_chosen, is_first_due, is_first_reported, is_new_round, is_report_due, is_time, most_blocks, reported_count, room_after, name_length, planned, report_deadline, report_of_group, reported_if};
 ghost use Rattle.codec_payload_session.specs.Reports.{block_of};
 ghost use Rattle.codec_payload_session.specs.Requests.{source_for};
 ghost use Rattle.codec_payload_session.specs.Streams.{later};
@@ -23,6 +23,15 @@ use std::alloc::{AllocError, Global};
 
 /// The bytes of the 31 blocks that a receiver report holds at most.
 const MOST_BYTES: usize = 31 * 24;
+
+/// Which streams the next report is about.
+#[derive(Clone, Copy)]
+struct Round {
+    /// Whether all streams are due: a round of reports begins.
+    is_new: bool,
+    /// For how many more streams the report has room.
+    room: usize,
+}
 
 impl Streams {
     /// Returns the report, if one is due. `due` is when the next one is due.
@@ -62,22 +71,23 @@ impl Streams {
         Some(packet)
     }
 
-    /// Returns the packet with the blocks of all reported streams. If memory runs out, nothing has changed.
+    /// Returns the packet with the blocks of the streams whose turn it is. If memory runs out, nothing has changed.
     fn report_all(
         &mut self,
         feedback: &FeedbackSettings,
         tick_rate: Frequency,
         now: Ticks,
     ) -> Result<Vec<u8>, AllocError>
-        ensures ok { IfOk result (λ packet. IsReport feedback.now (bytes_of (blocks_of tick_rate now.0 self.old.streams)) packet.items) }
-        ensures after { IfOk result (λ packet. self.new ≡ record self.old { streams = all_reported self.old.streams }) }
+        ensures ok { IfOk result (λ packet. IsReport feedback.now (bytes_of (blocks_of (is_new_round (most_blocks feedback.now) self.old.streams) (most_blocks feedback.now) tick_rate now.0 self.old.streams)) packet.items) }
+        ensures after { IfOk result (λ packet. self.new ≡ record self.old { streams = all_reported (is_new_round (most_blocks feedback.now) self.old.streams) (most_blocks feedback.now) self.old.streams }) }
         ensures err { IfErr result (λ e. self.new ≡ self.old) }
     {
+        let round = next_round(&self.list, most_blocks(feedback));
         let mut blocks = Vec::new(self.alloc);
-        append_blocks(&self.list, now, tick_rate, &mut blocks)?;
+        append_blocks(&self.list, round, now, tick_rate, &mut blocks)?;
         let packet = write_report(self.alloc, feedback, &blocks)?;
         self.waking = Waking::unknown();
-        start_fractions(&mut self.list);
+        start_fractions(&mut self.list, round);
         Ok(packet)
     }
 }
@@ -94,12 +104,15 @@ impl StreamState {
         }
     }
 
-    /// Starts the fraction of the next report here, if the stream is reported now.
-    fn start_fraction(&mut self, is_reported: bool)
-        ensures { self.new ≡ reported_if is_reported self.old }
+    /// Starts the fraction of the next report here, if the stream is reported now. In a new round no other stream was reported.
+    fn start_fraction(&mut self, is_reported: bool, is_new: bool)
+        ensures { self.new ≡ reported_if is_reported is_new self.old }
     {
         if is_reported {
             self.receiver.report();
+            self.was_reported = true;
+        } else {
+            self.was_reported = !is_new && self.was_reported;
         }
     }
 }
@@ -196,18 +209,97 @@ fn is_reported(streams: &[StreamState], place: usize) -> bool
     stream.told && !has_announced(&streams[place + 1..], stream.ssrc)
 }
 
-/// Appends the blocks about all reported streams.
+/// Returns whether the stream at this place is due: it is reported, and this round had no block about it.
+fn is_due(streams: &[StreamState], place: usize, is_new: bool) -> bool
+    requires { place < length streams.now }
+    ensures { result ≡ is_first_due is_new (drop place streams.now) }
+{
+    is_reported(streams, place) && (is_new || !streams[place].was_reported)
+}
+
+/// Returns whether the stream at this place is due, and the report has room for a block about it.
+fn is_chosen(streams: &[StreamState], place: usize, is_new: bool, room: usize) -> bool
+    requires { place < length streams.now }
+    ensures { result ≡ is_first_chosen is_new room (drop place streams.now) }
+{
+    room > 0 && is_due(streams, place, is_new)
+}
+
+/// Returns whether a stream is left that this round had no block about.
+fn any_due(streams: &[StreamState]) -> bool
+    ensures { result ≡ any_due streams.now }
+{
+    for place in 0..streams.len() {
+        if is_due(streams, place, false) {
+            return true;
+        }
+    }
+    false
+}
+
+/// Returns how many streams are reported.
+fn reported_count(streams: &[StreamState]) -> usize
+    ensures { result ≡ reported_count streams.now }
+{
+    let mut count = 0;
+    for place in 0..streams.len() {
+        if is_reported(streams, place) {
+            count += 1;
+        }
+    }
+    count
+}
+
+/// Returns which streams the next report is about, if it has room for so many: all streams, if there is room for all or the round
+/// is over, else those that had no block in this round.
+fn next_round(streams: &[StreamState], room: usize) -> Round
+    ensures is_new { result.is_new ≡ is_new_round room streams.now }
+    ensures room { result.room ≡ room }
+{
+    Round {
+        is_new: reported_count(streams) <= room || !any_due(streams),
+        room,
+    }
+}
+
+/// Returns the number of bytes of a source description with a name of so many bytes.
+fn name_length(len: usize) -> usize
+    requires { len ≤ 255 }
+    ensures { result ≡ name_length len }
+{
+    if len == 0 { 0 } else { 12 + 4 * ((len + 2) / 4) }
+}
+
+/// Returns how many blocks fit into so many bytes, in reports of up to 31 blocks.
+fn blocks_within(bytes: usize) -> usize
+    ensures { result ≡ blocks_within bytes }
+{
+    31 * (bytes / (8 + MOST_BYTES)) + (bytes % (8 + MOST_BYTES)).saturating_sub(8) / 24
+}
+
+/// Returns how many blocks a report has at most: those that fit beside the name, and at least one.
+fn most_blocks(feedback: &FeedbackSettings) -> usize
+    ensures { result ≡ most_blocks feedback.now }
+{
+    let name = name_length(LONGEST_NAME.min(feedback.cname.len()));
+    blocks_within(feedback.max_report.saturating_sub(name)).max(1)
+}
+
+/// Appends the blocks about the streams whose turn it is.
 fn append_blocks(
     streams: &[StreamState],
+    round: Round,
     now: Ticks,
     tick_rate: Frequency,
     blocks: &mut Vec<u8>,
 ) -> Result<(), AllocError>
-    ensures { OnOk result (blocks.new.items ≡ blocks.old.items ++ bytes_of (blocks_of tick_rate now.0 streams.now)) }
+    ensures { OnOk result (blocks.new.items ≡ blocks.old.items ++ bytes_of (blocks_of round.is_new round.room tick_rate now.0 streams.now)) }
 {
+    let mut room = round.room;
     for place in 0..streams.len() {
-        if is_reported(streams, place) {
+        if is_chosen(streams, place, round.is_new, room) {
             append_block(&streams[place], now, tick_rate, blocks)?;
+            room = room.saturating_sub(1);
         }
     }
     Ok(())
@@ -228,13 +320,22 @@ fn append_block(
     }
 }
 
-/// Starts the fraction of the next report of each reported stream here.
-fn start_fractions(streams: &mut [StreamState])
-    ensures { streams.new ≡ all_reported streams.old }
+/// Returns for how many more streams there is room.
+fn room_after(is_chosen: bool, room: usize) -> usize
+    ensures { result ≡ room_after is_chosen room }
 {
+    if is_chosen { room.saturating_sub(1) } else { room }
+}
+
+/// Starts the fraction of the next report of each stream here whose turn it is.
+fn start_fractions(streams: &mut [StreamState], round: Round)
+    ensures { streams.new ≡ all_reported round.is_new round.room streams.old }
+{
+    let mut room = round.room;
     for place in 0..streams.len() {
-        let is_reported = is_reported(streams, place);
-        streams[place].start_fraction(is_reported);
+        let is_chosen = is_chosen(streams, place, round.is_new, room);
+        streams[place].start_fraction(is_chosen, round.is_new);
+        room = room_after(is_chosen, room);
     }
 }
 
@@ -244,7 +345,8 @@ fn write_report(
     feedback: &FeedbackSettings,
     blocks: &[u8],
 ) -> Result<Vec<u8>, AllocError>
-    requires { length blocks.now % 24 ≡ 0 }
+    requires whole { length blocks.now % 24 ≡ 0 }
+    requires few { length blocks.now ≤ 24 * most_blocks feedback.now }
     ensures { IfOk result (λ packet. IsReport feedback.now blocks.now packet.items) }
 {
     let mut packet = Vec::new(alloc);
@@ -284,7 +386,8 @@ fn write_group(ssrc: u32, blocks: &[u8], out: &mut Vec<u8>) -> Result<(), AllocE
 
 /// Appends the description of the session, if it has a name.
 fn write_name(feedback: &FeedbackSettings, out: &mut Vec<u8>) -> Result<(), AllocError>
-    ensures { OnOk result (AppendsAll (cname_part (source_for feedback.now)) out.old.items out.new.items) }
+    ensures length { OnOk result (length out.new.items ≡ length out.old.items + name_length (min 255 (length feedback.now.cname.items))) }
+    ensures packets { OnOk result (AppendsAll (cname_part (source_for feedback.now)) out.old.items out.new.items) }
 {
     let len = LONGEST_NAME.min(feedback.cname.len());
     write_name_of(feedback.ssrc, &feedback.cname[..len], out)
@@ -293,7 +396,8 @@ fn write_name(feedback: &FeedbackSettings, out: &mut Vec<u8>) -> Result<(), Allo
 /// Appends a source description with this name, unless it is empty.
 fn write_name_of(ssrc: u32, name: &[u8], out: &mut Vec<u8>) -> Result<(), AllocError>
     requires { length name.now ≤ 255 }
-    ensures { OnOk result (AppendsAll (cname_by ssrc name.now) out.old.items out.new.items) }
+    ensures length { OnOk result (length out.new.items ≡ length out.old.items + name_length (length name.now)) }
+    ensures packets { OnOk result (AppendsAll (cname_by ssrc name.now) out.old.items out.new.items) }
 {
     if name.is_empty() {
         return Ok(());

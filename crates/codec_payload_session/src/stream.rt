@@ -94,6 +94,8 @@ pub(crate) struct StreamState {
     pub(crate) feedback: Option<Feedback>,
     /// What the latest sender report says.
     pub(crate) sender_clock: Option<SenderClock>,
+    /// Whether this round of reports had a block about it.
+    pub(crate) was_reported: bool,
     /// At earlier times a step has no event, unless the stream is idle. 0: it is not known.
     quiet_until: u64,
     /// Its `work_deadline`, unless `quiet_until` is 0. 0: there is none.
@@ -118,6 +120,7 @@ impl Model for StreamState {
       last = s.last;
       feedback = s.feedback;
       sender_clock = s.sender_clock;
+      was_reported = s.was_reported;
     } };
 
     ghost invariant = { λ s. IsQuietUntil s.quiet_until (time_of s.work) s.told s.stage s.last s.feedback s.receiver };
@@ -167,6 +170,7 @@ impl StreamState {
             last: 0,
             feedback,
             sender_clock: None,
+            was_reported: false,
             quiet_until: 0,
             work: 0,
         })

@@ -21,7 +21,7 @@ use Rattle.codec_payload_session.specs.Arrivals.{Arrives, BeginsIf, BeginsOrFeed
 use Rattle.codec_payload_session.specs.Changes.{continued, continues, is_left_behind, left_behind}
 use Rattle.codec_payload_session.specs.Pairs.{paired_if, paired_when}
 use Rattle.codec_payload_session.specs.Ports.{ReportsIf}
-use Rattle.codec_payload_session.specs.Reporting.{all_reported, is_reported, reported_if}
+use Rattle.codec_payload_session.specs.Reporting.{all_reported, is_chosen, reported_if, room_after}
 use Rattle.codec_payload_session.specs.Reports.{noted, noted_at, noted_in, reported_by}
 use Rattle.codec_payload_session.specs.Formats.{has_type, resends, retransmission_for, role_by, stream_of}
 use Rattle.codec_payload_session.specs.Sorting.{sorted_by, sorted_retransmission, sorted_rtcp, sorted_rtp}
@@ -296,9 +296,19 @@ quiet_go now idle event (x ∷ xs) [] other got = absurd got
 quiet_go now idle event (x ∷ xs) (y ∷ ys) other got = (quiet_goes now event _ x y (other x) (steps_stepped now idle x _ y got.0), quiet_go now idle event xs ys other got.1)
 
 -- a stream is reported at the end of a poll
-reported_goes : (now : Ticks) (event : Option Event) (x y : StreamState) (b : Bool) → Goes (poll_of now event) x y → Goes (poll_of now event) x (reported_if b y)
-reported_goes now event x y false goes = goes
-reported_goes now event x y true goes = record {
+reported_goes : (now : Ticks) (event : Option Event) (x y : StreamState) (b is_new : Bool) → Goes (poll_of now event) x y → Goes (poll_of now event) x (reported_if b is_new y)
+reported_goes now event x y false is_new goes = record {
+  has = record {
+    ssrc_is = goes.has.ssrc_is;
+    format = goes.has.format;
+    part = goes.has.part;
+    alone = goes.has.alone;
+    is_part = goes.has.is_part;
+  };
+  tells = goes.tells;
+  known = goes.known;
+}
+reported_goes now event x y true is_new goes = record {
   has = record {
     ssrc_is = goes.has.ssrc_is;
     format = goes.has.format;
@@ -319,11 +329,12 @@ reported_goes now event x y true goes = record {
     made : AreMadeBy x.ssrc x.format.payload_type (poll_of now event) (goes.has.part ++ reports ∷ [])
     made = made_append x.ssrc x.format.payload_type (poll_of now event) goes.has.part (reports ∷ []) goes.has.is_part.made (tt, tt)
 
-pub reported_go : (now : Ticks) (event : Option Event) (xs ys : List StreamState) → GoAll (poll_of now event) xs ys → GoAll (poll_of now event) xs (all_reported ys)
-reported_go now event [] [] go = tt
-reported_go now event [] (y ∷ ys) go = absurd go
-reported_go now event (x ∷ xs) [] go = absurd go
-reported_go now event (x ∷ xs) (y ∷ ys) go = (reported_goes now event x y (is_reported y ys) go.0, reported_go now event xs ys go.1)
+pub reported_go : (now : Ticks) (event : Option Event) (is_new : Bool) (room : ℕ) (xs ys : List StreamState) → GoAll (poll_of now event) xs ys → GoAll (poll_of now event) xs (all_reported is_new room ys)
+reported_go now event is_new room [] [] go = tt
+reported_go now event is_new room [] (y ∷ ys) go = absurd go
+reported_go now event is_new room (x ∷ xs) [] go = absurd go
+reported_go now event is_new room (x ∷ xs) (y ∷ ys) go =
+    (reported_goes now event x y (is_chosen is_new room y ys) is_new go.0, reported_go now event is_new (room_after (is_chosen is_new room y ys) room) xs ys go.1)
 
 -- the streams in front of the one with an event, and those after it
 front_go : (now : Ticks) (idle : ℕ) (event : Event) (front quiet : List StreamState) (x : StreamState) (rest : List StreamState) → AreApart (front ++ x ∷ rest)
@@ -386,10 +397,10 @@ pub quiet_evolves : (given : SessionSettings) (now : Ticks) (idle : ℕ) (event 
     → AreQuiet now idle ss ts → Evolves given (poll_of now event) ss ts
 quiet_evolves given now idle event ss ts other silent got = evolves_all given (poll_of now event) ss ts silent (quiet_go now idle event ss ts other got)
 
-pub reported_evolves : (given : SessionSettings) (now : Ticks) (idle : ℕ) (event : Option Event) (ss ts : List StreamState) → ((x : StreamState) → IsOther now event x) → IsSilent (poll_of now event)
-    → AreQuiet now idle ss ts → Evolves given (poll_of now event) ss (all_reported ts)
-reported_evolves given now idle event ss ts other silent got =
-    evolves_all given (poll_of now event) ss (all_reported ts) silent (reported_go now event ss ts (quiet_go now idle event ss ts other got))
+pub reported_evolves : (given : SessionSettings) (now : Ticks) (idle : ℕ) (event : Option Event) (is_new : Bool) (room : ℕ) (ss ts : List StreamState) → ((x : StreamState) → IsOther now event x) → IsSilent (poll_of now event)
+    → AreQuiet now idle ss ts → Evolves given (poll_of now event) ss (all_reported is_new room ts)
+reported_evolves given now idle event is_new room ss ts other silent got =
+    evolves_all given (poll_of now event) ss (all_reported is_new room ts) silent (reported_go now event is_new room ss ts (quiet_go now idle event ss ts other got))
 
 -- ---- the other calls
 

@@ -10,7 +10,7 @@ use Rattle.codec_payload_session.specs.Associations.{AssociatesBy, pair_at}
 use Rattle.codec_payload_session.specs.Pairs.{Pairs, paired_where, with_pair}
 use Rattle.codec_payload_session.specs.Polls.{GoesOn, PollsAfter, SendsAfter, SendsTransport, TurnsOrReports, report_event, transport_event}
 use Rattle.codec_payload_session.specs.Ports.{Receives, Session, everyone, new_session}
-use Rattle.codec_payload_session.specs.Reporting.{ReportsBy, ReportsEach, Reports, all_reported, is_report_due}
+use Rattle.codec_payload_session.specs.Reporting.{ReportsBy, ReportsEach, Reports, all_reported, is_new_round, is_report_due, most_blocks}
 use Rattle.codec_payload_session.specs.Reporting.{ReportsIf as ReportsWhen}
 use Rattle.codec_payload_session.specs.Streams.{is_of}
 use Rattle.codec_payload_session.specs.Turns.{AreQuiet, TakesTurn}
@@ -48,52 +48,56 @@ with_pairs s named streams = record s { settings = record s.settings { pairs = n
 abbrev call_of : SessionStep → StepAnswer → Call
 call_of step answer = record { step = step; answer = answer }
 
+-- the streams are the same, or as a report leaves them
+Same : List StreamState → List StreamState → Type 0
+Same ss ts = (ts ≡ ss) ⊎ ((is_new : Bool) × (room : ℕ) × (ts ≡ all_reported is_new room ss))
+
 -- the streams of a report
 report_streams : (f : FeedbackSettings) (interval tick_rate now : ℕ) (due : Option ℕ) (p : Port) (packet : Result (Vec ℕ) AllocError) (next : Option ℕ) (q : Port)
-    → Reports f interval tick_rate now due p packet next q → (q.streams ≡ p.streams) ⊎ (q.streams ≡ all_reported p.streams)
-report_streams f interval tick_rate now due p (Ok packet) next q got = inr (ap (λ (o : Port). o.streams) got.2)
+    → Reports f interval tick_rate now due p packet next q → Same p.streams q.streams
+report_streams f interval tick_rate now due p (Ok packet) next q got = inr (is_new_round (most_blocks f) p.streams, most_blocks f, ap (λ (o : Port). o.streams) got.2)
 report_streams f interval tick_rate now due p (Err e) next q got = inl (ap (λ (o : Port). o.streams) got.1)
 
 when_streams : (b : Bool) (f : FeedbackSettings) (interval tick_rate now : ℕ) (due : Option ℕ) (p : Port) (answer : Option (Result (Vec ℕ) AllocError)) (next : Option ℕ) (q : Port)
-    → ReportsWhen b f interval tick_rate now due p answer next q → (q.streams ≡ p.streams) ⊎ (q.streams ≡ all_reported p.streams)
+    → ReportsWhen b f interval tick_rate now due p answer next q → Same p.streams q.streams
 when_streams false f interval tick_rate now due p answer next q got = inl (ap (λ (o : Port). o.streams) got.2)
 when_streams true f interval tick_rate now due p answer next q got = report_streams f interval tick_rate now due p got.0 next q got.2
 
 each_streams : (o : Option ℕ) (f : FeedbackSettings) (tick_rate now : ℕ) (due : Option ℕ) (p : Port) (answer : Option (Result (Vec ℕ) AllocError)) (next : Option ℕ) (q : Port)
-    → ReportsEach o f tick_rate now due p answer next q → (q.streams ≡ p.streams) ⊎ (q.streams ≡ all_reported p.streams)
+    → ReportsEach o f tick_rate now due p answer next q → Same p.streams q.streams
 each_streams None f tick_rate now due p answer next q got = inl (ap (λ (o : Port). o.streams) got.2)
 each_streams (Some interval) f tick_rate now due p answer next q got = when_streams (is_report_due now due p.streams) f interval tick_rate now due p answer next q got
 
 by_streams : (o : Option FeedbackSettings) (tick_rate now : ℕ) (due : Option ℕ) (p : Port) (answer : Option (Result (Vec ℕ) AllocError)) (next : Option ℕ) (q : Port)
-    → ReportsBy o tick_rate now due p answer next q → (q.streams ≡ p.streams) ⊎ (q.streams ≡ all_reported p.streams)
+    → ReportsBy o tick_rate now due p answer next q → Same p.streams q.streams
 by_streams None tick_rate now due p answer next q got = inl (ap (λ (o : Port). o.streams) got.2)
 by_streams (Some f) tick_rate now due p answer next q got = each_streams f.report_interval f tick_rate now due p answer next q got
 
-quiet_or_reported : (packet : Option (Result (Vec ℕ) AllocError)) (given : SessionSettings) (now : Ticks) (idle : ℕ) (ss ts us : List StreamState) → AreQuiet now idle ss ts → (us ≡ ts) ⊎ (us ≡ all_reported ts)
+quiet_or_reported : (packet : Option (Result (Vec ℕ) AllocError)) (given : SessionSettings) (now : Ticks) (idle : ℕ) (ss ts us : List StreamState) → AreQuiet now idle ss ts → Same ts us
     → Evolves given (call_of (calls.Poll now) (answers.Polled (report_event packet))) ss us
 quiet_or_reported None given now idle ss ts us got (inl same) =
     subst (λ (zs : List StreamState). Evolves given (call_of (calls.Poll now) (answers.Polled None)) ss zs) (sym same) (quiet_evolves given now idle None ss ts (λ x. (refl, refl)) (λ s t. refl) got)
-quiet_or_reported None given now idle ss ts us got (inr same) =
-    subst (λ (zs : List StreamState). Evolves given (call_of (calls.Poll now) (answers.Polled None)) ss zs) (sym same) (reported_evolves given now idle None ss ts (λ x. (refl, refl)) (λ s t. refl) got)
+quiet_or_reported None given now idle ss ts us got (inr (is_new, room, same)) =
+    subst (λ (zs : List StreamState). Evolves given (call_of (calls.Poll now) (answers.Polled None)) ss zs) (sym same) (reported_evolves given now idle None is_new room ss ts (λ x. (refl, refl)) (λ s t. refl) got)
 quiet_or_reported (Some packet) given now idle ss ts us got (inl same) =
     subst (λ (zs : List StreamState). Evolves given (call_of (calls.Poll now) (answers.Polled (Some (events.Report packet)))) ss zs) (sym same)
     (quiet_evolves given now idle (Some (events.Report packet)) ss ts (λ x. (refl, refl)) (λ s t. refl) got)
-quiet_or_reported (Some packet) given now idle ss ts us got (inr same) =
+quiet_or_reported (Some packet) given now idle ss ts us got (inr (is_new, room, same)) =
     subst (λ (zs : List StreamState). Evolves given (call_of (calls.Poll now) (answers.Polled (Some (events.Report packet)))) ss zs) (sym same)
-    (reported_evolves given now idle (Some (events.Report packet)) ss ts (λ x. (refl, refl)) (λ s t. refl) got)
+    (reported_evolves given now idle (Some (events.Report packet)) is_new room ss ts (λ x. (refl, refl)) (λ s t. refl) got)
 
-quiet_or_sent : (packet : Option (Result (Vec ℕ) AllocError)) (given : SessionSettings) (now : Ticks) (idle : ℕ) (ss ts us : List StreamState) → AreQuiet now idle ss ts → (us ≡ ts) ⊎ (us ≡ all_reported ts)
+quiet_or_sent : (packet : Option (Result (Vec ℕ) AllocError)) (given : SessionSettings) (now : Ticks) (idle : ℕ) (ss ts us : List StreamState) → AreQuiet now idle ss ts → Same ts us
     → Evolves given (call_of (calls.Poll now) (answers.Polled (transport_event packet))) ss us
 quiet_or_sent None given now idle ss ts us got (inl same) =
     subst (λ (zs : List StreamState). Evolves given (call_of (calls.Poll now) (answers.Polled None)) ss zs) (sym same) (quiet_evolves given now idle None ss ts (λ x. (refl, refl)) (λ s t. refl) got)
-quiet_or_sent None given now idle ss ts us got (inr same) =
-    subst (λ (zs : List StreamState). Evolves given (call_of (calls.Poll now) (answers.Polled None)) ss zs) (sym same) (reported_evolves given now idle None ss ts (λ x. (refl, refl)) (λ s t. refl) got)
+quiet_or_sent None given now idle ss ts us got (inr (is_new, room, same)) =
+    subst (λ (zs : List StreamState). Evolves given (call_of (calls.Poll now) (answers.Polled None)) ss zs) (sym same) (reported_evolves given now idle None is_new room ss ts (λ x. (refl, refl)) (λ s t. refl) got)
 quiet_or_sent (Some packet) given now idle ss ts us got (inl same) =
     subst (λ (zs : List StreamState). Evolves given (call_of (calls.Poll now) (answers.Polled (Some (events.TransportFeedback packet)))) ss zs) (sym same)
     (quiet_evolves given now idle (Some (events.TransportFeedback packet)) ss ts (λ x. (refl, refl)) (λ s t. refl) got)
-quiet_or_sent (Some packet) given now idle ss ts us got (inr same) =
+quiet_or_sent (Some packet) given now idle ss ts us got (inr (is_new, room, same)) =
     subst (λ (zs : List StreamState). Evolves given (call_of (calls.Poll now) (answers.Polled (Some (events.TransportFeedback packet)))) ss zs) (sym same)
-    (reported_evolves given now idle (Some (events.TransportFeedback packet)) ss ts (λ x. (refl, refl)) (λ s t. refl) got)
+    (reported_evolves given now idle (Some (events.TransportFeedback packet)) is_new room ss ts (λ x. (refl, refl)) (λ s t. refl) got)
 
 turn_moves : (o : Option Event) (now : Ticks) (s : Session) (port : Port) (event : Option Event) (t : Session) → AreApart s.port.streams → TakesTurn now s.settings.idle_timeout s.port o port
     → GoesOn o now.0 (record s { port = port }) event t → Moves (call_of (calls.Poll now) (answers.Polled event)) s t

@@ -80,6 +80,11 @@ pub struct FeedbackSettings {
     ///
     /// [`Event::Report`]: crate::session::sessions::Event::Report
     pub report_interval: Option<u64>,
+    /// The largest number of bytes of a receiver report, so that it fits into one datagram. If more streams are announced than
+    /// blocks of 24 bytes fit, they take turns (RFC 3550, section 6.1), in the order in which they began: a report is about the
+    /// first ones that had no block in this round, and a round ends once all had one. So each of `n` streams is reported at least
+    /// once in `n / k` intervals, rounded up, if `k` blocks fit. One block is written also if it does not fit.
+    pub max_report: usize,
 }
 
 /// The settings of a session.
@@ -158,8 +163,8 @@ pub(crate) enum Role {
 impl FeedbackSettings {
     /// Returns settings for live streams and a clock in milliseconds, with this SSRC and this canonical name of 1 to 255 bytes:
     /// requests in packets of reduced size, the defaults of [`NackSettings`], and at most one request for a keyframe in 500 ms.
-    /// Waiting follows the round trip, up to 800 ms. Nothing is requested 2 s after the latest datagram. A receiver report is
-    /// sent each second. Does not allocate.
+    /// Waiting follows the round trip, up to 800 ms. Nothing is requested 2 s after the latest datagram. A receiver report of at
+    /// most 1,200 bytes is sent each second. Does not allocate.
     pub fn live(ssrc: u32, cname: Vec<u8>) -> FeedbackSettings {
         FeedbackSettings {
             ssrc,
@@ -170,6 +175,7 @@ impl FeedbackSettings {
             silence: 2_000,
             longest_wait: Some(800),
             report_interval: Some(1_000),
+            max_report: 1_200,
         }
     }
 }

@@ -19,6 +19,15 @@ use alloc::vec::Vec;
 /// The bytes of the 31 blocks that a receiver report holds at most.
 const MOST_BYTES: usize = 31 * 24;
 
+/// Which streams the next report is about.
+#[derive(Clone, Copy, Debug)]
+struct Round {
+    /// Whether all streams are due: a round of reports begins.
+    is_new: bool,
+    /// For how many more streams the report has room.
+    room: usize,
+}
+
 impl Streams {
     /// Returns the report, if one is due. `due` is when the next one is due.
     pub(crate) fn report_due(
@@ -53,18 +62,19 @@ impl Streams {
         Some(packet)
     }
 
-    /// Returns the packet with the blocks of all reported streams. If memory runs out, nothing has changed.
+    /// Returns the packet with the blocks of the streams whose turn it is. If memory runs out, nothing has changed.
     fn report_all(
         &mut self,
         feedback: &FeedbackSettings,
         tick_rate: Frequency,
         now: Ticks,
     ) -> Result<Vec<u8>, AllocError> {
+        let round = next_round(&self.list, most_blocks(feedback));
         let mut blocks = Vec::new();
-        append_blocks(&self.list, now, tick_rate, &mut blocks)?;
+        append_blocks(&self.list, round, now, tick_rate, &mut blocks)?;
         let packet = write_report(feedback, &blocks)?;
         self.waking = Waking::unknown();
-        start_fractions(&mut self.list);
+        start_fractions(&mut self.list, round);
         Ok(packet)
     }
 }
@@ -84,10 +94,13 @@ impl StreamState {
         }
     }
 
-    /// Starts the fraction of the next report here, if the stream is reported now.
-    fn start_fraction(&mut self, is_reported: bool) {
+    /// Starts the fraction of the next report here, if the stream is reported now. In a new round no other stream was reported.
+    fn start_fraction(&mut self, is_reported: bool, is_new: bool) {
         if is_reported {
             self.receiver.report();
+            self.was_reported = true;
+        } else {
+            self.was_reported = !is_new && self.was_reported;
         }
     }
 }
@@ -165,16 +178,79 @@ fn is_reported(streams: &[StreamState], place: usize) -> bool {
     stream.told && !has_announced(&streams[place + 1..], stream.ssrc)
 }
 
-/// Appends the blocks about all reported streams.
+/// Returns whether the stream at this place is due: it is reported, and this round had no block about it.
+fn is_due(streams: &[StreamState], place: usize, is_new: bool) -> bool {
+    is_reported(streams, place) && (is_new || !streams[place].was_reported)
+}
+
+/// Returns whether the stream at this place is due, and the report has room for a block about it.
+fn is_chosen(streams: &[StreamState], place: usize, is_new: bool, room: usize) -> bool {
+    room > 0 && is_due(streams, place, is_new)
+}
+
+/// Returns whether a stream is left that this round had no block about.
+fn any_due(streams: &[StreamState]) -> bool {
+    for place in 0..streams.len() {
+        if is_due(streams, place, false) {
+            return true;
+        }
+    }
+    false
+}
+
+/// Returns how many streams are reported.
+fn reported_count(streams: &[StreamState]) -> usize {
+    let mut count = 0;
+    for place in 0..streams.len() {
+        if is_reported(streams, place) {
+            count += 1;
+        }
+    }
+    count
+}
+
+/// Returns which streams the next report is about, if it has room for so many: all streams, if there is room for all or the round
+/// is over, else those that had no block in this round.
+fn next_round(streams: &[StreamState], room: usize) -> Round {
+    Round {
+        is_new: reported_count(streams) <= room || !any_due(streams),
+        room,
+    }
+}
+
+/// Returns the number of bytes of a source description with a name of so many bytes.
+fn name_length(len: usize) -> usize {
+    if len == 0 {
+        0
+    } else {
+        12 + 4 * ((len + 2) / 4)
+    }
+}
+
+/// Returns how many blocks fit into so many bytes, in reports of up to 31 blocks.
+fn blocks_within(bytes: usize) -> usize {
+    31 * (bytes / (8 + MOST_BYTES)) + (bytes % (8 + MOST_BYTES)).saturating_sub(8) / 24
+}
+
+/// Returns how many blocks a report has at most: those that fit beside the name, and at least one.
+fn most_blocks(feedback: &FeedbackSettings) -> usize {
+    let name = name_length(LONGEST_NAME.min(feedback.cname.len()));
+    blocks_within(feedback.max_report.saturating_sub(name)).max(1)
+}
+
+/// Appends the blocks about the streams whose turn it is.
 fn append_blocks(
     streams: &[StreamState],
+    round: Round,
     now: Ticks,
     tick_rate: Frequency,
     blocks: &mut Vec<u8>,
 ) -> Result<(), AllocError> {
+    let mut room = round.room;
     for place in 0..streams.len() {
-        if is_reported(streams, place) {
+        if is_chosen(streams, place, round.is_new, room) {
             append_block(&streams[place], now, tick_rate, blocks)?;
+            room = room.saturating_sub(1);
         }
     }
     Ok(())
@@ -193,11 +269,22 @@ fn append_block(
     }
 }
 
-/// Starts the fraction of the next report of each reported stream here.
-fn start_fractions(streams: &mut [StreamState]) {
+/// Returns for how many more streams there is room.
+fn room_after(is_chosen: bool, room: usize) -> usize {
+    if is_chosen {
+        room.saturating_sub(1)
+    } else {
+        room
+    }
+}
+
+/// Starts the fraction of the next report of each stream here whose turn it is.
+fn start_fractions(streams: &mut [StreamState], round: Round) {
+    let mut room = round.room;
     for place in 0..streams.len() {
-        let is_reported = is_reported(streams, place);
-        streams[place].start_fraction(is_reported);
+        let is_chosen = is_chosen(streams, place, round.is_new, room);
+        streams[place].start_fraction(is_chosen, round.is_new);
+        room = room_after(is_chosen, room);
     }
 }
 

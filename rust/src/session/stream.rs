@@ -85,6 +85,8 @@ pub(crate) struct StreamState {
     pub(crate) feedback: Option<Feedback>,
     /// What the latest sender report says.
     pub(crate) sender_clock: Option<SenderClock>,
+    /// Whether this round of reports had a block about it.
+    pub(crate) was_reported: bool,
     /// At earlier times a step has no event, unless the stream is idle. 0: it is not known.
     quiet_until: u64,
     /// Its `work_deadline`, unless `quiet_until` is 0. 0: there is none.
@@ -131,6 +133,7 @@ impl StreamState {
             last: 0,
             feedback,
             sender_clock: None,
+            was_reported: false,
             quiet_until: 0,
             work: 0,
         })

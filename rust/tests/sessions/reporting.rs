@@ -110,7 +110,10 @@ fn blocks_in_groups_of_31() -> Result<(), Fail> {
         (62, &[31, 31]),
         (70, &[31, 31, 8]),
     ] {
-        let mut session = session(|settings, _| settings.max_streams = 100);
+        let mut session = session(|settings, feedback| {
+            settings.max_streams = 100;
+            feedback.max_report = usize::MAX;
+        });
         for ssrc in 1..=count {
             session.receive(Ticks(0), &opus(ssrc, 1))?;
             session.receive(Ticks(0), &opus(ssrc, 2))?;
@@ -126,6 +129,83 @@ fn blocks_in_groups_of_31() -> Result<(), Fail> {
         );
         let told: Vec<_> = packets.iter().flatten().map(|block| block.ssrc).collect();
         assert_eq!(told, (1..=count).collect::<Vec<_>>());
+    }
+    Ok(())
+}
+
+/// Announces streams with these SSRCs.
+fn announce(session: &mut Session, ssrcs: impl Iterator<Item = u32>) -> Result<(), Fail> {
+    for ssrc in ssrcs {
+        session.receive(Ticks(0), &opus(ssrc, 1))?;
+        session.receive(Ticks(0), &opus(ssrc, 2))?;
+    }
+    Ok(())
+}
+
+/// The length of the one report at a time, and the SSRCs that it is about.
+fn turn(session: &mut Session, now: u64) -> Result<(usize, Vec<u32>), Fail> {
+    let mut found = None;
+    while let Some(event) = session.poll(Ticks(now)) {
+        if let Event::Report { packet } = event {
+            let packet = packet?;
+            let blocks = read(&packet)?.0.into_iter().flatten();
+            let ssrcs = blocks.map(|block| block.ssrc).collect();
+            assert!(found.replace((packet.len(), ssrcs)).is_none(), "one report");
+        }
+    }
+    Ok(found.ok_or("there is one")?)
+}
+
+/// 1,200 bytes are a description of 20, two reports of 8, and 48 blocks of 24 (RFC 3550, sections 6.4.2 and 6.5).
+#[test]
+fn streams_take_turns() -> Result<(), Fail> {
+    let mut session = session(|settings, _| settings.max_streams = 200);
+    announce(&mut session, 1..=100)?;
+    assert_eq!(reports(&mut session, 0)?, []);
+    for round in [1_000, 4_000] {
+        let first = turn(&mut session, round)?;
+        assert_eq!(first, (1_188, (1..=48).collect()));
+        let second = turn(&mut session, round + 1_000)?;
+        assert_eq!(second, (1_188, (49..=96).collect()));
+        let third = turn(&mut session, round + 2_000)?;
+        assert_eq!(third, (124, (97..=100).collect()));
+    }
+    // Streams that begin in a round are the last of it, and streams that end leave it.
+    assert_eq!(turn(&mut session, 7_000)?.1, (1..=48).collect::<Vec<_>>());
+    announce(&mut session, 101..=104)?;
+    for ssrc in (1..=10).chain(50..=59) {
+        session.end(Ticks(7_500), ssrc);
+    }
+    let rest: Vec<u32> = (49..=49).chain(60..=104).collect();
+    assert_eq!(turn(&mut session, 8_000)?.1, rest);
+    assert_eq!(turn(&mut session, 9_000)?.1, (11..=49).chain(60..=68).collect::<Vec<_>>());
+    Ok(())
+}
+
+/// As many blocks as fit, and at least one.
+#[test]
+fn the_size_of_a_report() -> Result<(), Fail> {
+    for (most, len, blocks) in [
+        (0, 52, 1),
+        (52, 52, 1),
+        (75, 52, 1),
+        (76, 76, 2),
+        (771, 748, 30),
+        (772, 772, 31),
+        (803, 772, 31),
+        (804, 804, 32),
+        (1_523, 1_500, 61),
+        (1_524, 1_524, 62),
+        (1_556, 1_556, 63),
+    ] {
+        let mut session = session(|settings, feedback| {
+            settings.max_streams = 64;
+            feedback.max_report = most;
+        });
+        announce(&mut session, 1..=64)?;
+        assert_eq!(reports(&mut session, 0)?, []);
+        let report = turn(&mut session, 1_000)?;
+        assert_eq!(report, (len, (1..=blocks).collect()), "{most} bytes");
     }
     Ok(())
 }

@@ -76,6 +76,7 @@ fn feedback(input: &mut Input) -> FeedbackSettings {
         silence: input.word().into(),
         longest_wait: (how & 8 == 0).then(|| input.word().into()),
         report_interval: (how & 16 == 0).then(|| input.word().into()),
+        max_report: input.word() as usize,
         ..FeedbackSettings::live(OWN, b"me@host".to_vec())
     }
 }

@@ -1,14 +1,18 @@
-use Rattle.std.proofs.Common.{◌≡◌, ◌∙◌, ap, arith, length, ℕ, ◌++◌, take, drop}
+use Rattle.std.proofs.Common.{◌≡◌, arith, length, rules}
+use Rattle.std.proofs.lemmas.List.{length-set}
 use Rattle.codec_payload_session.specs.Reporting.{all_reported}
 use Rattle.codec_payload_session.proofs.ReporterLemmas.{all_mixed, fraction_more}
 use Rattle.codec_payload_session.proofs.reporter.start_fractions.Goals as goal
 
 pub loop-place-preserved : goal.loop-place-preserved
-loop-place-preserved c =
-    fraction_more c.args.streams.now c.loop-place.streams c.loop-place.place c.index-streams-place.result c.start_fraction.new.self c.is_reported-is_reported.result
-    c.loop-place-test.true c.loop-place.invariant c.is_reported-is_reported.ensures c.start_fraction.ensures
+loop-place-preserved c = record {
+  made =
+      fraction_more c.args.round.is_new c.loop-place.room c.room_after.result c.loop-place.streams _ (all_reported c.args.round.is_new c.args.round.room c.args.streams.now) c.loop-place.place c.index-streams-place.result c.start_fraction.new.self c.is_chosen-is_chosen.result
+      (search rules) c.is_chosen-is_chosen.ensures c.start_fraction.ensures c.room_after.ensures refl c.loop-place.invariant.made;
+  same = search (rules, length-set c.loop-place.streams c.loop-place.place c.start_fraction.new.self);
+}
 
 pub returns : goal.returns
 returns c =
-    let end : c.loop-place.place ≡ length c.args.streams.now = omega arith in
-    c.loop-place.invariant ∙ ap (λ (n : ℕ). take n (all_reported c.args.streams.now) ++ drop n c.args.streams.now) end ∙ all_mixed c.args.streams.now
+    all_mixed c.args.round.is_new c.loop-place.room c.loop-place.streams (all_reported c.args.round.is_new c.args.round.room c.args.streams.now) c.loop-place.place
+    (omega (arith, c.loop-place.invariant.same)) c.loop-place.invariant.made

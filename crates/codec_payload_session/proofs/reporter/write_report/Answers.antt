@@ -6,4 +6,4 @@ pub returns : goal.returns
 returns c =
     let none : c.new-packet.result.items ≡ [] = search rules in
     is_report c.args.feedback.now c.args.blocks.now c.new-packet.result.items c.write_groups.new.out.items c.write_name.new.out.items
-    c.written_packets_are_read.ensures.compound none c.in_ok-write_groups.ensures c.in_ok-write_name.ensures
+    c.written_packets_are_read.ensures.compound none c.in_ok-write_groups.ensures c.in_ok-write_name.ensures.packets c.requires.few c.in_ok-write_name.ensures.length

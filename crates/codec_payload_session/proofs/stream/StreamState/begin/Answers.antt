@@ -30,6 +30,7 @@ returns c = record {
       c.in_ok-feedback.ensures
       ∙ ap (λ (l : WaitLimits). feedback_by c.args.settings.now.feedback c.args.ssrc c.args.format.now l.max_wait) c.limits-max_wait.ensures;
   sender_clock = refl;
+  was_reported = refl;
   depacketizer = depacketizer_state_of c.unwrap-depacketizer.result;
   known =
       known_by depacketizer_state_of c.from_codec.result c.unwrap-depacketizer.result (depacketizer_state_for c.args.format.now.spec.codec) c.from_codec.ensures
