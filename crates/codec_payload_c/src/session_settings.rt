@@ -412,11 +412,15 @@ pub(crate) fn session_by(
         Err(status) => return Err(status),
     };
     match Session::new(alloc, settings) {
-        Ok(session) => Ok(PortSession {
-            session,
-            waiting: EventSlot::new(alloc),
-            taken: TakenPackets::new(alloc),
-        }),
+        Ok(session) => {
+            let waiting = EventSlot::new(alloc);
+            let taken = TakenPackets::new(alloc);
+            Ok(PortSession {
+                session,
+                waiting,
+                taken,
+            })
+        }
         Err(_) => Err(status::INVALID),
     }
 }
