@@ -1215,6 +1215,8 @@ typedef struct {
                                      request, video with nack waits for this time, and all else as the settings say */
     uint64_t report_interval;   /**< with has_report_interval: time between two receiver reports of the session; 0 counts as 1. See
                                      CPAY_EVENT_REPORT */
+    size_t max_report;          /**< largest number of bytes of a receiver report. If more streams are announced than blocks fit, they
+                                     take turns (RFC 3550, section 6.1); one block is written also if it does not fit */
     size_t capacity;            /**< how many missing numbers of a stream are followed at most: the lowest */
     uint32_t tries;             /**< how often a number is requested at most; 0 requests nothing */
     uint32_t ssrc;              /**< SSRC of the session as a sender of RTCP */

@@ -87,6 +87,7 @@ pub record IsFeedback (f : SessionFeedback) : Type 0 where
   pub longest_retry : f.longest_retry ≡ 400
   pub longest_wait : f.longest_wait ≡ 800
   pub report_interval : f.report_interval ≡ 1000
+  pub max_report : f.max_report ≡ 1200
   pub capacity : f.capacity ≡ 1024
   pub tries : f.tries ≡ 6
   pub ssrc : f.ssrc ≡ 0

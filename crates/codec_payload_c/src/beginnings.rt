@@ -202,6 +202,7 @@ fn unnamed_feedback() -> SessionFeedback
         longest_retry: 400,
         longest_wait: 800,
         report_interval: 1_000,
+        max_report: 1_200,
         capacity: 1_024,
         tries: 6,
         ssrc: 0,

@@ -78,6 +78,8 @@ pub struct SessionFeedback {
     pub longest_wait: u64,
     /// The number of ticks between two receiver reports of the session.
     pub report_interval: u64,
+    /// The largest number of bytes of a receiver report.
+    pub max_report: usize,
     /// How many missing numbers of a stream are followed at most.
     pub capacity: usize,
     /// How often a number is requested at most.
@@ -305,6 +307,7 @@ fn feedback_of(
         } else {
             None
         },
+        max_report: feedback.max_report,
     }))
 }
 
