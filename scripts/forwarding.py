@@ -1,5 +1,5 @@
 #!/usr/bin/env python3
-"""What a viewer of a forwarded stream sees, by loss: the table of docs/FORWARDING.md.
+"""What a viewer of a forwarded stream sees, by loss: the table of docs/use/FORWARDING.md.
 
   scripts/forwarding.py
 
@@ -80,10 +80,10 @@ def main():
     rows = [f"| loss | {' | '.join(columns)} |", "|---" * (len(columns) + 1) + "|"]
     rows += [f"| {loss} % | {' | '.join(cell(*each[loss]) for each in columns.values())} |" for loss in LOSSES]
     print("\n".join(rows))
-    with open(f"{ROOT}/docs/FORWARDING.md", encoding="utf-8") as page:
+    with open(f"{ROOT}/docs/use/FORWARDING.md", encoding="utf-8") as page:
         text = page.read()
     faults = [f"{name}: worse than a ring at 5 %" for name, each in columns.items() if "Forwarder" in name and falls_short(each)]
-    faults += [f"docs/FORWARDING.md lacks {cell(*each)!r}" for each in columns["`Forwarder`, simulated"].values() if cell(*each) not in text]
+    faults += [f"docs/use/FORWARDING.md lacks {cell(*each)!r}" for each in columns["`Forwarder`, simulated"].values() if cell(*each) not in text]
     print("\n".join([*faults, f"forwarding: {browser}: {f'{len(faults)} faults' if faults else 'all passed'}"]))
     return 1 if faults else 0
 

@@ -7,8 +7,8 @@
   units_under_loss   packets 10 to 15 of three units, by the row UNDER_LOSS of scripts/program_vectors.py, which scripts/process.py
                      runs through the program payload_vectors
   crates             the crates, and which names which, by crates.txt
-  over_a_copy        time over that of a copy, a dot a case, by the tables of docs/PERFORMANCE.md
-  beside             time over that of str0m, by a table of docs/PERFORMANCE.md, and the recorder beside GStreamer, by its README
+  over_a_copy        time over that of a copy, a dot a case, by the tables of docs/use/PERFORMANCE.md
+  beside             time over that of str0m, by a table of docs/use/PERFORMANCE.md, and the recorder beside GStreamer, by its README
   receiver_life      a receiver from its first packet to its end: what arrives, what it reports, what the caller does
   session_life       a session with two senders: what arrives, the stages of its streams, what polls return, what the caller does
   buffer_layout      what a buffer holds: entries, blocks of packets, the ends of rows, the complete frames
@@ -18,14 +18,16 @@
 
 Needs matplotlib and graphviz: apt-get install python3-matplotlib graphviz. The same sources give the same bytes, on one version
 of both. Each file has two sets of colours, for light and for dark pages; the reader's browser chooses. The last line of a file is
-a digest of its data and of this script, which scripts/documents.py compares.
+a digest of its data and of the functions that draw it, which scripts/documents.py compares.
 """
 import hashlib
+import inspect
 import io
 import os
 import re
 import subprocess
 import sys
+import types
 
 import program_vectors
 
@@ -42,15 +44,15 @@ def read(path):
 
 
 def rows_of_figures():
-    """Each case of docs/PERFORMANCE.md with its two ratios to a copy, of the tables that have two such columns."""
-    tables = [it for it in read("docs/PERFORMANCE.md").split("\n\n") if it.split("\n")[0].count("over a copy") == 2]
+    """Each case of docs/use/PERFORMANCE.md with its two ratios to a copy, of the tables that have two such columns."""
+    tables = [it for it in read("docs/use/PERFORMANCE.md").split("\n\n") if it.split("\n")[0].count("over a copy") == 2]
     return re.findall(r"^\| `([\w-]+)` \| [\d.]+ \| ([\d.]+) \| [\d.]+ \| ([\d.]+) \|$", "\n".join(tables), re.M)
 
 
 def rows_beside():
-    """Each case of docs/PERFORMANCE.md with the ratios of its calls to those of str0m."""
+    """Each case of docs/use/PERFORMANCE.md with the ratios of its calls to those of str0m."""
     return re.findall(r"^\| (\w[\w. ]*, [\d,]+ bytes) \|(?: [\d,.]+ \|){2} ([\d.]+) \|(?: [\d,.]+ \|){2} ([\d.]+) \|$",
-                      read("docs/PERFORMANCE.md"), re.M)
+                      read("docs/use/PERFORMANCE.md"), re.M)
 
 
 def rows_of_recorder():
@@ -59,19 +61,36 @@ def rows_of_recorder():
 
 
 def rows_into():
-    """Each case of docs/PERFORMANCE.md with the ratio of packetize_into to a plain memcpy."""
-    return dict(re.findall(r"^\| `([\w-]+)` \| [\d.]+ \| [\d.]+ \| ([\d.]+) \| [\d.]+ \|$", read("docs/PERFORMANCE.md"), re.M))
+    """Each case of docs/use/PERFORMANCE.md with the ratio of packetize_into to a plain memcpy."""
+    return dict(re.findall(r"^\| `([\w-]+)` \| [\d.]+ \| [\d.]+ \| ([\d.]+) \| [\d.]+ \|$", read("docs/use/PERFORMANCE.md"), re.M))
+
+
+def drawn_by(name):
+    """The sources of what draws a picture: its function, and each function and constant of this file that it reaches."""
+    found, left = dict.fromkeys(("ROOT", "FOLDER", "read", "made_of"), ""), [name]
+    while left:
+        word = left.pop()
+        it = globals().get(word)
+        if word in found or it is None or isinstance(it, types.ModuleType):
+            continue
+        found[word] = inspect.getsource(it) if callable(it) else repr(it)
+        codes = [it.__code__] if callable(it) else []
+        while codes:
+            code = codes.pop()
+            left += code.co_names
+            codes += [each for each in code.co_consts if isinstance(each, types.CodeType)]
+    return sorted(found.items())
 
 
 def made_of(name):
-    """The last line of a picture: a digest of its data and of this script."""
+    """The last line of a picture: a digest of its data and of what draws it."""
     data = {
         "units_under_loss": lambda: repr(program_vectors.UNDER_LOSS),
         "crates": lambda: read("crates.txt"),
         "over_a_copy": lambda: repr((rows_of_figures(), rows_into())),
         "beside": lambda: repr((rows_beside(), rows_of_recorder())),
     }.get(name, lambda: "")()
-    digest = hashlib.sha256(f"{read('scripts/pictures.py')}{data}".encode()).hexdigest()[:16]
+    digest = hashlib.sha256(f"{drawn_by(name)}{data}".encode()).hexdigest()[:16]
     return f"<!-- made of {digest} by scripts/pictures.py -->\n"
 
 

@@ -8,7 +8,7 @@
 # - rustfmt, clippy and rustdoc have nothing to say, and all tests pass, with and without the feature `fallible`; the crate builds
 #   without `std`.
 # - The eraser refuses each plant of tools/eraser/plants.py.
-# - The package builds by itself, and each example ends well; docs/LIMITS.md and docs/SESSION.md have the tables that examples print.
+# - The package builds by itself, and each example ends well; docs/use/LIMITS.md and docs/use/SESSION.md have the tables that examples print.
 # - No pop of a buffer takes more than 2 microseconds if packets that are no frame lie before the next frame (tools/speed).
 # - With valgrind: no datagram of a peer that chooses its numbers takes more instructions than its bound (scripts/rust_speed.py).
 # - The programs over lines, tools/lines: rustfmt and clippy have nothing to say, and each test vector gets its answer
@@ -54,7 +54,7 @@ for example in examples/*.rs; do
     esac
 done
 for table in $tables; do
-    example=${table%:*} page=docs/${table#*:}.md
+    example=${table%:*} page=docs/use/${table#*:}.md
     step cargo run --quiet --example "$example"
     while read -r row; do
         grep -qxF -- "$row" "$root/$page" || {
