@@ -284,12 +284,12 @@ def glossary():
 
 
 def lemmas():
-    """docs/proof/VERIFICATION.md has each field of KeepsPromises with its lemma, and the files exist."""
+    """docs/proof/VERIFICATION.md has each field of KeepsPromises with its lemma, and each definition and lemma is in its file."""
     crate = "crates/codec_payload_buffer_runs"
     fields = re.search(r"record KeepsPromisesIf .*?\n\n", read(f"{crate}/specs/RunPromises.antt"), re.S)[0]
     proof, page = read(f"{crate}/proofs/order/RunLogs.antt"), read("docs/proof/VERIFICATION.md")
     for field in re.findall(r"^  pub (\w+) :", fields, re.M):
-        row = re.search(rf"^\| `{field}` \| (.*) \| `(.*)` \|$", page, re.M)
+        row = re.search(rf"^\| .*\| `{field}` \| .* \| (.*) \| `(.*)` \|$", page, re.M)
         if not row:
             yield f"docs/proof/VERIFICATION.md has no lemma of {field}"
         elif not os.path.exists(f"{ROOT}/{crate}/proofs/{row[2].removeprefix('proofs/')}"):
@@ -297,6 +297,11 @@ def lemmas():
         for lemma in re.findall(r"`(\w+)`", row[1] if row else ""):
             if lemma != "run_schedule" and not re.search(rf"^      {field} = .*\b{lemma}\b", proof, re.M):
                 yield f"docs/proof/VERIFICATION.md: order/RunLogs.antt does not prove {field} by {lemma}"
+    for names, file in re.findall(r"((?:`\w+`(?:, )?)+) of `([\w/]+\.antt)`", page):
+        texts = [read(it) for it in files(".antt") if it.endswith(f"/{file}")]
+        for name in re.findall(r"`(\w+)`", names):
+            if not any(re.search(rf"^(?:abbrev |unfoldable |pub |record |data )*{name} ", it, re.M) for it in texts):
+                yield f"docs/proof/VERIFICATION.md: {file} has no {name}"
 
 
 def mutant_results():
@@ -312,7 +317,7 @@ def mutant_results():
 def counted_lines():
     """docs/proof/VERIFICATION.md has the numbers that scripts/count_lines.sh prints, to a fifth."""
     page = read("docs/proof/VERIFICATION.md")
-    page = page[page.index("## How much there is"):page.index("## Without the kit")]
+    page = page[page.index("## How much there is"):page.index("## How statements are kept honest")]
     numbers = [int(it.replace(",", "")) for it in re.findall(r"\b\d+(?:,\d{3})*\b", page)]
     printed = subprocess.run([f"{ROOT}/scripts/count_lines.sh"], capture_output=True, text=True, check=True).stdout
     found = {name: int(lines) for name, lines in re.findall(r"^(.*): (\d+)$", printed, re.M)}
