@@ -1085,7 +1085,7 @@ void cpay_transport_reporter_settings_init(cpay_transport_reporter_settings *set
 /** Creates a reporter in an empty handle. It reports when each packet of a transport arrived, as the congestion control of a browser
  * needs it (draft-holmer-rmcat-transport-wide-cc-extensions-01). It is for one transport, that is one peer: the numbers count all
  * packets that this peer sends. `cname` is the canonical name of the reporter (RFC 3550, section 6.5.1), at most 255 bytes; without
- * has_report it is not sent. The name is copied. Do not accept `transport-cc` in an answer unless you send this feedback: docs/use/RTCP.md.
+ * has_report it is not sent. The name is copied. Do not accept `transport-cc` in an answer unless you send this feedback: docs/use/FEEDBACK.md.
  * CPAY_INVALID: `tick_rate` or `extension_id` 0, `window` out of range, or a longer name. [m] */
 CPAY_CHECKED cpay_status cpay_transport_reporter_new(cpay_transport_reporter *reporter,
                                                      const cpay_transport_reporter_settings *settings, const uint8_t *cname,

@@ -25,7 +25,7 @@ sys.path.insert(0, f"{ROOT}/tools/rtp_record/tests")
 import capture  # noqa: E402  (the folder is known only now)
 import conditions  # noqa: E402
 
-SIMULATED = ["nack", "keyframe", "sfu", "gateway", "sdp"]
+SIMULATED = ["nack", "keyframe", "sfu", "gateway", "sdp", "waits"]
 NAMES = [*SIMULATED, "recorder"]
 CAPTURES = f"{ROOT}/tools/rtp_record/captures"
 PORT, PAYLOAD_TYPE = "15004", "96"
