@@ -4,8 +4,8 @@
  * A sender cuts the frames of one stream into datagrams. A receiver accepts the datagrams of a socket, in any order and among any
  * other bytes, and returns units in order. A session does so for all streams of a port. For callers that handle RTP headers
  * themselves there are a packetizer, a buffer, depacketizers and RED. Sockets, clocks and threads stay with you. The library is
- * proved: no input makes it crash or read out of bounds. See docs/use/FORMATS.md for the formats and the rules of the buffer, and
- * docs/use/C.md for a guide.
+ * proved: no input makes it crash or read out of bounds. docs/use/FORMATS.md has the formats, docs/use/BUFFER.md the rules of the
+ * buffer, and docs/use/C.md is a guide.
  *
  * FRAMES. For each codec: the rate of its RTP clock in hertz, the frame or unit, and the result for a frame longer than the MTU:
  *
