@@ -1044,7 +1044,7 @@ void cpay_adaptive_wait_settings_init(cpay_adaptive_wait_settings *settings);
 
 /** Creates the limit of one stream in an empty handle. The limit is 5/4 of the greatest of the latest 32 ages, within the bounds. The
  * age of a missing packet is the time from the first report that it is missing until its arrival. If missing packets never
- * arrive, the limit falls to `shortest`. The latest 64 missing packets are followed. docs/use/C.md has the loop around a receiver.
+ * arrive, the limit falls to `shortest`. The latest 64 missing packets are followed. examples/waits.c has the loop around a session.
  * It takes about 2 kB. [m] */
 CPAY_CHECKED cpay_status cpay_adaptive_wait_new(cpay_adaptive_wait *wait, const cpay_adaptive_wait_settings *settings);
 
