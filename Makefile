@@ -43,7 +43,8 @@ cmake = $(LIBDIR)/cmake/codec-payload
 name = codec-payload-$(VERSION)
 headers = $(wildcard include/*.h include/*.hpp)
 documents = README.md CHANGELOG.md
-pages = $(wildcard docs/*.md)
+folders = docs/use docs/proof docs/develop
+pages = $(foreach folder,$(folders),$(wildcard $(folder)/*.md))
 pictures = $(wildcard docs/pictures/*.svg docs/pictures/*.webp)
 manual = $(out)/man/man3
 recorder = tools/rtp_record
@@ -153,9 +154,9 @@ install: all
 	sed -e 's|@VERSION@|$(VERSION)|' packaging/codec-payload-config-version.cmake.in \
 	    >$(DESTDIR)$(cmake)/codec-payload-config-version.cmake
 	$(INSTALL) -m 644 packaging/codec-payload-config.cmake $(DESTDIR)$(cmake)
-	$(INSTALL) -d $(DESTDIR)$(DOCDIR)/docs/pictures
 	$(INSTALL) -m 644 $(documents) $(DESTDIR)$(DOCDIR)
-	$(INSTALL) -m 644 $(pages) $(DESTDIR)$(DOCDIR)/docs
+	$(INSTALL) -d $(addprefix $(DESTDIR)$(DOCDIR)/,$(folders) docs/pictures)
+	for folder in $(folders); do $(INSTALL) -m 644 $$folder/*.md $(DESTDIR)$(DOCDIR)/$$folder || exit; done
 	$(INSTALL) -m 644 $(pictures) $(DESTDIR)$(DOCDIR)/docs/pictures
 	if [ -d $(manual) ]; then \
 	    $(INSTALL) -d $(DESTDIR)$(MANDIR)/man3 && $(INSTALL) -m 644 $(manual)/* $(DESTDIR)$(MANDIR)/man3; \

@@ -1,5 +1,5 @@
 /* Sessions: two senders and a BYE on one port, losses and retransmissions, RED, telephone events, faults, output buffers that are too small, and
- * refused settings. Expected results follow the RFCs named here and docs/SESSION.md. */
+ * refused settings. Expected results follow the RFCs named here and docs/use/SESSION.md. */
 #include "any.h"
 #include "check.h"
 #include "codec_payload.h"

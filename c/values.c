@@ -1,5 +1,5 @@
 /* Values of header extensions: values passed to a sender are in its datagrams, and a receiver returns them with the unit.
- * Expected bytes follow RFC 8285, sections 4.2 and 4.3, RFC 6464, section 3, and the formats that docs/DATAGRAMS.md names. */
+ * Expected bytes follow RFC 8285, sections 4.2 and 4.3, RFC 6464, section 3, and the formats that docs/use/DATAGRAMS.md names. */
 #include "any.h"
 #include "check.h"
 #include "codec_payload.h"

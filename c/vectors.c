@@ -1,5 +1,5 @@
 /* Runs the scripts of the program payload_vectors through the library, and prints what the program prints, with the same status.
- * docs/FORMATS.md, "The program's lines", describes both. Each packet and each unit is first requested with an empty buffer. */
+ * docs/use/PROGRAM.md, "The program's lines", describes both. Each packet and each unit is first requested with an empty buffer. */
 #include "codec_payload.h"
 
 #include <inttypes.h>

@@ -106,7 +106,7 @@ static size_t packet(uint8_t *out, uint16_t number, bool again) {
     return again ? 15 : 13;
 }
 
-/* The calls around each datagram of a stream, by the rules of docs/C.md. */
+/* The calls around each datagram of a stream, by the rules of docs/use/C.md. */
 static void receive(cpay_receiver *receiver, cpay_adaptive_wait *wait, cpay_wait_limits *limits, uint64_t now, uint16_t number,
                     bool again) {
     uint8_t bytes[16];

@@ -8,7 +8,7 @@
  * - Ask cpay_frame_info whether a frame is a keyframe. `extra.is_keyframe` comes from the payload descriptors, which some senders
  *   of VP9 fill in wrongly.
  * - A status from 1 to 16 is a lost frame too.
- * - If `left` of cpay_receiver_counts grows while no unit is released, request a keyframe too (docs/LIMITS.md).
+ * - If `left` of cpay_receiver_counts grows while no unit is released, request a keyframe too (docs/use/LIMITS.md).
  * - Repeat the request, at most once per interval, until a keyframe arrives.
  * The network is simulated. The status is 0 if the decoder got nine frames of ten, and only decodable ones. */
 #include "codec_payload.h"

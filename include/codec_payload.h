@@ -4,8 +4,8 @@
  * A sender cuts the frames of one stream into datagrams. A receiver accepts the datagrams of a socket, in any order and among any
  * other bytes, and returns units in order. A session does so for all streams of a port. For callers that handle RTP headers
  * themselves there are a packetizer, a buffer, depacketizers and RED. Sockets, clocks and threads stay with you. The library is
- * proved: no input makes it crash or read out of bounds. See docs/FORMATS.md for the formats and the rules of the buffer, and
- * docs/C.md for a guide.
+ * proved: no input makes it crash or read out of bounds. docs/use/FORMATS.md has the formats, docs/use/BUFFER.md the rules of the
+ * buffer, and docs/use/C.md is a guide.
  *
  * FRAMES. For each codec: the rate of its RTP clock in hertz, the frame or unit, and the result for a frame longer than the MTU:
  *
@@ -21,7 +21,7 @@
  *   CPAY_NULL                any  any bytes                                                   one payload of any length
  *
  * After loss, a unit can lack its first bytes and still be released. This concerns AV1, VP9 with spatial layers, and VP8 from
- * senders that mark each partition as a start. See docs/LIMITS.md.
+ * senders that mark each partition as a start. See docs/use/LIMITS.md.
  *
  * STATUSES. A call returns a status; a few return a bool or a number. 0 is success, 1 to 17 are errors of payloads and of
  * memory, 32 to 41 are the library's own, 42 to 65 say why a datagram is not accepted, 66 to 73 why feedback is not read, and
@@ -415,7 +415,7 @@ typedef struct {
 } cpay_video_timing;
 
 /** Values of header extensions (RFC 8285) of a frame, each with a flag that it is present: {0} has none. An absent field is
- * written as 0, and ignored if you pass it. docs/DATAGRAMS.md has the bytes of each extension. */
+ * written as 0, and ignored if you pass it. docs/use/DATAGRAMS.md has the bytes of each extension. */
 typedef struct {
     uint64_t abs_capture_time;          /**< capture time: seconds since 1900, with their fraction in the low 32 bits */
     int64_t clock_offset;               /**< with has_clock_offset: offset to add to get the sender's clock, in the same unit */
@@ -1044,7 +1044,7 @@ void cpay_adaptive_wait_settings_init(cpay_adaptive_wait_settings *settings);
 
 /** Creates the limit of one stream in an empty handle. The limit is 5/4 of the greatest of the latest 32 ages, within the bounds. The
  * age of a missing packet is the time from the first report that it is missing until its arrival. If missing packets never
- * arrive, the limit falls to `shortest`. The latest 64 missing packets are followed. docs/C.md has the loop around a receiver.
+ * arrive, the limit falls to `shortest`. The latest 64 missing packets are followed. examples/waits.c has the loop around a session.
  * It takes about 2 kB. [m] */
 CPAY_CHECKED cpay_status cpay_adaptive_wait_new(cpay_adaptive_wait *wait, const cpay_adaptive_wait_settings *settings);
 
@@ -1085,7 +1085,7 @@ void cpay_transport_reporter_settings_init(cpay_transport_reporter_settings *set
 /** Creates a reporter in an empty handle. It reports when each packet of a transport arrived, as the congestion control of a browser
  * needs it (draft-holmer-rmcat-transport-wide-cc-extensions-01). It is for one transport, that is one peer: the numbers count all
  * packets that this peer sends. `cname` is the canonical name of the reporter (RFC 3550, section 6.5.1), at most 255 bytes; without
- * has_report it is not sent. The name is copied. Do not accept `transport-cc` in an answer unless you send this feedback: docs/RTCP.md.
+ * has_report it is not sent. The name is copied. Do not accept `transport-cc` in an answer unless you send this feedback: docs/use/FEEDBACK.md.
  * CPAY_INVALID: `tick_rate` or `extension_id` 0, `window` out of range, or a longer name. [m] */
 CPAY_CHECKED cpay_status cpay_transport_reporter_new(cpay_transport_reporter *reporter,
                                                      const cpay_transport_reporter_settings *settings, const uint8_t *cname,
@@ -1415,7 +1415,7 @@ CPAY_CHECKED cpay_status cpay_session_poll(cpay_session *session, uint64_t now, 
 CPAY_CHECKED cpay_status cpay_session_values(cpay_session *session, cpay_extension_values *values);
 
 /** Reports the time at which a poll may have an event although no datagram arrives: 0 while telephone events wait, or an event that
- * did not fit (CPAY_TOO_SMALL). CPAY_NONE: only a datagram can help. If a poll had no event and no packet left a stream in it, no earlier poll has one: docs/SESSION.md. */
+ * did not fit (CPAY_TOO_SMALL). CPAY_NONE: only a datagram can help. If a poll had no event and no packet left a stream in it, no earlier poll has one: docs/use/SESSION.md. */
 CPAY_CHECKED cpay_status cpay_session_next_deadline(cpay_session *session, uint64_t *at);
 
 /** Ends the streams of this SSRC at time `now`: polls report their complete units, and then CPAY_EVENT_ENDED. Without such a stream
@@ -1537,7 +1537,7 @@ CPAY_CHECKED cpay_status cpay_session_remove_pair(cpay_session *session, uint32_
 /** Creates a depacketizer in an empty handle. CPAY_INVALID: unsupported codec, or `rate` 0. [m] */
 CPAY_CHECKED cpay_status cpay_depacketizer_new(cpay_depacketizer *depacketizer, const cpay_spec *spec);
 
-/** Reads a payload, and appends its media bytes. docs/FORMATS.md says for each codec what an error leaves. [m] */
+/** Reads a payload, and appends its media bytes. docs/use/FORMATS.md says for each codec what an error leaves. [m] */
 CPAY_CHECKED cpay_status cpay_depacketize(cpay_depacketizer *depacketizer, const uint8_t *payload, size_t payload_len);
 
 /** Returns the bytes and the codec-specific data of the payloads since the previous such call, and starts again: call it once a

@@ -6,7 +6,7 @@
 #
 # What it compares are the exports of the library and, by the debug information of c/calls.c, their parameters, structs and numbers.
 # Before it compares it finds a struct that grew, so a comparison that sees nothing fails. Needs make, a C compiler, and abidw and
-# abidiff (Debian: abigail-tools); without these it says so. docs/C.md has the rules. The last line says what passed.
+# abidiff (Debian: abigail-tools); without these it says so. docs/use/C.md has the rules. The last line says what passed.
 set -eu
 root=$(cd "$(dirname "$0")/.." && pwd)
 kept=$root/packaging/codec_payload.abi
@@ -51,6 +51,6 @@ sed -i 's/^    bool contiguous; .*/&\n    uint64_t one_more;/' "$work/grown/code
 described "$work/grown" "$work/grown.abi"
 ! same "$work/grown.abi" >"$work/told" 2>&1 && grep -q cpay_unit "$work/told" || fail "a cpay_unit that grew is not found"
 described include "$work/found.abi"
-same "$work/found.abi" || fail "the ABI is not that of packaging/codec_payload.abi: docs/C.md has the rules"
+same "$work/found.abi" || fail "the ABI is not that of packaging/codec_payload.abi: docs/use/C.md has the rules"
 calls=$(grep -c 'type=.func-type' "$work/found.abi" || true)
 echo "abi: $calls calls, nothing of the last release is gone or changed"

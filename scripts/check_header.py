@@ -4,7 +4,7 @@
 The header is written by hand. This script reads both and compares every function: its name, its result, and the name and type of
 each parameter; every struct that crosses: its fields in order with their types; and the numbers of the statuses and of the codecs.
 In C each type has its own struct around a handle, so that the compiler distinguishes them. The example in the header, and in
-docs/C.md, is the text of c/example.c. The last line says how many functions and structs are the same; the status is 0 if all are.
+docs/use/C.md, is the text of c/example.c. The last line says how many functions and structs are the same; the status is 0 if all are.
 
 c/calls.c, which accepts NULL with a length of 0, is the output of `check_header.py --calls`, and is compared too.
 """
@@ -237,8 +237,8 @@ def main():
     ]
     if f"#if 0\n{read('c/example.c')}#endif\n" not in read("include/codec_payload.h"):
         wrong.append("header: the example is not that of c/example.c")
-    if f"```c\n{read('c/example.c')}```\n" not in read("docs/C.md"):
-        wrong.append("docs/C.md: the example is not that of c/example.c")
+    if f"```c\n{read('c/example.c')}```\n" not in read("docs/use/C.md"):
+        wrong.append("docs/use/C.md: the example is not that of c/example.c")
     wrong += [f"header: {kind} is not one handle" for kind in KINDS if written_structs.get(kind) != HANDLE]
     if read("c/calls.c") != calls(as_written):
         wrong.append("c/calls.c is not what check_header.py --calls prints")

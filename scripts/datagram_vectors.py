@@ -1,6 +1,6 @@
 """Inputs of the program payload_datagrams, each with its output and status.
 
-The outputs are worked out by RFC 3550, RFC 2198, RFC 4588 and the rules in docs/DATAGRAMS.md, by hand or by the few lines of Python
+The outputs are worked out by RFC 3550, RFC 2198, RFC 4588 and the rules in docs/use/DATAGRAMS.md, by hand or by the few lines of Python
 here that follow the RFCs. scripts/process.py runs them through the program.
 """
 import os

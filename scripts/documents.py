@@ -7,10 +7,10 @@
                                        characters
 
 Each relative link, each anchor and each named page exists; README.md has at most 170 lines; no line outside of code and
-tables is longer than 128 characters; docs/ARCHITECTURE.md lists the crates of crates.txt; the version is the
+tables is longer than 128 characters; docs/develop/ARCHITECTURE.md lists the crates of crates.txt; the version is the
 same everywhere; toolchain.txt has the line of `rt version`, and no page names a kit; each line of figures in
-README.md is in docs/PERFORMANCE.md; each picture is shown by a page, is light, and is of today's data; docs/DIFFERENCES.md
-names each theorem of the ported crates; each name in docs/GLOSSARY.md is in a source; docs/VERIFICATION.md has the lemma of
+README.md is in docs/use/PERFORMANCE.md; each picture is shown by a page, is light, and is of today's data; docs/develop/DIFFERENCES.md
+names each theorem of the ported crates; each name in docs/use/GLOSSARY.md is in a source; docs/proof/VERIFICATION.md has the lemma of
 each guarantee and the numbers of scripts/count_lines.sh. Each block of code has a language, which decides its test:
 
   c        compiled; linked and run if the library is built (`make`)
@@ -181,14 +181,15 @@ def links(pages):
 
 
 def named_pages():
-    """Pages, and headings of them, that are named in the text of any file."""
+    """Pages, and headings of them, that are named in the text of any file. Sources of crates may leave out the page's folder."""
     for name in files(".md", ".py", ".sh", ".c", ".h", ".rs", ".rt", ".antt", "Makefile"):
         text = re.sub(r"\n *(//[/!]|--|#|\*) ", " ", read(name))  # a comment's lines are one text
-        for path in set(re.findall(r"\bdocs/[A-Z_]+\.md\b", text)):
-            if not os.path.exists(f"{ROOT}/{path}"):
+        for path, heading in set(re.findall(r"\b(docs/(?:\w+/)?[A-Z_]+\.md)\b(?:, \"([^\"]+)\")?", text)):
+            found = [path] if name.split("/")[0] not in ("crates", "rust") else [path, *glob.glob(f"docs/*/{path[5:]}", root_dir=ROOT)]
+            found = [it for it in found if os.path.exists(f"{ROOT}/{it}")]
+            if not found:
                 yield f"{name}: names {path}, which is not there"
-        for path, heading in re.findall(r"\b(docs/[A-Z]+\.md), \"([^\"]+)\"", text):
-            if os.path.exists(f"{ROOT}/{path}") and not re.search(rf"^#+ {re.escape(heading)}$", read(path), re.M):
+            elif heading and not re.search(rf"^#+ {re.escape(heading)}$", read(found[0]), re.M):
                 yield f"{name}: {path} has no heading {heading}"
 
 
@@ -207,12 +208,12 @@ def lines(pages):
 
 def crate_table():
     listed = [it.split(":")[0].split()[0] for it in read("crates.txt").split("\n") if it.strip() and not it.startswith("#")]
-    table = re.findall(r"^\| (`[a-z_0-9`, ]+`) \| .*\| .*\| .*\|$", read("docs/ARCHITECTURE.md"), re.M)
+    table = re.findall(r"^\| (`[a-z_0-9`, ]+`) \| .*\|$", read("docs/develop/ARCHITECTURE.md"), re.M)
     named = [it for row in table for it in re.findall(r"`((?:codec_)?payload_[a-z_0-9]+)`", row)]
     for crate in sorted({*listed, *named}):
         if listed.count(crate) != 1 or named.count(crate) != 1:
             times = f"{listed.count(crate)} times in crates.txt, {named.count(crate)} times"
-            yield f"docs/ARCHITECTURE.md: {crate} is {times} in the table"
+            yield f"docs/develop/ARCHITECTURE.md: {crate} is {times} in the table"
 
 
 def toolchain():
@@ -222,7 +223,7 @@ def toolchain():
         found = subprocess.run(["rt", "version"], capture_output=True, text=True, check=False).stdout.strip()
         if found not in lines:
             yield f"toolchain.txt lacks {found!r}, which rt version prints"
-    for page in ["README.md", "CONTRIBUTING.md", *glob.glob("docs/*.md", root_dir=ROOT)]:
+    for page in ["README.md", "CONTRIBUTING.md", *glob.glob("docs/*/*.md", root_dir=ROOT)]:
         for named in re.findall(r"rattle-kit-\w+", read(page)):
             yield f"{page} names {named}: toolchain.txt alone names kits"
 
@@ -241,19 +242,19 @@ def versions():
 def additions():
     """DIFFERENCES names the theorems of the ported crates, which are public functions without a parameter."""
     ported = "base audio vp8 vp9 av1 red buffer core".split()
-    page = read("docs/DIFFERENCES.md")
+    page = read("docs/develop/DIFFERENCES.md")
     for path in files(".rt"):
         if path.split("/")[1].removeprefix("codec_payload_") in ported:
             for law in re.findall(r"^pub fn (\w+)\(\)", read(path), re.M):
                 if f"`{law}`" not in page:
-                    yield f"docs/DIFFERENCES.md does not name {law} of {path}"
+                    yield f"docs/develop/DIFFERENCES.md does not name {law} of {path}"
 
 
 def figures():
     rows = [it for it in read("README.md").split("\n") if re.match(r"\| `[a-z0-9-]+` \| \d", it)]
     for row in rows:
-        if row not in read("docs/PERFORMANCE.md").split("\n"):
-            yield f"README.md: docs/PERFORMANCE.md has no row {row}"
+        if row not in read("docs/use/PERFORMANCE.md").split("\n"):
+            yield f"README.md: docs/use/PERFORMANCE.md has no row {row}"
     if not rows:
         yield "README.md has no row of figures"
 
@@ -274,28 +275,33 @@ def pictures(pages):
 
 
 def glossary():
-    """Each term of docs/GLOSSARY.md in code type is a name of the library."""
+    """Each term of docs/use/GLOSSARY.md in code type is a name of the library."""
     sources = "\n".join(read(it) for it in files(".rt", ".h"))
-    for row in re.findall(r"^\| (.*?) \| ", read("docs/GLOSSARY.md"), re.M):
+    for row in re.findall(r"^\| (.*?) \| ", read("docs/use/GLOSSARY.md"), re.M):
         for term in re.findall(r"`(\w+)`", row):
             if not re.search(rf"\b{term}\b", sources):
-                yield f"docs/GLOSSARY.md: no source has {term}"
+                yield f"docs/use/GLOSSARY.md: no source has {term}"
 
 
 def lemmas():
-    """docs/VERIFICATION.md has each field of KeepsPromises with its lemma, and the files exist."""
+    """docs/proof/VERIFICATION.md has each field of KeepsPromises with its lemma, and each definition and lemma is in its file."""
     crate = "crates/codec_payload_buffer_runs"
     fields = re.search(r"record KeepsPromisesIf .*?\n\n", read(f"{crate}/specs/RunPromises.antt"), re.S)[0]
-    proof, page = read(f"{crate}/proofs/order/RunLogs.antt"), read("docs/VERIFICATION.md")
+    proof, page = read(f"{crate}/proofs/order/RunLogs.antt"), read("docs/proof/VERIFICATION.md")
     for field in re.findall(r"^  pub (\w+) :", fields, re.M):
-        row = re.search(rf"^\| `{field}` \| (.*) \| `(.*)` \|$", page, re.M)
+        row = re.search(rf"^\| .*\| `{field}` \| .* \| (.*) \| `(.*)` \|$", page, re.M)
         if not row:
-            yield f"docs/VERIFICATION.md has no lemma of {field}"
+            yield f"docs/proof/VERIFICATION.md has no lemma of {field}"
         elif not os.path.exists(f"{ROOT}/{crate}/proofs/{row[2].removeprefix('proofs/')}"):
-            yield f"docs/VERIFICATION.md: {row[2]} does not exist"
+            yield f"docs/proof/VERIFICATION.md: {row[2]} does not exist"
         for lemma in re.findall(r"`(\w+)`", row[1] if row else ""):
             if lemma != "run_schedule" and not re.search(rf"^      {field} = .*\b{lemma}\b", proof, re.M):
-                yield f"docs/VERIFICATION.md: order/RunLogs.antt does not prove {field} by {lemma}"
+                yield f"docs/proof/VERIFICATION.md: order/RunLogs.antt does not prove {field} by {lemma}"
+    for names, file in re.findall(r"((?:`\w+`(?:, )?)+) of `([\w/]+\.antt)`", page):
+        texts = [read(it) for it in files(".antt") if it.endswith(f"/{file}")]
+        for name in re.findall(r"`(\w+)`", names):
+            if not any(re.search(rf"^(?:abbrev |unfoldable |pub |record |data )*{name} ", it, re.M) for it in texts):
+                yield f"docs/proof/VERIFICATION.md: {file} has no {name}"
 
 
 def mutant_results():
@@ -309,16 +315,16 @@ def mutant_results():
 
 
 def counted_lines():
-    """docs/VERIFICATION.md has the numbers that scripts/count_lines.sh prints, to a fifth."""
-    page = read("docs/VERIFICATION.md")
-    page = page[page.index("## How much there is"):page.index("## Without the kit")]
+    """docs/proof/VERIFICATION.md has the numbers that scripts/count_lines.sh prints, to a fifth."""
+    page = read("docs/proof/VERIFICATION.md")
+    page = page[page.index("## How much there is"):page.index("## How statements are kept honest")]
     numbers = [int(it.replace(",", "")) for it in re.findall(r"\b\d+(?:,\d{3})*\b", page)]
     printed = subprocess.run([f"{ROOT}/scripts/count_lines.sh"], capture_output=True, text=True, check=True).stdout
     found = {name: int(lines) for name, lines in re.findall(r"^(.*): (\d+)$", printed, re.M)}
     found["C: calls.c"] += found.pop("C: memory.c")
     for name, count in found.items():
         if not any(abs(it - count) * 5 <= count for it in numbers):
-            yield f"docs/VERIFICATION.md has no number near {count} ({name} of scripts/count_lines.sh)"
+            yield f"docs/proof/VERIFICATION.md has no number near {count} ({name} of scripts/count_lines.sh)"
 
 
 def ran(words, **named):
@@ -397,7 +403,7 @@ def tested_text(block):
     known += [read(it) for it in [*glob.glob(f"{ROOT}/crates/*/std*"), *glob.glob(f"{ROOT}/tools/lines/*/std*")]]
     if block.text in known:
         return ""
-    if block.page == "docs/RECIPES.md":
+    if block.page == "docs/use/RECIPES.md":
         return ""  # scripts/examples.py compares the page with what the programs print
     if "►" not in block.text:
         return whole_bytes(block)
@@ -455,10 +461,10 @@ def blocks(pages, quick):
 
 
 def begun_crate():
-    """The commands by which docs/RATTLE.md begins a crate make one over a copy of the crates, and run its test."""
+    """The commands by which docs/develop/RATTLE.md begins a crate make one over a copy of the crates, and run its test."""
     if not shutil.which("rt"):
         return
-    block = next(it for it in blocks_and_rest("docs/RATTLE.md")[0] if it.text.startswith("rt new "))
+    block = next(it for it in blocks_and_rest("docs/develop/RATTLE.md")[0] if it.text.startswith("rt new "))
     with tempfile.TemporaryDirectory() as work:
         shutil.copytree(f"{ROOT}/crates", f"{work}/crates", ignore=shutil.ignore_patterns("out"))
         shutil.copytree(f"{ROOT}/examples", f"{work}/examples")

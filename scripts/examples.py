@@ -1,10 +1,10 @@
 #!/usr/bin/env python3
-"""Builds and runs the recipes of docs/RECIPES.md, for C over the library and for Rust over rust/, and compares their output.
+"""Builds and runs the recipes of docs/use/RECIPES.md, for C over the library and for Rust over rust/, and compares their output.
 
   scripts/examples.py [ARCHIVE]    the archive of the library, by default c/out/libcodec_payload.a
 
 Each recipe of SIMULATED fails by itself if its network shows a fault, and must print the same in both languages, and the line that
-docs/RECIPES.md has. The recorders write the VP8 capture of tools/rtp_record under each condition of its tests. The frames in their
+docs/use/RECIPES.md has. The recorders write the VP8 capture of tools/rtp_record under each condition of its tests. The frames in their
 files must be the encoder's, by their MD5s: the frames of which every packet arrived. The stream over UDP in C is run by
 scripts/bindings.sh, all examples for Rust by scripts/rust.sh, and the examples for Rattle by rt ci.
 
@@ -25,7 +25,7 @@ sys.path.insert(0, f"{ROOT}/tools/rtp_record/tests")
 import capture  # noqa: E402  (the folder is known only now)
 import conditions  # noqa: E402
 
-SIMULATED = ["nack", "keyframe", "sfu", "gateway", "sdp"]
+SIMULATED = ["nack", "keyframe", "sfu", "gateway", "sdp", "waits"]
 NAMES = [*SIMULATED, "recorder"]
 CAPTURES = f"{ROOT}/tools/rtp_record/captures"
 PORT, PAYLOAD_TYPE = "15004", "96"
@@ -77,7 +77,7 @@ def wanted(packets, there):
 
 def simulated(programs):
     """A line for each recipe that fails, or prints something else than the other language or the page."""
-    with open(f"{ROOT}/docs/RECIPES.md", encoding="utf-8") as it:
+    with open(f"{ROOT}/docs/use/RECIPES.md", encoding="utf-8") as it:
         page = it.read()
     for name in SIMULATED:
         printed = {}
@@ -89,7 +89,7 @@ def simulated(programs):
         if printed["C"] != printed["Rust"]:
             yield f"{name} prints {printed['C']!r} in C and {printed['Rust']!r} in Rust"
         if printed["Rust"] not in page:
-            yield f"docs/RECIPES.md lacks the output of {name}: {printed['Rust']!r}"
+            yield f"docs/use/RECIPES.md lacks the output of {name}: {printed['Rust']!r}"
 
 
 def recorders(programs, folder):

@@ -6,9 +6,9 @@
 
   units_under_loss   packets 10 to 15 of three units, by the row UNDER_LOSS of scripts/program_vectors.py, which scripts/process.py
                      runs through the program payload_vectors
-  crates             the crates, and which names which, by crates.txt
-  over_a_copy        time over that of a copy, a dot a case, by the tables of docs/PERFORMANCE.md
-  beside             time over that of str0m, by a table of docs/PERFORMANCE.md, and the recorder beside GStreamer, by its README
+  crates             the crates in their layers, by crates.txt: fails where a crate uses a crate of a higher layer
+  over_a_copy        time over that of a copy, a dot a case, by the tables of docs/use/PERFORMANCE.md
+  beside             time over that of str0m, by a table of docs/use/PERFORMANCE.md, and the recorder beside GStreamer, by its README
   receiver_life      a receiver from its first packet to its end: what arrives, what it reports, what the caller does
   session_life       a session with two senders: what arrives, the stages of its streams, what polls return, what the caller does
   buffer_layout      what a buffer holds: entries, blocks of packets, the ends of rows, the complete frames
@@ -16,16 +16,17 @@
   copies             where the bytes of a frame are copied
   descriptors        the bytes in front of a frame's: VP8, VP9, AV1 and RED, by their RFCs
 
-Needs matplotlib and graphviz: apt-get install python3-matplotlib graphviz. The same sources give the same bytes, on one version
-of both. Each file has two sets of colours, for light and for dark pages; the reader's browser chooses. The last line of a file is
-a digest of its data and of this script, which scripts/documents.py compares.
+Needs matplotlib, except for crates: apt-get install python3-matplotlib. The same sources give the same bytes, on one version of
+it. Each file has two sets of colours, for light and for dark pages; the reader's browser chooses. The last line of a file is
+a digest of its data and of the functions that draw it, which scripts/documents.py compares.
 """
 import hashlib
+import inspect
 import io
 import os
 import re
-import subprocess
 import sys
+import types
 
 import program_vectors
 
@@ -42,15 +43,15 @@ def read(path):
 
 
 def rows_of_figures():
-    """Each case of docs/PERFORMANCE.md with its two ratios to a copy, of the tables that have two such columns."""
-    tables = [it for it in read("docs/PERFORMANCE.md").split("\n\n") if it.split("\n")[0].count("over a copy") == 2]
+    """Each case of docs/use/PERFORMANCE.md with its two ratios to a copy, of the tables that have two such columns."""
+    tables = [it for it in read("docs/use/PERFORMANCE.md").split("\n\n") if it.split("\n")[0].count("over a copy") == 2]
     return re.findall(r"^\| `([\w-]+)` \| [\d.]+ \| ([\d.]+) \| [\d.]+ \| ([\d.]+) \|$", "\n".join(tables), re.M)
 
 
 def rows_beside():
-    """Each case of docs/PERFORMANCE.md with the ratios of its calls to those of str0m."""
+    """Each case of docs/use/PERFORMANCE.md with the ratios of its calls to those of str0m."""
     return re.findall(r"^\| (\w[\w. ]*, [\d,]+ bytes) \|(?: [\d,.]+ \|){2} ([\d.]+) \|(?: [\d,.]+ \|){2} ([\d.]+) \|$",
-                      read("docs/PERFORMANCE.md"), re.M)
+                      read("docs/use/PERFORMANCE.md"), re.M)
 
 
 def rows_of_recorder():
@@ -59,19 +60,36 @@ def rows_of_recorder():
 
 
 def rows_into():
-    """Each case of docs/PERFORMANCE.md with the ratio of packetize_into to a plain memcpy."""
-    return dict(re.findall(r"^\| `([\w-]+)` \| [\d.]+ \| [\d.]+ \| ([\d.]+) \| [\d.]+ \|$", read("docs/PERFORMANCE.md"), re.M))
+    """Each case of docs/use/PERFORMANCE.md with the ratio of packetize_into to a plain memcpy."""
+    return dict(re.findall(r"^\| `([\w-]+)` \| [\d.]+ \| [\d.]+ \| ([\d.]+) \| [\d.]+ \|$", read("docs/use/PERFORMANCE.md"), re.M))
+
+
+def drawn_by(name):
+    """The sources of what draws a picture: its function, and each function and constant of this file that it reaches."""
+    found, left = dict.fromkeys(("ROOT", "FOLDER", "read", "made_of"), ""), [name]
+    while left:
+        word = left.pop()
+        it = globals().get(word)
+        if word in found or it is None or isinstance(it, types.ModuleType):
+            continue
+        found[word] = inspect.getsource(it) if callable(it) else repr(it)
+        codes = [it.__code__] if callable(it) else []
+        while codes:
+            code = codes.pop()
+            left += code.co_names
+            codes += [each for each in code.co_consts if isinstance(each, types.CodeType)]
+    return sorted(found.items())
 
 
 def made_of(name):
-    """The last line of a picture: a digest of its data and of this script."""
+    """The last line of a picture: a digest of its data and of what draws it."""
     data = {
         "units_under_loss": lambda: repr(program_vectors.UNDER_LOSS),
         "crates": lambda: read("crates.txt"),
         "over_a_copy": lambda: repr((rows_of_figures(), rows_into())),
         "beside": lambda: repr((rows_beside(), rows_of_recorder())),
     }.get(name, lambda: "")()
-    digest = hashlib.sha256(f"{read('scripts/pictures.py')}{data}".encode()).hexdigest()[:16]
+    digest = hashlib.sha256(f"{drawn_by(name)}{data}".encode()).hexdigest()[:16]
     return f"<!-- made of {digest} by scripts/pictures.py -->\n"
 
 
@@ -190,25 +208,67 @@ def units_under_loss():
     keep("units_under_loss", figure)
 
 
-def crates():
+# The layers of the crates, from the top: groups with a title, and their crates in lines. A crate uses crates of its own layer or
+# of those below it.
+LAYERS = (
+    (("library for C", "c/handle"), ("packets and frames, in Rattle", "core"), ("theorems on whole runs", "session_runs datagram_runs/buffer_runs"),
+     ("tests", "codec_tests run_tests/datagram_tests"), ("a program", "vectors/lines")),
+    (("all streams of a port", "session"),),
+    (("receiving", "receiver jitter keyframes/buffer queue"),
+     ("feedback", "feedback feedback_requests feedback_transport/feedback_wait feedback_congestion feedback_ccfb"),
+     ("sending", "payloader sending sending_red/sending_history sending_forward")),
+    (("payload formats", "codec audio vp8 vp9 av1"), ("repetition", "red"), ("what frames say", "media vpx"), ("packets", "rtp rtcp")),
+    (("what all share", "base"),),
+)
+# Pixels: of the picture's width, of a letter, of a crate's box, between things.
+WIDE, LETTER, HIGH, GAP = 980, 7.2, 24, 8
+
+
+def layered():
+    """Each crate of crates.txt with its layer, counted from the bottom, by its short name. Fails where a crate uses a higher layer."""
     lines = [it.partition(":") for it in read("crates.txt").split("\n") if it.strip() and not it.startswith("#")]
-    uses = {name.split()[0]: below.split() for name, _, below in lines}
-    uses = {name: [it for it in below if it in uses] for name, below in uses.items()}
+    uses = {name.split()[0].removeprefix("codec_").removeprefix("payload_"): below.split() for name, _, below in lines}
+    heights = {it: -place for place, groups in enumerate(LAYERS) for _, names in groups for it in re.split("[ /]", names)}
+    assert heights.keys() == uses.keys(), f"not once each: {heights.keys() ^ uses.keys()}"
+    for name, below in uses.items():
+        for it in below:
+            if it.startswith("codec_payload_") or it == "payload_lines":
+                assert heights[name] >= heights[it.removeprefix("codec_").removeprefix("payload_")], f"{name} uses {it}"
+    return heights
 
-    def reached(name):
-        return {it for below in uses[name] for it in (below, *reached(below))}
 
-    # Who names a crate that is reached through another one too is not drawn: the way stands already.
-    drawn = {name: [it for it in below if not any(it in reached(other) for other in below)] for name, below in uses.items()}
-    text = ['digraph crates { rankdir=BT; bgcolor="transparent"; nodesep=0.18; ranksep=0.45;',
-            'node [shape=box, style=rounded, fontname="DejaVu Sans", fontsize=12, height=0.3];',
-            f'edge [color="{FAINT}", arrowsize=0.7];']
-    for name in uses:
-        color = BLUE if not name.startswith("codec") else ORANGE if name in ("codec_payload_c", "codec_payload_handle") else INK
-        text.append(f'"{name}" [label="{name.removeprefix("codec_payload_")}", color="{color}", fontcolor="{color}"];')
-    text += [f'"{name}" -> "{it}";' for name, below in drawn.items() for it in below]
-    done = subprocess.run(["dot", "-Tsvg"], input="\n".join([*text, "}"]), text=True, stdout=subprocess.PIPE, check=True)
-    write("crates", re.sub(r"<!--.*?-->\n", "", done.stdout, flags=re.S))
+def crates():
+    layered()
+
+    def wide(title, names):
+        rows = [sum(LETTER * len(it) + 14 + GAP for it in row.split()) + GAP for row in names.split("/")]
+        return max(*rows, LETTER * len(title) * 0.9 + 2 * GAP, 0)
+
+    def frame(left, top, width, height, color, rounded):
+        return f'<rect x="{left:.1f}" y="{top:.1f}" width="{width:.1f}" height="{height:.1f}" rx="{rounded}" fill="none" stroke="{color}"/>'
+
+    def words(left, top, text, color, size):
+        return f'<text x="{left:.1f}" y="{top:.1f}" font-size="{size}" fill="{color}">{text}</text>'
+
+    text, top = [], GAP
+    for groups in LAYERS:
+        height = max(names.count("/") + 1 for _, names in groups) * (HIGH + GAP) + 20 + GAP / 2
+        spare = (WIDE - GAP - sum(wide(*it) + GAP for it in groups)) / len(groups)
+        assert spare >= 0, f"too wide by {-spare * len(groups)}: {groups}"
+        left = GAP
+        for title, names in groups:
+            width = wide(title, names) + spare
+            color = BLUE if title in ("tests", "a program") else ORANGE if title == "library for C" else INK
+            text += [frame(left, top, width, height, FAINT, 6), words(left + GAP, top + 15, title, FAINT, 11)]
+            for line, row in enumerate(names.split("/")):
+                at, down = left + GAP, top + 20 + line * (HIGH + GAP)
+                for name in row.split():
+                    text += [frame(at, down, LETTER * len(name) + 14, HIGH, color, 4), words(at + 7, down + 16, name, color, 12)]
+                    at += LETTER * len(name) + 14 + GAP
+            left += width + GAP
+        top += height + GAP
+    head = f'<svg xmlns="http://www.w3.org/2000/svg" width="{WIDE}" height="{top:.0f}" viewBox="0 0 {WIDE} {top:.0f}" font-family="DejaVu Sans, Verdana, sans-serif">'
+    write("crates", "\n".join([head, *text, "</svg>", ""]))
 
 
 def over_a_copy():

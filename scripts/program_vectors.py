@@ -1,6 +1,6 @@
 """Inputs of the program payload_vectors, each with its output and status.
 
-The outputs are worked out by the RFCs of the formats and the rules of the buffer in docs/FORMATS.md. scripts/process.py runs them
+The outputs are worked out by the RFCs of the formats and of the buffer (docs/use/FORMATS.md, BUFFER.md). scripts/process.py runs them
 through the program, and c/inputs.py gives the same inputs to the library for C.
 """
 from typing import NamedTuple
@@ -133,7 +133,7 @@ LIMITS = [
     ]
 ]
 
-# Three units of two packets each; packet 11 arrives after 12, and packet 13 is lost. docs/PROGRAM.md has it, and
+# Three units of two packets each; packet 11 arrives after 12, and packet 13 is lost. docs/use/PROGRAM.md has it, and
 # scripts/pictures.py draws it.
 UNDER_LOSS = Row(
     "three units, a packet lost and one late",

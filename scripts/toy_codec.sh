@@ -1,5 +1,5 @@
 #!/bin/sh
-# Adds the codec of docs/toy_codec.patch to a copy of the repository, and tests the copy.
+# Adds the codec of docs/develop/toy_codec.patch to a copy of the repository, and tests the copy.
 #
 #   scripts/toy_codec.sh          as plain Rust and C: the copy is erased, frames of the codec come back (rust/tests/toy.rs of the
 #                                 patch), and the header has what C programs name
@@ -7,7 +7,7 @@
 #
 # The patch touches at most 20 files outside of the crate of the codec, not counting its test and the output of the eraser. The last
 # line says how many; the status is 0 if all passed. If the patch does not apply, mend it: it is the example of
-# docs/ARCHITECTURE.md, "How to add a codec".
+# docs/develop/ARCHITECTURE.md, "How to add a codec".
 set -eu
 
 root=$(cd "$(dirname "$0")/.." && pwd)
@@ -27,7 +27,7 @@ step() {
 
 (cd "$root" && git ls-files -z | tar --null -T - -c) | tar -x -C "$copy"
 cd "$copy"
-step git apply -C1 docs/toy_codec.patch
+step git apply -C1 docs/develop/toy_codec.patch
 step tools/eraser/erase.py
 export CARGO_NET_OFFLINE=true CARGO_TARGET_DIR="$work/target"
 cd rust
@@ -42,7 +42,7 @@ if [ "${1:-}" = prove ]; then
         step rt check
     done
 fi
-files=$(grep '^diff --git' "$root/docs/toy_codec.patch" | grep -cv -e ' b/crates/codec_payload_audio/' -e ' b/rust/tests/toy.rs')
+files=$(grep '^diff --git' "$root/docs/develop/toy_codec.patch" | grep -cv -e ' b/crates/codec_payload_audio/' -e ' b/rust/tests/toy.rs')
 [ "$files" -le 20 ] || {
     echo "toy_codec: the patch touches $files files outside of the codec's crate"
     exit 1

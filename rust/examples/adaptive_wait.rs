@@ -1,4 +1,4 @@
-//! A limit of waiting that follows the network, beside two fixed limits. It prints the table of docs/LIMITS.md, and fails if the
+//! A limit of waiting that follows the network, beside two fixed limits. It prints the table of docs/use/LIMITS.md, and fails if the
 //! limit that follows releases fewer frames than the fixed limit of 100 ms, or delays frames for packets that never arrive:
 //!
 //! ```sh

@@ -11,7 +11,7 @@
 //!   senders of VP9 fill in wrongly.
 //! - A fault of `pop` other than out of memory is a lost frame too; the loop continues.
 //! - Repeat the request, at most once per interval, until a keyframe arrives.
-//! - If `left` of the counters grows while no unit is released, request a keyframe too (docs/LIMITS.md).
+//! - If `left` of the counters grows while no unit is released, request a keyframe too (docs/use/LIMITS.md).
 
 use codec_payload::media::frame_info;
 use codec_payload::rtcp::PictureLoss;

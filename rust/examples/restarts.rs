@@ -1,5 +1,5 @@
 //! Senders that restart on their SSRC within or near the windows, and hostile networks in which none does. It prints three tables
-//! of docs/LIMITS.md, and fails if a restart takes longer to find than documented, or if a restart is reported although the sender
+//! of docs/use/LIMITS.md, and fails if a restart takes longer to find than documented, or if a restart is reported although the sender
 //! did not restart:
 //!
 //! ```sh

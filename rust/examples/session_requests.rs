@@ -1,5 +1,5 @@
 //! A session that requests what is missing: NACK (RFC 4585, section 6.2.1) and PLI (section 6.3.1) for a video on a port, over a
-//! simulated network that loses packets both ways. It prints the table of docs/SESSION.md, and fails if requests do not help:
+//! simulated network that loses packets both ways. It prints the table of docs/use/FEEDBACK.md, and fails if requests do not help:
 //!
 //! ```sh
 //! cargo run --release --example session_requests

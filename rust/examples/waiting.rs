@@ -1,4 +1,4 @@
-//! What the default settings do on a network that loses and delays packets. It prints the table of docs/LIMITS.md, and fails unless
+//! What the default settings do on a network that loses and delays packets. It prints the table of docs/use/LIMITS.md, and fails unless
 //! every frame that arrives whole is released in time:
 //!
 //! ```sh

@@ -5,7 +5,7 @@
   tools/eraser/erase.py --check             compares them with a fresh run: status 1 and the differences if any
   option --repository FOLDER                reads crates/ of another clone, and writes rust/ and tools/lines/ there
 
-Needs Python 3.11 and rustfmt. docs/PLAIN_RUST.md says what it does. It refuses, with file and line, what it does not know.
+Needs Python 3.11 and rustfmt. docs/develop/PLAIN_RUST.md says what it does. It refuses, with file and line, what it does not know.
 """
 import argparse
 import os

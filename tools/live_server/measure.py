@@ -2,7 +2,7 @@
 """The tables and the picture of the documents of live_server, by Chromium on this machine.
 
     ./measure.py losses [SECONDS [ROW..]]    the table of losses of README.md, beside calls from Chromium to Chromium; or its rows VP8-5, ..
-    ./measure.py rates [SECONDS]             the bitrates of Chromium by feedback and loss (docs/RTCP.md)
+    ./measure.py rates [SECONDS]             the bitrates of Chromium by feedback and loss (docs/use/FEEDBACK.md)
     ./measure.py shot FILE.webp              the picture of the page in docs/pictures
 
 A call of the tables lasts 20 s, if you name no other time. Run it on a machine with idle cores: of the table of losses a call whose

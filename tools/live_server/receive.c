@@ -69,7 +69,7 @@ static bool begin_transport(peer *it) {
     if (the.feedback != FEEDBACK_TRANSPORT || !it->transport_id) return true;
     cpay_transport_reporter_settings_init(&settings, it->transport_id, it->publisher->ssrc);
     settings.tick_rate = MICROSECONDS;
-    settings.interval = MICROSECONDS / 10; /* with 50 ms and losses the bitrate of Chromium rises slowly (docs/RTCP.md) */
+    settings.interval = MICROSECONDS / 10; /* with 50 ms and losses the bitrate of Chromium rises slowly (docs/use/FEEDBACK.md) */
     return cpay_transport_reporter_new(&it->publisher->transport, &settings, NULL, 0) == CPAY_OK;
 }
 

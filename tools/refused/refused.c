@@ -41,7 +41,7 @@ static void check(cpay_status status) {
     if (status) exit(status == CPAY_OUT_OF_MEMORY ? 3 : 1);
 }
 
-/* A frame of a codec, the MTU that it is cut for, and its payloads as the rules of docs/FORMATS.md have them. */
+/* A frame of a codec, the MTU that it is cut for, and its payloads as the rules of docs/use/FORMATS.md have them. */
 typedef struct {
     const char *name;
     cpay_spec spec;

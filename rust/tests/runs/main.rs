@@ -1,4 +1,4 @@
-//! The worked examples of the buffer, of payloaders and of whole runs, the programs of docs/RATTLE.md, and hostile input.
+//! The worked examples of the buffer, of payloaders and of whole runs, the programs of docs/develop/RATTLE.md, and hostile input.
 //! The test of a module is in the file of that name.
 
 mod asserts;

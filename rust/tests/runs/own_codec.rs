@@ -1,4 +1,4 @@
-//! A custom codec, as in docs/RATTLE.md.
+//! A custom codec, as in docs/develop/RATTLE.md.
 
 use crate::Fail;
 use crate::asserts::assert_bytes;

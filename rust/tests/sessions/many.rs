@@ -183,7 +183,7 @@ fn play(session: &mut Session, ssrc: u32, packets: u16, datagram: impl Fn(u32, u
     }
 }
 
-/// docs/SESSION.md has these figures.
+/// docs/use/SESSION.md has these figures.
 #[test]
 fn memory_of_sessions_and_streams() {
     let (_session, session) =

@@ -1,4 +1,4 @@
-//! A session beside a second writing of its rules (docs/SESSION.md), under random datagrams, polls and ends.
+//! A session beside a second writing of its rules (docs/use/SESSION.md), under random datagrams, polls and ends.
 
 use crate::datagrams::*;
 use codec_payload::feedback::{FeedbackSource, StreamRequests};

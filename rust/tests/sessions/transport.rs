@@ -194,7 +194,7 @@ fn feedback_in_a_compound_packet() -> Result<(), Fail> {
     Ok(())
 }
 
-/// Control information of 24 bytes has few numbers, so there are several packets; all are due at once (docs/RTCP.md).
+/// Control information of 24 bytes has few numbers, so there are several packets; all are due at once (docs/use/FEEDBACK.md).
 #[test]
 fn much_is_split() -> Result<(), Fail> {
     let mut session = session(|settings, _| {

@@ -1,5 +1,5 @@
 //! Reads settings and datagrams from the standard input, receives them, sends samples, and prints the result of each
-//! (docs/DATAGRAMS.md, "The program").
+//! (docs/use/PROGRAM.md, "Datagrams").
 
 mod codecs;
 mod digits;

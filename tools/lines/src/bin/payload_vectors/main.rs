@@ -1,5 +1,5 @@
 //! Reads a codec, samples and steps from the standard input, runs the steps, and prints the sent packets and the released units
-//! (docs/PROGRAM.md). The other files are the proved program as plain Rust.
+//! (docs/use/PROGRAM.md). The other files are the proved program as plain Rust.
 
 // The proved sources compare with each bound.
 #![allow(clippy::manual_range_contains)]
