@@ -7,7 +7,7 @@
  *                    unchanged. Parts must lie in the frame, one after another
  *   frames times     prints the nanoseconds of one cpay_frame_info for each, the minimum of many rounds
  *
- * scripts/media_peers.py compares the output with other readers. */
+ * tests/media/media_peers.py compares the output with other readers. */
 #define _POSIX_C_SOURCE 199309L
 #include "codec_payload.h"
 

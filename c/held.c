@@ -1,6 +1,6 @@
 /* Pushes and pops with a given number of held packets, for a count of instructions: held ORDER HELD. In order: after a gap, a
  * packet arrives and the oldest unit is released. Scattered: a window of packets arrives in a mixed order, and then all units
- * are released. scripts/instructions.sh runs it under callgrind, which counts only inside `measured`. */
+ * are released. tools/measure/instructions.sh runs it under callgrind, which counts only inside `measured`. */
 #include "codec_payload.h"
 
 #include <stdio.h>

@@ -3,7 +3,7 @@
 
   c/inputs.py FOLDER
 
-They are its stored input, the inputs of scripts/program_vectors.py, and two hundred that a fixed generator makes for all codecs,
+They are its stored input, the inputs of tests/vectors/program_vectors.py, and two hundred that a fixed generator makes for all codecs,
 with lost, repeated and late packets. The generator is part of this script, so its numbers are the same everywhere.
 """
 import os

@@ -11,7 +11,7 @@ tables is longer than 128 characters; docs/develop/ARCHITECTURE.md lists the cra
 same everywhere; toolchain.txt has the line of `rt version`, and no page names a kit; each line of figures in
 README.md is in docs/use/PERFORMANCE.md; each picture is shown by a page, is light, and is of today's data; docs/develop/DIFFERENCES.md
 names each theorem of the ported crates; each name in docs/use/GLOSSARY.md is in a source; docs/proof/VERIFICATION.md has the lemma of
-each guarantee and the numbers of scripts/count_lines.sh. Each block of code has a language, which decides its test:
+each guarantee and the numbers of tools/measure/count_lines.sh. Each block of code has a language, which decides its test:
 
   c        compiled; linked and run if the library is built (`make`)
   rust     built by cargo over rust/, and run
@@ -33,12 +33,15 @@ import sys
 import tempfile
 import textwrap
 
-import datagram_vectors
 import mutants
 import pictures as drawn
-import program_vectors
 
 ROOT = os.path.dirname(os.path.dirname(os.path.realpath(__file__)))
+sys.path.append(f"{ROOT}/tests/vectors")
+
+import datagram_vectors  # noqa: E402  (the folder is known only now)
+import program_vectors  # noqa: E402
+
 LIBRARY = f"{ROOT}/c/out"
 WIDTH = 128
 README_LINES = 170
@@ -47,13 +50,13 @@ PICTURE_BYTES = 80_000
 SHOTS = ["live_server.webp"]
 FENCE = re.compile(r"^( *)```(.*)$")
 # Commands of the documents that this script runs, in the root of the repository: they need nothing built, and are quick.
-RUN_HERE = ["scripts/mutants.py --stale", "scripts/check_header.py", "scripts/count_lines.sh", "scripts/documents.py"]
+RUN_HERE = ["scripts/mutants.py --stale", "scripts/check_header.py", "tools/measure/count_lines.sh", "scripts/documents.py"]
 # All other commands: how a command begins, and the file that runs it, with the words in that file.
 RUN_ELSEWHERE = {
     "scripts/test.sh": ("scripts/test.sh", "scripts/test.sh --no-proofs"),
     "rt ci": ("scripts/test.sh", "rt ci"),
     "rt try": ("scripts/documents.py", "begun_crate"),
-    "rt run": ("scripts/process.py", '["rt", "run"]'),
+    "rt run": ("tests/vectors/process.py", '["rt", "run"]'),
     "rt check": ("scripts/mutants.py", '"rt", "check"'),
     "rt new": ("scripts/documents.py", "begun_crate"),
     "rm -rf crates/mine/": ("scripts/documents.py", "begun_crate"),
@@ -63,19 +66,19 @@ RUN_ELSEWHERE = {
     "rt test": ("scripts/documents.py", "rt test"),
     "rt version": ("scripts/documents.py", "rt version"),
     "scripts/bindings.sh": ("scripts/test.sh", "runs scripts/bindings.sh"),
-    "scripts/process.py": ("scripts/rust.sh", "scripts/process.py"),
+    "tests/vectors/process.py": ("scripts/rust.sh", "tests/vectors/process.py"),
     "scripts/try.sh": ("scripts/rust.sh", "scripts/try.sh"),
     "scripts/theorem.py": ("scripts/test.sh", "runs scripts/theorem.py"),
     "scripts/statements.py": ("scripts/test.sh", "runs scripts/statements.py"),
     "scripts/refuse.sh": ("scripts/test.sh", "runs scripts/refuse.sh"),
-    "scripts/allocations.sh": ("scripts/test.sh", "runs scripts/allocations.sh"),
-    "scripts/instructions.sh": ("scripts/test.sh", "runs scripts/instructions.sh"),
-    "scripts/receiving.py": ("scripts/test.sh", "runs scripts/receiving.py"),
+    "tools/measure/allocations.sh": ("scripts/test.sh", "runs tools/measure/allocations.sh"),
+    "tools/measure/instructions.sh": ("scripts/test.sh", "runs tools/measure/instructions.sh"),
+    "tools/measure/receiving.py": ("scripts/test.sh", "runs tools/measure/receiving.py"),
     "scripts/mutants.py": ("scripts/test.sh", "runs scripts/mutants.py --stale"),
     "scripts/mutants.py --missing": ("scripts/documents.py", "mutant_results"),
-    "scripts/bench.sh": ("scripts/allocations.sh", "tools/bench/bench.c"),
+    "tools/measure/bench.sh": ("tools/measure/allocations.sh", "tools/bench/bench.c"),
     "scripts/examples.py": ("scripts/test.sh", "runs scripts/examples.py"),
-    "scripts/chromium_peer.py": ("scripts/test.sh", "runs scripts/chromium_peer.py"),
+    "tools/chromium/chromium_peer.py": ("scripts/test.sh", "runs tools/chromium/chromium_peer.py"),
     "cc -Iinclude examples/": ("scripts/examples.py", "examples/{name}.c"),
     "c/out/gateway": ("scripts/examples.py", '[programs[name, language]]'),
     "c/out/nack": ("scripts/examples.py", '[programs[name, language]]'),
@@ -107,9 +110,9 @@ RUN_ELSEWHERE = {
     "./rtp_record": ("scripts/test.sh", "runs tools/rtp_record/test.sh"),
     "./live_server": ("tools/live_server/test.py", '"live_server"'),
     "make -C ../..": ("scripts/install_test.sh", "make"),
-    "cd crates/": ("scripts/process.py", '["rt", "run"]'),
-    "cd tools/lines": ("scripts/process.py", "cwd=LINES"),
-    "cargo run --quiet --bin payload_": ("scripts/process.py", "stored(program, name)"),
+    "cd crates/": ("tests/vectors/process.py", '["rt", "run"]'),
+    "cd tools/lines": ("tests/vectors/process.py", "cwd=LINES"),
+    "cargo run --quiet --bin payload_": ("tests/vectors/process.py", "stored(program, name)"),
 }
 
 
@@ -315,16 +318,16 @@ def mutant_results():
 
 
 def counted_lines():
-    """docs/proof/VERIFICATION.md has the numbers that scripts/count_lines.sh prints, to a fifth."""
+    """docs/proof/VERIFICATION.md has the numbers that tools/measure/count_lines.sh prints, to a fifth."""
     page = read("docs/proof/VERIFICATION.md")
     page = page[page.index("## How much there is"):page.index("## How statements are kept honest")]
     numbers = [int(it.replace(",", "")) for it in re.findall(r"\b\d+(?:,\d{3})*\b", page)]
-    printed = subprocess.run([f"{ROOT}/scripts/count_lines.sh"], capture_output=True, text=True, check=True).stdout
+    printed = subprocess.run([f"{ROOT}/tools/measure/count_lines.sh"], capture_output=True, text=True, check=True).stdout
     found = {name: int(lines) for name, lines in re.findall(r"^(.*): (\d+)$", printed, re.M)}
     found["C: calls.c"] += found.pop("C: memory.c")
     for name, count in found.items():
         if not any(abs(it - count) * 5 <= count for it in numbers):
-            yield f"docs/proof/VERIFICATION.md has no number near {count} ({name} of scripts/count_lines.sh)"
+            yield f"docs/proof/VERIFICATION.md has no number near {count} ({name} of tools/measure/count_lines.sh)"
 
 
 def ran(words, **named):

@@ -30,7 +30,7 @@ ROOT = os.path.dirname(os.path.dirname(os.path.realpath(__file__)))
 ARCHIVE = f"{ROOT}/c/out/libcodec_payload.a"
 # Examples that receive nothing.
 RECEIVE_NOTHING = {"sdp"}
-# Programs that need a peer of their own, which scripts/chromium_peer.py is.
+# Programs that need a peer of their own, which tools/chromium/chromium_peer.py is.
 NEED_A_PEER = {"port_peer"}
 
 RUST = """

@@ -4,7 +4,7 @@
   scripts/pictures.py            all of them
   scripts/pictures.py NAME..     those named
 
-  units_under_loss   packets 10 to 15 of three units, by the row UNDER_LOSS of scripts/program_vectors.py, which scripts/process.py
+  units_under_loss   packets 10 to 15 of three units, by the row UNDER_LOSS of tests/vectors/program_vectors.py, which tests/vectors/process.py
                      runs through the program payload_vectors
   crates             the crates in their layers, by crates.txt: fails where a crate uses a crate of a higher layer
   over_a_copy        time over that of a copy, a dot a case, by the tables of docs/use/PERFORMANCE.md
@@ -28,9 +28,11 @@ import re
 import sys
 import types
 
-import program_vectors
-
 ROOT = os.path.dirname(os.path.dirname(os.path.realpath(__file__)))
+sys.path.append(f"{ROOT}/tests/vectors")
+
+import program_vectors  # noqa: E402  (the folder is known only now)
+
 FOLDER = f"{ROOT}/docs/pictures"
 # The colours on a light page, and for each the one on a dark page.
 INK, FAINT, BLUE, ORANGE, GREEN, RED = "#3a3f45", "#6e757d", "#1f6fb2", "#a85a00", "#2c7a2c", "#c0342c"

@@ -10,9 +10,9 @@
 # - The eraser refuses each plant of tools/eraser/plants.py.
 # - The package builds by itself, and each example ends well; docs/use/LIMITS.md and docs/use/FEEDBACK.md have the tables that examples print.
 # - No pop of a buffer takes more than 2 microseconds if packets that are no frame lie before the next frame (tools/speed).
-# - With valgrind: no datagram of a peer that chooses its numbers takes more instructions than its bound (scripts/rust_speed.py).
+# - With valgrind: no datagram of a peer that chooses its numbers takes more instructions than its bound (tools/measure/rust_speed.py).
 # - The programs over lines, tools/lines: rustfmt and clippy have nothing to say, and each test vector gets its answer
-#   (scripts/process.py).
+#   (tests/vectors/process.py).
 # - With clang's libFuzzer: two seconds of each fuzz target (scripts/fuzz.sh). With Debian's packages of crates: rust-extras/test.sh.
 #
 # The last line says what passed; the status is 0 if all did.
@@ -66,11 +66,11 @@ done
 step cargo run --quiet --release --manifest-path "$root/tools/speed/Cargo.toml" --bin orders -- spike
 longest=$(cat "$work/log")
 if command -v valgrind >/dev/null; then
-    step "$root/scripts/rust_speed.py" --hostile
+    step "$root/tools/measure/rust_speed.py" --hostile
 fi
 step cargo fmt --check --manifest-path "$root/tools/lines/Cargo.toml"
 step cargo clippy --quiet --all-targets --manifest-path "$root/tools/lines/Cargo.toml" -- -D warnings
-step "$root/scripts/process.py"
+step "$root/tests/vectors/process.py"
 programs="programs over lines: $(tail -n 1 "$work/log")"
 if [ "${1:-}" != quick ]; then
     step cargo package --quiet --allow-dirty

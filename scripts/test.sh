@@ -110,25 +110,25 @@ if [ "${1:-}" != --no-proofs ]; then
     passed=$((early_passed + $1))
     failed=$((early_failed + $2))
 fi
-runs scripts/process.py --proved
+runs tests/vectors/process.py --proved
 runs scripts/refuse.sh
-runs scripts/allocations.sh
+runs tools/measure/allocations.sh
 runs scripts/bindings.sh
 runs scripts/documents.py
 runs scripts/examples.py
-runs scripts/forwarding.py
+runs tools/measure/forwarding.py
 runs scripts/hostile.py
-runs scripts/instructions.sh
-runs scripts/receiving.py
+runs tools/measure/instructions.sh
+runs tools/measure/receiving.py
 if command -v ffmpeg >/dev/null; then
-    runs scripts/media_peers.py
+    runs tests/media/media_peers.py
 else
-    echo "skipped scripts/media_peers.py: there is no ffmpeg"
+    echo "skipped tests/media/media_peers.py: there is no ffmpeg"
 fi
 if command -v chromium >/dev/null; then
-    runs scripts/chromium_peer.py
+    runs tools/chromium/chromium_peer.py
 else
-    echo "skipped scripts/chromium_peer.py: there is no chromium"
+    echo "skipped tools/chromium/chromium_peer.py: there is no chromium"
 fi
 if pkg-config --exists libpcap libavformat libavcodec libavutil && command -v ffmpeg >/dev/null; then
     runs tools/rtp_record/test.sh

@@ -1,7 +1,7 @@
 //! The receiving side of a call: all streams of a port, by the session description of the sender. The session requests missing
 //! packets and keyframes, and reports losses each second and arrivals each 100 ms; this program sends its packets, and prints a line for
 //! each event.
-//! `scripts/chromium_peer.py` runs it against Chromium:
+//! `tools/chromium/chromium_peer.py` runs it against Chromium:
 //!
 //! ```sh
 //! cargo run --example port_peer OFFER ADDRESS [INTERVAL]
@@ -148,7 +148,7 @@ fn run(offer: &str, address: &str, interval: Option<u64>) -> Result<(), Failure>
 fn main() -> Result<(), Failure> {
     let words: Vec<String> = std::env::args().skip(1).collect();
     let [offer, address, more @ ..] = &words[..] else {
-        println!("port_peer OFFER ADDRESS [INTERVAL]: see scripts/chromium_peer.py");
+        println!("port_peer OFFER ADDRESS [INTERVAL]: see tools/chromium/chromium_peer.py");
         return Ok(());
     };
     let interval = more.first().map(|word| word.parse()).transpose()?;

@@ -1,6 +1,6 @@
 /* Times calls of the library for C, whose code is proved: bench CASE TIMES REPEATS MTU does the work of that case TIMES times in a
  * row, REPEATS times, and prints the case and the nanoseconds that one frame took, in the least of the repeats and in the median,
- * separated by tabs. Without arguments it prints the names of all cases. scripts/bench.sh and scripts/allocations.sh run it. */
+ * separated by tabs. Without arguments it prints the names of all cases. tools/measure/bench.sh and tools/measure/allocations.sh run it. */
 #define _POSIX_C_SOURCE 199309L
 #include "codec_payload.h"
 

@@ -1,6 +1,6 @@
 /* Receives packets of Opus or VP8 while a number of packets is held: receive CALL KIND HELD. Each of ROUNDS packets arrives, and
  * then the units that are complete leave. KIND: `opus` (120 bytes, in order), `ranges` (the same, ranges of 32 in reverse order),
- * `vp8` (1,200 bytes, 17 packets a frame) or `ring` (packets of Opus through a ring that keeps no promises). scripts/receiving.py
+ * `vp8` (1,200 bytes, 17 packets a frame) or `ring` (packets of Opus through a ring that keeps no promises). tools/measure/receiving.py
  * runs it under callgrind, which counts only inside the function of CALL: `receive`, `pop`, `push`, `pop_buffer`, `put` or
  * `take`. With CALL `time` it prints the nanoseconds of a packet, as the least of several runs, with `time-buffer` those of a buffer,
  * and with `time-cold` those of 10,000 receivers in turn. A unit leaves after each packet that ends a frame. */

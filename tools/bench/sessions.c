@@ -4,7 +4,7 @@
  *   sessions call SDP PCAP     a captured call, each datagram at its time, by the session description of its sender; requests are
  *                              made, and go nowhere
  *
- * It prints how many datagrams the function `counted` had, inside which scripts/receiving.py counts instructions by callgrind. */
+ * It prints how many datagrams the function `counted` had, inside which tools/measure/receiving.py counts instructions by callgrind. */
 #include "codec_payload.h"
 #include "codec_payload_sdp.h"
 

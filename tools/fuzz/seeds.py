@@ -10,7 +10,7 @@ import re
 import sys
 
 ROOT = os.path.dirname(os.path.dirname(os.path.dirname(os.path.realpath(__file__))))
-sys.path.insert(0, f"{ROOT}/scripts")
+sys.path.insert(0, f"{ROOT}/tests/vectors")
 
 import datagram_vectors  # noqa: E402  (the folder is known only now)
 import program_vectors  # noqa: E402
@@ -40,7 +40,7 @@ def words(text, name):
 
 
 def captured():
-    with open(f"{ROOT}/scripts/captured_packets.txt", encoding="utf-8") as it:
+    with open(f"{ROOT}/tests/vectors/captured_packets.txt", encoding="utf-8") as it:
         return [bytes.fromhex(field) for field in re.findall(r"\b(?:[0-9a-f]{2}){12,}\b", it.read())]
 
 

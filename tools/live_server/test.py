@@ -29,7 +29,7 @@ import time
 from browsers import Chromium, Failed, Firefox, firefox, require, wait_for
 from servers import HERE, Server, call, free_port, publisher_of, viewer_of
 
-sys.path.append(str(HERE.parent.parent / "scripts"))
+sys.path.append(str(HERE.parent / "chromium"))
 
 from peer_relay import STUN_COOKIE, attribute, with_length  # noqa: E402  (the folder is known only now)
 

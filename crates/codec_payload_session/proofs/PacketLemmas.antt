@@ -173,8 +173,12 @@ is_report f blocks a b c all none groups name few named =
     let are : AreUnpadded (report_packets f groups.0) c =
     subst (λ (l : List ℕ). AreUnpadded (report_packets f groups.0) l) (sym (written.2 ∙ ap (λ (l : List ℕ). l ++ written.0) none)) written.1 in
     record {
-      fits = omega (arith, reports, named,
-          fits_either (length groups.0) (length blocks) (name_length (min 255 (length f.cname.items))) f.max_report (few_groups groups.0 blocks groups.1) few (within_or_more (length blocks)));
+      fits = omega (
+        arith,
+        reports,
+        named,
+        fits_either (length groups.0) (length blocks) (name_length (min 255 (length f.cname.items))) f.max_report (few_groups groups.0 blocks groups.1) few (within_or_more (length blocks)),
+      );
       groups = groups.0;
       are_groups = groups.1;
       unpadded = are;

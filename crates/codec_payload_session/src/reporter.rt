@@ -267,7 +267,11 @@ fn name_length(len: usize) -> usize
     requires { len ≤ 255 }
     ensures { result ≡ name_length len }
 {
-    if len == 0 { 0 } else { 12 + 4 * ((len + 2) / 4) }
+    if len == 0 {
+        0
+    } else {
+        12 + 4 * ((len + 2) / 4)
+    }
 }
 
 /// Returns how many blocks fit into so many bytes, in reports of up to 31 blocks.
@@ -324,7 +328,11 @@ fn append_block(
 fn room_after(is_chosen: bool, room: usize) -> usize
     ensures { result ≡ room_after is_chosen room }
 {
-    if is_chosen { room.saturating_sub(1) } else { room }
+    if is_chosen {
+        room.saturating_sub(1)
+    } else {
+        room
+    }
 }
 
 /// Starts the fraction of the next report of each stream here whose turn it is.

@@ -1,5 +1,5 @@
 #!/bin/sh
-# Makes scripts/captured_packets.txt: the first packets that GStreamer, ffmpeg and Chromium send over loopback. Each has the
+# Makes tests/vectors/captured_packets.txt: the first packets that GStreamer, ffmpeg and Chromium send over loopback. Each has the
 # fields that tshark reads from it, in the form in which the program payload_datagrams prints the parts of a packet.
 #
 # Needs gst-launch-1.0 (gstreamer1.0-tools and the plugins base, good and bad), python3-gi and gir1.2-gstreamer-1.0, ffmpeg,

@@ -4,15 +4,15 @@
 # packets allocates in steady state. rust/tests/steady_state.rs shows the same for `packetize_into`, `wrap_into`, `pop_into` and
 # queries.
 #
-#   scripts/allocations.sh           builds tools/bench and counts in all its cases
-#   scripts/allocations.sh WORD      only in those with WORD in their names
+#   tools/measure/allocations.sh           builds tools/bench and counts in all its cases
+#   tools/measure/allocations.sh WORD      only in those with WORD in their names
 #
 # A shim counts calls of malloc, calloc, realloc and similar functions. A case runs with 100 frames per repeat and with 300, and
 # the difference excludes the allocations of the program. For memory that stays, the bytes allocated and not released are read
 # where the clock is read, after the work, less those of a case without a stream. Needs make and a C compiler, $CC or cc, for a
 # C library that supports LD_PRELOAD, and about two minutes.
 set -eu
-root=$(cd "$(dirname "$0")/.." && pwd)
+root=$(cd "$(dirname "$0")/../.." && pwd)
 mtu=${MTU:-1200} word=${1:-}
 work=$(mktemp -d)
 trap 'rm -rf "$work"' EXIT

@@ -2,7 +2,7 @@
 # Prints how much there is to read: lines without comments and empty lines. First code, definitions and proofs of the library's
 # crates; then the files that a user trusts in addition to the proof, in plain Rust and in C; last the lines of the assembly.
 set -eu
-cd "$(dirname "$0")/.."
+cd "$(dirname "$0")/../.."
 
 # lines NAME COMMENT FILE..: prints the name and the lines of the files; COMMENT is a pattern of comment lines
 lines() {

@@ -1,8 +1,8 @@
 #!/usr/bin/env python3
 """Which bitrate Chromium gives its encoder of VP8, beside the bitrate that libwebrtc's own receiver makes it give.
 
-    scripts/chromium_rates.py                      a row for each loss: 0, 2 and 5 %
-    scripts/chromium_rates.py --losses 5 --runs 3 --intervals 50,100
+    tools/chromium/chromium_rates.py                      a row for each loss: 0, 2 and 5 %
+    tools/chromium/chromium_rates.py --losses 5 --runs 3 --intervals 50,100
 
 For each loss a headless Chromium sends for `--seconds` to a session of this library (rust/examples/port_peer.rs), which reports the
 arrivals of its transport, and then to a second peer connection of its page. Both go through the same network: the same losses, delay
@@ -134,7 +134,7 @@ def handler_of(call):
         protocol_version = "HTTP/1.1"
 
         def __init__(self, *words):
-            super().__init__(*words, directory=ROOT / "scripts")
+            super().__init__(*words, directory=ROOT / "tools/chromium")
 
         def do_POST(self):
             text = self.rfile.read(int(self.headers["Content-Length"])).decode()

@@ -1,7 +1,7 @@
 """The network between a browser and a program that receives RTP: answers to session descriptions, ICE, and a lossy relay.
 
 The browser sees an ICE-lite agent (RFC 8445, section 2.5) on a port of 127.0.0.1. The relay answers its connectivity checks, and
-passes RTP and RTCP both ways, late and with losses. scripts/chromium_peer.py uses it.
+passes RTP and RTCP both ways, late and with losses. tools/chromium/chromium_peer.py uses it.
 """
 
 import binascii

@@ -1,10 +1,10 @@
 #!/usr/bin/env python3
 """Prints what a received packet takes through the library for C, as `make` builds it: instructions by callgrind, and times.
 
-  scripts/receiving.py           instructions of a packet, with 64 held, and with 4,096; of a datagram of a session, with its polls.
+  tools/measure/receiving.py           instructions of a packet, with 64 held, and with 4,096; of a datagram of a session, with its polls.
                                  Fails if a packet of Opus in order, with 64 held, takes more than BOUND in a receiver, or a datagram
                                  of a session more than its bound
-  scripts/receiving.py --times   nanoseconds too, over a ring in C that makes no promises, and of 10,000 receivers in turn
+  tools/measure/receiving.py --times   nanoseconds too, over a ring in C that makes no promises, and of 10,000 receivers in turn
 
 The programs are tools/bench/receive.c and sessions.c. Needs make, a C compiler, $CC or cc, and valgrind. Times depend on the machine and on what
 else runs on it; instructions do not.
@@ -15,7 +15,7 @@ import subprocess
 import sys
 import tempfile
 
-ROOT = os.path.dirname(os.path.dirname(os.path.realpath(__file__)))
+ROOT = os.path.dirname(os.path.dirname(os.path.dirname(os.path.realpath(__file__))))
 ROUNDS = 2176
 BOUND = 1_970
 # What each row calls, and the functions that are counted for it.

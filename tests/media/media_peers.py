@@ -1,11 +1,11 @@
 #!/usr/bin/env python3
 """Compares the facts that the library for C reads from frames with those of other readers.
 
-    scripts/media_peers.py             all comparisons; the last line counts them
-    scripts/media_peers.py rows        also writes some of the other readers' facts to c/frames.txt, which c/check.sh reads
-    scripts/media_peers.py times       the nanoseconds of one cpay_frame_info for each type of frame
+    tests/media/media_peers.py             all comparisons; the last line counts them
+    tests/media/media_peers.py rows        also writes some of the other readers' facts to c/frames.txt, which c/check.sh reads
+    tests/media/media_peers.py times       the nanoseconds of one cpay_frame_info for each type of frame
 
-The frames come from encoders (scripts/media_frames.sh); headers of VP9 and AV1 are made field by field at random; and there are
+The frames come from encoders (tests/media/media_frames.sh); headers of VP9 and AV1 are made field by field at random; and there are
 hostile ones: beginnings, all strings of one and two bytes, and frames with a byte changed. The readers are ffmpeg's bitstream filter
 `trace_headers` (VP9, AV1), ffprobe, ffmpeg's muxer of MP4 (av1C), libvpx (VP8) and libopus. If one of them refuses a frame that
 the standard allows, it is left out. c/frames.c queries the library, with and without the sanitizers.
@@ -26,7 +26,7 @@ import tempfile
 
 from media_made import av1_unit, vp9_frame
 
-ROOT = pathlib.Path(__file__).resolve().parent.parent
+ROOT = pathlib.Path(__file__).resolve().parent.parent.parent
 OPUS, AMR_WB, VP8, VP9, AV1 = 0, 5, 9, 10, 11
 OK, NONE, TOO_SHORT, MARKER, RESERVED, SIZES = 0, 32, 38, 39, 40, 41
 FAULTS = (TOO_SHORT, MARKER, RESERVED, SIZES)
@@ -437,7 +437,7 @@ def main():
     random.seed(29)
     with tempfile.TemporaryDirectory() as name:
         folder = pathlib.Path(name)
-        subprocess.run(["sh", ROOT / "scripts/media_frames.sh", folder], check=True, stdout=subprocess.DEVNULL)
+        subprocess.run(["sh", ROOT / "tests/media/media_frames.sh", folder], check=True, stdout=subprocess.DEVNULL)
         program = build(folder, "frames", [])
         if sys.argv[1:] == ["times"]:
             return times(program, folder)

@@ -1,9 +1,9 @@
 #!/bin/sh
 # Makes frames by encoders in the given folder: the files; each frame as a line of hexadecimal digits beside its file; and the
 # facts that other tools read from them, in traces.txt and opus.txt. The frames in the tests of codec_payload_media come from
-# these files, and scripts/media_peers.py reads them.
+# these files, and tests/media/media_peers.py reads them.
 #
-#     scripts/media_frames.sh FOLDER
+#     tests/media/media_frames.sh FOLDER
 set -eu
 out=${1:?a folder}
 mkdir -p "$out"

@@ -2,8 +2,8 @@
 """Runs the programs over lines as processes: the stored input of each, every test vector of program_vectors.py and
 datagram_vectors.py on a stack of 64 kilobytes, and for payload_vectors streams that fail and a limit of memory.
 
-  scripts/process.py                   payload_vectors and payload_datagrams of tools/lines, in plain Rust. Needs cargo
-  scripts/process.py --proved [COUNT]  payload_vectors as rt proves and builds it, also beside that of tools/lines on COUNT
+  tests/vectors/process.py                   payload_vectors and payload_datagrams of tools/lines, in plain Rust. Needs cargo
+  tests/vectors/process.py --proved [COUNT]  payload_vectors as rt proves and builds it, also beside that of tools/lines on COUNT
                                        generated scripts, 1,000 by default. Needs rt and cargo
 
 The last line says how many runs were right; the status is 0 if all were.
@@ -21,7 +21,7 @@ import datagram_vectors
 import program_vectors
 from program_vectors import FIRST_OUTPUT, FIRST_RUN, OPUS
 
-ROOT = os.path.dirname(os.path.dirname(os.path.realpath(__file__)))
+ROOT = os.path.dirname(os.path.dirname(os.path.dirname(os.path.realpath(__file__))))
 LINES = os.path.join(ROOT, "tools", "lines")
 CRATE = os.path.join(ROOT, "crates", "payload_vectors")
 # The input and the output of each program.

@@ -1,7 +1,7 @@
 #!/usr/bin/env python3
 """What a viewer of a forwarded stream sees, by loss: the table of docs/use/FORWARDING.md.
 
-  scripts/forwarding.py
+  tools/measure/forwarding.py
 
 It runs rust/examples/sfu.rs, a simulated publisher, network and viewer; its figures are the same each time, and the page must have
 them. Where Chromium, ffmpeg and the libraries of tools/live_server are installed, Chromium also publishes to live_server and watches
@@ -17,7 +17,7 @@ import shutil
 import subprocess
 import sys
 
-ROOT = os.path.dirname(os.path.dirname(os.path.realpath(__file__)))
+ROOT = os.path.dirname(os.path.dirname(os.path.dirname(os.path.realpath(__file__))))
 SERVER = f"{ROOT}/tools/live_server"
 LOSSES = (0, 2, 5)
 SECONDS = 12

@@ -1,15 +1,15 @@
 #!/bin/bash
 # Times the library's calls beside copying the same payloads into fresh Vecs, and prints tables of nanoseconds and ratios.
 #
-#   scripts/bench.sh                 Builds tools/bench over the proved library for C and runs all its cases.
-#   scripts/bench.sh OTHER [WORD]    Compares with another build of tools/bench, such as an older one. WORD selects cases by name.
+#   tools/measure/bench.sh                 Builds tools/bench over the proved library for C and runs all its cases.
+#   tools/measure/bench.sh OTHER [WORD]    Compares with another build of tools/bench, such as an older one. WORD selects cases by name.
 #
 # Each number is the minimum of ROUNDS rounds of REPEATS repeats; both builds take turns. A ratio to a copy compares a call with
 # allocating the memory of the payloads and copying their bytes. A ratio to the buffer compares a receiver with a push and a pop
 # of its buffer. Needs make, a C compiler, $CC or cc, and about five minutes. Figures up to 2026-11-24 come from a program in
 # Rattle, without the boundary to C.
 set -eu
-root=$(cd "$(dirname "$0")/.." && pwd)
+root=$(cd "$(dirname "$0")/../.." && pwd)
 rounds=${ROUNDS:-5} repeats=${REPEATS:-20} mtu=${MTU:-1200}
 other=${1:-} word=${2:-}
 work=$(mktemp -d)

@@ -1,12 +1,12 @@
 #!/usr/bin/env python3
 """Chromium sends to the library over a network that loses packets, and the released units are compared with its encoder's frames.
 
-    scripts/chromium_peer.py                  all calls; the last line counts them
-    scripts/chromium_peer.py vp9 restart      these calls
-    scripts/chromium_peer.py --loss 20 --round-trip 150 --seconds 20 vp8
+    tools/chromium/chromium_peer.py                  all calls; the last line counts them
+    tools/chromium/chromium_peer.py vp9 restart      these calls
+    tools/chromium/chromium_peer.py --loss 20 --round-trip 150 --seconds 20 vp8
 
-For each call a headless Chromium without encryption sends its fake camera and microphone (scripts/chromium_peer.html) to
-rust/examples/port_peer.rs on 127.0.0.1. scripts/peer_relay.py is the network between them, and answers for ICE. The program
+For each call a headless Chromium without encryption sends its fake camera and microphone (tools/chromium/chromium_peer.html) to
+rust/examples/port_peer.rs on 127.0.0.1. tools/chromium/peer_relay.py is the network between them, and answers for ICE. The program
 requests missing packets and keyframes, which Chromium answers. A call fails unless
 
 - each released unit is the encoder's frame of its SSRC and RTP time, byte for byte; of AV1 without temporal delimiters, and each
@@ -42,7 +42,7 @@ import time
 
 from peer_relay import Network, Relay, Restart, answer_to, sections_of
 
-ROOT = pathlib.Path(__file__).resolve().parent.parent
+ROOT = pathlib.Path(__file__).resolve().parent.parent.parent
 sys.path += [str(ROOT / "tools/rtp_record/live"), str(ROOT / "tools/rtp_record/tests")]
 
 from chromium import without_delimiters  # noqa: E402  (the folders are known only now)
@@ -192,7 +192,7 @@ def server_of(call):
         protocol_version = "HTTP/1.1"
 
         def __init__(self, *words):
-            super().__init__(*words, directory=ROOT / "scripts")
+            super().__init__(*words, directory=ROOT / "tools/chromium")
 
         def do_POST(self):
             text = self.rfile.read(int(self.headers["Content-Length"])).decode()

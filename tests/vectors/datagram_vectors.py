@@ -1,7 +1,7 @@
 """Inputs of the program payload_datagrams, each with its output and status.
 
 The outputs are worked out by RFC 3550, RFC 2198, RFC 4588 and the rules in docs/use/DATAGRAMS.md, by hand or by the few lines of Python
-here that follow the RFCs. scripts/process.py runs them through the program.
+here that follow the RFCs. tests/vectors/process.py runs them through the program.
 """
 import os
 import struct
@@ -499,8 +499,8 @@ BAD = (
 
 
 def captured():
-    """The packets of real senders, by their names, with what tshark tells of each: scripts/captured_packets.txt, made by
-    scripts/capture.sh."""
+    """The packets of real senders, by their names, with what tshark tells of each: tests/vectors/captured_packets.txt, made by
+    tests/vectors/capture.sh."""
     path = os.path.join(os.path.dirname(os.path.realpath(__file__)), "captured_packets.txt")
     senders = {}
     with open(path, encoding="utf-8") as lines:

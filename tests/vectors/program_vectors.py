@@ -1,6 +1,6 @@
 """Inputs of the program payload_vectors, each with its output and status.
 
-The outputs are worked out by the RFCs of the formats and of the buffer (docs/use/FORMATS.md, BUFFER.md). scripts/process.py runs them
+The outputs are worked out by the RFCs of the formats and of the buffer (docs/use/FORMATS.md, BUFFER.md). tests/vectors/process.py runs them
 through the program, and c/inputs.py gives the same inputs to the library for C.
 """
 from typing import NamedTuple

@@ -1,12 +1,12 @@
 #!/usr/bin/env python3
 """Prints what calls of rust/ take: instructions by callgrind, and times as ratios to a copy of the same frame.
 
-  scripts/rust_speed.py [--fallible]
-  scripts/rust_speed.py [--fallible] --sessions
-  scripts/rust_speed.py [--fallible] --orders
-  scripts/rust_speed.py [--fallible] --buffer
-  scripts/rust_speed.py [--fallible] --receiver
-  scripts/rust_speed.py [--fallible] --hostile
+  tools/measure/rust_speed.py [--fallible]
+  tools/measure/rust_speed.py [--fallible] --sessions
+  tools/measure/rust_speed.py [--fallible] --orders
+  tools/measure/rust_speed.py [--fallible] --buffer
+  tools/measure/rust_speed.py [--fallible] --receiver
+  tools/measure/rust_speed.py [--fallible] --hostile
 
 With --buffer it prints the instructions of a push and a pop (tools/speed/src/bin/buffer.rs), with --receiver those of a datagram in a
 receiver. With --sessions it prints what a datagram takes in a session beside a receiver alone (tools/speed/src/bin/session.rs). With
@@ -22,7 +22,7 @@ import subprocess
 import sys
 import tempfile
 
-ROOT = os.path.dirname(os.path.dirname(os.path.realpath(__file__)))
+ROOT = os.path.dirname(os.path.dirname(os.path.dirname(os.path.realpath(__file__))))
 SPEED = f"{ROOT}/tools/speed"
 CASES = [("opus", 120), ("VP8", 1_000), ("VP8", 20_000), ("VP9", 1_000), ("VP9", 20_000), ("AV1", 1_000), ("AV1", 20_000)]
 CALLS = ["packetize", "packetize_into", "depacketize"]

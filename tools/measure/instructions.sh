@@ -2,13 +2,13 @@
 # Counts the instructions of a push and a pop while 64 and 4,096 packets are held. Fails if they grow as if each call visited
 # all held packets.
 #
-#   scripts/instructions.sh    over the library as `make` builds it
+#   tools/measure/instructions.sh    over the library as `make` builds it
 #
 # In order a push and a pop take the same at any number held. In a mixed order the packets above a new one move up, 8 or 16
 # bytes per packet, as by memmove; a search through all packets would take about four more instructions per packet. Needs
 # valgrind and a C compiler, $CC or cc. The last line says what passed.
 set -eu
-root=$(cd "$(dirname "$0")/.." && pwd)
+root=$(cd "$(dirname "$0")/../.." && pwd)
 library=$root/c/out/libcodec_payload.a
 work=$(mktemp -d)
 trap 'rm -rf "$work"' EXIT
