@@ -1,13 +1,13 @@
 -- Packets that are appended one after another, and how many numbers are followed.
-use Rattle.std.proofs.Common.{◌≡◌, ◌≤◌, ◌∙◌, ℕ, suc, ◌+◌, ◌==◌, List, [], ◌∷◌, ◌++◌, length, map, filter, Bool, true, false, cond, Some, ap, refl, sym, subst, arith, append_assoc}
+use Rattle.std.proofs.Common.{◌≡◌, ◌≤◌, ◌∙◌, ℕ, suc, ◌+◌, ◌==◌, List, [], ◌∷◌, ◌++◌, length, map, filter, Bool, true, false, cond, Some, Result, Ok, Err, OnOk, ap, refl, sym, subst, arith, append_assoc}
 use Rattle.std.proofs.lemmas.Bool.Decides.{nat_tests}
 use Rattle.std.proofs.lemmas.List.{append-nil}
-use Rattle.codec_payload_rtcp.specs.RtcpPackets.{Packet}
-use Rattle.codec_payload_rtcp.specs.RtcpWriting.{Appends, AreUnpadded}
+use Rattle.codec_payload_rtcp.specs.RtcpPackets.{Packet, source_description}
+use Rattle.codec_payload_rtcp.specs.RtcpWriting.{Appends, AreUnpadded, cname_chunk}
 use Rattle.codec_payload_rtcp.specs.NackNumbers.{Packs, numbers_in}
 use Rattle.codec_payload_feedback_requests.specs.NackSchedule.{Schedule, due_numbers, followed, is_due, low_bits}
 use Rattle.codec_payload_feedback_requests.specs.declared.nack.PendingRequest.{PendingRequest}
-use Rattle.codec_payload_feedback.specs.Feedback.{AppendsAll, AppendsNack, Bounded, IsFeedback, Source, description_part, has_any, keyframe_part, nack_by, report_part}
+use Rattle.codec_payload_feedback.specs.Feedback.{AppendsAll, AppendsNack, Bounded, IsFeedback, Source, cname_by, cname_if, description_part, has_any, keyframe_part, nack_by, report_part}
 
 -- ---- packets
 
@@ -81,3 +81,17 @@ all_three s p a b c d none report cname feedback =
     let three : AppendsAll (report_part s ++ (description_part s ++ p ∷ [])) [] d =
     both (report_part s) (description_part s ++ p ∷ []) [] b d (subst (λ (l : List ℕ). AppendsAll (report_part s) l b) none report) (both (description_part s) (p ∷ []) b c d cname (one p c d feedback)) in
     subst (λ (l : List ℕ). AreUnpadded (report_part s ++ (description_part s ++ p ∷ [])) l) (sym three.2) three.1
+
+-- ---- the description of a source
+
+named : (ssrc : ℕ) (name : List ℕ) → 1 ≤ length name → cname_by ssrc name ≡ source_description (cname_chunk ssrc name ∷ []) ∷ []
+named ssrc [] some = absurd (omega (arith, some))
+named ssrc (c ∷ cs) some = refl
+
+pub described : {X E : Type 0} (result : Result X E) (s : Source) (ssrc : ℕ) (name a b : List ℕ) → s.has_report ≡ true → s.ssrc ≡ ssrc → s.cname ≡ name → 1 ≤ length name
+    → OnOk result (Appends a b (source_description (cname_chunk ssrc name ∷ []))) → OnOk result (AppendsAll (description_part s) a b)
+described (Ok x) s ssrc name a b report from is some got =
+    let packets : description_part s ≡ source_description (cname_chunk ssrc name ∷ []) ∷ [] =
+    ap (λ (r : Bool). cname_if r s) report ∙ ap (λ (n : ℕ). cname_by n s.cname) from ∙ ap (λ (n : List ℕ). cname_by ssrc n) is ∙ named ssrc name some in
+    subst (λ (ps : List Packet). AppendsAll ps a b) (sym packets) (one (source_description (cname_chunk ssrc name ∷ [])) a b got)
+described (Err e) s ssrc name a b report from is some got = tt

@@ -2,10 +2,10 @@
 use Rattle.std.proofs.Common.{◌≡◌, ◌<◌, ◌≤◌, ◌∙◌, ◌⊎◌, inl, inr, ℕ, suc, max, min, ◌+◌, ◌-◌, ◌*◌, ◌/◌, ◌%◌, List, [], ◌∷◌, ◌++◌, length, map, true, Result, Ok, Err, OnOk, ap, refl, sym, subst, arith, append_assoc, length-append}
 use Rattle.std.proofs.lemmas.Bool.{cases_lt}
 use Rattle.std.proofs.lemmas.List.{append-nil, length-take, map-append}
-use Rattle.codec_payload_feedback.specs.Feedback.{AppendsAll, cname_part}
+use Rattle.codec_payload_feedback.specs.Feedback.{AppendsAll, cname_by, cname_part}
 use Rattle.codec_payload_rtcp.specs.RtcpItems.{block_bytes}
-use Rattle.codec_payload_rtcp.specs.RtcpPackets.{IsCompound, IsPacket, Packet}
-use Rattle.codec_payload_rtcp.specs.RtcpWriting.{Appends, AreCompound, AreUnpadded, cname_bytes, ending_zeros}
+use Rattle.codec_payload_rtcp.specs.RtcpPackets.{IsCompound, IsPacket, Packet, source_description}
+use Rattle.codec_payload_rtcp.specs.RtcpWriting.{Appends, AreCompound, AreUnpadded, cname_bytes, cname_chunk, ending_zeros}
 use Rattle.codec_payload_rtcp.specs.declared.items.ReportBlock.{ReportBlock}
 use Rattle.codec_payload_session.specs.Requests.{source_for}
 use Rattle.codec_payload_session.specs.Reporting.{AppendsGroups, AreGroups, IsReport, blocks_within, bytes_of, most_blocks, name_length, report_of_group, report_packets}
@@ -84,7 +84,7 @@ group_length : (ssrc : ℕ) (g front : List ℕ) → IsPacket 0 front (report_of
 group_length ssrc g front is =
     omega (arith, ap (λ (l : List ℕ). length l) is.is, length-append is.body is.tail, ap (λ (l : List ℕ). length l) is.is_body, ap (λ (l : List ℕ). length l) is.is_padding, length-append g [])
 
-total : List (List ℕ) → ℕ
+abbrev total : List (List ℕ) → ℕ
 total [] = 0
 total (g ∷ gs) = length g + total gs
 
@@ -99,7 +99,7 @@ total_is (g ∷ []) blocks are = omega (arith, ap (λ (l : List ℕ). length l) 
 total_is (g ∷ h ∷ gs) blocks are = omega (arith, ap (λ (l : List ℕ). length l) are.1, length-append g are.0, total_is (h ∷ gs) are.0 are.4)
 
 -- one group, or groups of which all but the last are full
-Few : ℕ → ℕ → Type 0
+abbrev Few : ℕ → ℕ → Type 0
 Few groups long = ((groups ≡ 1) × (long ≤ 744)) ⊎ (744 * groups < long + 744)
 
 more_groups : (groups rest long : ℕ) → Few groups rest → 1 ≤ rest → long ≡ 744 + rest → Few (suc groups) long
@@ -152,6 +152,16 @@ pub name_written : {X E : Type 0} (result : Result X E) (ssrc : ℕ) (name a b :
 name_written (Ok x) ssrc [] a b some written = absurd (omega (arith, some))
 name_written (Ok x) ssrc (n ∷ ns) a b some written = omega (arith, ap (λ (l : List ℕ). length l) written, length-append a (cname_bytes ssrc (n ∷ ns)), cname_length ssrc (n ∷ ns))
 name_written (Err e) ssrc name a b some written = tt
+
+named : (ssrc : ℕ) (name : List ℕ) → 1 ≤ length name → cname_by ssrc name ≡ source_description (cname_chunk ssrc name ∷ []) ∷ []
+named ssrc [] some = absurd (omega (arith, some))
+named ssrc (c ∷ cs) some = refl
+
+pub name_described : {X E : Type 0} (result : Result X E) (ssrc : ℕ) (name a b : List ℕ) → 1 ≤ length name → OnOk result (Appends a b (source_description (cname_chunk ssrc name ∷ [])))
+    → OnOk result (AppendsAll (cname_by ssrc name) a b)
+name_described (Ok x) ssrc name a b some got =
+    subst (λ (ps : List Packet). AppendsAll ps a b) (sym (named ssrc name some)) (one_more a b (source_description (cname_chunk ssrc name ∷ [])) got)
+name_described (Err e) ssrc name a b some got = tt
 
 -- ---- the packet
 

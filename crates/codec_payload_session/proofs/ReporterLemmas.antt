@@ -48,10 +48,11 @@ none_at is_new room tick_rate now ss i d a b within is same =
     ∙ ap (λ (l : List StreamState). a ++ bytes_of (blocks_of is_new room tick_rate now l)) (sym front)
 
 -- the stream at a place is not reported
-pub block_none : (is_new : Bool) (room tick_rate now : ℕ) (ss : List StreamState) (i : ℕ) (a b : List ℕ) → i < length ss → is_first_chosen is_new room (drop i ss) ≡ false → b ≡ a
-    → b ++ bytes_of (blocks_of is_new room tick_rate now (drop (i + 1) ss)) ≡ a ++ bytes_of (blocks_of is_new room tick_rate now (drop i ss))
-block_none is_new room tick_rate now [] i a b within is same = absurd (omega (arith, within))
-block_none is_new room tick_rate now (s ∷ ss) i a b within is same = none_at is_new room tick_rate now (s ∷ ss) i s a b within is same
+pub block_none : (is_new : Bool) (room left tick_rate now : ℕ) (ss : List StreamState) (i : ℕ) (a b : List ℕ) → i < length ss → is_first_chosen is_new room (drop i ss) ≡ false → left ≡ room → b ≡ a
+    → b ++ bytes_of (blocks_of is_new left tick_rate now (drop (i + 1) ss)) ≡ a ++ bytes_of (blocks_of is_new room tick_rate now (drop i ss))
+block_none is_new room left tick_rate now [] i a b within is stays same = absurd (omega (arith, within))
+block_none is_new room left tick_rate now (s ∷ ss) i a b within is stays same =
+    ap (λ (n : ℕ). b ++ bytes_of (blocks_of is_new n tick_rate now (drop (i + 1) (s ∷ ss)))) stays ∙ none_at is_new room tick_rate now (s ∷ ss) i s a b within is same
 
 with_few : (o : Option ReportBlock) (bs : List ReportBlock) (room : ℕ) → length bs ≤ room - 1 → 1 ≤ room → length (blocks_with o bs) ≤ room
 with_few None bs room few some = omega (arith, few)
@@ -95,23 +96,47 @@ all_mixed is_new room ts whole i end made =
 -- ---- how many streams are reported
 
 -- one more place
-pub count_more : (ss : List StreamState) (i : ℕ) (d : StreamState) (b : Bool) → i < length ss → b ≡ is_first_reported (drop i ss) → one_if b + reported_count (drop (i + 1) ss) ≡ reported_count (drop i ss)
-count_more ss i d b within is =
+count_at : (ss : List StreamState) (i : ℕ) (d : StreamState) (b : Bool) → i < length ss → b ≡ is_first_reported (drop i ss) → one_if b + reported_count (drop (i + 1) ss) ≡ reported_count (drop i ss)
+count_at ss i d b within is =
     let front : drop i ss ≡ get_or ss i d ∷ drop (i + 1) ss = drop_more ss i d within in
-    ap (λ (c : Bool). one_if c + reported_count (drop (i + 1) ss)) (is ∙ ap is_first_reported front) ∙ sym (ap reported_count front)
+    ap (λ (c : Bool). one_if c + reported_count (drop (i + 1) ss)) (is ∙ ap (λ (l : List StreamState). is_first_reported l) front) ∙ sym (ap (λ (l : List StreamState). reported_count l) front)
+
+pub count_more : (ss : List StreamState) (i : ℕ) (b : Bool) → i < length ss → b ≡ is_first_reported (drop i ss) → one_if b + reported_count (drop (i + 1) ss) ≡ reported_count (drop i ss)
+count_more [] i b within is = absurd (omega (arith, within))
+count_more (s ∷ ss) i b within is = count_at (s ∷ ss) i s b within is
+
+pub count_one : (ss : List StreamState) (i count : ℕ) (next : ℕ) → i < length ss → is_first_reported (drop i ss) ≡ true → next ≡ count + 1 → count + reported_count (drop i ss) ≡ reported_count ss
+    → next + reported_count (drop (i + 1) ss) ≡ reported_count ss
+count_one ss i count next within is more counted =
+    let one : 1 + reported_count (drop (i + 1) ss) ≡ reported_count (drop i ss) = count_more ss i true within (sym is) in
+    omega (arith, one, more, counted)
+
+pub count_none : (ss : List StreamState) (i count : ℕ) (next : ℕ) → i < length ss → is_first_reported (drop i ss) ≡ false → next ≡ count → count + reported_count (drop i ss) ≡ reported_count ss
+    → next + reported_count (drop (i + 1) ss) ≡ reported_count ss
+count_none ss i count next within is same counted =
+    let none : 0 + reported_count (drop (i + 1) ss) ≡ reported_count (drop i ss) = count_more ss i false within (sym is) in
+    omega (arith, none, same, counted)
 
 -- the stream at a place is not due
-pub none_due : (ss : List StreamState) (i : ℕ) (d : StreamState) → i < length ss → is_first_due false (drop i ss) ≡ false → any_due (drop (i + 1) ss) ≡ any_due (drop i ss)
-none_due ss i d within is =
+none_due_at : (ss : List StreamState) (i : ℕ) (d : StreamState) → i < length ss → is_first_due false (drop i ss) ≡ false → any_due (drop (i + 1) ss) ≡ any_due (drop i ss)
+none_due_at ss i d within is =
     let front : drop i ss ≡ get_or ss i d ∷ drop (i + 1) ss = drop_more ss i d within in
     let no : is_due false (get_or ss i d) (drop (i + 1) ss) ≡ false = ap (λ (l : List StreamState). is_first_due false l) (sym front) ∙ is in
-    sym (ap any_due front ∙ ap (λ (b : Bool). b || any_due (drop (i + 1) ss)) no)
+    sym (ap (λ (l : List StreamState). any_due l) front ∙ ap (λ (b : Bool). b || any_due (drop (i + 1) ss)) no)
 
-pub some_due : (ss : List StreamState) (i : ℕ) (d : StreamState) → i < length ss → is_first_due false (drop i ss) ≡ true → any_due (drop i ss) ≡ true
-some_due ss i d within is =
+pub none_due : (ss : List StreamState) (i : ℕ) → i < length ss → is_first_due false (drop i ss) ≡ false → any_due (drop (i + 1) ss) ≡ any_due (drop i ss)
+none_due [] i within is = absurd (omega (arith, within))
+none_due (s ∷ ss) i within is = none_due_at (s ∷ ss) i s within is
+
+some_due_at : (ss : List StreamState) (i : ℕ) (d : StreamState) → i < length ss → is_first_due false (drop i ss) ≡ true → any_due (drop i ss) ≡ true
+some_due_at ss i d within is =
     let front : drop i ss ≡ get_or ss i d ∷ drop (i + 1) ss = drop_more ss i d within in
     let yes : is_due false (get_or ss i d) (drop (i + 1) ss) ≡ true = ap (λ (l : List StreamState). is_first_due false l) (sym front) ∙ is in
-    ap any_due front ∙ ap (λ (b : Bool). b || any_due (drop (i + 1) ss)) yes
+    ap (λ (l : List StreamState). any_due l) front ∙ ap (λ (b : Bool). b || any_due (drop (i + 1) ss)) yes
+
+pub some_due : (ss : List StreamState) (i : ℕ) → i < length ss → is_first_due false (drop i ss) ≡ true → any_due (drop i ss) ≡ true
+some_due [] i within is = absurd (omega (arith, within))
+some_due (s ∷ ss) i within is = some_due_at (s ∷ ss) i s within is
 
 -- ---- a report is sent
 

@@ -214,7 +214,8 @@ fn is_due(streams: &[StreamState], place: usize, is_new: bool) -> bool
     requires { place < length streams.now }
     ensures { result ≡ is_first_due is_new (drop place streams.now) }
 {
-    is_reported(streams, place) && (is_new || !streams[place].was_reported)
+    let stream = &streams[place];
+    is_reported(streams, place) && (is_new || !stream.was_reported)
 }
 
 /// Returns whether the stream at this place is due, and the report has room for a block about it.
