@@ -1,21 +1,16 @@
-//! What a datagram brings to its stream, whichever way it came.
+//! A packet that a datagram brings to its stream, whichever way it came.
 
-ghost use Rattle.std.specs.Prelude.{◌≡◌, [], IfOk, map, true};
-ghost use Rattle.codec_payload_base.specs.declared.wire.Ticks.{Ticks};
-ghost use Rattle.codec_payload_rtp.specs.RtpValues.{header_of};
-ghost use Rattle.codec_payload_receiver.specs.Kinds.{carrier_of};
-ghost use Rattle.codec_payload_receiver.specs.Sessions.{all_carried, copied};
-ghost use Rattle.codec_payload_receiver.specs.Storing.{brought_of, in_carrier};
+ghost use Rattle.std.specs.Prelude.{◌≡◌};
+ghost use Rattle.codec_payload_rtp.specs.RtpValues.{packet_of};
+ghost use Rattle.codec_payload_receiver.specs.Kinds.{carrier_of, original_of};
+ghost use Rattle.codec_payload_receiver.specs.Storing.{brought_of, first_brought, in_carrier, repeated_by};
 
-use crate::blocks::{BlockCopy, copy_blocks};
-use crate::datagram::{RedPacket, StreamKinds};
-use codec_payload_rtp::rtp::PacketHeader;
-use std::alloc::{AllocError, Global};
-use std::collections::VecDeque;
+use crate::datagram::{RedPacket, SentAgain, StreamKinds};
+use codec_payload_rtp::rtp::{PacketHeader, RtpPacket};
 
-/// A packet that a datagram brings, alone or as the primary block of RED, and the packets of the redundant blocks beside it. The
-/// header of a retransmission has the original number and SSRC.
-#[derive(Debug, Drop)]
+/// A packet that a datagram brings, alone or as the primary block of RED. The header of a retransmission has the original number
+/// and SSRC.
+#[derive(Clone, Copy, Debug)]
 pub(crate) struct Brought<'a> {
     pub(crate) header: PacketHeader<'a>,
     pub(crate) payload: &'a [u8],
@@ -23,45 +18,47 @@ pub(crate) struct Brought<'a> {
     pub(crate) is_media: bool,
     /// Whether it is a retransmission.
     pub(crate) is_again: bool,
-    pub(crate) copies: VecDeque<BlockCopy>,
 }
 
 impl<'a> Brought<'a> {
-    /// A packet with media, without RED.
-    pub(crate) fn alone(
-        alloc: Global,
-        header: PacketHeader<'a>,
-        payload: &'a [u8],
-        is_again: bool,
-    ) -> Brought<'a>
-        ensures packet { brought_of result ≡ record { header = header_of header.entry; bytes = payload.now; is_media = true; is_again = is_again } }
-        ensures copies { result.copies.items ≡ [] }
+    /// A packet without RED that is not a retransmission.
+    #[inline(always)]
+    pub(crate) fn first(packet: &RtpPacket<'a>, is_media: bool) -> Brought<'a>
+        ensures { brought_of result ≡ first_brought is_media (packet_of packet.now) }
     {
         Brought {
-            header,
-            payload,
-            is_media: true,
-            is_again,
-            copies: VecDeque::new(alloc),
+            header: packet.header,
+            payload: packet.payload,
+            is_media,
+            is_again: false,
         }
     }
 
-    /// The primary block of a RED packet, and copies of the packets of its redundant blocks.
-    pub(crate) fn in_red(
-        stream: &StreamKinds,
-        red: &RedPacket<'a>,
-        is_again: bool,
-    ) -> Result<Brought<'a>, AllocError>
-        ensures packet { IfOk result (λ brought. brought_of brought ≡ in_carrier stream.now (carrier_of red.now) is_again) }
-        ensures copies { IfOk result (λ brought. (now : Ticks) → map (copied now) brought.copies.items ≡ all_carried stream.now now (carrier_of red.now)) }
+    /// A retransmission of media without RED.
+    pub(crate) fn again(sent: &SentAgain<'a>) -> Brought<'a>
+        ensures { brought_of result ≡ repeated_by (original_of sent.now) }
     {
-        let copies = copy_blocks(stream, red)?;
-        Ok(Brought {
+        Brought {
+            header: PacketHeader {
+                sequence_number: sent.number,
+                ssrc: sent.ssrc,
+                ..sent.header
+            },
+            payload: sent.payload,
+            is_media: true,
+            is_again: true,
+        }
+    }
+
+    /// The primary block of a RED packet.
+    pub(crate) fn in_red(stream: &StreamKinds, red: &RedPacket<'a>, is_again: bool) -> Brought<'a>
+        ensures { brought_of result ≡ in_carrier stream.now (carrier_of red.now) is_again }
+    {
+        Brought {
             header: red.header,
             payload: red.primary.payload,
             is_media: red.primary.pt == stream.payload_type,
             is_again,
-            copies,
-        })
+        }
     }
 }

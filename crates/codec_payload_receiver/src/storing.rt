@@ -4,15 +4,14 @@ ghost use Rattle.std.specs.Prelude.{◌≡◌, ◌||◌, not, map, IfOk, OnErr, 
 ghost use Rattle.codec_payload_rtp.specs.RtpValues.{header_of, packet_of};
 ghost use Rattle.codec_payload_codec.specs.Depacketizers.{is_built_in_depacketizer};
 ghost use Rattle.codec_payload_jitter.specs.OwnReceiving.{OwnStores};
-ghost use Rattle.codec_payload_jitter.specs.Receiving.{Notes, Receives, ReceivesAgain, would_store};
-ghost use Rattle.codec_payload_jitter.specs.declared.outcome.Outcome.TheVariants as outcomes;
-ghost use Rattle.codec_payload_receiver.specs.Kinds.{Again, WithMedia, datagram_of, header_for, original_of, takes_memory};
-ghost use Rattle.codec_payload_receiver.specs.Sessions.{NotesAgain, TakesDatagram, copied, has_restarted, packet_seen, primary_seen, seen_past};
-ghost use Rattle.codec_payload_receiver.specs.Storing.{Stores, TakesBrought, brought_of};
+ghost use Rattle.codec_payload_jitter.specs.Receiving.{would_store};
+ghost use Rattle.codec_payload_receiver.specs.Kinds.{WithMedia, datagram_of, header_for, takes_memory};
+ghost use Rattle.codec_payload_receiver.specs.Sessions.{NotesAgain, TakesDatagram, copied, primary_seen};
+ghost use Rattle.codec_payload_receiver.specs.Storing.{ReceivesEither, Stores, TakesAlone, TakesBrought, brought_of};
 
-use crate::blocks::recover_all;
+use crate::blocks::{BlockCopy, copy_blocks, recover_all};
 use crate::brought::Brought;
-use crate::datagram::{Datagram, SentAgain, StreamKinds};
+use crate::datagram::{Datagram, StreamKinds};
 use crate::seen_times::{LazySeenTimes, SeenTime, SeenTimes};
 use codec_payload_base::wire::{Pt, RtpHeader, Ticks};
 use codec_payload_buffer::buffer::PackedHeader;
@@ -20,6 +19,7 @@ use codec_payload_codec::codec::Depacketizer;
 use codec_payload_jitter::jitter::{JitterBuffer, Outcome};
 use codec_payload_rtp::rtp::{PacketHeader, RtpPacket};
 use std::alloc::AllocError;
+use std::collections::VecDeque;
 
 /// The result of receiving a datagram.
 #[derive(Clone, Copy, Debug)]
@@ -62,7 +62,7 @@ impl StreamKinds {
         ))
     }
 
-    /// Stores a packet with media in the jitter buffer.
+    /// Stores a packet with media in the jitter buffer. The header of a retransmission has the original number and SSRC.
     #[inline(always)]
     fn push<B: Depacketizer>(
         &self,
@@ -70,32 +70,20 @@ impl StreamKinds {
         now: Ticks,
         header: &PacketHeader<'_>,
         payload: &[u8],
+        is_again: bool,
     ) -> Result<Outcome, AllocError>
-        ensures ok { IfOk result (λ outcome. Receives (record { now = now; header = header_for self.now (header_of header.now); bytes = payload.now }) packets.old outcome packets.new) }
+        ensures ok { IfOk result (λ outcome. ReceivesEither is_again (record { now = now; header = header_for self.now (header_of header.now); bytes = payload.now }) packets.old outcome packets.new) }
         ensures err { OnErr result (packets.new ≡ packets.old) }
         ensures own { is_built_in_depacketizer packets.old.buffer.depacketizer ≡ false → OwnStores B.is_head B.is_tail packets.old.buffer packets.new.buffer }
     {
         let payload = Vec::from_slice(self.alloc, payload)?;
-        match packets.push_packed(now, self.packed_header_for(header)?, payload) {
-            Ok(outcome) => Ok(outcome),
-            Err(_) => Err(AllocError),
+        if is_again {
+            return match packets.push_retransmitted(now, self.header_for(header), payload) {
+                Ok(outcome) => Ok(outcome),
+                Err(_) => Err(AllocError),
+            };
         }
-    }
-
-    /// Stores a retransmitted packet, whose header has the original number and SSRC.
-    fn push_again<B: Depacketizer>(
-        &self,
-        packets: &mut JitterBuffer<B>,
-        now: Ticks,
-        header: &PacketHeader<'_>,
-        payload: &[u8],
-    ) -> Result<Outcome, AllocError>
-        ensures ok { IfOk result (λ outcome. ReceivesAgain (record { now = now; header = header_for self.now (header_of header.now); bytes = payload.now }) packets.old outcome packets.new) }
-        ensures err { OnErr result (packets.new ≡ packets.old) }
-        ensures own { is_built_in_depacketizer packets.old.buffer.depacketizer ≡ false → OwnStores B.is_head B.is_tail packets.old.buffer packets.new.buffer }
-    {
-        let payload = Vec::from_slice(self.alloc, payload)?;
-        match packets.push_retransmitted(now, self.header_for(header), payload) {
+        match packets.push_packed(now, self.packed_header_for(header)?, payload) {
             Ok(outcome) => Ok(outcome),
             Err(_) => Err(AllocError),
         }
@@ -122,11 +110,7 @@ impl StreamKinds {
         if self.red.is_some() && seen.has_block(time) && packets.would_store(number) {
             return note_number(packets, number, false);
         }
-        if brought.is_again {
-            self.push_again(packets, now, header, brought.payload)
-        } else {
-            self.push(packets, now, header, brought.payload)
-        }
+        self.push(packets, now, header, brought.payload, brought.is_again)
     }
 
     /// Stores what a datagram brings to a stream with RED: its packet, then the missing packets of its blocks, unless the packet
@@ -138,8 +122,9 @@ impl StreamKinds {
         seen: &mut LazySeenTimes,
         now: Ticks,
         brought: Brought<'_>,
+        copies: VecDeque<BlockCopy>,
     ) -> Result<Taken, AllocError>
-        ensures ok { IfOk result (λ taken. TakesBrought self.now now (brought_of brought.entry) (map (copied now) brought.entry.copies.items) (record { packets = packets.old; seen = seen.old }) taken.outcome taken.whole (record { packets = packets.new; seen = seen.new })) }
+        ensures ok { IfOk result (λ taken. TakesBrought self.now now (brought_of brought.entry) (map (copied now) copies.items) (record { packets = packets.old; seen = seen.old }) taken.outcome taken.whole (record { packets = packets.new; seen = seen.new })) }
         ensures err { OnErr result ((packets.new ≡ packets.old) × (seen.new ≡ seen.old)) }
         ensures own { is_built_in_depacketizer packets.old.buffer.depacketizer ≡ false → OwnStores B.is_head B.is_tail packets.old.buffer packets.new.buffer }
     {
@@ -149,7 +134,7 @@ impl StreamKinds {
             seen.put(times);
             return Err(AllocError);
         };
-        note_primary(
+        note_time(
             &mut times,
             brought.is_media,
             outcome,
@@ -163,12 +148,45 @@ impl StreamKinds {
                 whole: true,
             });
         }
-        let whole = recover_all(packets, &mut times, now, brought.copies);
+        let whole = recover_all(packets, &mut times, now, copies);
         seen.put(times);
         Ok(Taken { outcome, whole })
     }
 
-    /// Stores a packet with media. A stream without RED notes no times.
+    /// Stores a packet that a datagram brings without blocks. A stream without RED notes no times, and a restart forgets them.
+    #[inline(never)]
+    fn store_alone<B: Depacketizer>(
+        &self,
+        packets: &mut JitterBuffer<B>,
+        seen: &mut LazySeenTimes,
+        now: Ticks,
+        brought: &Brought<'_>,
+    ) -> Result<Taken, AllocError>
+        ensures ok { IfOk result (λ taken. TakesAlone self.now now (brought_of brought.now) (record { packets = packets.old; seen = seen.old }) taken.outcome (record { packets = packets.new; seen = seen.new })) }
+        ensures err { OnErr result ((packets.new ≡ packets.old) × (seen.new ≡ seen.old)) }
+        ensures own { is_built_in_depacketizer packets.old.buffer.depacketizer ≡ false → OwnStores B.is_head B.is_tail packets.old.buffer packets.new.buffer }
+    {
+        if brought.is_media && self.red.is_some() {
+            return self.store(packets, seen, now, *brought, VecDeque::new(self.alloc));
+        }
+        if brought.is_media {
+            let (header, payload) = (&brought.header, brought.payload);
+            let outcome = self.push(packets, now, header, payload, brought.is_again)?;
+            return Ok(Taken {
+                outcome,
+                whole: true,
+            });
+        }
+        let restarts = packets.counters().restarts;
+        let outcome = note_number(packets, brought.header.sequence_number, brought.is_again)?;
+        seen.forget_if(packets.counters().restarts != restarts);
+        Ok(Taken {
+            outcome,
+            whole: true,
+        })
+    }
+
+    /// Stores a packet with media that is not a retransmission. Without RED it is stored without a [`Brought`], which is large.
     #[inline(always)]
     pub(crate) fn take_media<B: Depacketizer>(
         &self,
@@ -182,35 +200,9 @@ impl StreamKinds {
         ensures own { is_built_in_depacketizer packets.old.buffer.depacketizer ≡ false → OwnStores B.is_head B.is_tail packets.old.buffer packets.new.buffer }
     {
         if self.red.is_none() {
-            return self.push(packets, now, &packet.header, packet.payload);
+            return self.push(packets, now, &packet.header, packet.payload, false);
         }
-        let brought = Brought::alone(self.alloc, packet.header, packet.payload, false);
-        let taken = self.store(packets, seen, now, brought)?;
-        Ok(taken.outcome)
-    }
-
-    /// Stores a retransmitted packet, as [`StreamKinds::take_media`] stores others.
-    fn take_again<B: Depacketizer>(
-        &self,
-        packets: &mut JitterBuffer<B>,
-        seen: &mut LazySeenTimes,
-        now: Ticks,
-        sent: &SentAgain<'_>,
-    ) -> Result<Outcome, AllocError>
-        ensures ok { IfOk result (λ outcome. TakesDatagram self.now now (Again (original_of sent.now)) (record { packets = packets.old; seen = seen.old }) outcome true (record { packets = packets.new; seen = seen.new })) }
-        ensures err { OnErr result ((packets.new ≡ packets.old) × (seen.new ≡ seen.old)) }
-        ensures own { is_built_in_depacketizer packets.old.buffer.depacketizer ≡ false → OwnStores B.is_head B.is_tail packets.old.buffer packets.new.buffer }
-    {
-        let header = PacketHeader {
-            sequence_number: sent.number,
-            ssrc: sent.ssrc,
-            ..sent.header
-        };
-        if self.red.is_none() {
-            return self.push_again(packets, now, &header, sent.payload);
-        }
-        let brought = Brought::alone(self.alloc, header, sent.payload, true);
-        let taken = self.store(packets, seen, now, brought)?;
+        let taken = self.store_alone(packets, seen, now, &Brought::first(packet, true))?;
         Ok(taken.outcome)
     }
 
@@ -231,22 +223,28 @@ impl StreamKinds {
         let outcome = match datagram {
             Datagram::Rtcp | Datagram::Malformed(_) => Outcome::Rtcp,
             Datagram::OtherStream => Outcome::OtherStream,
-            Datagram::NoMedia(packet) => {
-                note_without_media(packets, seen, packet.header.sequence_number)?
-            }
             Datagram::Nothing => {
                 packets.push_nothing();
                 Outcome::NoMedia
             }
-            Datagram::Media(packet) => self.take_media(packets, seen, now, packet)?,
-            Datagram::SentAgain(sent) => self.take_again(packets, seen, now, sent)?,
+            Datagram::NoMedia(packet) => {
+                return self.store_alone(packets, seen, now, &Brought::first(packet, false));
+            }
+            Datagram::Media(packet) => {
+                return self.store_alone(packets, seen, now, &Brought::first(packet, true));
+            }
+            Datagram::SentAgain(sent) => {
+                return self.store_alone(packets, seen, now, &Brought::again(sent));
+            }
             Datagram::Red(red) => {
-                let brought = Brought::in_red(self, red, false)?;
-                return self.store(packets, seen, now, brought);
+                let copies = copy_blocks(self, red)?;
+                let brought = Brought::in_red(self, red, false);
+                return self.store(packets, seen, now, brought, copies);
             }
             Datagram::RedAgain(red) => {
-                let brought = Brought::in_red(self, red, true)?;
-                return self.store(packets, seen, now, brought);
+                let copies = copy_blocks(self, red)?;
+                let brought = Brought::in_red(self, red, true);
+                return self.store(packets, seen, now, brought, copies);
             }
         };
         Ok(Taken {
@@ -277,48 +275,19 @@ fn note_number<B: Depacketizer>(
     Ok(Outcome::NoMedia)
 }
 
-/// Records that this number has no media. A restart that it confirms forgets all earlier times.
-fn note_without_media<B: Depacketizer>(
-    packets: &mut JitterBuffer<B>,
-    seen: &mut LazySeenTimes,
-    number: u16,
-) -> Result<Outcome, AllocError>
-    ensures ok { IfOk result (λ outcome. (outcome ≡ outcomes.NoMedia) × Notes number packets.old packets.new × (seen.new ≡ seen_past (has_restarted packets.old packets.new) seen.old)) }
-    ensures err { OnErr result ((packets.new ≡ packets.old) × (seen.new ≡ seen.old)) }
-    ensures own { is_built_in_depacketizer packets.old.buffer.depacketizer ≡ false → OwnStores B.is_head B.is_tail packets.old.buffer packets.new.buffer }
-{
-    let restarts = packets.counters().restarts;
-    let outcome = note_number(packets, number, false)?;
-    seen.forget_if(packets.counters().restarts != restarts);
-    Ok(outcome)
-}
-
 /// Notes the time of a packet with media. A restart forgets all earlier times, also if a packet without media confirms it.
-fn note_primary(
-    seen: &mut SeenTimes,
-    is_media: bool,
-    outcome: Outcome,
-    time: u32,
-    has_restarted: bool,
-)
+fn note_time(seen: &mut SeenTimes, is_media: bool, outcome: Outcome, time: u32, has_restarted: bool)
     ensures { seen.new ≡ primary_seen is_media outcome time has_restarted seen.old }
 {
     if is_media {
-        note_packet(seen, outcome, time);
+        if matches!(outcome, Outcome::Restarted(_)) {
+            *seen = SeenTimes::none();
+        }
+        seen.note(SeenTime {
+            time,
+            is_block: false,
+        });
     } else if has_restarted {
         *seen = SeenTimes::none();
     }
-}
-
-/// Notes the time of a packet with media. A restart forgets all earlier times.
-fn note_packet(seen: &mut SeenTimes, outcome: Outcome, time: u32)
-    ensures { seen.new ≡ packet_seen true outcome time seen.old }
-{
-    if matches!(outcome, Outcome::Restarted(_)) {
-        *seen = SeenTimes::none();
-    }
-    seen.note(SeenTime {
-        time,
-        is_block: false,
-    });
 }

@@ -7,11 +7,12 @@ use crate::codec::Depacketizer;
 use crate::jitter::jitter_buffer::{JitterBuffer, Outcome};
 use crate::memory::{AllocError, TryVec};
 use crate::rtp::packet::{PacketHeader, RtpPacket};
-use crate::stream::blocks::recover_all;
+use crate::stream::blocks::{BlockCopy, copy_blocks, recover_all};
 use crate::stream::brought::Brought;
-use crate::stream::datagram::{Datagram, SentAgain, StreamKinds};
+use crate::stream::datagram::{Datagram, StreamKinds};
 use crate::stream::seen_times::{LazySeenTimes, SeenTime, SeenTimes};
 use crate::wire::{Pt, RtpHeader, Ticks};
+use alloc::collections::VecDeque;
 use alloc::vec::Vec;
 
 /// The result of receiving a datagram.
@@ -51,7 +52,7 @@ impl StreamKinds {
         ))
     }
 
-    /// Stores a packet with media in the jitter buffer.
+    /// Stores a packet with media in the jitter buffer. The header of a retransmission has the original number and SSRC.
     #[inline(always)]
     fn push<B: Depacketizer>(
         &self,
@@ -59,24 +60,16 @@ impl StreamKinds {
         now: Ticks,
         header: &PacketHeader<'_>,
         payload: &[u8],
+        is_again: bool,
     ) -> Result<Outcome, AllocError> {
         let payload = Vec::try_from_slice(payload)?;
-        match packets.push_packed(now, self.packed_header_for(header)?, payload) {
-            Ok(outcome) => Ok(outcome),
-            Err(_) => Err(AllocError),
+        if is_again {
+            return match packets.push_retransmitted(now, self.header_for(header), payload) {
+                Ok(outcome) => Ok(outcome),
+                Err(_) => Err(AllocError),
+            };
         }
-    }
-
-    /// Stores a retransmitted packet, whose header has the original number and SSRC.
-    fn push_again<B: Depacketizer>(
-        &self,
-        packets: &mut JitterBuffer<B>,
-        now: Ticks,
-        header: &PacketHeader<'_>,
-        payload: &[u8],
-    ) -> Result<Outcome, AllocError> {
-        let payload = Vec::try_from_slice(payload)?;
-        match packets.push_retransmitted(now, self.header_for(header), payload) {
+        match packets.push_packed(now, self.packed_header_for(header)?, payload) {
             Ok(outcome) => Ok(outcome),
             Err(_) => Err(AllocError),
         }
@@ -99,11 +92,7 @@ impl StreamKinds {
         if self.red.is_some() && seen.has_block(time) && packets.would_store(number) {
             return note_number(packets, number, false);
         }
-        if brought.is_again {
-            self.push_again(packets, now, header, brought.payload)
-        } else {
-            self.push(packets, now, header, brought.payload)
-        }
+        self.push(packets, now, header, brought.payload, brought.is_again)
     }
 
     /// Stores what a datagram brings to a stream with RED: its packet, then the missing packets of its blocks, unless the packet
@@ -115,6 +104,7 @@ impl StreamKinds {
         seen: &mut LazySeenTimes,
         now: Ticks,
         brought: Brought<'_>,
+        copies: VecDeque<BlockCopy>,
     ) -> Result<Taken, AllocError> {
         let mut times = seen.take()?;
         let restarts = packets.counters().restarts;
@@ -122,7 +112,7 @@ impl StreamKinds {
             seen.put(times);
             return Err(AllocError);
         };
-        note_primary(
+        note_time(
             &mut times,
             brought.is_media,
             outcome,
@@ -136,12 +126,41 @@ impl StreamKinds {
                 whole: true,
             });
         }
-        let whole = recover_all(packets, &mut times, now, brought.copies);
+        let whole = recover_all(packets, &mut times, now, copies);
         seen.put(times);
         Ok(Taken { outcome, whole })
     }
 
-    /// Stores a packet with media. A stream without RED notes no times.
+    /// Stores a packet that a datagram brings without blocks. A stream without RED notes no times, and a restart forgets them.
+    #[inline(never)]
+    fn store_alone<B: Depacketizer>(
+        &self,
+        packets: &mut JitterBuffer<B>,
+        seen: &mut LazySeenTimes,
+        now: Ticks,
+        brought: &Brought<'_>,
+    ) -> Result<Taken, AllocError> {
+        if brought.is_media && self.red.is_some() {
+            return self.store(packets, seen, now, *brought, VecDeque::new());
+        }
+        if brought.is_media {
+            let (header, payload) = (&brought.header, brought.payload);
+            let outcome = self.push(packets, now, header, payload, brought.is_again)?;
+            return Ok(Taken {
+                outcome,
+                whole: true,
+            });
+        }
+        let restarts = packets.counters().restarts;
+        let outcome = note_number(packets, brought.header.sequence_number, brought.is_again)?;
+        seen.forget_if(packets.counters().restarts != restarts);
+        Ok(Taken {
+            outcome,
+            whole: true,
+        })
+    }
+
+    /// Stores a packet with media that is not a retransmission. Without RED it is stored without a [`Brought`], which is large.
     #[inline(always)]
     pub(crate) fn take_media<B: Depacketizer>(
         &self,
@@ -151,31 +170,9 @@ impl StreamKinds {
         packet: &RtpPacket<'_>,
     ) -> Result<Outcome, AllocError> {
         if self.red.is_none() {
-            return self.push(packets, now, &packet.header, packet.payload);
+            return self.push(packets, now, &packet.header, packet.payload, false);
         }
-        let brought = Brought::alone(packet.header, packet.payload, false);
-        let taken = self.store(packets, seen, now, brought)?;
-        Ok(taken.outcome)
-    }
-
-    /// Stores a retransmitted packet, as [`StreamKinds::take_media`] stores others.
-    fn take_again<B: Depacketizer>(
-        &self,
-        packets: &mut JitterBuffer<B>,
-        seen: &mut LazySeenTimes,
-        now: Ticks,
-        sent: &SentAgain<'_>,
-    ) -> Result<Outcome, AllocError> {
-        let header = PacketHeader {
-            sequence_number: sent.number,
-            ssrc: sent.ssrc,
-            ..sent.header
-        };
-        if self.red.is_none() {
-            return self.push_again(packets, now, &header, sent.payload);
-        }
-        let brought = Brought::alone(header, sent.payload, true);
-        let taken = self.store(packets, seen, now, brought)?;
+        let taken = self.store_alone(packets, seen, now, &Brought::first(packet, true))?;
         Ok(taken.outcome)
     }
 
@@ -191,22 +188,28 @@ impl StreamKinds {
         let outcome = match datagram {
             Datagram::Rtcp | Datagram::Malformed(_) => Outcome::Rtcp,
             Datagram::OtherStream => Outcome::OtherStream,
-            Datagram::NoMedia(packet) => {
-                note_without_media(packets, seen, packet.header.sequence_number)?
-            }
             Datagram::Nothing => {
                 packets.push_nothing();
                 Outcome::NoMedia
             }
-            Datagram::Media(packet) => self.take_media(packets, seen, now, packet)?,
-            Datagram::SentAgain(sent) => self.take_again(packets, seen, now, sent)?,
+            Datagram::NoMedia(packet) => {
+                return self.store_alone(packets, seen, now, &Brought::first(packet, false));
+            }
+            Datagram::Media(packet) => {
+                return self.store_alone(packets, seen, now, &Brought::first(packet, true));
+            }
+            Datagram::SentAgain(sent) => {
+                return self.store_alone(packets, seen, now, &Brought::again(sent));
+            }
             Datagram::Red(red) => {
-                let brought = Brought::in_red(self, red, false)?;
-                return self.store(packets, seen, now, brought);
+                let copies = copy_blocks(self, red)?;
+                let brought = Brought::in_red(self, red, false);
+                return self.store(packets, seen, now, brought, copies);
             }
             Datagram::RedAgain(red) => {
-                let brought = Brought::in_red(self, red, true)?;
-                return self.store(packets, seen, now, brought);
+                let copies = copy_blocks(self, red)?;
+                let brought = Brought::in_red(self, red, true);
+                return self.store(packets, seen, now, brought, copies);
             }
         };
         Ok(Taken {
@@ -233,20 +236,8 @@ fn note_number<B: Depacketizer>(
     Ok(Outcome::NoMedia)
 }
 
-/// Records that this number has no media. A restart that it confirms forgets all earlier times.
-fn note_without_media<B: Depacketizer>(
-    packets: &mut JitterBuffer<B>,
-    seen: &mut LazySeenTimes,
-    number: u16,
-) -> Result<Outcome, AllocError> {
-    let restarts = packets.counters().restarts;
-    let outcome = note_number(packets, number, false)?;
-    seen.forget_if(packets.counters().restarts != restarts);
-    Ok(outcome)
-}
-
 /// Notes the time of a packet with media. A restart forgets all earlier times, also if a packet without media confirms it.
-fn note_primary(
+fn note_time(
     seen: &mut SeenTimes,
     is_media: bool,
     outcome: Outcome,
@@ -254,19 +245,14 @@ fn note_primary(
     has_restarted: bool,
 ) {
     if is_media {
-        note_packet(seen, outcome, time);
+        if matches!(outcome, Outcome::Restarted(_)) {
+            *seen = SeenTimes::none();
+        }
+        seen.note(SeenTime {
+            time,
+            is_block: false,
+        });
     } else if has_restarted {
         *seen = SeenTimes::none();
     }
-}
-
-/// Notes the time of a packet with media. A restart forgets all earlier times.
-fn note_packet(seen: &mut SeenTimes, outcome: Outcome, time: u32) {
-    if matches!(outcome, Outcome::Restarted(_)) {
-        *seen = SeenTimes::none();
-    }
-    seen.note(SeenTime {
-        time,
-        is_block: false,
-    });
 }

@@ -47,6 +47,7 @@ impl<B: Depacketizer> Receiver<B> {
     }
 
     /// Does the same, with out of memory as one of the faults, and a unit above the bound as a unit.
+    #[inline(always)]
     fn pop_unit_gated(
         &mut self,
         now: Ticks,

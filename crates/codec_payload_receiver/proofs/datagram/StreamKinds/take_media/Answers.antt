@@ -1,19 +1,13 @@
-use Rattle.std.proofs.Common.{◌≡◌, List, ap, map, rules, subst, true}
-use Rattle.std.specs.Option.{is_some}
+use Rattle.std.proofs.Common.{subst, true}
 use Rattle.codec_payload_rtp.specs.RtpValues.{packet_of}
-use Rattle.codec_payload_jitter.specs.Receiving.{Arrival}
-use Rattle.codec_payload_receiver.specs.Sessions.{Holding, copied}
-use Rattle.codec_payload_receiver.specs.Storing.{Brought, TakesBrought}
-use Rattle.codec_payload_receiver.specs.declared.blocks.BlockCopy.{BlockCopy}
-use Rattle.codec_payload_receiver.proofs.StoringLemmas.{takes_media}
+use Rattle.codec_payload_receiver.specs.Sessions.{Holding}
+use Rattle.codec_payload_receiver.specs.Storing.{Brought, TakesAlone}
+use Rattle.codec_payload_receiver.proofs.StoringLemmas.{takes_first}
 use Rattle.codec_payload_receiver.proofs.datagram.StreamKinds.take_media.Goals as goal
 
 pub returns-clause-ok : goal.returns-clause-ok
 returns-clause-ok g c =
-    let all : List Arrival = map (copied c.args.now) c.alone-brought.result.copies.items in
     let r : Holding = record { packets = c.args.packets.now; seen = c.args.seen.now } in
-    let t : Holding = record { packets = c.store.new.packets; seen = c.store.new.seen } in
-    let red : is_some c.args.self.now.red ≡ true = search rules in
-    takes_media c.args.self.now c.args.now (packet_of c.args.packet.now) all r c.in_ok-taken.taken.outcome c.in_ok-taken.taken.whole t red
-    (ap (λ (copies : List BlockCopy). map (copied c.args.now) copies) c.alone-brought.ensures.copies)
-    (subst (λ (b : Brought). TakesBrought c.args.self.now c.args.now b all r c.in_ok-taken.taken.outcome c.in_ok-taken.taken.whole t) c.alone-brought.ensures.packet c.in_ok-taken.ensures.ok)
+    let t : Holding = record { packets = c.store_alone.new.packets; seen = c.store_alone.new.seen } in
+    takes_first c.args.self.now c.args.now (packet_of c.args.packet.now) r c.in_ok-taken.taken.outcome true t
+    (subst (λ (b : Brought). TakesAlone c.args.self.now c.args.now b r c.in_ok-taken.taken.outcome t) c.first.ensures c.in_ok-taken.ensures.ok)
