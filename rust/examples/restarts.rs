@@ -32,6 +32,8 @@ const LONGEST_BESIDE: u64 = 2_000;
 const DISTANCES: [u16; 12] = [
     1, 2, 16, 100, 360, 900, 1_000, 1_001, 1_100, 2_500, 5_000, 5_001,
 ];
+/// The distances whose rows are printed.
+const PRINTED: [u16; 7] = [1, 2, 16, 1_000, 1_001, 5_000, 5_001];
 /// How long the first sender sends before the second one begins below its first number, in milliseconds.
 const AGES: [u64; 5] = [0, 100, 1_900, 5_000, 10_000];
 /// How far below the first number the second sender begins.
@@ -240,31 +242,33 @@ fn restart(stream: Stream, how: Restart) -> Result<(Outcome, usize), Fault> {
 /// What a network does to a stream of a sender that does not restart.
 #[derive(Clone, Copy, PartialEq)]
 enum Network {
+    /// A burst that arrives late, at once.
     BurstWhole,
+    /// A burst in which each packet is late.
     BurstSpread,
+    /// A late burst, and silence meanwhile.
     BurstAndSilence,
+    /// Five seconds just behind the wait.
     JustBehind,
+    /// Everything twice, with pauses.
     Twice,
+    /// Retransmissions, and storms of old packets.
     SentAgain,
+    /// RTP times that jump, and late bursts.
     TimesJump,
+    /// The first packets arrive late.
     FirstLate,
 }
 
-const NETWORKS: [(Network, &str); 8] = [
-    (Network::BurstWhole, "a burst that arrives late, at once"),
-    (Network::BurstSpread, "a burst in which each packet is late"),
-    (
-        Network::BurstAndSilence,
-        "a late burst, and silence meanwhile",
-    ),
-    (Network::JustBehind, "five seconds just behind the wait"),
-    (Network::Twice, "everything twice, with pauses"),
-    (
-        Network::SentAgain,
-        "retransmissions, and storms of old packets",
-    ),
-    (Network::TimesJump, "RTP times that jump, and late bursts"),
-    (Network::FirstLate, "the first packets arrive late"),
+const NETWORKS: [Network; 8] = [
+    Network::BurstWhole,
+    Network::BurstSpread,
+    Network::BurstAndSilence,
+    Network::JustBehind,
+    Network::Twice,
+    Network::SentAgain,
+    Network::TimesJump,
+    Network::FirstLate,
 ];
 
 /// The datagrams of 40 seconds, some of them late, lost or repeated.
@@ -354,7 +358,7 @@ fn hostile(
     Ok(arriving)
 }
 
-/// Prints a table row of restarts. Returns the number of restarts that were not found in time.
+/// Makes a table row of restarts, and prints it for some distances. Returns the number of restarts that were not found in time.
 fn print_restarts(distance: u16, beside_former: bool) -> Result<u32, Fault> {
     let mut wrong = 0;
     let beside = if beside_former {
@@ -362,7 +366,7 @@ fn print_restarts(distance: u16, beside_former: bool) -> Result<u32, Fault> {
     } else {
         ""
     };
-    print!("| {distance}{beside} |");
+    let mut row = format!("| {distance}{beside} |");
     for stream in STREAMS {
         // The former sender sent all numbers of the distance.
         let packets = 1_200.max(u64::from(distance) + 100);
@@ -373,7 +377,7 @@ fn print_restarts(distance: u16, beside_former: bool) -> Result<u32, Fault> {
             beside_former,
         };
         let (outcome, lost) = restart(stream, how)?;
-        print!(" {}; {lost} |", outcome.longest_pause);
+        row += &format!(" {}; {lost} |", outcome.longest_pause);
         let longest = if beside_former {
             LONGEST_BESIDE
         } else {
@@ -387,18 +391,21 @@ fn print_restarts(distance: u16, beside_former: bool) -> Result<u32, Fault> {
         let expected = 2 * u64::from(distance > 2);
         wrong += u32::from(!beside_former && outcome.restarts + going_on.restarts != expected);
     }
-    println!();
+    if beside_former || PRINTED.contains(&distance) {
+        println!("{row}");
+    }
     Ok(wrong)
 }
 
 /// Prints a table row of senders that begin below the first number of the stream, after it was sent for `age` milliseconds: the
-/// longest of the distances. Returns the number of restarts that were not found in time.
-fn print_young(age: u64, offset: u64, name: &str) -> Result<u32, Fault> {
+/// longest of the distances, with another RTP offset and with times that continue. Returns the number of restarts that were not
+/// found in time.
+fn print_young(age: u64) -> Result<u32, Fault> {
     let mut wrong = 0;
-    print!("| {:.1} s, {name} |", age as f64 / 1_000.0);
+    print!("| {:.1} s |", age as f64 / 1_000.0);
     for stream in STREAMS {
         let (mut pause, mut lost) = (0, 0);
-        for below in BELOW {
+        for (below, offset) in BELOW.iter().flat_map(|it| [(*it, 0x1234_5678), (*it, 0)]) {
             let frames = age / stream.interval + 1;
             let how = Restart {
                 frames,
@@ -418,16 +425,18 @@ fn print_young(age: u64, offset: u64, name: &str) -> Result<u32, Fault> {
     Ok(wrong)
 }
 
-/// Prints a table row of the restarts that a receiver reports. Returns their number.
-fn print_network(network: Network, name: &str) -> Result<u32, Fault> {
+/// Prints a table row of the restarts that a receiver reports, over all networks. Returns their number.
+fn print_networks() -> Result<u32, Fault> {
     let mut all = 0;
-    print!("| {name} |");
+    print!("| all eight networks |");
     for stream in STREAMS {
-        let mut random = Random(1);
         let mut restarts = 0;
-        for _ in 0..RUNS {
-            let arriving = hostile(stream, network, &mut random)?;
-            restarts += receive(stream, &arriving)?.restarts;
+        for network in NETWORKS {
+            let mut random = Random(1);
+            for _ in 0..RUNS {
+                let arriving = hostile(stream, network, &mut random)?;
+                restarts += receive(stream, &arriving)?.restarts;
+            }
         }
         all += restarts as u32;
         print!(" {restarts} |");
@@ -448,13 +457,10 @@ fn main() -> Result<(), Fault> {
     }
     println!("\n| age | {names} |\n|---|---|---|---|---|");
     for age in AGES {
-        wrong += print_young(age, 0x1234_5678, "another RTP offset")?;
-        wrong += print_young(age, 0, "times continue")?;
+        wrong += print_young(age)?;
     }
     println!("\n| network | {names} |\n|---|---|---|---|---|");
-    for (network, name) in NETWORKS {
-        wrong += print_network(network, name)?;
-    }
+    wrong += print_networks()?;
     if wrong > 0 {
         return Err(format!("{wrong} cases are not as documented").into());
     }
