@@ -180,7 +180,8 @@ fn is_reported(streams: &[StreamState], place: usize) -> bool {
 
 /// Returns whether the stream at this place is due: it is reported, and this round had no block about it.
 fn is_due(streams: &[StreamState], place: usize, is_new: bool) -> bool {
-    is_reported(streams, place) && (is_new || !streams[place].was_reported)
+    let stream = &streams[place];
+    is_reported(streams, place) && (is_new || !stream.was_reported)
 }
 
 /// Returns whether the stream at this place is due, and the report has room for a block about it.

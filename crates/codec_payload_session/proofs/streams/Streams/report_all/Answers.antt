@@ -9,8 +9,7 @@ write_report-requires-whole c = λ l.
     let is_new = c.next_round-round.result.is_new in
     let room = c.next_round-round.result.room in
     let blocks = blocks_of is_new room c.args.tick_rate c.args.now.0 c.deref-2.result.now in
-    let is : c.deref-3.result.now ≡ bytes_of blocks = search rules in
-    (
+    let is : c.deref-3.result.now ≡ bytes_of blocks = search rules in (
       whole_blocks blocks c.deref-3.result.now is,
       omega (arith, ap (λ (bytes : List ℕ). length bytes) is, blocks_length blocks, few_blocks is_new room c.args.tick_rate c.args.now.0 c.deref-2.result.now, c.next_round-round.ensures.room, c.most_blocks.ensures),
     )
