@@ -49,7 +49,7 @@ abbrev call_of : SessionStep → StepAnswer → Call
 call_of step answer = record { step = step; answer = answer }
 
 -- the streams are the same, or as a report leaves them
-Same : List StreamState → List StreamState → Type 0
+abbrev Same : List StreamState → List StreamState → Type 0
 Same ss ts = (ts ≡ ss) ⊎ ((is_new : Bool) × (room : ℕ) × (ts ≡ all_reported is_new room ss))
 
 -- the streams of a report
