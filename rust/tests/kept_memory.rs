@@ -74,7 +74,9 @@ fn a_full_history_allocates_nothing() -> Result<(), Fail> {
         interval: 0,
         stream: None,
     })?;
-    let packets: Vec<_> = (0..8_000).map(|number| datagram(96, number, 1_200)).collect();
+    let packets: Vec<_> = (0..8_000)
+        .map(|number| datagram(96, number, 1_200))
+        .collect();
     let mut keep = |number: u32| Ok(history.keep(&packets[number as usize]).map(drop)?);
     most_allocations(0..2_000, &mut keep)?;
     assert_eq!(most_allocations(2_000..8_000, &mut keep)?, 0);
@@ -108,7 +110,10 @@ fn receiver() -> Result<Receiver, Fail> {
     let mut settings = ReceiverSettings::live_audio(111, Frequency::FORTY_EIGHT_KHZ);
     settings.ssrc = Some(7);
     settings.limit = 65_536;
-    Ok(Receiver::new(CodecDepacketizer::Opus(OpusDepacketizer {}), settings)?)
+    Ok(Receiver::new(
+        CodecDepacketizer::Opus(OpusDepacketizer {}),
+        settings,
+    )?)
 }
 
 /// The list of held packets grows by a factor: each packet allocates its payload and its metadata, and the list a few times more.
@@ -118,7 +123,10 @@ fn a_list_of_packets_grows_by_a_factor() -> Result<(), Fail> {
         let calls = hold(&mut receiver()?, count)?;
         let lists = 40 * count.ilog2() as usize;
         println!("{count} packets: {calls} allocations");
-        assert!(calls <= 2 * count as usize + lists, "{calls} allocations of {count} packets");
+        assert!(
+            calls <= 2 * count as usize + lists,
+            "{calls} allocations of {count} packets"
+        );
     }
     Ok(())
 }

@@ -178,7 +178,10 @@ fn streams_take_turns() -> Result<(), Fail> {
     }
     let rest: Vec<u32> = (49..=49).chain(60..=104).collect();
     assert_eq!(turn(&mut session, 8_000)?.1, rest);
-    assert_eq!(turn(&mut session, 9_000)?.1, (11..=49).chain(60..=68).collect::<Vec<_>>());
+    assert_eq!(
+        turn(&mut session, 9_000)?.1,
+        (11..=49).chain(60..=68).collect::<Vec<_>>()
+    );
     Ok(())
 }
 
