@@ -343,6 +343,31 @@ static void sent_reports(void) {
     cpay_session_free(&session);
 }
 
+/* A report with room for one block: two streams take turns (RFC 3550, section 6.1). */
+static void turns(void) {
+    cpay_session_settings settings;
+    cpay_session session = CPAY_INIT;
+    cpay_event event;
+    uint8_t bytes[64];
+    cpay_session_settings_init(&settings, CPAY_FOR_LIVE);
+    CHECK(cpay_session_settings_feedback(&settings, 9, (const uint8_t *)"me", 2) == CPAY_OK);
+    CHECK(settings.feedback.max_report == 1200);
+    settings.feedback.max_report = 48;
+    CHECK(cpay_session_new(&session, &settings, FORMATS, 2, NULL, 0, NULL, 0) == CPAY_OK);
+    for (uint8_t ssrc = 1; ssrc <= 2; ssrc++) {
+        opus(&session, 0, ssrc, 1);
+        opus(&session, 0, ssrc, 2);
+    }
+    while (cpay_session_poll(&session, 0, &event, bytes, 64) == CPAY_OK) {}
+    for (uint64_t now = 1000; now <= 4000; now += 1000) {
+        CHECK(cpay_session_poll(&session, now, &event, bytes, 64) == CPAY_OK && event.kind == CPAY_EVENT_REPORT);
+        /* a header, our SSRC, a block whose first word is the SSRC of its sender, and the name */
+        CHECK(event.bytes == 48 && bytes[0] == 0x81 && bytes[11] == (now / 1000 + 1) % 2 + 1);
+        CHECK(cpay_session_poll(&session, now, &event, bytes, 64) == CPAY_NONE);
+    }
+    cpay_session_free(&session);
+}
+
 /* Transport-wide feedback (draft-holmer-rmcat-transport-wide-cc-extensions-01, section 3.1): each interval, with the times of
    microseconds, and from a new number on after a restart. */
 static void transports(void) {
@@ -847,6 +872,7 @@ int main(void) {
     change_of_format();
     requests();
     sent_reports();
+    turns();
     transports();
     redundant();
     redundant_again();
