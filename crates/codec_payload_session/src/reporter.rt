@@ -26,6 +26,7 @@ const MOST_BYTES: usize = 31 * 24;
 
 impl Streams {
     /// Returns the report, if one is due. `due` is when the next one is due.
+    #[inline(always)]
     pub(crate) fn report_due(
         &mut self,
         settings: &SessionSettings,
