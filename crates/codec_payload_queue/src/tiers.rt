@@ -233,7 +233,7 @@ impl<T: Numbered + Drop> TieredQueue<T> {
         if self.is_place(place, number) {
             place
         } else {
-            self.place_inside(number)
+            self.place_of(number)
         }
     }
 

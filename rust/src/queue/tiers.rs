@@ -163,7 +163,7 @@ impl<T: Numbered> TieredQueue<T> {
         if self.is_place(place, number) {
             place
         } else {
-            self.place_inside(number)
+            self.place_of(number)
         }
     }
 
