@@ -65,7 +65,10 @@ impl NoMediaNumbers {
     pub(crate) fn contains(&self, number: u64) -> bool
         ensures { result ≡ is_in number self.now.items }
     {
-        self.numbers.binary_search(&number).is_ok()
+        match self.numbers.binary_search(&number) {
+            Ok(_) => true,
+            Err(_) => false,
+        }
     }
 
     /// Moves the cutoff of the buffer past the numbers without media that come right after it, and forgets these numbers.
