@@ -7,9 +7,10 @@
 
 The kit's compiler passes its clang one LLVM module for codec_payload_c with all crates below it, once the prover has said
 `logic=proved`; an unproved crate gives no module. The kit's clang makes the assembly from that module, with the options by which
-it makes the proved archive. Three things are added to the module's text: exports are called proved_cpay_* and are hidden, indirect
-branches are protected (CET and BTI with signed return addresses), and so are the notes that say it. The code runs on every
-processor of its architecture.
+it makes the proved archive, and one more: functions of the same code become one. A type parameter of two crates is two functions,
+such as the receiver of a session and the receiver of a stream. Three things are added to the module's text: exports are called
+proved_cpay_* and are hidden, indirect branches are protected (CET and BTI with signed return addresses), and so are the notes that
+say it. The code runs on every processor of its architecture.
 
 The head of each file names the kit and has a checksum of the sources, without their comments: of codec_payload_c and all crates
 below it. Needs the kit, except for the first step of `check`, and about a minute for each file over proved crates.
@@ -163,7 +164,8 @@ def assembly(name, folder, version, total):
             it.write(protected(read(f"{room}/module.ll"), name))
         words = read(f"{room}/words").splitlines()
         words = ["-S" if it == "-c" else "protected.ll" if it.endswith((".bc", ".ll")) else it for it in words]
-        ran([clang, *words, "-o", "module.s", "-fno-verbose-asm", "-Wno-unused-command-line-argument"], room, "clang made no assembly")
+        words += ["-Xclang", "-fmerge-functions", "-fno-verbose-asm", "-Wno-unused-command-line-argument"]
+        ran([clang, *words, "-o", "module.s"], room, "clang made no assembly")
         lines = [line for line in read(f"{room}/module.s").splitlines() if not line.startswith(UNKNOWN)]
     proved = " ".join(re.findall(r"(?:functions|target|sum)=\S+", verdict))
     return "\n".join([

@@ -1,11 +1,12 @@
 #!/usr/bin/env python3
 """Prints what a received packet takes through the library for C, as `make` builds it: instructions by callgrind, and times.
 
-  scripts/receiving.py           instructions of a packet, with 64 held, and with 4,096; fails if a packet of Opus in order, with 64
-                                 held, takes more than BOUND in a receiver
+  scripts/receiving.py           instructions of a packet, with 64 held, and with 4,096; of a datagram of a session, with its polls.
+                                 Fails if a packet of Opus in order, with 64 held, takes more than BOUND in a receiver, or a datagram
+                                 of a session more than its bound
   scripts/receiving.py --times   nanoseconds too, over a ring in C that makes no promises, and of 10,000 receivers in turn
 
-The program is tools/bench/receive.c. Needs make, a C compiler, $CC or cc, and valgrind. Times depend on the machine and on what
+The programs are tools/bench/receive.c and sessions.c. Needs make, a C compiler, $CC or cc, and valgrind. Times depend on the machine and on what
 else runs on it; instructions do not.
 """
 import os
@@ -19,23 +20,35 @@ ROUNDS = 2176
 BOUND = 1_970
 # What each row calls, and the functions that are counted for it.
 KINDS = {"opus": "Opus, in order", "ranges": "Opus, ranges of 32 in reverse", "vp8": "VP8, 17 packets a frame"}
+CAPTURE = f"{ROOT}/tools/rtp_record/captures/chromium-vp8"
+# What each row of sessions is, its arguments, and the most instructions of a datagram.
+SESSIONS = [
+    ("1 stream of Opus", ["streams", "1"], 99_999),
+    ("1,000 streams of Opus", ["streams", "1000"], 99_999),
+    ("a call of Chromium: audio, video, retransmissions, RTCP", ["call", f"{CAPTURE}.sdp", f"{CAPTURE}.pcap"], 99_999),
+]
 CALLS = {"cpay_receiver_receive": "receive", "cpay_receiver_pop": "pop", "cpay_buffer_push": "push", "cpay_buffer_pop": "pop_buffer"}
 
 
-def built(folder):
-    """The program, over the library that `make` builds."""
+def built(folder, name):
+    """A program, over the library that `make` builds."""
     subprocess.run(["make", "-s", "-C", ROOT], stdout=subprocess.DEVNULL, check=True)
-    program = f"{folder}/receive"
-    source, library = f"{ROOT}/tools/bench/receive.c", f"{ROOT}/c/out/libcodec_payload.a"
+    program = f"{folder}/{name}"
+    source, library = f"{ROOT}/tools/bench/{name}.c", f"{ROOT}/c/out/libcodec_payload.a"
     subprocess.run([os.environ.get("CC", "cc"), "-std=c99", "-O2", f"-I{ROOT}/include", source, library, "-o", program], check=True)
     return program
 
 
+def counted(call, words):
+    """The instructions inside one function of a program, and what it printed."""
+    tool = ["valgrind", "--tool=callgrind", "--callgrind-out-file=/dev/null", f"--toggle-collect={call}"]
+    ran = subprocess.run([*tool, *map(str, words)], capture_output=True, text=True, check=True)
+    return int(re.search(r"Collected : (\d+)", ran.stderr)[1]), ran.stdout
+
+
 def instructions(program, call, kind, held):
     """The instructions of a packet inside one function."""
-    words = ["valgrind", "--tool=callgrind", "--callgrind-out-file=/dev/null", f"--toggle-collect={call}", program, call, kind, held]
-    ran = subprocess.run([*map(str, words)], capture_output=True, text=True, check=True)
-    return int(re.search(r"Collected : (\d+)", ran.stderr)[1]) / ROUNDS
+    return counted(call, [program, call, kind, held])[0] / ROUNDS
 
 
 def time_of(program, call, kind, held):
@@ -57,6 +70,18 @@ def print_instructions(program):
     return first
 
 
+def print_sessions(program):
+    """Prints a table, and returns whether each row is within its bound."""
+    print("\n| session | datagrams | instructions of a datagram, with its polls | bound |\n|---|---|---|---|")
+    fit = True
+    for name, words, bound in SESSIONS:
+        count, said = counted("counted", [program, *words])
+        each = count / int(said)
+        fit = fit and each <= bound
+        print(f"| {name} | {int(said):,} | {each:,.0f} | {bound:,} |", flush=True)
+    return fit
+
+
 def print_times(program):
     print("\n| packets | held | receiver, ns | buffer, ns | ring, ns | receiver over ring |")
     print("|---" * 6 + "|")
@@ -72,12 +97,13 @@ def main(words):
     if words not in ([], ["--times"]):
         sys.exit(__doc__.strip())
     with tempfile.TemporaryDirectory() as folder:
-        program = built(folder)
+        program = built(folder, "receive")
         taken = print_instructions(program)
+        fit = print_sessions(built(folder, "sessions"))
         if words:
             print_times(program)
-    print(f"receiving: {taken:,.0f} instructions of a packet of Opus, at most {BOUND:,} wanted")
-    return 0 if taken <= BOUND else 1
+    print(f"receiving: {taken:,.0f} instructions of a packet of Opus, at most {BOUND:,} wanted; sessions within their bounds: {fit}")
+    return 0 if taken <= BOUND and fit else 1
 
 
 if __name__ == "__main__":
