@@ -63,7 +63,8 @@ static unsigned poll(cpay_session *session, uint64_t now) {
 
 /* A packet of G.711, or its retransmission. */
 static size_t packet(uint8_t number, bool again, uint8_t out[15]) {
-    const uint8_t header[12] = {0x80, again ? RTX : 0, 0, number, 0, 0, number, 0, 0, 0, 0, again ? 9 : 7};
+    const uint8_t type = again ? RTX : 0, ssrc = again ? 9 : 7;
+    const uint8_t header[12] = {0x80, type, 0, number, 0, 0, number, 0, 0, 0, 0, ssrc};
     size_t size = 0;
     for (; size < sizeof header; size++) out[size] = header[size];
     if (again) {
