@@ -11,7 +11,7 @@ import sys
 
 ROOT = os.path.dirname(os.path.dirname(os.path.realpath(__file__)))
 VECTORS = f"{ROOT}/crates/payload_vectors"
-sys.path.insert(0, f"{ROOT}/scripts")
+sys.path.insert(0, f"{ROOT}/tests/vectors")
 
 from program_vectors import ROWS  # noqa: E402  (the folder is known only now)
 
