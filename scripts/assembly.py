@@ -7,10 +7,10 @@
 
 The kit's compiler passes its clang one LLVM module for codec_payload_c with all crates below it, once the prover has said
 `logic=proved`; an unproved crate gives no module. The kit's clang makes the assembly from that module, with the options by which
-it makes the proved archive, and one more: functions of the same code become one. A type parameter of two crates is two functions,
-such as the receiver of a session and the receiver of a stream. Three things are added to the module's text: exports are called
-proved_cpay_* and are hidden, indirect branches are protected (CET and BTI with signed return addresses), and so are the notes that
-say it. The code runs on every processor of its architecture.
+it makes the proved archive. Before that it merges functions of the same code: a function with type parameters is one for each crate
+that uses it, so a receiver would be there twice, for sessions and for receivers of C. Three things are added to the module's text:
+exports are called proved_cpay_* and are hidden, indirect branches are protected (CET and BTI with signed return addresses), and so
+are the notes that say it. The code runs on every processor of its architecture.
 
 The head of each file names the kit and has a checksum of the sources, without their comments: of codec_payload_c and all crates
 below it. Needs the kit, except for the first step of `check`, and about a minute for each file over proved crates.
@@ -38,6 +38,9 @@ ARCHITECTURES = {
 }
 # Comments; before them, text that may contain two slashes and is not a comment.
 COMMENT = re.compile(r'("(?:[^"\\]|\\.)*"|\'(?:[^\'\\\n]|\\.)\')|//[^\n]*')
+# The attribute of functions that are always inlined, and what stands for it while functions are compared.
+ALWAYS_INLINE = re.compile(r"(?m)^(attributes #\d+ = \{.*?)\balwaysinline\b")
+NOT_YET = '"not-inlined-yet"'
 # What the assembler of binutils does not know, or did not until lately: hints to LLVM's linker, and the notes' values once more.
 UNKNOWN = ("\t.addrsig", "\t.aeabi_")
 STAND_IN = """\
@@ -158,14 +161,17 @@ def assembly(name, folder, version, total):
     with tempfile.TemporaryDirectory(prefix="assembly-") as room:
         verdict = module_of(name, folder, room)
         clang = f"{folder}/toolchain/bin/clang"
-        ran([clang, f"--target={ARCHITECTURES[name][0]}", "-Xclang", "-disable-llvm-passes", "-S", "-emit-llvm", "-x", "ir", "input",
-             "-o", "module.ll"], room, "the module cannot be read")
+        reads = [clang, f"--target={ARCHITECTURES[name][0]}", "-S", "-emit-llvm", "-x", "ir"]
+        ran([*reads, "-Xclang", "-disable-llvm-passes", "input", "-o", "module.ll"], room, "the module cannot be read")
+        # Functions are compared as they were written, before any is inlined.
+        with open(f"{room}/apart.ll", "w", encoding="utf-8") as it:
+            it.write(ALWAYS_INLINE.sub(rf"\1{NOT_YET}", read(f"{room}/module.ll")))
+        ran([*reads, "-O0", "-Xclang", "-fmerge-functions", "apart.ll", "-o", "merged.ll"], room, "functions of the same code are not merged")
         with open(f"{room}/protected.ll", "w", encoding="utf-8") as it:
-            it.write(protected(read(f"{room}/module.ll"), name))
+            it.write(protected(read(f"{room}/merged.ll").replace(NOT_YET, "alwaysinline"), name))
         words = read(f"{room}/words").splitlines()
         words = ["-S" if it == "-c" else "protected.ll" if it.endswith((".bc", ".ll")) else it for it in words]
-        words += ["-Xclang", "-fmerge-functions", "-fno-verbose-asm", "-Wno-unused-command-line-argument"]
-        ran([clang, *words, "-o", "module.s"], room, "clang made no assembly")
+        ran([clang, *words, "-o", "module.s", "-fno-verbose-asm", "-Wno-unused-command-line-argument"], room, "clang made no assembly")
         lines = [line for line in read(f"{room}/module.s").splitlines() if not line.startswith(UNKNOWN)]
     proved = " ".join(re.findall(r"(?:functions|target|sum)=\S+", verdict))
     return "\n".join([
