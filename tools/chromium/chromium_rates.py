@@ -30,10 +30,8 @@ import tempfile
 import threading
 import time
 
-from chromium_peer import ROOT, SWITCHES, Server, browse
+from chromium_peer import ROOT, SWITCHES, browse, server_of
 from peer_relay import LOOPBACK, Network, Relay, answer_to, is_stun, sections_of
-
-import http.server
 
 # A description of a browser that is not to be sent further: its addresses.
 CANDIDATE = re.compile(r"a=(candidate:.*|end-of-candidates)\r\n")
@@ -129,30 +127,9 @@ class Call:
             self.process.wait()
 
 
-def handler_of(call):
-    class Handler(http.server.SimpleHTTPRequestHandler):
-        protocol_version = "HTTP/1.1"
-
-        def __init__(self, *words):
-            super().__init__(*words, directory=ROOT / "tools/chromium")
-
-        def do_POST(self):
-            text = self.rfile.read(int(self.headers["Content-Length"])).decode()
-            answer = call.post(self.path, text).encode()
-            self.send_response(200)
-            self.send_header("Content-Length", str(len(answer)))
-            self.end_headers()
-            self.wfile.write(answer)
-
-        def log_message(self, *_):
-            pass
-
-    return Handler
-
-
 def rates_of(call, seconds):
     """The bitrate of each second."""
-    server = Server((LOOPBACK, 0), handler_of(call))
+    server = server_of(call)
     threading.Thread(target=server.serve_forever, daemon=True).start()
     query = f"seconds={seconds}" + ("&direct=1" if call.program is None else "")
     try:
