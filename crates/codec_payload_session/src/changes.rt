@@ -10,6 +10,7 @@ use crate::stream::StreamState;
 use codec_payload_base::wire::Codec;
 
 /// Returns whether this codec is sent in turn with audio that goes on.
+#[inline(always)]
 pub(crate) fn takes_turns(codec: Codec) -> bool
     ensures { result ≡ takes_turns codec }
 {
@@ -17,6 +18,7 @@ pub(crate) fn takes_turns(codec: Codec) -> bool
 }
 
 /// Returns whether both codecs are of audio, or both of video.
+#[inline(always)]
 pub(crate) fn are_alike(one: Codec, other: Codec) -> bool
     ensures { result ≡ are_alike (is_video one) (is_video other) }
 {
@@ -38,6 +40,7 @@ fn playing(streams: &[StreamState], ssrc: u32, payload_type: u8) -> Option<usize
 }
 
 /// Returns whether the sender left a stream for this format, if its stream is announced.
+#[inline(always)]
 pub(crate) fn any_left_behind(
     streams: &[StreamState],
     now: u64,

@@ -213,6 +213,7 @@ impl SessionSettings {
     }
 
     /// Returns the role of this payload type.
+    #[inline(always)]
     pub(crate) fn role(&self, payload_type: u8) -> Role
         ensures { result ≡ role_of self.now payload_type }
     {
@@ -225,6 +226,7 @@ impl SessionSettings {
     }
 
     /// Returns whether packets of this payload type are telephone events beside audio.
+    #[inline(always)]
     pub(crate) fn is_telephone(&self, payload_type: u8) -> bool
         ensures { result ≡ is_telephone self.now payload_type }
     {
@@ -296,6 +298,7 @@ impl Format {
     }
 
     /// Returns whether packets of this payload type carry media of this format.
+    #[inline(always)]
     pub(crate) fn has_type(&self, payload_type: u8) -> bool
         ensures { result ≡ has_type self.now payload_type }
     {
@@ -309,6 +312,7 @@ impl Format {
     }
 
     /// Returns whether packets of this payload type are retransmissions of this format.
+    #[inline(always)]
     pub(crate) fn resends(&self, payload_type: u8) -> bool
         ensures { result ≡ resends self.now payload_type }
     {
@@ -341,6 +345,7 @@ fn is_type(given: Option<u8>, payload_type: u8) -> bool
 }
 
 /// Returns whether the payload type is in the list.
+#[inline(always)]
 pub(crate) fn is_among(payload_type: u8, types: &[u8]) -> bool
     ensures { result ≡ is_among payload_type types.now }
 {
@@ -401,6 +406,7 @@ fn stream_of(pairs: &[SsrcPair], retransmission: u32) -> Option<u32>
 }
 
 /// Returns the role of this payload type, by the first format that names it.
+#[inline(always)]
 fn role_in(formats: &[Format], no_media: &[u8], telephone_events: &[u8], payload_type: u8) -> Role
     ensures { result ≡ role_by formats.now no_media.now telephone_events.now payload_type }
 {

@@ -92,6 +92,7 @@ impl Feedback {
     }
 
     /// Records that a packet with this number came. If the number was requested, that measures the round trip.
+    #[inline(always)]
     fn hear(&mut self, now: Ticks, number: Option<u16>)
         ensures { self.new ≡ after_number now.0 number self.old }
     {
@@ -119,6 +120,7 @@ impl Feedback {
     }
 
     /// Returns until when what is requested changes by no other cause than a request that is due.
+    #[inline(always)]
     fn rest_time(&self, now: Ticks, last: u64, receiver: &Receiver) -> u64
         ensures { (later : ℕ) → later < result → MayRest (Option.Some self.now) now.0 later last receiver.now }
     {
@@ -158,6 +160,7 @@ impl Feedback {
 }
 
 /// Records the number of a packet that was accepted.
+#[inline(always)]
 pub(crate) fn hear(
     feedback: &mut Option<Feedback>,
     format: &Format,
@@ -172,6 +175,7 @@ pub(crate) fn hear(
 }
 
 /// Returns when the next request is due.
+#[inline(always)]
 pub(crate) fn requests_due(feedback: &Option<Feedback>) -> Option<u64>
     ensures { result ≡ requests_due feedback.now }
 {
@@ -186,6 +190,7 @@ pub(crate) fn requests_due(feedback: &Option<Feedback>) -> Option<u64>
 
 /// Returns until when a stream requests nothing before a request is due, if it had nothing to request at `now`, and its receiver
 /// stays as it is. `last` is when its latest datagram arrived.
+#[inline(always)]
 pub(crate) fn rest_time(
     feedback: &Option<Feedback>,
     now: Ticks,
@@ -221,6 +226,7 @@ pub(crate) fn round_trip(feedback: &Option<Feedback>) -> Option<u64>
 }
 
 /// Returns how long a frame of the stream may wait, by the round trip. `None`: its wait limits stay.
+#[inline(always)]
 pub(crate) fn wait_by(feedback: &Option<Feedback>) -> Option<u64>
     ensures { result ≡ wait_by feedback.now }
 {

@@ -322,6 +322,7 @@ impl Session {
     }
 
     /// Receives a datagram that was read. No later step reads it again.
+    #[inline(always)]
     fn receive_parsed(
         &mut self,
         now: Ticks,
@@ -390,6 +391,7 @@ impl Session {
     }
 
     /// Returns the next event of the streams or the report, or else the feedback about the transport, if it is due.
+    #[inline(always)]
     fn turn_or_feedback(&mut self, now: Ticks, unit: &mut PoppedUnit) -> Option<Event<()>>
         ensures { TurnsOrSends now self.old (event_to result unit.new) self.new }
     {
@@ -400,6 +402,7 @@ impl Session {
     }
 
     /// Returns the feedback about the transport, if it is due.
+    #[inline(always)]
     fn send_transport(&mut self, now: Ticks) -> Option<Event<()>>
         ensures { SendsTransport now.0 self.old result self.new }
     {
@@ -410,6 +413,7 @@ impl Session {
     }
 
     /// Returns the next event of the streams, or else the report about them, if one is due.
+    #[inline(always)]
     fn turn(&mut self, now: Ticks, unit: &mut PoppedUnit) -> Option<Event<()>>
         ensures { TurnsOrReports now self.old (event_to result unit.new) self.new }
     {
@@ -420,6 +424,7 @@ impl Session {
     }
 
     /// Returns the report about the streams, if one is due.
+    #[inline(always)]
     fn report_streams(&mut self, now: Ticks) -> Option<Event<()>>
         ensures { SendsReport now.0 self.old result self.new }
     {
@@ -633,6 +638,7 @@ impl Session {
 }
 
 /// Returns the event of a report, if there is one.
+#[inline(always)]
 fn report_event(packet: Option<Result<Vec<u8>, AllocError>>) -> Option<Event<()>>
     ensures { result ≡ report_event packet }
 {
@@ -643,6 +649,7 @@ fn report_event(packet: Option<Result<Vec<u8>, AllocError>>) -> Option<Event<()>
 }
 
 /// Returns the event of a feedback about the transport, if there is one.
+#[inline(always)]
 fn transport_event(packet: Option<Result<Vec<u8>, AllocError>>) -> Option<Event<()>>
     ensures { result ≡ transport_event packet }
 {
@@ -746,6 +753,7 @@ impl ArrivalCounts {
     }
 
     /// Counts a datagram by this answer; if memory ran out, nothing is counted.
+    #[inline(always)]
     fn with_answer(self, answer: &Result<Arrival, AllocError>) -> ArrivalCounts
         ensures { result ≡ counted_if answer.now self }
     {
@@ -756,6 +764,7 @@ impl ArrivalCounts {
     }
 
     /// Counts one more datagram with this result.
+    #[inline(always)]
     fn with(mut self, arrival: Arrival) -> ArrivalCounts
         ensures { result ≡ counted arrival self }
     {

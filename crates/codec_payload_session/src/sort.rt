@@ -21,6 +21,7 @@ pub(crate) enum SortedPacket {
 }
 
 /// Sorts an RTP packet by its SSRC and payload type.
+#[inline(always)]
 pub(crate) fn sort(settings: &SessionSettings, ssrc: u32, payload_type: u8) -> SortedPacket
     ensures { sorted_of result ≡ sorted_packet settings.now ssrc payload_type }
 {

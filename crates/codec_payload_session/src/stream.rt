@@ -177,6 +177,7 @@ impl StreamState {
     }
 
     /// Returns whether the stream has this SSRC and payload type.
+    #[inline(always)]
     pub(crate) fn is_of(&self, ssrc: u32, payload_type: u8) -> bool
         ensures { result ≡ is_of ssrc payload_type self.now }
     {
@@ -191,6 +192,7 @@ impl StreamState {
     }
 
     /// Passes a datagram to the receiver. If memory runs out, only the receiver may have changed.
+    #[inline(always)]
     pub(crate) fn take(
         &mut self,
         now: Ticks,
@@ -209,6 +211,7 @@ impl StreamState {
     }
 
     /// Measures the round trip by an accepted datagram, if it answers a request.
+    #[inline(always)]
     fn hear_if(&mut self, accepted: bool, now: Ticks, datagram: &ParsedDatagram<'_>)
         ensures { self.new ≡ received now.0 datagram.now accepted self.old.receiver self.old }
     {
@@ -220,6 +223,7 @@ impl StreamState {
     }
 
     /// Counts one more datagram, unless memory ran out for it.
+    #[inline(always)]
     fn note_unless(&mut self, no_memory: bool, now: Ticks, probation: u64, accepted: bool)
         ensures { self.new ≡ heard_unless no_memory now.0 probation accepted self.old }
     {
@@ -241,6 +245,7 @@ impl StreamState {
     }
 
     /// Counts one more datagram.
+    #[inline(always)]
     fn note(&mut self, now: Ticks, probation: u64, accepted: bool)
         ensures { self.new ≡ heard now.0 probation accepted self.old }
     {
@@ -284,6 +289,7 @@ impl StreamState {
     }
 
     /// Returns whether the sender left the stream for this format: it took no datagram for `wait` ticks.
+    #[inline(always)]
     pub(crate) fn is_left_behind(&self, now: u64, wait: u64, ssrc: u32, format: &Format) -> bool
         ensures { result ≡ is_left_behind now wait ssrc format.now self.now }
     {
@@ -325,6 +331,7 @@ impl StreamState {
     }
 
     /// Returns why the stream ends now, if it does.
+    #[inline(always)]
     fn end_at(&self, now: u64, idle_timeout: u64) -> Option<Ending>
         ensures { result ≡ end_of now idle_timeout self.now }
     {
@@ -338,6 +345,7 @@ impl StreamState {
     }
 
     /// Finishes the receiver if the stream ends now, so that pops wait for nothing.
+    #[inline(always)]
     fn drain(&mut self, now: u64, idle_timeout: u64)
         ensures { Drains (end_of now idle_timeout self.old) self.old self.new }
     {
@@ -349,6 +357,7 @@ impl StreamState {
     }
 
     /// Returns the next event of the stream, and writes its unit to `unit`. A stream that is known to have none is not asked.
+    #[inline(always)]
     pub(crate) fn step(&mut self, now: Ticks, idle_timeout: u64, unit: &mut PoppedUnit) -> Step<()>
         ensures { Steps now idle_timeout self.old (step_to result unit.new) self.new }
     {
@@ -360,6 +369,7 @@ impl StreamState {
     }
 
     /// Returns whether the stream is known to have no event at this time.
+    #[inline(always)]
     fn is_quiet(&self, now: Ticks, idle_timeout: u64) -> bool
         ensures { result ≡ true → Steps now idle_timeout self.now steps.Nothing self.now }
     {
@@ -367,6 +377,7 @@ impl StreamState {
     }
 
     /// Asks the stream for its next event.
+    #[inline(always)]
     fn ask(&mut self, now: Ticks, idle_timeout: u64, unit: &mut PoppedUnit) -> Step<()>
         ensures { Steps now idle_timeout self.old (step_to result unit.new) self.new }
     {
@@ -383,6 +394,7 @@ impl StreamState {
     }
 
     /// Returns the next unit or refused frame of the stream, or what follows without one.
+    #[inline(always)]
     fn pop(&mut self, now: Ticks, unit: &mut PoppedUnit) -> Step<()>
         ensures { Pops now self.old (step_to result unit.new) self.new }
     {
@@ -406,6 +418,7 @@ impl StreamState {
 
     /// Returns until when the stream has no event, if it had none at `now`, and none of its packets left. 0: it is not known.
     /// `work` is its `work_deadline`.
+    #[inline(always)]
     fn quiet_time(&self, now: Ticks, work: Option<u64>) -> u64
         requires { work ≡ work_deadline self.now }
         ensures { RestsUntil result now.0 self.now }
@@ -421,6 +434,7 @@ impl StreamState {
     }
 
     /// Returns the step of a stream without a unit: its end, or what it requests.
+    #[inline(always)]
     fn rest(&mut self, now: Ticks) -> Step<()>
         ensures { RestsBy self.old.stage now.0 self.old result self.new }
     {
@@ -432,6 +446,7 @@ impl StreamState {
     }
 
     /// Returns the requests that are due, by what the receiver misses now.
+    #[inline(always)]
     fn request(&mut self, now: Ticks) -> Step<()>
         ensures { RequestsBy self.old.feedback now.0 self.old result self.new }
     {
@@ -527,6 +542,7 @@ impl StreamState {
 }
 
 /// Returns whether the stage is probation.
+#[inline(always)]
 fn is_probation(stage: Stage) -> bool
     ensures { result ≡ is_probation stage }
 {
@@ -534,6 +550,7 @@ fn is_probation(stage: Stage) -> bool
 }
 
 /// Returns whether a stream at this stage plays.
+#[inline(always)]
 pub(crate) fn is_playing(stage: Stage) -> bool
     ensures { result ≡ is_playing stage }
 {
@@ -562,6 +579,7 @@ fn or_max(time: Option<u64>) -> u64
 }
 
 /// Returns whether a step has no event.
+#[inline(always)]
 pub(crate) fn is_nothing(step: &Step<()>) -> bool
     ensures { result ≡ is_nothing step.now }
 {
@@ -569,6 +587,7 @@ pub(crate) fn is_nothing(step: &Step<()>) -> bool
 }
 
 /// Returns the step of a stream with this answer of a pop.
+#[inline(always)]
 fn step_with(popped: Result<Popped<()>, AllocError>) -> Step<()>
     ensures { result ≡ step_with popped }
 {
@@ -581,6 +600,7 @@ fn step_with(popped: Result<Popped<()>, AllocError>) -> Step<()>
 }
 
 /// Returns the step of a stream with these requests.
+#[inline(always)]
 fn step_of(packet: Result<Option<Vec<u8>>, AllocError>) -> Step<()>
     ensures { result ≡ step_of packet }
 {
@@ -592,6 +612,7 @@ fn step_of(packet: Result<Option<Vec<u8>>, AllocError>) -> Step<()>
 }
 
 /// Returns whether memory ran out.
+#[inline(always)]
 pub(crate) fn is_no_memory(answer: &Result<Outcome, ReceiveError>) -> bool
     ensures { result ≡ is_no_memory answer.now }
 {
@@ -599,6 +620,7 @@ pub(crate) fn is_no_memory(answer: &Result<Outcome, ReceiveError>) -> bool
 }
 
 /// Returns whether the packet was stored or has no media, so that it counts for the end of probation.
+#[inline(always)]
 fn is_accepted(answer: &Result<Outcome, ReceiveError>) -> bool
     ensures { result ≡ is_accepted answer.now }
 {

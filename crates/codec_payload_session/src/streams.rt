@@ -134,6 +134,7 @@ impl Streams {
     }
 
     /// Receives an RTP packet with this header.
+    #[inline(always)]
     fn take_packet(
         &mut self,
         settings: &SessionSettings,
@@ -165,6 +166,7 @@ impl Streams {
 
     /// Passes a datagram of media to its stream, or begins one with it. If that stream is announced, the streams that the
     /// sender left for it leave.
+    #[inline(always)]
     fn take_media(
         &mut self,
         settings: &SessionSettings,
@@ -183,6 +185,7 @@ impl Streams {
     }
 
     /// Ends the streams that the sender left for this format, if its stream is announced.
+    #[inline(always)]
     fn leave_behind(&mut self, now: u64, wait: u64, ssrc: u32, format: &Format)
         ensures { self.new ≡ record self.old { streams = continued (continues ssrc format.now self.old.streams) now wait ssrc format.now self.old.streams } }
     {
@@ -196,6 +199,7 @@ impl Streams {
     }
 
     /// Returns whether the sender left a stream for this format, if its stream is announced.
+    #[inline(always)]
     fn has_left_behind(&self, now: u64, wait: u64, ssrc: u32, format: &Format) -> bool
         ensures { result ≡ any_left_behind now wait ssrc format.now self.now.streams }
     {
@@ -203,6 +207,7 @@ impl Streams {
     }
 
     /// Passes a datagram to its stream, or begins a stream with it.
+    #[inline(always)]
     fn feed_or_begin(
         &mut self,
         settings: &SessionSettings,
@@ -220,6 +225,7 @@ impl Streams {
     }
 
     /// Passes a datagram to the stream at this place.
+    #[inline(always)]
     fn feed(
         &mut self,
         place: usize,
@@ -291,6 +297,7 @@ impl Streams {
     }
 
     /// Returns the next event, and writes its unit to `unit`.
+    #[inline(always)]
     pub(crate) fn turn(
         &mut self,
         now: Ticks,
@@ -306,6 +313,7 @@ impl Streams {
     }
 
     /// Returns the first step with an event. As long as the bound holds, only the stream that is excepted is asked.
+    #[inline(always)]
     fn step(&mut self, now: Ticks, idle_timeout: u64, unit: &mut PoppedUnit) -> Option<Turn<()>>
         ensures { StepsPort now idle_timeout self.old (turn_to result unit.new) self.new }
     {
@@ -329,6 +337,7 @@ impl Streams {
     }
 
     /// Returns the event of the stream at a place. A stream that ended is removed.
+    #[inline(always)]
     fn tell(&mut self, turn: Turn<()>) -> Option<Event<()>>
         requires { turn.place < length self.old.streams }
         ensures told { result ≡ told_by (slice_get self.old.streams turn.place) turn.step }
@@ -448,6 +457,7 @@ impl Streams {
 }
 
 /// Passes a datagram to the stream.
+#[inline(always)]
 fn feed_one(
     stream: &mut StreamState,
     probation: u64,
@@ -465,6 +475,7 @@ fn feed_one(
 }
 
 /// Returns what was done with a datagram for which the stream has this answer.
+#[inline(always)]
 fn arrival_of(ssrc: u32, payload_type: u8, answer: Result<Outcome, ReceiveError>) -> Arrival
     ensures { result ≡ arrival_of ssrc payload_type answer }
 {
@@ -483,6 +494,7 @@ fn arrival_of(ssrc: u32, payload_type: u8, answer: Result<Outcome, ReceiveError>
 }
 
 /// Returns the place of the stream with this SSRC and payload type.
+#[inline(always)]
 pub(crate) fn place_of(streams: &[StreamState], ssrc: u32, payload_type: u8) -> Option<usize>
     ensures value { result ≡ position (is_of ssrc payload_type) streams.now }
     ensures within { IfSome result (λ at. at < length streams.now) }

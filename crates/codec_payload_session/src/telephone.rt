@@ -97,6 +97,7 @@ impl TelephoneQueue {
 
     /// Puts the datagram into the queue, if it is a packet of telephone events and there is a place. Call `settle` once it is
     /// known whether a stream took it.
+    #[inline(always)]
     pub(crate) fn note(
         &mut self,
         settings: &SessionSettings,
@@ -119,6 +120,7 @@ impl TelephoneQueue {
 
     /// Takes the noted packet out again, if no stream took it without media. Counts a packet that a stream took and that has
     /// no place.
+    #[inline(always)]
     pub(crate) fn settle(&mut self, noted: Noted, answer: &Result<Arrival, AllocError>)
         ensures { self.new ≡ settled noted (is_without_media answer.now) self.old }
     {
@@ -132,6 +134,7 @@ impl TelephoneQueue {
     }
 
     /// Returns the event of the packet that has waited longest, which waits no more.
+    #[inline(always)]
     pub(crate) fn take(&mut self) -> Option<Event<()>>
         ensures { Gives self.old result self.new }
     {
@@ -157,6 +160,7 @@ impl TelephoneQueue {
 }
 
 /// Returns the packet of telephone events that the datagram is, if it is one.
+#[inline(always)]
 fn packet_in<'a>(settings: &SessionSettings, datagram: &ParsedDatagram<'a>) -> Option<RtpPacket<'a>>
     ensures { option_map (λ packet. packet_of packet) result ≡ telephone_at settings.now datagram.now }
 {
@@ -170,6 +174,7 @@ fn packet_in<'a>(settings: &SessionSettings, datagram: &ParsedDatagram<'a>) -> O
 }
 
 /// Returns the packet, if its payload type is one of telephone events.
+#[inline(always)]
 fn if_telephone<'a>(settings: &SessionSettings, packet: RtpPacket<'a>) -> Option<RtpPacket<'a>>
     ensures { option_map (λ packet. packet_of packet) result ≡ telephone_if settings.now (packet_of packet.entry) }
 {
@@ -181,6 +186,7 @@ fn if_telephone<'a>(settings: &SessionSettings, packet: RtpPacket<'a>) -> Option
 }
 
 /// Returns whether a stream took the datagram as one without media.
+#[inline(always)]
 fn is_without_media(answer: &Result<Arrival, AllocError>) -> bool
     ensures { result ≡ is_without_media answer.now }
 {

@@ -27,6 +27,7 @@ pub(crate) fn reporter_for(alloc: Global, settings: &SessionSettings) -> Option<
 
 /// Records that the datagram arrived at `time`, in quarters of a millisecond modulo 2^32, if it is an RTP packet with a number of the
 /// transport. If memory runs out, nothing changes.
+#[inline(always)]
 pub(crate) fn note(
     transport: &mut Option<TransportReporter>,
     time: u32,
@@ -75,6 +76,7 @@ pub(crate) fn transport_deadline(transport: &Option<TransportReporter>) -> Optio
 
 impl Streams {
     /// Returns the feedback about the transport, if it is due.
+    #[inline(always)]
     pub(crate) fn transport_due(
         &self,
         settings: &SessionSettings,
@@ -88,6 +90,7 @@ impl Streams {
 }
 
 /// Returns the feedback that is due, as a packet of this sender. If memory runs out, nothing changes, and it stays due.
+#[inline(always)]
 fn take_due(
     alloc: Global,
     transport: &mut Option<TransportReporter>,

@@ -23,6 +23,7 @@ pub(crate) struct Waking {
 
 impl Waking {
     /// Returns a bound that says nothing.
+    #[inline(always)]
     pub(crate) fn unknown() -> Waking
         ensures { SaysNothing result }
     {
@@ -52,6 +53,7 @@ impl Waking {
     }
 
     /// Returns whether the bound says that the streams have no event at this time.
+    #[inline(always)]
     pub(crate) fn holds(self, now: Ticks, idle_timeout: u64) -> bool
         ensures { result ≡ true → Holds self now idle_timeout }
     {
@@ -59,6 +61,7 @@ impl Waking {
     }
 
     /// Returns the bound of all streams except the one at this place.
+    #[inline(always)]
     pub(crate) fn except(self, place: usize, streams: &[StreamState]) -> Waking
         requires { IsBound self streams.now }
         ensures bound { IsBound result streams.now }
@@ -89,6 +92,7 @@ impl Waking {
 }
 
 /// Asks the stream that is excepted for an event. The others have none.
+#[inline(always)]
 pub(crate) fn step_excepted(
     streams: &mut [StreamState],
     waking: Waking,

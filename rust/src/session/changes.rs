@@ -7,11 +7,13 @@ use crate::session::stream::StreamState;
 use crate::wire::Codec;
 
 /// Returns whether this codec is sent in turn with audio that goes on.
+#[inline(always)]
 pub(crate) fn takes_turns(codec: Codec) -> bool {
     matches!(codec, Codec::CN | Codec::Tele)
 }
 
 /// Returns whether both codecs are of audio, or both of video.
+#[inline(always)]
 pub(crate) fn are_alike(one: Codec, other: Codec) -> bool {
     is_video(one) == is_video(other)
 }
@@ -27,6 +29,7 @@ fn playing(streams: &[StreamState], ssrc: u32, payload_type: u8) -> Option<usize
 }
 
 /// Returns whether the sender left a stream for this format, if its stream is announced.
+#[inline(always)]
 pub(crate) fn any_left_behind(
     streams: &[StreamState],
     now: u64,

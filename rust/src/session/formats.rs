@@ -208,6 +208,7 @@ impl SessionSettings {
     }
 
     /// Returns the role of this payload type.
+    #[inline(always)]
     pub(crate) fn role(&self, payload_type: u8) -> Role {
         role_in(
             &self.formats,
@@ -218,6 +219,7 @@ impl SessionSettings {
     }
 
     /// Returns whether packets of this payload type are telephone events beside audio.
+    #[inline(always)]
     pub(crate) fn is_telephone(&self, payload_type: u8) -> bool {
         is_among(payload_type, &self.telephone_events) && is_no_media(self.role(payload_type))
     }
@@ -278,6 +280,7 @@ impl Format {
     }
 
     /// Returns whether packets of this payload type carry media of this format.
+    #[inline(always)]
     pub(crate) fn has_type(&self, payload_type: u8) -> bool {
         if self.payload_type == payload_type {
             return true;
@@ -289,6 +292,7 @@ impl Format {
     }
 
     /// Returns whether packets of this payload type are retransmissions of this format.
+    #[inline(always)]
     pub(crate) fn resends(&self, payload_type: u8) -> bool {
         match self.retransmission {
             Some(own) if own == payload_type => true,
@@ -315,6 +319,7 @@ fn is_type(given: Option<u8>, payload_type: u8) -> bool {
 }
 
 /// Returns whether the payload type is in the list.
+#[inline(always)]
 pub(crate) fn is_among(payload_type: u8, types: &[u8]) -> bool {
     for t in types {
         if *t == payload_type {
@@ -365,6 +370,7 @@ fn stream_of(pairs: &[SsrcPair], retransmission: u32) -> Option<u32> {
 }
 
 /// Returns the role of this payload type, by the first format that names it.
+#[inline(always)]
 fn role_in(formats: &[Format], no_media: &[u8], telephone_events: &[u8], payload_type: u8) -> Role {
     for format in formats {
         if format.has_type(payload_type) {

@@ -30,6 +30,7 @@ struct Round {
 
 impl Streams {
     /// Returns the report, if one is due. `due` is when the next one is due.
+    #[inline(always)]
     pub(crate) fn report_due(
         &mut self,
         settings: &SessionSettings,

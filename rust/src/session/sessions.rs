@@ -286,6 +286,7 @@ impl Session {
     }
 
     /// Receives a datagram that was read. No later step reads it again.
+    #[inline(always)]
     fn receive_parsed(
         &mut self,
         now: Ticks,
@@ -340,6 +341,7 @@ impl Session {
     }
 
     /// Returns the next event of the streams or the report, or else the feedback about the transport, if it is due.
+    #[inline(always)]
     fn turn_or_feedback(&mut self, now: Ticks, unit: &mut PoppedUnit) -> Option<Event<()>> {
         match self.turn(now, unit) {
             Some(event) => Some(event),
@@ -348,6 +350,7 @@ impl Session {
     }
 
     /// Returns the feedback about the transport, if it is due.
+    #[inline(always)]
     fn send_transport(&mut self, now: Ticks) -> Option<Event<()>> {
         let packet = self
             .streams
@@ -356,6 +359,7 @@ impl Session {
     }
 
     /// Returns the next event of the streams, or else the report about them, if one is due.
+    #[inline(always)]
     fn turn(&mut self, now: Ticks, unit: &mut PoppedUnit) -> Option<Event<()>> {
         match self.streams.turn(now, self.settings.idle_timeout, unit) {
             Some(event) => Some(event),
@@ -364,6 +368,7 @@ impl Session {
     }
 
     /// Returns the report about the streams, if one is due.
+    #[inline(always)]
     fn report_streams(&mut self, now: Ticks) -> Option<Event<()>> {
         let packet = self
             .streams
@@ -538,6 +543,7 @@ impl Session {
 }
 
 /// Returns the event of a report, if there is one.
+#[inline(always)]
 fn report_event(packet: Option<Result<Vec<u8>, AllocError>>) -> Option<Event<()>> {
     match packet {
         Some(packet) => Some(Event::Report { packet }),
@@ -546,6 +552,7 @@ fn report_event(packet: Option<Result<Vec<u8>, AllocError>>) -> Option<Event<()>
 }
 
 /// Returns the event of a feedback about the transport, if there is one.
+#[inline(always)]
 fn transport_event(packet: Option<Result<Vec<u8>, AllocError>>) -> Option<Event<()>> {
     match packet {
         Some(packet) => Some(Event::TransportFeedback { packet }),
@@ -641,6 +648,7 @@ impl ArrivalCounts {
     }
 
     /// Counts a datagram by this answer; if memory ran out, nothing is counted.
+    #[inline(always)]
     fn with_answer(self, answer: &Result<Arrival, AllocError>) -> ArrivalCounts {
         match answer {
             Ok(arrival) => self.with(*arrival),
@@ -649,6 +657,7 @@ impl ArrivalCounts {
     }
 
     /// Counts one more datagram with this result.
+    #[inline(always)]
     fn with(mut self, arrival: Arrival) -> ArrivalCounts {
         self.received = self.received.wrapping_add(1);
         match arrival {

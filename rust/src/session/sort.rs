@@ -20,6 +20,7 @@ pub(crate) enum SortedPacket {
 }
 
 /// Sorts an RTP packet by its SSRC and payload type.
+#[inline(always)]
 pub(crate) fn sort(settings: &SessionSettings, ssrc: u32, payload_type: u8) -> SortedPacket {
     match settings.role(payload_type) {
         Role::Media(format) => SortedPacket::Media(ssrc, format),

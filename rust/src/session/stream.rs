@@ -140,6 +140,7 @@ impl StreamState {
     }
 
     /// Returns whether the stream has this SSRC and payload type.
+    #[inline(always)]
     pub(crate) fn is_of(&self, ssrc: u32, payload_type: u8) -> bool {
         self.ssrc == ssrc && self.format.payload_type == payload_type
     }
@@ -150,6 +151,7 @@ impl StreamState {
     }
 
     /// Passes a datagram to the receiver. If memory runs out, only the receiver may have changed.
+    #[inline(always)]
     pub(crate) fn take(
         &mut self,
         now: Ticks,
@@ -166,6 +168,7 @@ impl StreamState {
     }
 
     /// Measures the round trip by an accepted datagram, if it answers a request.
+    #[inline(always)]
     fn hear_if(&mut self, accepted: bool, now: Ticks, datagram: &ParsedDatagram<'_>) {
         if accepted {
             self.quiet_until = 0;
@@ -175,6 +178,7 @@ impl StreamState {
     }
 
     /// Counts one more datagram, unless memory ran out for it.
+    #[inline(always)]
     fn note_unless(&mut self, no_memory: bool, now: Ticks, probation: u64, accepted: bool) {
         if !no_memory {
             self.note(now, probation, accepted);
@@ -192,6 +196,7 @@ impl StreamState {
     }
 
     /// Counts one more datagram.
+    #[inline(always)]
     fn note(&mut self, now: Ticks, probation: u64, accepted: bool) {
         self.quiet_until = 0;
         self.taken = self.taken.wrapping_add(1);
@@ -227,6 +232,7 @@ impl StreamState {
     }
 
     /// Returns whether the sender left the stream for this format: it took no datagram for `wait` ticks.
+    #[inline(always)]
     pub(crate) fn is_left_behind(&self, now: u64, wait: u64, ssrc: u32, format: &Format) -> bool {
         self.ssrc == ssrc
             && self.format.payload_type != format.payload_type
@@ -260,6 +266,7 @@ impl StreamState {
     }
 
     /// Returns why the stream ends now, if it does.
+    #[inline(always)]
     fn end_at(&self, now: u64, idle_timeout: u64) -> Option<Ending> {
         match self.stage {
             Stage::Leaving(why, at) if at <= now => Some(why),
@@ -271,6 +278,7 @@ impl StreamState {
     }
 
     /// Finishes the receiver if the stream ends now, so that pops wait for nothing.
+    #[inline(always)]
     fn drain(&mut self, now: u64, idle_timeout: u64) {
         if let Some(why) = self.end_at(now, idle_timeout) {
             self.quiet_until = 0;
@@ -280,6 +288,7 @@ impl StreamState {
     }
 
     /// Returns the next event of the stream, and writes its unit to `unit`. A stream that is known to have none is not asked.
+    #[inline(always)]
     pub(crate) fn step(
         &mut self,
         now: Ticks,
@@ -294,11 +303,13 @@ impl StreamState {
     }
 
     /// Returns whether the stream is known to have no event at this time.
+    #[inline(always)]
     fn is_quiet(&self, now: Ticks, idle_timeout: u64) -> bool {
         now.0 < self.quiet_until && now.0.saturating_sub(self.last) < idle_timeout
     }
 
     /// Asks the stream for its next event.
+    #[inline(always)]
     fn ask(&mut self, now: Ticks, idle_timeout: u64, unit: &mut PoppedUnit) -> Step<()> {
         if is_probation(self.stage) {
             return Step::Nothing;
@@ -313,6 +324,7 @@ impl StreamState {
     }
 
     /// Returns the next unit or refused frame of the stream, or what follows without one.
+    #[inline(always)]
     fn pop(&mut self, now: Ticks, unit: &mut PoppedUnit) -> Step<()> {
         self.quiet_until = 0;
         let held = self.receiver.inner().held();
@@ -334,6 +346,7 @@ impl StreamState {
 
     /// Returns until when the stream has no event, if it had none at `now`, and none of its packets left. 0: it is not known.
     /// `work` is its `work_deadline`.
+    #[inline(always)]
     fn quiet_time(&self, now: Ticks, work: Option<u64>) -> u64 {
         if !self.told || !is_playing(self.stage) {
             return 0;
@@ -346,6 +359,7 @@ impl StreamState {
     }
 
     /// Returns the step of a stream without a unit: its end, or what it requests.
+    #[inline(always)]
     fn rest(&mut self, now: Ticks) -> Step<()> {
         match self.stage {
             Stage::Playing => self.request(now),
@@ -355,6 +369,7 @@ impl StreamState {
     }
 
     /// Returns the requests that are due, by what the receiver misses now.
+    #[inline(always)]
     fn request(&mut self, now: Ticks) -> Step<()> {
         self.quiet_until = 0;
         if let Some(feedback) = &mut self.feedback {
@@ -436,11 +451,13 @@ impl StreamState {
 }
 
 /// Returns whether the stage is probation.
+#[inline(always)]
 fn is_probation(stage: Stage) -> bool {
     matches!(stage, Stage::Probation)
 }
 
 /// Returns whether a stream at this stage plays.
+#[inline(always)]
 pub(crate) fn is_playing(stage: Stage) -> bool {
     matches!(stage, Stage::Playing)
 }
@@ -461,11 +478,13 @@ fn or_max(time: Option<u64>) -> u64 {
 }
 
 /// Returns whether a step has no event.
+#[inline(always)]
 pub(crate) fn is_nothing(step: &Step<()>) -> bool {
     matches!(step, Step::Nothing)
 }
 
 /// Returns the step of a stream with this answer of a pop.
+#[inline(always)]
 fn step_with(popped: Result<Popped<()>, AllocError>) -> Step<()> {
     match popped {
         Ok(Popped::Unit(unit)) => Step::Unit(Ok(unit)),
@@ -476,6 +495,7 @@ fn step_with(popped: Result<Popped<()>, AllocError>) -> Step<()> {
 }
 
 /// Returns the step of a stream with these requests.
+#[inline(always)]
 fn step_of(packet: Result<Option<Vec<u8>>, AllocError>) -> Step<()> {
     match packet {
         Ok(Some(packet)) => Step::Feedback(Ok(packet)),
@@ -485,11 +505,13 @@ fn step_of(packet: Result<Option<Vec<u8>>, AllocError>) -> Step<()> {
 }
 
 /// Returns whether memory ran out.
+#[inline(always)]
 pub(crate) fn is_no_memory(answer: &Result<Outcome, ReceiveError>) -> bool {
     matches!(answer, Err(ReceiveError::OutOfMemory))
 }
 
 /// Returns whether the packet was stored or has no media, so that it counts for the end of probation.
+#[inline(always)]
 fn is_accepted(answer: &Result<Outcome, ReceiveError>) -> bool {
     matches!(
         answer,

@@ -95,6 +95,7 @@ impl Streams {
     }
 
     /// Receives an RTP packet with this header.
+    #[inline(always)]
     fn take_packet(
         &mut self,
         settings: &SessionSettings,
@@ -123,6 +124,7 @@ impl Streams {
 
     /// Passes a datagram of media to its stream, or begins one with it. If that stream is announced, the streams that the
     /// sender left for it leave.
+    #[inline(always)]
     fn take_media(
         &mut self,
         settings: &SessionSettings,
@@ -138,6 +140,7 @@ impl Streams {
     }
 
     /// Ends the streams that the sender left for this format, if its stream is announced.
+    #[inline(always)]
     fn leave_behind(&mut self, now: u64, wait: u64, ssrc: u32, format: &Format) {
         if !self.has_left_behind(now, wait, ssrc, format) {
             return;
@@ -149,11 +152,13 @@ impl Streams {
     }
 
     /// Returns whether the sender left a stream for this format, if its stream is announced.
+    #[inline(always)]
     fn has_left_behind(&self, now: u64, wait: u64, ssrc: u32, format: &Format) -> bool {
         any_left_behind(&self.list, now, wait, ssrc, format)
     }
 
     /// Passes a datagram to its stream, or begins a stream with it.
+    #[inline(always)]
     fn feed_or_begin(
         &mut self,
         settings: &SessionSettings,
@@ -168,6 +173,7 @@ impl Streams {
     }
 
     /// Passes a datagram to the stream at this place.
+    #[inline(always)]
     fn feed(
         &mut self,
         place: usize,
@@ -225,6 +231,7 @@ impl Streams {
     }
 
     /// Returns the next event, and writes its unit to `unit`.
+    #[inline(always)]
     pub(crate) fn turn(
         &mut self,
         now: Ticks,
@@ -238,6 +245,7 @@ impl Streams {
     }
 
     /// Returns the first step with an event. As long as the bound holds, only the stream that is excepted is asked.
+    #[inline(always)]
     fn step(&mut self, now: Ticks, idle_timeout: u64, unit: &mut PoppedUnit) -> Option<Turn<()>> {
         if self.waking.holds(now, idle_timeout) {
             step_excepted(&mut self.list, self.waking, now, idle_timeout, unit)
@@ -262,6 +270,7 @@ impl Streams {
     }
 
     /// Returns the event of the stream at a place. A stream that ended is removed.
+    #[inline(always)]
     fn tell(&mut self, turn: Turn<()>) -> Option<Event<()>> {
         let stream = &self.list[turn.place];
         let (ssrc, payload_type) = (stream.ssrc, stream.format.payload_type);
@@ -360,6 +369,7 @@ impl Streams {
 }
 
 /// Passes a datagram to the stream.
+#[inline(always)]
 fn feed_one(
     stream: &mut StreamState,
     probation: u64,
@@ -375,6 +385,7 @@ fn feed_one(
 }
 
 /// Returns what was done with a datagram for which the stream has this answer.
+#[inline(always)]
 fn arrival_of(ssrc: u32, payload_type: u8, answer: Result<Outcome, ReceiveError>) -> Arrival {
     match answer {
         Ok(outcome) => Arrival::Stream {
@@ -391,6 +402,7 @@ fn arrival_of(ssrc: u32, payload_type: u8, answer: Result<Outcome, ReceiveError>
 }
 
 /// Returns the place of the stream with this SSRC and payload type.
+#[inline(always)]
 pub(crate) fn place_of(streams: &[StreamState], ssrc: u32, payload_type: u8) -> Option<usize> {
     streams.iter().position(|s| s.is_of(ssrc, payload_type))
 }

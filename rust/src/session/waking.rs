@@ -19,6 +19,7 @@ pub(crate) struct Waking {
 
 impl Waking {
     /// Returns a bound that says nothing.
+    #[inline(always)]
     pub(crate) fn unknown() -> Waking {
         Waking {
             until: 0,
@@ -44,11 +45,13 @@ impl Waking {
     }
 
     /// Returns whether the bound says that the streams have no event at this time.
+    #[inline(always)]
     pub(crate) fn holds(self, now: Ticks, idle_timeout: u64) -> bool {
         now.0 < self.until && now.0.saturating_sub(self.since) < idle_timeout
     }
 
     /// Returns the bound of all streams except the one at this place.
+    #[inline(always)]
     pub(crate) fn except(self, place: usize, streams: &[StreamState]) -> Waking {
         if self.fed == place {
             return self;
@@ -72,6 +75,7 @@ impl Waking {
 }
 
 /// Asks the stream that is excepted for an event. The others have none.
+#[inline(always)]
 pub(crate) fn step_excepted(
     streams: &mut [StreamState],
     waking: Waking,
