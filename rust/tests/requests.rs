@@ -51,6 +51,32 @@ fn a_number_that_arrives_is_not_requested() {
 }
 
 #[test]
+fn the_same_numbers_again_keep_their_times() {
+    let mut schedule = NackSchedule::new(NackSettings::live());
+    for now in 0..=10 {
+        schedule.refresh(Ticks(now), &[5, 6]).unwrap();
+        assert_eq!(schedule.next_deadline(), Some(Ticks(10)));
+    }
+    assert_eq!(due(&mut schedule, 10), [5, 6]);
+    schedule.refresh(Ticks(60), &[5, 6]).unwrap();
+    assert_eq!(schedule.next_deadline(), Some(Ticks(110)));
+    assert_eq!(due(&mut schedule, 109), []);
+    assert_eq!(due(&mut schedule, 110), [5, 6]);
+}
+
+#[test]
+fn the_capacity_applies_to_the_same_numbers_again() {
+    let mut schedule = NackSchedule::new(NackSettings {
+        capacity: 2,
+        ..NackSettings::live()
+    });
+    schedule.refresh(Ticks(0), &[5, 6]).unwrap();
+    schedule.refresh(Ticks(1), &[5, 6, 7]).unwrap();
+    schedule.refresh(Ticks(2), &[5, 6, 7]).unwrap();
+    assert_eq!(due(&mut schedule, 100), [5, 6]);
+}
+
+#[test]
 fn a_number_that_is_missing_again_begins_anew() {
     let mut schedule = NackSchedule::new(NackSettings::live());
     schedule.refresh(Ticks(0), &[5]).unwrap();

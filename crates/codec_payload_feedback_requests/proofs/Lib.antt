@@ -1,4 +1,4 @@
 mod KeyframeLemmas
-mod MomentLemmas
-mod NackLemmas
+pub mod MomentLemmas
+pub mod NackLemmas
 mod NackRunLemmas

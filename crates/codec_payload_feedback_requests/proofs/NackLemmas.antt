@@ -1,9 +1,12 @@
 -- A table of requests that rises, and its merge with the missing numbers.
-use Rattle.std.proofs.Common.{◌≡◌, ℕ, zero, suc, ◌+◌, ◌-◌, ◌<◌, ◌≤◌, ◌==◌, ◌&&◌, List, [], ◌∷◌, ◌++◌, take, drop, length, get_or, Bool, true, false, cond, Option, Some, None, refl, sym, ap, ◌∙◌, arith, unwrap_or, add-one, append_assoc, length-append}
+use Rattle.std.proofs.Common.{◌≡◌, ℕ, zero, suc, ◌+◌, ◌-◌, ◌<◌, ◌≤◌, ◌==◌, ◌&&◌, List, [], ◌∷◌, ◌++◌, take, drop, length, get_or, ◌||◌, Bool, true, false, cond, Option, Some, None, refl, sym, ap, ◌∙◌, arith, unwrap_or, map, add-one, append_assoc, length-append}
 use Rattle.std.proofs.lemmas.Bool.Decides.{nat_tests}
+use Rattle.std.proofs.lemmas.List.{append-nil, take_all}
 use Rattle.codec_payload_feedback_requests.specs.declared.nack.NackSettings.{NackSettings}
 use Rattle.codec_payload_feedback_requests.specs.declared.nack.PendingRequest.{PendingRequest}
-use Rattle.codec_payload_feedback_requests.specs.NackSchedule.{are_rising, are_rising_after, followed, is_due, is_past, kept_if_first, kept_or_new, new_request, numbers_of, refreshed_with, request_of, rising_after, skipped_below, tried, tried_if_due, tried_in}
+use Rattle.codec_payload_feedback_requests.specs.Requests.{has_come}
+use Rattle.codec_payload_feedback_requests.proofs.MomentLemmas.{come_earlier}
+use Rattle.codec_payload_feedback_requests.specs.NackSchedule.{Schedule, after_due, are_rising, are_rising_after, due_in, due_numbers, earliest_of, followed, is_due, is_past, kept_if_first, kept_or_new, low_bits, new_request, numbers_of, refreshed, refreshed_with, request_of, retry_time, rising_after, skipped_below, tried, tried_if_due, tried_in}
 
 -- the numbers rise, also without those before them
 pub weaken : (k : ℕ) (ns : List ℕ) → are_rising_after (Some k) ns ≡ true → are_rising_after None ns ≡ true
@@ -143,3 +146,72 @@ pub left_is : (ns : List ℕ) (i : ℕ) → i < length ns → drop i ns ≡ get_
 left_is [] i within = absurd (omega (arith, within))
 left_is (n ∷ ns) zero within = refl
 left_is (n ∷ ns) (suc i) within = rw add-one (rw add-one at (left_is ns i (omega (arith, within))))
+
+-- ---- nothing is due
+
+both_false : (a b : Bool) → (a || b) ≡ false → (a ≡ false) × (b ≡ false)
+both_false true b is = cc
+both_false false b is = (refl, is)
+
+not_due : (now : ℕ) (r : PendingRequest) (rs : List PendingRequest) → has_come (earliest_of (r ∷ rs)) now ≡ false → (is_due now r ≡ false) × (has_come (earliest_of rs) now ≡ false)
+not_due now r rs none = both_false (has_come r.due now) (has_come (earliest_of rs) now) (sym (come_earlier r.due (earliest_of rs) now) ∙ none)
+
+-- before the earliest moment no number is due
+pub none_due : (now : ℕ) (rs : List PendingRequest) → has_come (earliest_of rs) now ≡ false → due_in now rs ≡ []
+none_due now [] none = refl
+none_due now (r ∷ rs) none = let both = not_due now r rs none in rw both.0 (none_due now rs both.1)
+
+-- then requests count as sent without a change
+pub none_tried : (tries retry now : ℕ) (rs : List PendingRequest) → has_come (earliest_of rs) now ≡ false → tried_in tries retry now rs ≡ rs
+none_tried tries retry now [] none = refl
+none_tried tries retry now (r ∷ rs) none =
+    let both = not_due now r rs none in
+    rw both.0 (ap (λ (l : List PendingRequest). r ∷ l) (none_tried tries retry now rs both.1))
+
+pub nothing_due : (now : ℕ) (s : Schedule) → has_come (earliest_of s.pending) now ≡ false → s ≡ after_due now s
+nothing_due now s none = rw (none_tried s.settings.tries (retry_time s.settings s.round_trip) now s.pending none) refl
+
+pub nothing_appended : (now : ℕ) (s : Schedule) (ns : List ℕ) → has_come (earliest_of s.pending) now ≡ false → ns ≡ ns ++ map low_bits (due_numbers now s)
+nothing_appended now s ns none = rw (none_due now s.pending none) (sym (append-nil ns))
+
+-- ---- the same numbers are missing
+
+rising_on : (k n : ℕ) (ns : List ℕ) → k ≤ n → are_rising_after (Some n) ns ≡ true → are_rising_after (Some k) ns ≡ true
+rising_on k n [] below rising = refl
+rising_on k n (m ∷ ms) below rising = grind (arith, nat_tests)
+
+own_later : (settings : NackSettings) (now : ℕ) (r : PendingRequest) (rs : List PendingRequest) (ns : List ℕ) → are_rising_after (Some r.number) ns ≡ true
+    → refreshed_with settings now ns (r ∷ rs) ≡ refreshed_with settings now ns rs
+own_later settings now r rs [] rising = refl
+own_later settings now r rs (n ∷ ns) rising =
+    let above : r.number < n = grind (arith, nat_tests) in
+    let other : (r.number == n) ≡ false = grind (arith, nat_tests) in
+    let on : are_rising_after (Some n) ns ≡ true = grind (arith, nat_tests) in
+    rw other (ap (λ (l : List PendingRequest). kept_or_new settings now rs n ∷ l) (own_later settings now r rs ns (rising_on r.number n ns (omega (arith, above)) on)))
+
+-- the requests of their own numbers
+own : (settings : NackSettings) (now : ℕ) (rs : List PendingRequest) → are_rising (numbers_of rs) ≡ true → refreshed_with settings now (numbers_of rs) rs ≡ rs
+own settings now [] rising = refl
+own settings now (r ∷ rs) rising =
+    let here : (r.number == r.number) ≡ true = grind (arith, nat_tests) in
+    rw here (ap (λ (l : List PendingRequest). r ∷ l) (own_later settings now r rs (numbers_of rs) rising ∙ own settings now rs (weaken r.number (numbers_of rs) rising)))
+
+rising_all : (last : Option ℕ) (ns : List ℕ) → are_rising_after last ns ≡ true → rising_after last ns ≡ ns
+rising_all last [] rising = refl
+rising_all last (n ∷ ns) rising = by_test (is_past last n) rising (λ on. rising_all (Some n) ns on)
+  where
+    by_test : (b : Bool) → (b && are_rising_after (Some n) ns) ≡ true → (are_rising_after (Some n) ns ≡ true → rising_after (Some n) ns ≡ ns)
+        → cond b (n ∷ rising_after (Some n) ns) (rising_after last ns) ≡ n ∷ ns
+    by_test true is later = ap (λ (l : List ℕ). n ∷ l) (later is)
+    by_test false is later = cc
+
+-- requests whose numbers are missing as before stay as they are
+pub refreshed_same : (settings : NackSettings) (now : ℕ) (missing : List ℕ) (rs : List PendingRequest) → are_rising (numbers_of rs) ≡ true → numbers_of rs ≡ missing
+    → length missing ≤ settings.capacity → refreshed_with settings now (followed settings missing) rs ≡ rs
+refreshed_same settings now missing rs rising same few =
+    let all : followed settings missing ≡ missing = ap (λ (l : List ℕ). take settings.capacity l) (rising_all None missing (ap are_rising (sym same) ∙ rising)) ∙ take_all settings.capacity missing few in
+    ap (λ (l : List ℕ). refreshed_with settings now l rs) (all ∙ sym same) ∙ own settings now rs rising
+
+pub same_again : (now : ℕ) (missing : List ℕ) (s : Schedule) → are_rising (numbers_of s.pending) ≡ true → numbers_of s.pending ≡ missing → length missing ≤ s.settings.capacity
+    → s ≡ refreshed now missing s
+same_again now missing s rising same few = rw (refreshed_same s.settings now missing s.pending rising same few) refl

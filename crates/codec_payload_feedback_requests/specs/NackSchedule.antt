@@ -111,6 +111,11 @@ abbrev pub earliest_of : List PendingRequest → Option ℕ
 earliest_of [] = None
 earliest_of (r ∷ rs) = earlier r.due (earliest_of rs)
 
+-- the numbers of the requests rise, and this is the earliest moment at which one is due
+pub record IsOrdered (rs : List PendingRequest) (earliest : Option ℕ) : Type 0 where
+  pub rising : are_rising (numbers_of rs) ≡ true
+  pub earliest_is : earliest ≡ earliest_of rs
+
 -- ---- answers
 
 abbrev pub is_request_for : ℕ → PendingRequest → Bool

@@ -1,6 +1,6 @@
 //! When to request missing packets (generic NACK: RFC 4585, section 6.2.1).
 
-ghost use Rattle.std.specs.Prelude.{◌≡◌, ◌++◌, ◌/◌, [], IsTrue, length, map, OnErr, OnOk, take};
+ghost use Rattle.std.specs.Prelude.{◌≡◌, ◌==◌, ◌++◌, ◌/◌, [], IsTrue, length, map, OnErr, OnOk, take};
 ghost use Rattle.std.specs.Option.{option_map};
 ghost use Rattle.codec_payload_feedback_requests.specs.NackRuns.{Apart, Bounded, Exact, Missing, OnTime};
 ghost use Rattle.codec_payload_feedback_requests.specs.NackSchedule.{after_answer, after_due, answer_of, are_rising, due_in, due_numbers, earliest_of, followed, is_past, kept_if_first, low_bits, new_request, new_schedule, numbers_of, refreshed, refreshed_with, requested_by, retry_time, skipped_below, tried_if_due, tried_in, trip_after};
@@ -71,17 +71,18 @@ pub struct NackSchedule {
     spare: Vec<PendingRequest>,
     /// Eight times the round-trip time, once a request was answered.
     round_trip: Option<u64>,
+    /// The earliest moment at which a number is due.
+    earliest: Option<u64>,
 }
 
 impl Model for NackSchedule {
-    ghost use Rattle.std.specs.Prelude.{IsTrue};
-    ghost use Rattle.codec_payload_feedback_requests.specs.NackSchedule.{Schedule, are_rising, numbers_of};
+    ghost use Rattle.codec_payload_feedback_requests.specs.NackSchedule.{IsOrdered, Schedule};
 
     ghost Value = { Schedule };
 
     ghost view = { λ s. record { settings = s.settings; pending = s.pending.items; round_trip = s.round_trip } };
 
-    ghost invariant = { λ s. IsTrue (are_rising (numbers_of s.pending.items)) };
+    ghost invariant = { λ s. IsOrdered s.pending.items s.earliest };
 }
 
 impl NackSchedule {
@@ -94,12 +95,14 @@ impl NackSchedule {
             pending: Vec::new(alloc),
             spare: Vec::new(alloc),
             round_trip: None,
+            earliest: None,
         }
     }
 
     /// Replaces the missing numbers, which rise; a number that is not above all numbers before it is ignored. A number that was
     /// missing before keeps its times and its tries. A new number is first due after `first_wait`. Numbers that are no longer
-    /// missing are not requested again. Cost: one step for each old and each new number.
+    /// missing are not requested again. Cost: one step for each old and each new number; if the numbers are those of the last
+    /// call, one comparison for each.
     ///
     /// # Errors
     ///
@@ -108,6 +111,9 @@ impl NackSchedule {
         ensures ok { OnOk result (self.new ≡ refreshed now.0 missing.now self.old) }
         ensures err { OnErr result (self.new ≡ self.old) }
     {
+        if missing.len() <= self.settings.capacity && are_numbers_of(missing, &self.pending) {
+            return Ok(());
+        }
         self.spare.clear();
         merge(
             &self.settings,
@@ -117,6 +123,7 @@ impl NackSchedule {
             &mut self.spare,
         )?;
         swap(&mut self.pending, &mut self.spare);
+        self.earliest = earliest_of(&self.pending);
         Ok(())
     }
 
@@ -147,6 +154,9 @@ impl NackSchedule {
         ensures ok { OnOk result (numbers.new.items ≡ numbers.old.items ++ map low_bits (due_numbers now.0 self.now)) }
         ensures err { OnErr result (numbers.new.items ≡ numbers.old.items) }
     {
+        if !has_come(self.earliest, now.0) {
+            return Ok(());
+        }
         append_due(&self.pending, now.0, numbers)
     }
 
@@ -154,17 +164,28 @@ impl NackSchedule {
     pub fn count_due(&mut self, now: Ticks)
         ensures { self.new ≡ after_due now.0 self.old }
     {
+        if !has_come(self.earliest, now.0) {
+            return;
+        }
         let settings = self.settings;
         let retry = retry_time(&settings, self.round_trip);
         try_due(settings.tries, retry, now.0, &mut self.pending);
+        self.earliest = earliest_of(&self.pending);
+    }
+
+    /// Returns whether no number is missing, by the latest `refresh`.
+    pub fn is_empty(&self) -> bool
+        ensures { result ≡ (length self.now.pending == 0) }
+    {
+        self.pending.is_empty()
     }
 
     /// Returns when the next number is due. `None`: no number is due without a `refresh`. At that moment and later `take_due`
-    /// appends at least one number, before it none. Cost: one step for each missing number.
+    /// appends at least one number, before it none.
     pub fn next_deadline(&self) -> Option<Ticks>
         ensures { option_map (λ at. at.0) result ≡ earliest_of self.now.pending }
     {
-        match earliest_of(&self.pending) {
+        match self.earliest {
             Some(at) => Some(Ticks(at)),
             None => None,
         }
@@ -276,6 +297,20 @@ fn kept_if_first(
         [request, ..] if request.number == number => *request,
         _ => new_request(settings, now, number),
     }
+}
+
+/// Returns whether these are the numbers of the requests, one after another.
+fn are_numbers_of(missing: &[u64], pending: &[PendingRequest]) -> bool
+    ensures { IsTrue result → numbers_of pending.now ≡ missing.now }
+{
+    let mut rest = pending;
+    for number in missing {
+        match rest {
+            [request, others @ ..] if request.number == *number => rest = others,
+            _ => return false,
+        }
+    }
+    rest.is_empty()
 }
 
 /// Appends a request for each missing number to `out`, which is empty, up to the capacity. `pending` has the numbers that were

@@ -65,6 +65,8 @@ pub struct NackSchedule {
     spare: Vec<PendingRequest>,
     /// Eight times the round-trip time, once a request was answered.
     round_trip: Option<u64>,
+    /// The earliest moment at which a number is due.
+    earliest: Option<u64>,
 }
 
 impl NackSchedule {
@@ -75,17 +77,22 @@ impl NackSchedule {
             pending: Vec::new(),
             spare: Vec::new(),
             round_trip: None,
+            earliest: None,
         }
     }
 
     /// Replaces the missing numbers, which rise; a number that is not above all numbers before it is ignored. A number that was
     /// missing before keeps its times and its tries. A new number is first due after `first_wait`. Numbers that are no longer
-    /// missing are not requested again. Cost: one step for each old and each new number.
+    /// missing are not requested again. Cost: one step for each old and each new number; if the numbers are those of the last
+    /// call, one comparison for each.
     ///
     /// # Errors
     ///
     /// Out of memory: the schedule is unchanged.
     pub fn refresh(&mut self, now: Ticks, missing: &[u64]) -> Result<(), AllocError> {
+        if missing.len() <= self.settings.capacity && are_numbers_of(missing, &self.pending) {
+            return Ok(());
+        }
         self.spare.clear();
         merge(
             &self.settings,
@@ -95,6 +102,7 @@ impl NackSchedule {
             &mut self.spare,
         )?;
         swap(&mut self.pending, &mut self.spare);
+        self.earliest = earliest_of(&self.pending);
         Ok(())
     }
 
@@ -117,20 +125,32 @@ impl NackSchedule {
     ///
     /// Out of memory: `numbers` is unchanged.
     pub fn append_due(&self, now: Ticks, numbers: &mut Vec<u16>) -> Result<(), AllocError> {
+        if !has_come(self.earliest, now.0) {
+            return Ok(());
+        }
         append_due(&self.pending, now.0, numbers)
     }
 
     /// Counts the numbers that are due now as requested. Each is due again after the retry time, until it was requested `tries` times.
     pub fn count_due(&mut self, now: Ticks) {
+        if !has_come(self.earliest, now.0) {
+            return;
+        }
         let settings = self.settings;
         let retry = retry_time(&settings, self.round_trip);
         try_due(settings.tries, retry, now.0, &mut self.pending);
+        self.earliest = earliest_of(&self.pending);
+    }
+
+    /// Returns whether no number is missing, by the latest `refresh`.
+    pub fn is_empty(&self) -> bool {
+        self.pending.is_empty()
     }
 
     /// Returns when the next number is due. `None`: no number is due without a `refresh`. At that moment and later `take_due`
-    /// appends at least one number, before it none. Cost: one step for each missing number.
+    /// appends at least one number, before it none.
     pub fn next_deadline(&self) -> Option<Ticks> {
-        match earliest_of(&self.pending) {
+        match self.earliest {
             Some(at) => Some(Ticks(at)),
             None => None,
         }
@@ -224,6 +244,18 @@ fn kept_if_first(
         [request, ..] if request.number == number => *request,
         _ => new_request(settings, now, number),
     }
+}
+
+/// Returns whether these are the numbers of the requests, one after another.
+fn are_numbers_of(missing: &[u64], pending: &[PendingRequest]) -> bool {
+    let mut rest = pending;
+    for number in missing {
+        match rest {
+            [request, others @ ..] if request.number == *number => rest = others,
+            _ => return false,
+        }
+    }
+    rest.is_empty()
 }
 
 /// Appends a request for each missing number to `out`, which is empty, up to the capacity. `pending` has the numbers that were
