@@ -1,13 +1,18 @@
 -- Packets that are appended one after another, and how many numbers are followed.
-use Rattle.std.proofs.Common.{◌≡◌, ◌≤◌, ◌∙◌, ℕ, suc, ◌+◌, ◌==◌, List, [], ◌∷◌, ◌++◌, length, map, filter, Bool, true, false, cond, Some, Result, Ok, Err, OnOk, ap, refl, sym, subst, arith, append_assoc}
+use Rattle.std.proofs.Common.{◌≡◌, ◌≤◌, ◌∙◌, ℕ, suc, ◌+◌, ◌==◌, List, [], ◌∷◌, ◌++◌, length, map, filter, Bool, true, false, cond, Some, Result, Ok, Err, OnOk, ap, refl, sym, subst, arith, append_assoc, None, ◌&&◌, ◌||◌}
 use Rattle.std.proofs.lemmas.Bool.Decides.{nat_tests}
 use Rattle.std.proofs.lemmas.List.{append-nil}
 use Rattle.codec_payload_rtcp.specs.RtcpPackets.{Packet, source_description}
 use Rattle.codec_payload_rtcp.specs.RtcpWriting.{Appends, AreUnpadded, cname_chunk}
 use Rattle.codec_payload_rtcp.specs.NackNumbers.{Packs, numbers_in}
-use Rattle.codec_payload_feedback_requests.specs.NackSchedule.{Schedule, due_numbers, followed, is_due, low_bits}
+use Rattle.codec_payload_feedback_requests.specs.NackSchedule.{Schedule, due_numbers, earliest_of, followed, is_due, low_bits}
 use Rattle.codec_payload_feedback_requests.specs.declared.nack.PendingRequest.{PendingRequest}
-use Rattle.codec_payload_feedback.specs.Feedback.{AppendsAll, AppendsNack, Bounded, IsFeedback, Source, cname_by, cname_if, description_part, has_any, keyframe_part, nack_by, report_part}
+use Rattle.codec_payload_feedback_requests.specs.KeyframeRequests.{after_request, deadline_of as keyframe_deadline, is_due as is_keyframe_due}
+use Rattle.codec_payload_feedback_requests.specs.Requests.{has_come}
+use Rattle.codec_payload_feedback_requests.specs.declared.keyframe.KeyframeRequests.{KeyframeRequests}
+use Rattle.codec_payload_feedback_requests.proofs.MomentLemmas.{come_earlier}
+use Rattle.codec_payload_feedback_requests.proofs.NackLemmas.{none_due, nothing_due}
+use Rattle.codec_payload_feedback.specs.Feedback.{AppendsAll, AppendsNack, Bounded, IsFeedback, Source, cname_by, cname_if, description_part, has_any, keyframe_part, nack_by, report_part, Requests, after_feedback, deadline_of, keyframe_is_due, numbers_due}
 
 -- ---- packets
 
@@ -95,3 +100,38 @@ described (Ok x) s ssrc name a b report from is some got =
     ap (λ (r : Bool). cname_if r s) report ∙ ap (λ (n : ℕ). cname_by n s.cname) from ∙ ap (λ (n : List ℕ). cname_by ssrc n) is ∙ named ssrc name some in
     subst (λ (ps : List Packet). AppendsAll ps a b) (sym packets) (one (source_description (cname_chunk ssrc name ∷ [])) a b got)
 described (Err e) s ssrc name a b report from is some got = tt
+
+-- ---- nothing is due
+
+both_false : (a b : Bool) → (a || b) ≡ false → (a ≡ false) × (b ≡ false)
+both_false true b is = cc
+both_false false b is = (refl, is)
+
+keyframe_not_due : (now : ℕ) (r : KeyframeRequests) → has_come (keyframe_deadline r) now ≡ false → is_keyframe_due now r ≡ false
+keyframe_not_due now r none = by_test r.wanted none
+  where
+    by_test : (b : Bool) → has_come (cond b r.next None) now ≡ false → (b && has_come r.next now) ≡ false
+    by_test true is = is
+    by_test false is = refl
+
+keyframe_stays : (now : ℕ) (r : KeyframeRequests) → is_keyframe_due now r ≡ false → after_request now r ≡ r
+keyframe_stays now r none = rw none refl
+
+-- before the deadline there is no packet, and nothing changes
+pub record Rests (now : ℕ) (r : Requests) : Type 0 where
+  pub numbers : numbers_due now r ≡ []
+  pub keyframe : keyframe_is_due now r ≡ false
+  pub after : r ≡ after_feedback now r
+
+pub rests : (now : ℕ) (r : Requests) → has_come (deadline_of r) now ≡ false → Rests now r
+rests now r none =
+    let both = both_false (has_come (earliest_of r.nack.pending) now) (has_come (keyframe_deadline r.keyframes) now) (sym (come_earlier (earliest_of r.nack.pending) (keyframe_deadline r.keyframes) now) ∙ none) in
+    let keyframe = keyframe_not_due now r.keyframes both.1 in
+    record {
+      numbers = rw (none_due now r.nack.pending both.0) refl;
+      keyframe = keyframe;
+      after = rw (sym (nothing_due now r.nack both.0), keyframe_stays now r.keyframes keyframe) refl;
+    }
+
+pub no_packet : (s : Source) (now : ℕ) (r : Requests) → has_come (deadline_of r) now ≡ false → IsFeedback s r.ssrc (numbers_due now r) (keyframe_is_due now r) None
+no_packet s now r none = let all = rests now r none in rw (all.numbers, all.keyframe) refl

@@ -1,5 +1,5 @@
 -- The requests of a stream, and the compound packets that carry them.
-use Rattle.std.specs.Prelude.{◌≡◌, ◌≤◌, ℕ, min, nat_le, if◌then◌else◌, Bool, true, false, List, [], ◌∷◌, ◌++◌, length, map, Option, Some, None}
+use Rattle.std.specs.Prelude.{◌≡◌, ◌≤◌, ℕ, ◌==◌, ◌&&◌, not, min, nat_le, if◌then◌else◌, Bool, true, false, List, [], ◌∷◌, ◌++◌, length, map, Option, Some, None}
 use Rattle.codec_payload_feedback_requests.specs.KeyframeRequests.{after_request, deadline_of as keyframe_deadline, is_due, new_requests as no_keyframes}
 use Rattle.codec_payload_feedback_requests.specs.NackSchedule.{Schedule, after_answer, after_due, due_numbers, earliest_of, low_bits, new_schedule, refreshed}
 use Rattle.codec_payload_feedback_requests.specs.Requests.{earlier}
@@ -112,6 +112,10 @@ after_feedback now r = record r { nack = after_due now r.nack; keyframes = after
 
 abbrev pub after_answered : ℕ → ℕ → Requests → Requests
 after_answered now number r = record r { nack = after_answer now number r.nack }
+
+-- no number is followed, and no keyframe is needed
+abbrev pub is_idle : Requests → Bool
+is_idle r = (length r.nack.pending == 0) && not r.keyframes.wanted
 
 -- when the next request is due
 abbrev pub deadline_of : Requests → Option ℕ

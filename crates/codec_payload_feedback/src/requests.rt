@@ -5,8 +5,8 @@ ghost use Rattle.codec_payload_rtcp.specs.RtcpWriting.{AreUnpadded};
 ghost use Rattle.codec_payload_feedback_congestion.specs.Packet.{transport_feedback};
 ghost use Rattle.std.specs.Option.{option_map};
 ghost use Rattle.codec_payload_feedback_requests.specs.NackSchedule.{requested_by};
-ghost use Rattle.codec_payload_feedback_requests.specs.Requests.{earlier};
-ghost use Rattle.codec_payload_feedback.specs.Feedback.{AppendsAll, AppendsNack, IsFeedback, after_answered, after_feedback, deadline_of, description_part, has_any, keyframe_is_due, keyframe_part, new_requests, numbers_due, report_part, source_by, updated};
+ghost use Rattle.codec_payload_feedback_requests.specs.Requests.{earlier, has_come};
+ghost use Rattle.codec_payload_feedback.specs.Feedback.{AppendsAll, AppendsNack, IsFeedback, after_answered, after_feedback, deadline_of, description_part, has_any, is_idle, keyframe_is_due, keyframe_part, new_requests, numbers_due, report_part, source_by, updated};
 
 use codec_payload_base::wire::Ticks;
 use codec_payload_feedback_congestion::packet::write_transport_packet;
@@ -247,6 +247,9 @@ impl StreamRequests {
         ensures after { IfOk result (λ packet. self.new ≡ after_feedback now.0 self.old) }
         ensures err { IfErr result (λ e. self.new ≡ self.old) }
     {
+        if !self.has_due(now) {
+            return Ok(None);
+        }
         let mut numbers = Vec::new(self.alloc);
         self.nack.append_due(now, &mut numbers)?;
         let mut keyframes = self.keyframes;
@@ -277,6 +280,23 @@ impl StreamRequests {
         ensures { result ≡ option_map (λ eighths. eighths / 8) self.now.nack.round_trip }
     {
         self.nack.round_trip()
+    }
+
+    /// Returns whether nothing is requested: no number is missing, and no keyframe is needed, by the latest `update`.
+    pub fn is_idle(&self) -> bool
+        ensures { result ≡ is_idle self.now }
+    {
+        self.nack.is_empty() && !self.keyframes.is_wanted()
+    }
+
+    /// Returns whether a request is due.
+    fn has_due(&self, now: Ticks) -> bool
+        ensures { result ≡ has_come (deadline_of self.now) now.0 }
+    {
+        match self.next_deadline() {
+            Some(at) => at.0 <= now.0,
+            None => false,
+        }
     }
 
     /// Returns when the next request is due. `None`: none is without an `update`.

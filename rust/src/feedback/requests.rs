@@ -184,6 +184,9 @@ impl StreamRequests {
         now: Ticks,
         source: &FeedbackSource,
     ) -> Result<Option<Vec<u8>>, AllocError> {
+        if !self.has_due(now) {
+            return Ok(None);
+        }
         let mut numbers = Vec::new();
         self.nack.append_due(now, &mut numbers)?;
         let mut keyframes = self.keyframes;
@@ -208,6 +211,19 @@ impl StreamRequests {
     /// Returns the measured round-trip time in ticks, once a request was answered.
     pub fn round_trip(&self) -> Option<u64> {
         self.nack.round_trip()
+    }
+
+    /// Returns whether nothing is requested: no number is missing, and no keyframe is needed, by the latest `update`.
+    pub fn is_idle(&self) -> bool {
+        self.nack.is_empty() && !self.keyframes.is_wanted()
+    }
+
+    /// Returns whether a request is due.
+    fn has_due(&self, now: Ticks) -> bool {
+        match self.next_deadline() {
+            Some(at) => at.0 <= now.0,
+            None => false,
+        }
     }
 
     /// Returns when the next request is due. `None`: none is without an `update`.
