@@ -1,8 +1,10 @@
 -- A stream that had nothing to request has nothing to request later.
-use Rattle.std.proofs.Common.{◌≡◌, ◌∙◌, refl, ap, sym, subst, ℕ, zero, suc, ◌&&◌, not, List, [], ◌∷◌, Bool, true, false, cond, Some, None, Ok, inl, inr, min, take, arith}
+use Rattle.std.proofs.Common.{◌≡◌, ◌∙◌, refl, ap, sym, subst, ℕ, zero, suc, ◌&&◌, not, List, [], ◌∷◌, Bool, true, false, cond, Some, None, Ok, inl, inr, min, take, length, ◌==◌, arith}
 use Rattle.std.proofs.lemmas.Bool.{false≢true}
-use Rattle.codec_payload_feedback.specs.Feedback.{Requests, after_feedback, deadline_of, updated}
+use Rattle.codec_payload_feedback.specs.Feedback.{Requests, after_feedback, deadline_of, is_idle, updated}
 use Rattle.codec_payload_jitter.specs.Missing.{missing_numbers, missing_of}
+use Rattle.std.proofs.lemmas.Bool.Decides.{nat_tests}
+use Rattle.codec_payload_feedback_requests.specs.declared.nack.PendingRequest.{PendingRequest}
 use Rattle.codec_payload_feedback_requests.specs.NackSchedule.{refreshed_with}
 use Rattle.codec_payload_receiver.specs.Sessions.{Session as Receiver}
 use Rattle.codec_payload_session.specs.Quiet.{AsksNothing, IsBefore, MayRest, is_calm, is_none}
@@ -67,8 +69,24 @@ refreshed_none now heard r a calm =
     (wants_none heard a.pli r.gates.gate.wants (both_left (a.pli && r.gates.gate.wants) (is_none (missing_numbers r.packets (min a.most 1))) calm))
     ∙ ap (λ (q : Requests). record a { requests = q }) (updated_none now a.requests))
 
+empty_list : (ps : List PendingRequest) → (length ps == 0) ≡ true → ps ≡ []
+empty_list [] is = refl
+empty_list (p ∷ ps) is = absurd (grind (arith, nat_tests))
+
+both_true : (a b : Bool) → (a && not b) ≡ true → (a ≡ true) × (b ≡ false)
+both_true true true is = cc
+both_true true false is = (refl, refl)
+both_true false b is = cc
+
+-- requests that are idle are empty
+pub idle_is : (q : Requests) → is_idle q ≡ true → q ≡ emptied q
+idle_is q is =
+    let both = both_true (length q.nack.pending == 0) q.keyframes.wanted is in
+    ap (λ (ps : List PendingRequest). record q { nack = record q.nack { pending = ps } }) (empty_list q.nack.pending both.0)
+    ∙ ap (λ (b : Bool). record q { nack = record q.nack { pending = [] }; keyframes = record q.keyframes { wanted = b } }) both.1
+
 -- without requests nothing is due
-asks_none : (now : ℕ) (heard : Bool) (r : Receiver) (a : Asking) → is_calm a r ≡ true → a.requests ≡ emptied a.requests → Asks now heard r a (Ok None) a
+pub asks_none : (now : ℕ) (heard : Bool) (r : Receiver) (a : Asking) → is_calm a r ≡ true → a.requests ≡ emptied a.requests → Asks now heard r a (Ok None) a
 asks_none now heard r a calm empty =
     subst (λ (x : Asking). Sends now x None a) (sym (refreshed_none now heard r a calm)) (record {
       packet_is = refl;

@@ -153,6 +153,9 @@ impl Feedback {
     ) -> Result<Option<Vec<u8>>, AllocError>
         ensures { Asks now.0 (is_heard now.0 last self.old) receiver.now self.old result self.new }
     {
+        if self.requests.is_idle() && self.is_calm(receiver) {
+            return Ok(None);
+        }
         let is_heard = now.0.saturating_sub(last) <= self.silence;
         self.refresh(now, is_heard, receiver)?;
         self.requests.take_due(now, &self.source)

@@ -131,6 +131,9 @@ impl Feedback {
         last: u64,
         receiver: &Receiver,
     ) -> Result<Option<Vec<u8>>, AllocError> {
+        if self.requests.is_idle() && self.is_calm(receiver) {
+            return Ok(None);
+        }
         let is_heard = now.0.saturating_sub(last) <= self.silence;
         self.refresh(now, is_heard, receiver)?;
         self.requests.take_due(now, &self.source)

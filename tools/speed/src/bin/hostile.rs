@@ -6,18 +6,34 @@
 //! - `gap`: SIZE packets of VP8 are held behind one lost packet.
 //! - `gaps`: of SIZE held packets each follows a lost one.
 //! - `no_media`: each second number, SIZE of them, was a packet without media; then one packet of media comes ahead of all.
+//! - `opens`: the same as `gaps`, and each further packet follows a lost one.
+//! - `fills`: the same as `gaps`, and each further packet is a lost one, the lowest first.
+//! - `paddings`: the same as `no_media`, and each further packet is one without media behind a lost one.
+//! - `repeats`: SIZE packets are held behind a lost one, and each further packet is one of them.
+//! - `jumps`: SIZE packets are held behind a lost one, and each further packet has a number far from all others.
+//! - `times`: each further packet of VP8 is a frame whose RTP time is anywhere.
+//! - `reports`: each further datagram is RTCP: SIZE receiver reports of 31 blocks.
+//! - `goodbyes`: each further datagram is RTCP: SIZE times a BYE of 31 SSRCs that send nothing.
+//! - `requests`: each further datagram is RTCP: a NACK with SIZE pairs.
+//! - `blocks`: each further packet of Opus is RED with SIZE redundant blocks, whose numbers are lost.
 //! - `strays`: SIZE packets of as many SSRCs came before, and all places are taken.
+//!
+//! With `-plain` after the kind the sender answers no requests for missing packets.
 //!
 //! After that each of COUNT datagrams is polled until it has no event, and the next deadline is asked for. The difference of two
 //! runs under callgrind, divided by the difference of their datagrams, is what such a datagram takes.
 
 use codec_payload::session::{FeedbackSettings, Format, Session, SessionSettings};
+use codec_payload::stream::RedSettings;
 use codec_payload::{Codec, CodecSpec, Frequency, Ticks};
 
 const VP8: u8 = 96;
 const PADDING: u8 = 97;
 
-fn session() -> Session {
+const OPUS: u8 = 111;
+const RED: u8 = 63;
+
+fn session(nack: bool) -> Session {
     let spec = CodecSpec {
         codec: Codec::Vp8,
         clock_rate: Frequency::NINETY_KHZ,
@@ -25,9 +41,23 @@ fn session() -> Session {
     };
     let mut settings = SessionSettings::live();
     settings.formats.push(Format {
-        nack: true,
+        nack,
         pli: true,
         ..Format::new(VP8, spec)
+    });
+    let audio = CodecSpec {
+        codec: Codec::Opus,
+        clock_rate: Frequency::FORTY_EIGHT_KHZ,
+        octet_align: false,
+    };
+    settings.formats.push(Format {
+        red: Some(RedSettings {
+            payload_type: RED,
+            step: 960,
+            retransmission: None,
+        }),
+        nack,
+        ..Format::new(OPUS, audio)
     });
     settings.no_media.push(PADDING);
     settings.limit = 65_536;
@@ -40,7 +70,7 @@ fn session() -> Session {
 fn packet(ssrc: u32, number: u32, frame: u32, first: bool, last: bool) -> Vec<u8> {
     let mut out = vec![0x80, VP8 | u8::from(last) << 7];
     out.extend((number as u16).to_be_bytes());
-    out.extend((frame * 3_000).to_be_bytes());
+    out.extend(frame.wrapping_mul(3_000).to_be_bytes());
     out.extend(ssrc.to_be_bytes());
     out.extend(if first { [0x10, 0x11] } else { [0, 7] });
     out.resize(20, 7);
@@ -53,6 +83,36 @@ fn padding(number: u32) -> Vec<u8> {
     out.extend((number as u16).to_be_bytes());
     out.extend([0, 0, 0, 0, 0, 0, 0, 5]);
     out
+}
+
+/// A packet of RED: `blocks` redundant blocks of one byte, each 20 ms before the next.
+fn red(number: u32, blocks: u32) -> Vec<u8> {
+    let mut out = vec![0x80, RED];
+    out.extend((number as u16).to_be_bytes());
+    out.extend((number * 960).to_be_bytes());
+    out.extend(5_u32.to_be_bytes());
+    for place in (1..=blocks).rev() {
+        let offset = (place * 960).min(16_383);
+        out.extend((0x8000_0000 | u32::from(OPUS) << 24 | offset << 10 | 1).to_be_bytes());
+    }
+    out.push(OPUS);
+    out.extend(vec![7; blocks as usize + 1]);
+    out
+}
+
+/// A packet of RTCP with this count, type and body of whole words.
+fn rtcp(count: u8, packet_type: u8, body: &[u32]) -> Vec<u8> {
+    let mut out = vec![0x80 | count, packet_type];
+    out.extend((body.len() as u16).to_be_bytes());
+    body.iter().for_each(|word| out.extend(word.to_be_bytes()));
+    out
+}
+
+/// Many packets of RTCP in one datagram, each of 31 SSRCs that send nothing; `words` for each of them.
+fn compound(packet_type: u8, words: u32, packets: u32) -> Vec<u8> {
+    let own = if packet_type == 201 { 1 } else { 0 };
+    let body: Vec<u32> = (0..own + 31 * words).map(|place| 1_000 + place).collect();
+    (0..packets).flat_map(|_| rtcp(31, packet_type, &body)).collect()
 }
 
 struct Load {
@@ -76,6 +136,7 @@ impl Load {
 fn prepare(load: &mut Load, kind: &str, size: u32) {
     (0..2).for_each(|number| load.receive(&packet(5, number, number, true, true)));
     match kind {
+        "times" | "reports" | "goodbyes" | "requests" | "blocks" => {}
         "frames" => (2..size.max(3)).for_each(|number| {
             load.receive(&packet(
                 5,
@@ -85,14 +146,14 @@ fn prepare(load: &mut Load, kind: &str, size: u32) {
                 number + 1 == size.max(3),
             ))
         }),
-        "gap" => {
+        "gap" | "repeats" | "jumps" => {
             (3..3 + size).for_each(|number| load.receive(&packet(5, number, 2, number == 3, false)))
         }
-        "gaps" => (1..=size)
+        "gaps" | "opens" | "fills" => (1..=size)
             .for_each(|place| load.receive(&packet(5, 1 + 2 * place, 2, place == 1, false))),
-        "no_media" => (1..=size).for_each(|place| load.receive(&padding(1 + 2 * place))),
+        "no_media" | "paddings" => (1..=size).for_each(|place| load.receive(&padding(1 + 2 * place))),
         "strays" => (0..size).for_each(|place| load.receive(&packet(place << 8, 0, 0, true, true))),
-        other => panic!("{other}: frames, gap, gaps, no_media or strays"),
+        other => panic!("{other}: none of the kinds"),
     }
 }
 
@@ -106,6 +167,16 @@ fn datagram(kind: &str, size: u32, place: u32) -> Vec<u8> {
         "gap" => packet(5, 3 + size + place, 3 + place, false, false),
         "gaps" => packet(5, 2 + 2 * size + place, 3 + place, false, false),
         "no_media" => packet(5, 2 + 2 * size + place, 3 + place, false, false),
+        "opens" => packet(5, 3 + 2 * (size + place), 3 + place, false, false),
+        "fills" => packet(5, 2 + 2 * place, 2, false, false),
+        "paddings" => padding(3 + 2 * (size + place)),
+        "repeats" => packet(5, 3 + place % size, 2, false, false),
+        "jumps" => packet(5, 20_000 + 7_001 * place, 3 + place, false, false),
+        "times" => packet(5, 2 + place, place.wrapping_mul(0x9e37_79b9), true, true),
+        "reports" => compound(201, 6, size),
+        "goodbyes" => compound(203, 1, size),
+        "requests" => rtcp(1, 205, &vec![9; 2 + size as usize]),
+        "blocks" => red(1 + 40 * place, size),
         _ => packet((1 << 28) + (place << 8), 0, 0, true, true),
     }
 }
@@ -116,8 +187,12 @@ fn main() {
         panic!("hostile KIND SIZE COUNT");
     };
     let (size, count): (u32, u32) = (size.parse().unwrap(), count.parse().unwrap());
+    let (kind, nack) = match kind.strip_suffix("-plain") {
+        Some(kind) => (kind, false),
+        None => (&kind[..], true),
+    };
     let mut load = Load {
-        session: session(),
+        session: session(nack),
         now: 0,
         events: 0,
     };
