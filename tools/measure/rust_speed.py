@@ -44,6 +44,15 @@ CHOSEN = {
     ("gap", 1_024): ("1,024 packets held behind a lost one", 6_000),
     ("gaps", 1_024): ("1,024 packets held, each behind a lost one", 800_000),
     ("no_media", 1_024): ("1,024 numbers without media, each behind a lost packet", 9_000_000),
+    ("opens", 1_024): ("the same, and each datagram comes behind one more", 800_000),
+    ("fills", 1_024): ("the same, and each datagram is a lost one", 800_000),
+    ("jumps", 64): ("a packet whose number is far ahead of all others", 430_000),
+    ("repeats", 64): ("a packet that is held", 6_000),
+    ("times", 1): ("a frame whose time is anywhere", 6_000),
+    ("blocks", 32): ("RED with 32 blocks, all of lost packets", 480_000),
+    ("requests", 350): ("RTCP: a NACK with 350 pairs", 12_000),
+    ("reports", 1): ("RTCP: a receiver report of 31 blocks", 42_000),
+    ("goodbyes", 11): ("RTCP: BYE of 341 SSRCs", 110_000),
     ("strays", 1_000): ("a packet of a new SSRC, all 64 places taken by senders of one packet", 110_000),
 }
 HOSTILE = {"goodbyes": "300 BYEs of nobody, 1,200 bytes", "strays": "a packet of a new SSRC, all places taken"}
