@@ -36,8 +36,8 @@ use known::are_plain;
 pub use leaving::Left;
 pub use packed_header::PackedHeader;
 use packets::{
-    copy_metas, drop_front, find_place, frame_range, hold, is_at, is_too_late, make_room,
-    received_at, row_from, starts_next, unpack,
+    copy_metas, drop_front, find_place, find_place_near, frame_range, hold, is_at, is_too_late,
+    make_room, received_at, row_from, starts_next, unpack,
 };
 pub use pair::Incoming;
 pub use placed::Placed;
@@ -264,6 +264,20 @@ impl<B: Depacketizer> DepacketizingBuffer<B> {
         if is_at(&self.packets, place, number.0) {
             row_from(&self.packets, place)
         } else {
+            0
+        }
+    }
+
+    /// Returns the same as [`DepacketizingBuffer::held_in_a_row`], for numbers that rise from call to call: `place` is where the search
+    /// begins, 0 at first, and is moved behind the row. Then most calls search nothing. Any `place` gives the same answer.
+    pub fn held_in_a_row_near(&self, place: &mut usize, number: SeqNo) -> usize {
+        let here = find_place_near(&self.packets, *place, number.0);
+        if is_at(&self.packets, here, number.0) {
+            let count = row_from(&self.packets, here);
+            *place = here + count;
+            count
+        } else {
+            *place = here;
             0
         }
     }

@@ -1,6 +1,6 @@
 //! Numbers that carry no media: packets with padding only, and telephone events beside audio.
 
-ghost use Rattle.std.specs.Prelude.{◌≡◌, ◌<◌, OnOk, OnErr};
+ghost use Rattle.std.specs.Prelude.{◌≡◌, ◌<◌, [], OnOk};
 ghost use Rattle.std.specs.Vec.{vec_len, vec_capacity};
 ghost use Rattle.std.specs.Option.{option_map};
 ghost use Rattle.codec_payload_buffer.specs.Blanks.{is_right_after};
@@ -11,23 +11,78 @@ pub use crate::theorems::passes_no_media_alone;
 use codec_payload_base::wire::SeqNo;
 use codec_payload_buffer::buffer::DepacketizingBuffer;
 use codec_payload_codec::codec::Depacketizer;
-use std::alloc::AllocError;
+use std::alloc::{AllocError, Global};
+use std::marker::Model;
 
 /// The largest number of numbers that are remembered.
 const MOST: usize = 1_024;
 
-/// Remembers a number in its place, and forgets the lowest number if there are too many.
-pub(crate) fn note_no_media(no_media_numbers: &mut Vec<u64>, number: u64) -> Result<(), AllocError>
-    ensures ok { OnOk result (no_media_numbers.new.items ≡ noted_no_media number no_media_numbers.old.items) }
-    ensures err { OnErr result (no_media_numbers.new.items ≡ no_media_numbers.old.items) }
-{
-    no_media_numbers.reserve(1)?;
-    note_in_room(no_media_numbers, number);
-    Ok(())
+/// Numbers without media, in rising order, at most 1,024.
+#[derive(Debug, Drop)]
+pub(crate) struct NoMediaNumbers {
+    numbers: Vec<u64>,
+}
+
+impl Model for NoMediaNumbers {
+    ghost use Rattle.std.specs.Prelude.{◌-◌};
+    ghost use Rattle.std.specs.Vec.{vec_len, vec_capacity};
+    ghost use Rattle.codec_payload_jitter.specs.NoMediaNumbers.{Rises, Remembered};
+
+    ghost Value = { Remembered };
+
+    ghost view = { λ n. record { items = n.numbers.items; room = vec_capacity n.numbers - vec_len n.numbers } };
+
+    ghost invariant = { λ n. Rises n.numbers.items };
+}
+
+impl NoMediaNumbers {
+    /// Returns an empty list. Allocates nothing.
+    pub(crate) fn new(alloc: Global) -> Self
+        ensures { result.items ≡ [] }
+    {
+        NoMediaNumbers {
+            numbers: Vec::new(alloc),
+        }
+    }
+
+    /// Makes room for one more number.
+    pub(crate) fn make_room(&mut self) -> Result<(), AllocError>
+        ensures same { self.new.items ≡ self.old.items }
+        ensures room { OnOk result (0 < self.new.room) }
+    {
+        self.numbers.reserve(1)
+    }
+
+    /// Notes a number for which there is room.
+    pub(crate) fn note(&mut self, number: u64)
+        requires { 0 < self.old.room }
+        ensures { self.new.items ≡ noted_no_media number self.old.items }
+    {
+        note_in_room(&mut self.numbers, number);
+    }
+
+    /// Returns whether the number is remembered, by a search.
+    pub(crate) fn contains(&self, number: u64) -> bool
+        ensures { result ≡ is_in number self.now.items }
+    {
+        match self.numbers.binary_search(&number) {
+            Ok(_) => true,
+            Err(_) => false,
+        }
+    }
+
+    /// Moves the cutoff of the buffer past the numbers without media that come right after it, and forgets these numbers.
+    #[inline(always)]
+    pub(crate) fn pass<B: Depacketizer>(&mut self, buffer: &mut DepacketizingBuffer<B>)
+        ensures buffer { buffer.new ≡ passed_no_media buffer.old self.old.items }
+        ensures numbers { self.new.items ≡ no_media_left buffer.old self.old.items }
+    {
+        pass_no_media_numbers(buffer, &mut self.numbers);
+    }
 }
 
 /// Notes a number for which there is room.
-pub(crate) fn note_in_room(no_media_numbers: &mut Vec<u64>, number: u64)
+fn note_in_room(no_media_numbers: &mut Vec<u64>, number: u64)
     requires { vec_len no_media_numbers.old < vec_capacity no_media_numbers.old }
     ensures { no_media_numbers.new.items ≡ noted_no_media number no_media_numbers.old.items }
 {
@@ -68,21 +123,9 @@ fn place_in(no_media_numbers: &[u64], number: u64) -> usize
     no_media_numbers.len()
 }
 
-/// Returns whether the number is remembered.
-pub(crate) fn is_noted(no_media_numbers: &[u64], number: u64) -> bool
-    ensures { result ≡ is_in number no_media_numbers.now }
-{
-    for no_media_number in no_media_numbers {
-        if *no_media_number == number {
-            return true;
-        }
-    }
-    false
-}
-
 /// Moves the cutoff of the buffer past the numbers without media that come right after it, and forgets these numbers.
 #[inline(always)]
-pub(crate) fn pass_no_media_numbers<B: Depacketizer>(
+fn pass_no_media_numbers<B: Depacketizer>(
     buffer: &mut DepacketizingBuffer<B>,
     no_media_numbers: &mut Vec<u64>,
 )

@@ -70,6 +70,28 @@ pub(super) fn find_place(packets: &TieredQueue<HeldPacket>, number: u64) -> usiz
     packets.place_of(number)
 }
 
+/// Returns the same. `place` is inspected first.
+#[inline(always)]
+pub(super) fn find_place_near(
+    packets: &TieredQueue<HeldPacket>,
+    place: usize,
+    number: u64,
+) -> usize {
+    if place == 0 {
+        place_from_front(packets, number)
+    } else if place < packets.len() {
+        place_from_near(packets, place, number)
+    } else {
+        find_place(packets, number)
+    }
+}
+
+/// Returns the same. The packets at `place` and in front of it are inspected first.
+#[inline(always)]
+fn place_from_near(packets: &TieredQueue<HeldPacket>, place: usize, number: u64) -> usize {
+    packets.place_near(place, number)
+}
+
 /// Returns whether the packet at `place` has this number.
 #[inline(always)]
 pub(super) fn is_at(packets: &TieredQueue<HeldPacket>, place: usize, number: u64) -> bool {

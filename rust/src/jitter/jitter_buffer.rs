@@ -15,7 +15,7 @@ use crate::buffer::{
 use crate::codec::{CodecDepacketizer, Depacketizer, NoBox};
 use crate::error::PacketError;
 use crate::jitter::missing::MissingNumbers;
-use crate::jitter::no_media_numbers::{is_late, is_noted, note_no_media};
+use crate::jitter::no_media_numbers::{NoMediaNumbers, is_late};
 use crate::jitter::noted_times::{NotedTime, NotedTimes, is_soon_after, is_untimely};
 use crate::jitter::numbers::{
     Extended, SequenceNumbers, lowest_with, number_within, without_restart,
@@ -51,7 +51,7 @@ pub struct JitterBuffer<B = NoBox> {
     numbers: SequenceNumbers,
     buffer: DepacketizingBuffer<B>,
     /// The numbers without media above the cutoff, in rising order.
-    no_media_numbers: Vec<u64>,
+    no_media_numbers: NoMediaNumbers,
     noted_times: NotedTimes,
     /// The first packet with media since the start, or since the latest restart.
     first: Option<NotedTime>,
@@ -97,7 +97,7 @@ impl<B: Depacketizer> JitterBuffer<B> {
             noted_times: NotedTimes::new(numbers.backward()),
             numbers,
             buffer,
-            no_media_numbers: Vec::new(),
+            no_media_numbers: NoMediaNumbers::new(),
             first: None,
             kept: None,
             clock_rate,
@@ -272,14 +272,14 @@ impl<B: Depacketizer> JitterBuffer<B> {
         self.numbers.greatest()
     }
 
-    /// Returns how many consecutive numbers from this one on are held.
-    pub(crate) fn held_in_a_row(&self, number: u64) -> usize {
-        self.buffer.held_in_a_row(SeqNo(number))
+    /// Returns how many consecutive numbers from this one on are held. `place` is where the search begins, and is moved on.
+    pub(crate) fn held_in_a_row_near(&self, place: &mut usize, number: u64) -> usize {
+        self.buffer.held_in_a_row_near(place, SeqNo(number))
     }
 
     /// Returns whether a number is known to carry no media.
     pub(crate) fn has_no_media(&self, number: u64) -> bool {
-        is_noted(&self.no_media_numbers, number)
+        self.no_media_numbers.contains(number)
     }
 
     /// Returns the next unit, if one is due at time `now`. A frame is due if it directly follows the last released unit, if
@@ -439,7 +439,7 @@ impl<B: Depacketizer> JitterBuffer<B> {
     /// Returns whether a packet with this number is missing: it would be stored, and the number is not one without media.
     fn may_recover(&self, number: u64) -> bool {
         is_stored(outcome_in(&self.buffer, SeqNo(number)))
-            && !is_noted(&self.no_media_numbers, number)
+            && !self.no_media_numbers.contains(number)
     }
 
     /// Returns the numbering and the lowest number after a packet with the low bits `low` and this answer.
@@ -536,7 +536,8 @@ impl<B: Depacketizer> JitterBuffer<B> {
 
     /// Remembers and counts a number without media.
     fn note(&mut self, number: u64) -> Result<(), PacketError> {
-        note_no_media(&mut self.no_media_numbers, number)?;
+        self.no_media_numbers.make_room()?;
+        self.no_media_numbers.note(number);
         self.counters = with_outcome(self.counters, Outcome::NoMedia);
         Ok(())
     }

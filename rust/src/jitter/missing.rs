@@ -5,8 +5,8 @@
 use crate::codec::{Depacketizer, NoBox};
 use crate::jitter::jitter_buffer::JitterBuffer;
 
-/// An iterator over the missing numbers, in rising order. No step allocates. A step makes one search for each row of held numbers
-/// between the previous answer and this one, however long the rows are. See [`JitterBuffer::missing`].
+/// An iterator over the missing numbers, in rising order. No step allocates. A step passes each row of held numbers between the
+/// previous answer and this one at once, however long the row is. See [`JitterBuffer::missing`].
 #[derive(Debug)]
 pub struct MissingNumbers<'a, B = NoBox> {
     packets: &'a JitterBuffer<B>,
@@ -16,6 +16,8 @@ pub struct MissingNumbers<'a, B = NoBox> {
     end: u64,
     /// The largest number of answers that are left.
     left: usize,
+    /// Where the next search for a held number begins.
+    place: usize,
 }
 
 impl<'a, B: Depacketizer> MissingNumbers<'a, B> {
@@ -30,15 +32,22 @@ impl<'a, B: Depacketizer> MissingNumbers<'a, B> {
             next,
             end,
             left: most,
+            place: 0,
         }
     }
 }
 
-/// Returns the first missing number from `from` up to `to`, exclusive. A row of held numbers is one step.
-fn first_absent<B: Depacketizer>(packets: &JitterBuffer<B>, from: u64, to: u64) -> Option<u64> {
+/// Returns the first missing number from `from` up to `to`, exclusive. A row of held numbers is one step. `place` is where the search
+/// for a held number begins, and is moved on.
+fn first_absent<B: Depacketizer>(
+    packets: &JitterBuffer<B>,
+    place: &mut usize,
+    from: u64,
+    to: u64,
+) -> Option<u64> {
     let mut number = from;
     while number < to {
-        let free = number.saturating_add(packets.held_in_a_row(number) as u64);
+        let free = number.saturating_add(packets.held_in_a_row_near(place, number) as u64);
         if free >= to {
             return None;
         }
@@ -57,7 +66,7 @@ impl<'a, B: Depacketizer> Iterator for MissingNumbers<'a, B> {
         if self.left == 0 {
             return None;
         }
-        let Some(number) = first_absent(self.packets, self.next, self.end) else {
+        let Some(number) = first_absent(self.packets, &mut self.place, self.next, self.end) else {
             self.left = 0;
             return None;
         };

@@ -11,18 +11,47 @@ use alloc::vec::Vec;
 /// The largest number of numbers that are remembered.
 const MOST: usize = 1_024;
 
-/// Remembers a number in its place, and forgets the lowest number if there are too many.
-pub(crate) fn note_no_media(
-    no_media_numbers: &mut Vec<u64>,
-    number: u64,
-) -> Result<(), AllocError> {
-    no_media_numbers.try_room(1)?;
-    note_in_room(no_media_numbers, number);
-    Ok(())
+/// Numbers without media, in rising order, at most 1,024.
+#[derive(Debug)]
+pub(crate) struct NoMediaNumbers {
+    numbers: Vec<u64>,
+}
+
+impl NoMediaNumbers {
+    /// Returns an empty list. Allocates nothing.
+    pub(crate) fn new() -> Self {
+        NoMediaNumbers {
+            numbers: Vec::new(),
+        }
+    }
+
+    /// Makes room for one more number.
+    pub(crate) fn make_room(&mut self) -> Result<(), AllocError> {
+        self.numbers.try_room(1)
+    }
+
+    /// Notes a number for which there is room.
+    pub(crate) fn note(&mut self, number: u64) {
+        note_in_room(&mut self.numbers, number);
+    }
+
+    /// Returns whether the number is remembered, by a search.
+    pub(crate) fn contains(&self, number: u64) -> bool {
+        match self.numbers.binary_search(&number) {
+            Ok(_) => true,
+            Err(_) => false,
+        }
+    }
+
+    /// Moves the cutoff of the buffer past the numbers without media that come right after it, and forgets these numbers.
+    #[inline(always)]
+    pub(crate) fn pass<B: Depacketizer>(&mut self, buffer: &mut DepacketizingBuffer<B>) {
+        pass_no_media_numbers(buffer, &mut self.numbers);
+    }
 }
 
 /// Notes a number for which there is room.
-pub(crate) fn note_in_room(no_media_numbers: &mut Vec<u64>, number: u64) {
+fn note_in_room(no_media_numbers: &mut Vec<u64>, number: u64) {
     put_in(no_media_numbers, number);
     keep_few(no_media_numbers);
 }
@@ -53,19 +82,9 @@ fn place_in(no_media_numbers: &[u64], number: u64) -> usize {
     no_media_numbers.len()
 }
 
-/// Returns whether the number is remembered.
-pub(crate) fn is_noted(no_media_numbers: &[u64], number: u64) -> bool {
-    for no_media_number in no_media_numbers {
-        if *no_media_number == number {
-            return true;
-        }
-    }
-    false
-}
-
 /// Moves the cutoff of the buffer past the numbers without media that come right after it, and forgets these numbers.
 #[inline(always)]
-pub(crate) fn pass_no_media_numbers<B: Depacketizer>(
+fn pass_no_media_numbers<B: Depacketizer>(
     buffer: &mut DepacketizingBuffer<B>,
     no_media_numbers: &mut Vec<u64>,
 ) {

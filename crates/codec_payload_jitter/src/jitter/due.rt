@@ -4,7 +4,6 @@ ghost use Rattle.std.specs.Prelude.{◌≡◌};
 ghost use Rattle.codec_payload_jitter.specs.Receiving.{has_little_room, is_pressed, settled, waiting_at};
 
 use super::JitterBuffer;
-use crate::no_media_numbers::pass_no_media_numbers;
 use crate::waiting::overdue;
 use codec_payload_base::wire::Ticks;
 use codec_payload_codec::codec::Depacketizer;
@@ -14,7 +13,7 @@ impl<B: Depacketizer> JitterBuffer<B> {
     pub(super) fn settle(&mut self)
         ensures { self.new ≡ settled self.old }
     {
-        pass_no_media_numbers(&mut self.buffer, &mut self.no_media_numbers);
+        self.no_media_numbers.pass(&mut self.buffer);
     }
 
     /// Returns whether pops wait for nothing at that time.

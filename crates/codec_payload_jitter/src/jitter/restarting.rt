@@ -12,7 +12,6 @@ ghost use Rattle.codec_payload_jitter.specs.declared.numbers.Extended.TheVariant
 ghost use Rattle.codec_payload_jitter.specs.declared.outcome.Outcome.TheVariants as outcomes;
 
 use super::{JitterBuffer, KeptPacket, meta_for, store};
-use crate::no_media_numbers::note_in_room;
 use crate::noted_times::NotedTime;
 use crate::numbers::{Extended, kept_number};
 use crate::outcome::{Outcome, outcome_of, with_kept, with_outcome, with_restart};
@@ -113,10 +112,10 @@ impl<B: Depacketizer> JitterBuffer<B> {
         ensures fault { IfErr result (λ f. f ≡ OutOfMemory) }
         ensures own { is_built_in_depacketizer self.old.buffer.depacketizer ≡ false → OwnStores B.is_head B.is_tail self.old.buffer self.new.buffer }
     {
-        self.no_media_numbers.reserve(1)?;
+        self.no_media_numbers.make_room()?;
         let before = kept_number(number, kept.header.sequence_number());
         let outcome = store(&mut self.buffer, self.clock_rate, kept, before)?;
-        note_in_room(&mut self.no_media_numbers, number);
+        self.no_media_numbers.note(number);
         let counters = with_restart(with_outcome(self.counters, Outcome::NoMedia));
         self.counters = with_kept(counters, outcome);
         self.kept = None;

@@ -4,14 +4,13 @@
 
 use super::JitterBuffer;
 use crate::codec::Depacketizer;
-use crate::jitter::no_media_numbers::pass_no_media_numbers;
 use crate::jitter::waiting::overdue;
 use crate::wire::Ticks;
 
 impl<B: Depacketizer> JitterBuffer<B> {
     /// Moves the cutoff past the numbers without media that come right after it.
     pub(super) fn settle(&mut self) {
-        pass_no_media_numbers(&mut self.buffer, &mut self.no_media_numbers);
+        self.no_media_numbers.pass(&mut self.buffer);
     }
 
     /// Returns whether pops wait for nothing at that time.

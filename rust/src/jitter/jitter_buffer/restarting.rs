@@ -7,7 +7,6 @@ use super::{JitterBuffer, KeptPacket, meta_for, store};
 use crate::buffer::{DepacketizingBuffer, Incoming, PackedHeader};
 use crate::codec::Depacketizer;
 use crate::error::PacketError;
-use crate::jitter::no_media_numbers::note_in_room;
 use crate::jitter::noted_times::NotedTime;
 use crate::jitter::numbers::{Extended, kept_number};
 use crate::jitter::outcome::{Outcome, outcome_of, with_kept, with_outcome, with_restart};
@@ -84,10 +83,10 @@ impl<B: Depacketizer> JitterBuffer<B> {
 
     /// Notes a number without media that confirms a restart, and stores the suspect packet before it.
     fn note_and_store(&mut self, number: u64, kept: KeptPacket) -> Result<(), PacketError> {
-        self.no_media_numbers.try_room(1)?;
+        self.no_media_numbers.make_room()?;
         let before = kept_number(number, kept.header.sequence_number());
         let outcome = store(&mut self.buffer, self.clock_rate, kept, before)?;
-        note_in_room(&mut self.no_media_numbers, number);
+        self.no_media_numbers.note(number);
         let counters = with_restart(with_outcome(self.counters, Outcome::NoMedia));
         self.counters = with_kept(counters, outcome);
         self.kept = None;

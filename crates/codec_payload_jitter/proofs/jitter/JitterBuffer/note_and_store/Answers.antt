@@ -37,7 +37,7 @@ returns-clause-ok g c =
     let o = c.in_ok-outcome.outcome in
     let counters : c.with_kept-self-inside.result ≡ counted_again (counted_restart (counted r.counters outcomes.NoMedia)) o =
     c.with_kept-self-inside.ensures ∙ (ap (λ (k : PacketCounters). counted_again k o) c.with_restart-counters.ensures ∙ ap (λ (k : PacketCounters). counted_again (counted_restart k) o) c.with_outcome.ensures) in
-    let numbers : c.note_in_room.new.no_media_numbers.items ≡ noted_no_media c.args.number r.no_media_numbers =
-    c.note_in_room.ensures ∙ ap (λ (ns : List ℕ). noted_no_media c.args.number ns) c.in_ok-reserve.ensures.items in
-    noted_both c.args.number (arrival_of c.args.kept) r c.args.self.now _ c.store.new.buffer o c.note_in_room.new.no_media_numbers.items c.with_kept-self-inside.result c.self.view_is
+    let numbers : c.note.new.self.items ≡ noted_no_media c.args.number r.no_media_numbers =
+    c.note.ensures ∙ ap (λ (ns : List ℕ). noted_no_media c.args.number ns) c.make_room.ensures.same in
+    noted_both c.args.number (arrival_of c.args.kept) r c.args.self.now _ c.store.new.buffer o c.note.new.self.items c.with_kept-self-inside.result c.self.view_is
     (rw (c.kept_number-before.ensures, c.sequence_number.ensures) at c.in_ok-outcome.ensures.takes) (rw (c.kept_number-before.ensures, c.sequence_number.ensures) at c.in_ok-outcome.ensures.outcome) numbers counters refl

@@ -7,5 +7,5 @@ use Rattle.codec_payload_jitter.proofs.jitter.JitterBuffer.settle.Goals as goal
 
 pub invariant_of-self : goal.invariant_of-self
 invariant_of-self g c =
-    let same : c.pass_no_media_numbers.new.buffer.held ≡ c.self.inside.buffer.held = ap (λ (s : State). s.held) c.pass_no_media_numbers.ensures.buffer ∙ same_held c.self.inside.buffer c.self.inside.no_media_numbers.items in
+    let same : c.pass.new.buffer.held ≡ c.self.inside.buffer.held = ap (λ (s : State). s.held) c.pass.ensures.buffer ∙ same_held c.self.inside.buffer c.self.inside.no_media_numbers.items in
     subst (λ (held : List Held). IsCounted c.self.inside.counters (length held)) (sym same) c.self.invariant
