@@ -1,7 +1,7 @@
 -- The packets of a frame in the output buffer, each with room in front of it and after it.
-use Rattle.std.specs.Prelude.{◌≡◌, ◌≢◌, ◌⊎◌, ℕ, ◌+◌, ◌<◌, ◌≤◌, ◌==◌, ◌&&◌, ◌||◌, nat_le, if◌then◌else◌, false, List, [], ◌∷◌, ◌++◌, Some, Ok, Err, length, slice_get, slice_index_or, take, drop}
+use Rattle.std.specs.Prelude.{◌≡◌, ◌≢◌, ◌⊎◌, ℕ, ◌+◌, ◌<◌, ◌≤◌, ◌==◌, ◌&&◌, ◌||◌, nat_le, if◌then◌else◌, Bool, true, false, List, [], ◌∷◌, ◌++◌, Some, Ok, Err, length, slice_get, slice_index_or, take, drop}
 use Rattle.codec_payload_core.specs.Faults.{fault_number}
-use Rattle.codec_payload_core.specs.Packetizers.{PacketizerState, PacketizerStep, packetizer_state_of, is_built_in, marker_of, talk_spurt_of, nackable_of}
+use Rattle.codec_payload_core.specs.Packetizers.{PacketizerState, PacketizerStep, G711Packetizing, G722Packetizing, OpusPacketizing, packetizer_state_of, is_built_in, marker_of, talk_spurt_of, nackable_of}
 use Rattle.codec_payload_core.specs.declared.error.PacketError.{PacketError}
 use Rattle.codec_payload_handle.specs.declared.object.FrameSender.{FrameSender}
 use Rattle.codec_payload_c.specs.declared.frames.FrameCut.{FrameCut}
@@ -76,3 +76,12 @@ pub record LaysFrame (r : FrameSender) (cut : FrameCut) (frame : List ℕ) (stat
   pub foreign : status ≡ 37 → is_built_in (packetizer_state_of r.packetizer) ≡ false
   pub unchanged : status ≢ 0 → packetizer_state_of s.packetizer ≡ packetizer_state_of r.packetizer
   pub stays : (s.packets ≡ r.packets) × (s.taken ≡ r.taken) × (s.marked ≡ r.marked)
+
+-- ---- a frame that is one packet as it is
+
+-- the packetizer sends pieces of frames without headers: such a frame is one packet if it fits
+abbrev pub sends_pieces : PacketizerState → Bool
+sends_pieces OpusPacketizing = true
+sends_pieces G711Packetizing = true
+sends_pieces G722Packetizing = true
+sends_pieces packetizer = false

@@ -5,6 +5,7 @@ ghost use Rattle.codec_payload_core.specs.Packetizers.{is_built_in, packetizer_s
 ghost use Rattle.codec_payload_handle.specs.Kinds.{OnFrameSender, Refuses, is_frame_sender};
 ghost use Rattle.codec_payload_c.specs.Frames.{Laying, LaysFrame, LaysPackets, capped, laid, placed_at, rooms_in, size_with};
 
+use crate::whole_frames::{hand_over_whole, is_sent_whole};
 use codec_payload_core::codec::{CodecPacketizer, Packetizer};
 use codec_payload_core::payloads::Payloads;
 use codec_payload_handle::handle::Handle;
@@ -66,7 +67,7 @@ fn size_of(frame: &Payloads, cut: &FrameCut) -> usize
 }
 
 /// Overwrites the bytes at a place.
-fn put_at(bytes: &mut [u8], at: usize, given: &[u8])
+pub(crate) fn put_at(bytes: &mut [u8], at: usize, given: &[u8])
     requires { at + length given.now ≤ length bytes.old }
     ensures { bytes.new ≡ take at bytes.old ++ (given.now ++ drop (at + length given.now) bytes.old) }
 {
@@ -156,12 +157,13 @@ fn hand_over(
 
 /// A frame to packetize into the output.
 #[derive(Drop)]
-struct WholeFrame<'a> {
-    bytes: &'a [u8],
-    cut: &'a FrameCut,
+pub(crate) struct WholeFrame<'a> {
+    pub(crate) bytes: &'a [u8],
+    pub(crate) cut: &'a FrameCut,
 }
 
-/// Packetizes a frame and writes its packets to the output. If that fails, the packetizer is unchanged.
+/// Packetizes a frame and writes its packets to the output. If that fails, the packetizer is unchanged. A frame that is one packet as
+/// it is goes straight there.
 #[tactic(auto, using(crate::proofs::FrameLemmas::built_in_after))]
 fn packetize_into(
     sender: &mut FrameSender,
@@ -174,6 +176,9 @@ fn packetize_into(
     ensures untouched { result ≢ 0 → (bytes.new ≡ bytes.old) × (packets.new ≡ packets.old) }
     ensures unchanged { result ≢ 0 → result ≢ 33 → room.new ≡ room.old }
 {
+    if is_sent_whole(&sender.packetizer, frame.cut.mtu, frame.bytes) {
+        return hand_over_whole(&mut sender.packetizer, frame, bytes, packets, room);
+    }
     let Some(before) = packetizer_as(&sender.packetizer) else {
         return status::INVALID;
     };

@@ -32,3 +32,4 @@ mod session_streams;
 mod tele;
 mod transport;
 mod vp8;
+mod whole_frames;
