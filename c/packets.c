@@ -100,6 +100,37 @@ static void refusals(void) {
     cpay_packetizer_free(&it.packetizer);
 }
 
+/* A frame of Opus that fits the MTU is one packet, as it is (RFC 7587, section 4.2), marked if a talk spurt begins (RFC 3551, section
+ * 4.1). */
+static void one_packet(void) {
+    static const cpay_spec opus = {.codec = CPAY_OPUS, .rate = 48000};
+    static const uint8_t frame[4] = {1, 2, 3, 4};
+    cpay_packetizer sender = CPAY_INIT;
+    cpay_frame_cut cut = {.mtu = 4, .headroom = 2, .tailroom = 1, .starts_talk_spurt = true};
+    uint8_t bytes[9];
+    cpay_placed_packet packets[2] = {{0}};
+    cpay_frame_room room = {0};
+    memset(bytes, UNTOUCHED, sizeof bytes);
+    packets[1].offset = 7;
+    CHECK(cpay_packetizer_new(&sender, &opus) == CPAY_OK);
+    /* one byte too few, and no packet: the required size is reported, and nothing has changed */
+    CHECK(cpay_packetize_into(&sender, &cut, frame, 4, bytes, 6, packets, 2, &room) == CPAY_TOO_SMALL);
+    CHECK(room.bytes == 7 && room.count == 1);
+    room = (cpay_frame_room){0};
+    CHECK(cpay_packetize_into(&sender, &cut, frame, 4, bytes, 9, NULL, 0, &room) == CPAY_TOO_SMALL);
+    CHECK(room.bytes == 7 && room.count == 1 && all_are(bytes, 9, UNTOUCHED) && packets[0].offset == 0);
+    CHECK(cpay_packetize_into(&sender, &cut, frame, 4, bytes, 7, packets, 1, &room) == CPAY_OK && room.bytes == 7 && room.count == 1);
+    CHECK(same(bytes, "\xaa\xaa\1\2\3\4\xaa\xaa\xaa", 9) && packets[0].offset == 2 && packets[0].bytes == 4);
+    CHECK(packets[0].marker && !packets[0].nackable && packets[1].offset == 7);
+    cut.starts_talk_spurt = false;
+    CHECK(cpay_packetize_into(&sender, &cut, frame, 4, bytes, 9, packets, 2, &room) == CPAY_OK && !packets[0].marker);
+    /* a byte more than the MTU */
+    cut.mtu = 3;
+    CHECK(cpay_packetize_into(&sender, &cut, frame, 4, bytes, 9, packets, 2, &room) == CPAY_TOO_SMALL);
+    CHECK(room.bytes == 10 && room.count == 2);
+    cpay_packetizer_free(&sender);
+}
+
 /* Frames of a codec, through each of the two calls: the same packets. */
 static void both(uint32_t codec, size_t mtu, size_t headroom, size_t tailroom) {
     enum { FRAMES = 6, LONGEST = 700 };
@@ -201,12 +232,14 @@ int main(void) {
     static const uint32_t codecs[] = {CPAY_OPUS, CPAY_G722, CPAY_VP8, CPAY_VP9, CPAY_AV1};
     vp8();
     refusals();
+    one_packet();
     red();
     elements();
     for (size_t i = 0; i < sizeof codecs / sizeof *codecs; i++) {
         both(codecs[i], 100, 0, 0);
         both(codecs[i], 100, 12, 10);
         both(codecs[i], 20, 5, 0);
+        both(codecs[i], 1200, 3, 2);
     }
     both(CPAY_NULL, 1, 12, 4);
     return checked();
