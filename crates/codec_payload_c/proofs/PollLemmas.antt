@@ -1,5 +1,5 @@
 -- A poll of a session: the event that waits, or the event of the session.
-use Rattle.std.proofs.Common.{◌≡◌, ◌∙◌, ℕ, Bool, true, false, Option, Some, None, List, is_some, length, ap, refl, sym, subst}
+use Rattle.std.proofs.Common.{◌≡◌, ℕ, true, false, Option, Some, None, is_some, length, refl, sym, subst}
 use Rattle.std.specs.Prelude.{IfSome, nat_le}
 use Rattle.codec_payload_base.specs.declared.wire.Ticks.{Ticks}
 use Rattle.codec_payload_handle.specs.declared.object.PortSession.{PortSession}

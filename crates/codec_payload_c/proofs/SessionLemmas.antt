@@ -1,5 +1,5 @@
 -- New sessions: the faults of their settings.
-use Rattle.std.proofs.Common.{◌≡◌, ◌∙◌, ◌&&◌, ℕ, List, Bool, true, false, not, if◌then◌else◌, Option, Some, None, Result, Ok, Err, inl, inr, is_some, length, ap, refl, sym}
+use Rattle.std.proofs.Common.{◌≡◌, ◌∙◌, ◌&&◌, ℕ, List, Bool, true, false, not, if◌then◌else◌, Option, Some, None, Ok, Err, inl, inr, is_some, ap, refl, sym}
 use Rattle.codec_payload_session.specs.Checks.{fault_of, feedback_fault, name_fault}
 use Rattle.codec_payload_session.specs.Ports.{Session, made_of, new_session}
 use Rattle.codec_payload_session.specs.declared.checks.SessionSettingsError.{SessionSettingsError}

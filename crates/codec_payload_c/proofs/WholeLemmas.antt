@@ -1,12 +1,12 @@
 -- A frame that is sent as it is, in one packet.
-use Rattle.std.proofs.Common.{◌≡◌, ◌∙◌, sym, ap, refl, subst, ◌≢◌, ℕ, zero, suc, ◌+◌, ◌-◌, ◌/◌, ◌<◌, ◌≤◌, ◌==◌, ◌&&◌, ◌||◌, Bool, true, false, None, Some, Ok, Result, List, [], ◌∷◌, ◌++◌, length, take, drop, slice_get, slice_set, arith, append-nil, rules, tests}
+use Rattle.std.proofs.Common.{◌≡◌, ◌∙◌, sym, ap, refl, subst, ◌≢◌, ℕ, zero, suc, ◌+◌, ◌<◌, ◌≤◌, ◌==◌, ◌&&◌, ◌||◌, Bool, true, false, Some, Ok, List, [], ◌∷◌, ◌++◌, length, take, drop, slice_get, slice_set, arith, append-nil, rules, tests}
 use Rattle.std.proofs.lemmas.List.{drop-drop, take-append-drop}
 use Rattle.std.proofs.lemmas.Bool.Decides.{nat_tests}
 use Rattle.codec_payload_base.proofs.PieceLemmas.{count_of_pieces}
 use Rattle.codec_payload_base.specs.Pieces.{AnswersPieces, ArePieces, pieces_are_skipped}
 use Rattle.codec_payload_core.specs.Packetizers.{PacketizerState, PacketizerStep, OpusPacketizing, G711Packetizing, G722Packetizing, packetizer_state_of, is_built_in, marker_of, talk_spurt_of, nackable_of}
 use Rattle.codec_payload_handle.specs.declared.object.FrameSender.{FrameSender}
-use Rattle.codec_payload_c.specs.Frames.{Laying, Lays, LaysCut, LaysFrame, LaysPackets, capped, laid, placed_at, rooms_in, sends_pieces, size_with}
+use Rattle.codec_payload_c.specs.Frames.{Laying, LaysCut, LaysFrame, LaysPackets, capped, laid, placed_at, rooms_in, sends_pieces, size_with}
 use Rattle.codec_payload_c.specs.declared.frames.FrameCut.{FrameCut}
 use Rattle.codec_payload_c.specs.declared.frames.FrameRoom.{FrameRoom}
 use Rattle.codec_payload_c.specs.declared.frames.PlacedPacket.{PlacedPacket}

@@ -1,4 +1,4 @@
-use Rattle.std.proofs.Common.{◌≡◌, refl, rules, subst, Bool, true, false, [], inl, inr}
+use Rattle.std.proofs.Common.{refl, rules, subst, Bool, inl, inr}
 use Rattle.codec_payload_rtp.specs.RtpValues.{packet_of}
 use Rattle.codec_payload_sending_forward.specs.Forwarding.{Repeats}
 use Rattle.codec_payload_c.proofs.forwarder.resend.Goals as goal

@@ -1,4 +1,4 @@
-use Rattle.std.proofs.Common.{◌∙◌, sym, refl}
+use Rattle.std.proofs.Common.{refl}
 use Rattle.codec_payload_c.proofs.WholeLemmas.{lays_whole}
 use Rattle.codec_payload_c.proofs.frames.packetize_into.Goals as goal
 

@@ -1,5 +1,4 @@
-use Rattle.std.proofs.Common.{◌≡◌, ◌∙◌, ◌≤◌, ap, refl, sym, subst, ℕ, List, Ok, Err, length}
-use Rattle.codec_payload_base.specs.declared.wire.Ticks.{Ticks}
+use Rattle.std.proofs.Common.{◌≡◌, ◌∙◌, ap, refl, ℕ, List, Ok, Err}
 use Rattle.codec_payload_handle.specs.Bytes.{filled}
 use Rattle.codec_payload_sending_history.specs.declared.retransmission.Resent.TheVariants as results
 use Rattle.codec_payload_c.proofs.ResendLemmas.{resends_as}

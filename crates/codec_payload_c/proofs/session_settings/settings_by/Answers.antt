@@ -1,4 +1,4 @@
-use Rattle.std.proofs.Common.{◌≡◌, ◌∙◌, sym}
+use Rattle.std.proofs.Common.{◌∙◌, sym}
 use Rattle.std.specs.List.{list_all}
 use Rattle.codec_payload_c.specs.SessionFormats.{format_in_range, session_in_range}
 use Rattle.codec_payload_c.proofs.SessionLemmas.{both_true}

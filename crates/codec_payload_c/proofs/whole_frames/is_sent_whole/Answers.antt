@@ -1,4 +1,4 @@
-use Rattle.std.proofs.Common.{◌∙◌, sym, arith}
+use Rattle.std.proofs.Common.{◌∙◌, sym}
 use Rattle.codec_payload_core.specs.Packetizers.{packetizer_state_of}
 use Rattle.codec_payload_c.proofs.WholeLemmas.{is_some_length, pieces_built_in, sent_whole}
 use Rattle.codec_payload_c.proofs.whole_frames.is_sent_whole.Goals as goal
