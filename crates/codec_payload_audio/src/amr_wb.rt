@@ -1,4 +1,4 @@
-//! AMR-WB (RFC 4867), one channel, in both layouts, without CRC, interleaving and robust sorting (docs/FORMATS.md, "AMR-WB").
+//! AMR-WB (RFC 4867), one channel, in both layouts, without CRC, interleaving and robust sorting (docs/use/FORMATS.md, "AMR-WB").
 //!
 //! Frames are taken and returned in storage form (RFC 4867, section 5.3): a byte with the frame type and the quality bit, then the
 //! speech bits, padded with zeros to a byte.

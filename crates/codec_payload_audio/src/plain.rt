@@ -1,4 +1,4 @@
-//! The codecs whose payloads carry themselves: Opus, G.711 and G.722, comfort noise, and Null (docs/FORMATS.md, "Opus, G.711,
+//! The codecs whose payloads carry themselves: Opus, G.711 and G.722, comfort noise, and Null (docs/use/FORMATS.md, "Opus, G.711,
 //! G.722", "Comfort noise" and "Null").
 
 ghost use Rattle.std.specs.Prelude.{◌≡◌, [], Some, true};

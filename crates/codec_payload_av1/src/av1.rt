@@ -1,4 +1,4 @@
-//! AV1 (RTP Payload Format for AV1, version 1.0): payloads of frames, and frames of payloads (docs/FORMATS.md, "AV1").
+//! AV1 (RTP Payload Format for AV1, version 1.0): payloads of frames, and frames of payloads (docs/use/FORMATS.md, "AV1").
 
 ghost use Rattle.std.specs.Prelude.{◌≡◌, length};
 ghost use Rattle.codec_payload_base.specs.Leb.{leb};

@@ -1,4 +1,4 @@
-//! VP8 and VP9: whether picture ids allow a frame to be released, and whether it follows the previous frame (docs/FORMATS.md,
+//! VP8 and VP9: whether picture ids allow a frame to be released, and whether it follows the previous frame (docs/use/FORMATS.md,
 //! "Contiguity").
 
 ghost use Rattle.std.specs.Prelude.{◌≡◌};

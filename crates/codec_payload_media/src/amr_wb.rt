@@ -1,4 +1,4 @@
-//! AMR-WB: frames in their storage form, one channel (RFC 4867, section 5.3; docs/FORMATS.md, "What a frame says").
+//! AMR-WB: frames in their storage form, one channel (RFC 4867, section 5.3; docs/use/FORMATS.md, "What a frame says").
 
 ghost use Rattle.std.specs.Prelude.{◌≡◌, ◌<◌};
 ghost use Rattle.codec_payload_media.specs.AmrWbFrames.{frame_at, frame_of, frames_left, speech_length, told_frame, unit_ticks, with_speech};

@@ -1,4 +1,4 @@
-//! Opus: packets (RFC 6716, section 3) and the identification header (RFC 7845, section 5.1; docs/FORMATS.md, "What a frame says").
+//! Opus: packets (RFC 6716, section 3) and the identification header (RFC 7845, section 5.1; docs/use/FORMATS.md, "What a frame says").
 
 ghost use Rattle.std.specs.Prelude.{◌≡◌, ◌*◌, ◌-◌, ◌≤◌, ◌<◌, length, IfOk};
 ghost use Rattle.codec_payload_media.specs.OpusPackets.{alike, apart, bandwidth_of, counted_at, frames_at, frames_if, head_bytes, length_at, lengths_at, longest, mode_of, opus_at, ticks_of, unpadded, unpadded_if};

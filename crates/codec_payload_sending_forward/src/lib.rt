@@ -1,5 +1,5 @@
 //! What a forwarder (SFU) needs for each viewer: the numbers of its packets between and across switches of the source
-//! (docs/FORWARDING.md).
+//! (docs/use/FORWARDING.md).
 #![tactic(auto)]
 
 pub mod counts;

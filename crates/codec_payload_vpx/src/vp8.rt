@@ -1,4 +1,4 @@
-//! VP8: frames (RFC 6386, section 9.1; docs/FORMATS.md, "What a frame says").
+//! VP8: frames (RFC 6386, section 9.1; docs/use/FORMATS.md, "What a frame says").
 
 ghost use Rattle.std.specs.Prelude.{◌≡◌, Ok, IfOk};
 ghost use Rattle.codec_payload_vpx.specs.Vp8Frames.{IsVp8Frame, vp8_frame_at, keyframe_at, behind_tag};

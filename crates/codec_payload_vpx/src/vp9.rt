@@ -1,4 +1,4 @@
-//! VP9: frames (VP9 bitstream and decoding process specification, sections 6.2 and 7.2; docs/FORMATS.md, "What a frame
+//! VP9: frames (VP9 bitstream and decoding process specification, sections 6.2 and 7.2; docs/use/FORMATS.md, "What a frame
 //! says").
 
 ghost use Rattle.std.specs.Prelude.{◌≡◌, Ok, IfOk};

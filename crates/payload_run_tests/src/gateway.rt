@@ -1,4 +1,4 @@
-//! The example of an audio gateway in docs/RATTLE.md.
+//! The example of an audio gateway in docs/develop/RATTLE.md.
 
 use crate::asserts::assert_bytes;
 use crate::library::{buffer_of, payloader_of, sample};

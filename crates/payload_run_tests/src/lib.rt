@@ -1,4 +1,4 @@
-//! What only Rattle shows, over `codec_payload_core` alone: the programs of docs/RATTLE.md, a run with RED, and a caller whose contract
+//! What only Rattle shows, over `codec_payload_core` alone: the programs of docs/develop/RATTLE.md, a run with RED, and a caller whose contract
 //! follows from the library's. Tests of behaviour are in `rust/tests/runs`.
 #![tactic(auto)]
 

@@ -1,4 +1,4 @@
-//! A custom codec, as in docs/RATTLE.md.
+//! A custom codec, as in docs/develop/RATTLE.md.
 
 ghost use Rattle.std.specs.Prelude.{[], ⊤, false, true};
 

@@ -1,4 +1,4 @@
-//! The example of docs/RATTLE.md.
+//! The example of docs/develop/RATTLE.md.
 
 use crate::asserts::{assert_bytes, assert_count, assert_holds};
 use crate::library::samples_of;

@@ -1,4 +1,4 @@
-//! AMR-WB: payloads as frames (docs/FORMATS.md, "AMR-WB").
+//! AMR-WB: payloads as frames (docs/use/FORMATS.md, "AMR-WB").
 
 ghost use Rattle.std.specs.Prelude.{◌≡◌, ◌↔◌, ℕ, ◌+◌, ◌*◌, ◌%◌, ◌<◌, ◌≤◌, ◌++◌, length, take, drop, IfOk, IfErr, OnOk, MatchResult, IsTrue, if◌then◌else◌, List, Some, true, Ok, Err};
 ghost use Rattle.codec_payload_base.specs.Bits.{bits_of, left, moved};

@@ -1,4 +1,4 @@
-//! AMR-WB: bytes out of bits that stand between bytes (docs/FORMATS.md, "AMR-WB").
+//! AMR-WB: bytes out of bits that stand between bytes (docs/use/FORMATS.md, "AMR-WB").
 
 ghost use Rattle.std.specs.Prelude.{◌≡◌, ℕ, ◌+◌, ◌-◌, ◌*◌, ◌<◌, ◌≤◌, ◌++◌, length, take, drop, OnOk};
 ghost use Rattle.codec_payload_base.specs.Bits.{bits_of};

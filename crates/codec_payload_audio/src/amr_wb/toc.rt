@@ -1,4 +1,4 @@
-//! AMR-WB: entries of the table of contents (docs/FORMATS.md, "AMR-WB").
+//! AMR-WB: entries of the table of contents (docs/use/FORMATS.md, "AMR-WB").
 
 ghost use Rattle.std.specs.Prelude.{◌≡◌, ◌+◌, ◌*◌, ◌/◌, ◌%◌, ◌<◌};
 ghost use Rattle.codec_payload_audio.specs.AmrWb.{bit_of};

@@ -1,4 +1,4 @@
-//! Frames cut into pieces that carry themselves (docs/FORMATS.md, "Opus, G.711, G.722").
+//! Frames cut into pieces that carry themselves (docs/use/FORMATS.md, "Opus, G.711, G.722").
 
 ghost use Rattle.std.specs.Prelude.{◌≡◌, [], OnErr, true, false};
 ghost use Rattle.codec_payload_base.specs.Answers.{written, IsWritten};

@@ -1,4 +1,4 @@
-//! AV1: the aggregation header of a payload (RTP Payload Format for AV1, section 4.4; docs/FORMATS.md, "AV1").
+//! AV1: the aggregation header of a payload (RTP Payload Format for AV1, section 4.4; docs/use/FORMATS.md, "AV1").
 
 ghost use Rattle.std.specs.Prelude.{◌≡◌, ◌/◌, ◌==◌, ◌&&◌, bit_and, not};
 ghost use Rattle.codec_payload_av1.specs.Av1Obu.{has_bit};

@@ -1,4 +1,4 @@
-//! AV1: reassembles frames from payloads (docs/FORMATS.md, "AV1").
+//! AV1: reassembles frames from payloads (docs/use/FORMATS.md, "AV1").
 
 ghost use Rattle.std.specs.Prelude.{◌≡◌, ◌∷◌, List, [], Some, length, take, true, nat_lt, ◌&&◌, ℕ, is_some, not, ◌++◌, OnOk, if◌then◌else◌};
 ghost use Rattle.codec_payload_av1.specs.Av1Obu.{canonical, has_bit, is_kept_type};

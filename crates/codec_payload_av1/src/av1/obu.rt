@@ -1,4 +1,4 @@
-//! AV1: OBUs (AV1 bitstream specification, section 5.3; docs/FORMATS.md, "AV1").
+//! AV1: OBUs (AV1 bitstream specification, section 5.3; docs/use/FORMATS.md, "AV1").
 
 ghost use Rattle.std.specs.Prelude.{◌≡◌, ◌∷◌, ◌++◌, OnOk, length, take, bit_or};
 ghost use Rattle.std.specs.Option.{option_map};

@@ -1,4 +1,4 @@
-//! AV1: reads payloads (RTP Payload Format for AV1, section 4.4; docs/FORMATS.md, "AV1").
+//! AV1: reads payloads (RTP Payload Format for AV1, section 4.4; docs/use/FORMATS.md, "AV1").
 
 ghost use Rattle.std.specs.Prelude.{◌≡◌};
 ghost use Rattle.codec_payload_base.specs.Answers.{Finds};

@@ -1,4 +1,4 @@
-//! AV1: the pending part of an OBU between packets (docs/FORMATS.md, "AV1").
+//! AV1: the pending part of an OBU between packets (docs/use/FORMATS.md, "AV1").
 
 ghost use Rattle.std.specs.Prelude.{◌≡◌, ◌≤◌, ℕ, List, [], true, false, Some, length, take, drop, ◌++◌, OnOk, IfOk};
 ghost use Rattle.codec_payload_av1.specs.Av1Receiving.{unit_of};

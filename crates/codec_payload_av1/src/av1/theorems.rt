@@ -1,4 +1,4 @@
-//! AV1: sent frames are received (docs/FORMATS.md, "AV1").
+//! AV1: sent frames are received (docs/use/FORMATS.md, "AV1").
 
 ghost use Rattle.std.specs.Prelude.{◌≡◌, ◌<◌, ◌^◌, ◌++◌, ◌∷◌, ℕ, Bool, true, List, Some, length, slice_index};
 ghost use Rattle.std.specs.List.{flat_map};

@@ -1,4 +1,4 @@
-//! AV1: the `av1C` record (AV1 codec ISO media file format binding, section 2.3; docs/FORMATS.md, "What a frame says").
+//! AV1: the `av1C` record (AV1 codec ISO media file format binding, section 2.3; docs/use/FORMATS.md, "What a frame says").
 
 ghost use Rattle.std.specs.Prelude.{◌≡◌, ◌≤◌, ◌++◌, OnErr, OnOk};
 ghost use Rattle.codec_payload_media.specs.Av1Records.{av1c_bytes, av1c_front};

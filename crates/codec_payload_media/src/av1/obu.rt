@@ -1,4 +1,4 @@
-//! AV1: the OBUs of a temporal unit (sections 5.2 to 5.4; docs/FORMATS.md, "What a frame says").
+//! AV1: the OBUs of a temporal unit (sections 5.2 to 5.4; docs/use/FORMATS.md, "What a frame says").
 
 ghost use Rattle.std.specs.Prelude.{◌≡◌};
 ghost use Rattle.codec_payload_base.specs.Leb.{leb_low};

@@ -1,4 +1,4 @@
-//! AV1: the operating points of a sequence header (section 5.5.1; docs/FORMATS.md, "What a frame says").
+//! AV1: the operating points of a sequence header (section 5.5.1; docs/use/FORMATS.md, "What a frame says").
 
 ghost use Rattle.std.specs.Prelude.{◌≡◌, ◌≤◌, Ok, IfOk, Option};
 ghost use Rattle.codec_payload_base.specs.Bits.{bits_of};

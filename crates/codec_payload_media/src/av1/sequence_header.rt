@@ -1,4 +1,4 @@
-//! AV1: the sequence header (section 5.5; docs/FORMATS.md, "What a frame says").
+//! AV1: the sequence header (section 5.5; docs/use/FORMATS.md, "What a frame says").
 
 ghost use Rattle.std.specs.Prelude.{◌≡◌, ◌≤◌, ◌+◌, ◌==◌, true, false, Ok, IfOk};
 ghost use Rattle.codec_payload_base.specs.Bits.{bits_of};

@@ -1,4 +1,4 @@
-//! AV1: reads a temporal unit up to its first frame header (sections 5.3, 5.9.2 and 7.5; docs/FORMATS.md, "What a frame says").
+//! AV1: reads a temporal unit up to its first frame header (sections 5.3, 5.9.2 and 7.5; docs/use/FORMATS.md, "What a frame says").
 
 ghost use Rattle.std.specs.Prelude.{◌≡◌};
 ghost use Rattle.codec_payload_base.specs.Bits.{bits_of};

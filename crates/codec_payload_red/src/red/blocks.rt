@@ -1,4 +1,4 @@
-//! RED: payloads, written and read (RFC 2198, section 3; docs/FORMATS.md, "RED").
+//! RED: payloads, written and read (RFC 2198, section 3; docs/use/FORMATS.md, "RED").
 
 ghost use Rattle.std.specs.Prelude.{◌≡◌, ◌≤◌, ◌<◌, ◌*◌, ◌++◌, ◌%◌, false, nat_le, ◌&&◌, Some, IfErr, IfOk, IfSome, OnOk, IsErrOf, IsTrue, is_some, map, length, take, filter, MatchResult};
 ghost use Rattle.std.specs.Iterator.{YieldsFirstRef, item_count};

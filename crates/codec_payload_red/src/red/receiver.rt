@@ -1,4 +1,4 @@
-//! RED: the receiver, which finds lost media in the payloads of later packets (RFC 2198, section 3; docs/FORMATS.md, "RED").
+//! RED: the receiver, which finds lost media in the payloads of later packets (RFC 2198, section 3; docs/use/FORMATS.md, "RED").
 
 ghost use Rattle.std.specs.Prelude.{◌≡◌, ◌%◌, ◌<◌, ◌≤◌, ◌↔◌, IsSome, IfSome, IfOk, MatchResult, map};
 ghost use Rattle.std.specs.List.{filter_map};

@@ -1,4 +1,4 @@
-//! RED: the sender, which remembers what it sent (RFC 2198, section 3; docs/FORMATS.md, "RED").
+//! RED: the sender, which remembers what it sent (RFC 2198, section 3; docs/use/FORMATS.md, "RED").
 
 ghost use Rattle.std.specs.Prelude.{◌≡◌, ◌+◌, ◌-◌, ◌<◌, ◌≤◌, ◌++◌, [], length, take, reverse, sum_by, IfOk, IfErr, IfSome, OnOk, IsTrue};
 ghost use Rattle.std.specs.List.{flat_map};

@@ -1,4 +1,4 @@
-//! RED: a theorem on a sender and a receiver (docs/FORMATS.md, "RED"). The function exists for its proof and does nothing.
+//! RED: a theorem on a sender and a receiver (docs/use/FORMATS.md, "RED"). The function exists for its proof and does nothing.
 
 ghost use Rattle.codec_payload_red.specs.RedRun.{RecoversSent};
 

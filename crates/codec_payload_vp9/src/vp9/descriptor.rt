@@ -1,4 +1,4 @@
-//! VP9: the descriptor of a payload, read in order, and the bits of its bytes (docs/FORMATS.md, "VP9").
+//! VP9: the descriptor of a payload, read in order, and the bits of its bytes (docs/use/FORMATS.md, "VP9").
 
 ghost use Rattle.std.specs.Prelude.{◌≡◌, ◌<◌, IfErr, false, true};
 ghost use Rattle.codec_payload_base.specs.Answers.{seen};

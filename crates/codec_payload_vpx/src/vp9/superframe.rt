@@ -1,4 +1,4 @@
-//! VP9: superframes, units of several frames, of which only the last is shown (Annex B; docs/FORMATS.md, "What a frame says").
+//! VP9: superframes, units of several frames, of which only the last is shown (Annex B; docs/use/FORMATS.md, "What a frame says").
 
 ghost use Rattle.std.specs.Prelude.{◌≡◌, ◌<◌, ◌≤◌, ◌∷◌, [], length, option_map, take, drop};
 ghost use Rattle.codec_payload_vpx.specs.Reading.{told};
