@@ -88,7 +88,10 @@ fn firefox() {
         "pair 3310425182 44369015",
         "wait 100 200",
     ];
-    assert_eq!(dump(include_str!("../../../c/tests/sdp/firefox.sdp")), wanted);
+    assert_eq!(
+        dump(include_str!("../../../c/tests/sdp/firefox.sdp")),
+        wanted
+    );
 }
 
 #[test]
@@ -102,7 +105,10 @@ fn gstreamer() {
         "pair 2222 178515863",
         "wait 200 200",
     ];
-    assert_eq!(dump(include_str!("../../../c/tests/sdp/gstreamer.sdp")), wanted);
+    assert_eq!(
+        dump(include_str!("../../../c/tests/sdp/gstreamer.sdp")),
+        wanted
+    );
 }
 
 #[test]
