@@ -101,13 +101,13 @@ $(shared): $(out)/codec_payload.o packaging/codec_payload.map
 	    $(CFLAGS) $(LDFLAGS) $< -o $@
 
 # The tests: each is a program over the archive. `strict=-Werror` is how the repository builds them.
-programs = $(addprefix $(tests)/,example checks datagrams session history forward waiting congestion packets values loopback port vectors frames oom forward_oom descriptions)
+programs = $(addprefix $(tests)/,example checks datagrams session history forward waiting congestion packets values loopback port vectors frames oom forward_oom beyond descriptions)
 
 $(tests)/%: c/%.c $(wildcard c/*.h) $(headers) $(LIBRARY)
 	@mkdir -p $(tests)
 	$(CC) -std=c99 $(warnings) $(strict) $(CPPFLAGS) $(CFLAGS) $(SANITIZERS) $(LDFLAGS) -Wl,--gc-sections -Iinclude $< $(LIBRARY) $(wrapped) -o $@
 
-$(tests)/oom $(tests)/forward_oom: wrapped = -Wl,--wrap=malloc,--wrap=realloc,--wrap=free
+$(tests)/oom $(tests)/forward_oom $(tests)/beyond: wrapped = -Wl,--wrap=malloc,--wrap=realloc,--wrap=free
 
 check: $(programs)
 	c/check.sh $(tests) $(RUN)
