@@ -1556,7 +1556,8 @@ typedef struct {
  * move or free them; never write them. Then call cpay_depacketizer_clear. */
 CPAY_CHECKED cpay_status cpay_depacketizer_unit(cpay_depacketizer *depacketizer, cpay_lent_unit *unit);
 
-/** Begins the next unit: the payloads so far are forgotten, as after a loss, and their memory is kept. Ids of VP8 and VP9 continue. */
+/** Begins the next unit: forgets the bytes and the codec-specific data so far, and keeps their memory. What continues in a stream stays:
+ * ids of VP8 and VP9, the beginning of an OBU of AV1. */
 CPAY_CHECKED cpay_status cpay_depacketizer_clear(cpay_depacketizer *depacketizer);
 
 /* ---- RED (RFC 2198) ---- */
