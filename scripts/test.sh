@@ -9,9 +9,10 @@
 # without them no Debian packages and manual pages are made. Without gcc-aarch64-linux-gnu and qemu-user the library for C is
 # only tested natively; without abigail-tools its ABI is not compared; without libpcap, libavformat and ffmpeg the recorder is
 # not tested. Without ffmpeg the headers of frames are not compared with other readers; without Debian's packages of crates and
-# the runtime of libFuzzer, rust-extras and tools/fuzz are not tested. tools/live_server is built only if its libraries are
-# installed. Chromium is never installed; without it no browser sends to a session or to live_server. The last line is
-# `N passed, N failed`; the status is 0 if nothing failed.
+# the runtime of libFuzzer, rust-extras and tools/fuzz are not tested. Without Go, pion's interceptor and tshark no peer reads the
+# packets of transport-wide feedback again. tools/live_server is built only if its libraries are installed. Chromium is never
+# installed; without it no browser sends to a session or to live_server. The last line is `N passed, N failed`; the status is 0 if
+# nothing failed.
 set -u
 
 root=$(cd "$(dirname "$0")/.." && pwd)
@@ -56,6 +57,9 @@ wants qemu-user qemu-aarch64
 wants abigail-tools abidw abidiff
 wants devscripts hardening-check
 wants blhc blhc
+wants golang-go go
+[ -d /usr/share/gocode/src/github.com/pion/interceptor ] || absent="$absent golang-github-pion-interceptor-dev"
+wants tshark tshark
 find /usr/lib -name libjemalloc.so.2 2>/dev/null | grep -q . || absent="$absent libjemalloc2"
 for name in bytes criterion proptest; do
     ls /usr/share/cargo/registry 2>/dev/null | grep -q "^$name-[0-9]" ||
@@ -111,6 +115,7 @@ if [ "${1:-}" != --no-proofs ]; then
     failed=$((early_failed + $2))
 fi
 runs tests/vectors/process.py --proved
+runs tests/vectors/feedback.py --check
 runs scripts/refuse.sh
 runs tools/measure/allocations.sh
 runs scripts/bindings.sh

@@ -1,13 +1,14 @@
 #!/usr/bin/env python3
 """Which bitrate Chromium gives its encoder of VP8, beside the bitrate that libwebrtc's own receiver makes it give.
 
-    tools/chromium/chromium_rates.py                      a row for each loss: 0, 2 and 5 %
+    tools/chromium/chromium_rates.py                      five runs for each loss: 0, 2 and 5 %
     tools/chromium/chromium_rates.py --losses 5 --runs 3 --intervals 50,100
 
-For each loss a headless Chromium sends for `--seconds` to a session of this library (rust/examples/port_peer.rs), which reports the
-arrivals of its transport, and then to a second peer connection of its page. Both go through the same network: the same losses, delay
-and jitter, from the same seeds. Prints kbit/s after 5 s, after 10 s and at the end: each the mean of three seconds. Fails unless the
-session reaches 95 % of the other bitrate within 10 s without losses, and 80 % of it at the end with losses.
+In each run a headless Chromium sends for `--seconds` to a session of this library (rust/examples/port_peer.rs), which reports the
+arrivals of its transport, and then to a second peer connection of its page; in every other run in the other order. Both go through
+the same network: the same losses, delay and jitter, from the same seeds. Prints kbit/s after 5 s and after 10 s, each the mean of
+three seconds, and the mean of the second half; then the medians of the runs. Fails unless by the medians the session reaches 95 % of
+the largest bitrate within 10 s without losses, and in the second half 80 % of what the other receiver has with losses.
 """
 
 import argparse
@@ -144,8 +145,21 @@ def rates_of(call, seconds):
 
 
 def figures_of(rates):
-    """After 5 s, after 10 s, and at the end."""
-    return [round(statistics.mean(rates[at - 3 : at])) for at in (5, 10, len(rates))]
+    """After 5 s, after 10 s, and in the second half."""
+    return [round(statistics.mean(part)) for part in (rates[2:5], rates[7:10], rates[len(rates) // 2 :])]
+
+
+def row(name, figures):
+    return f"| {name} | " + " | ".join(", ".join(map(str, each)) for each in figures) + " |"
+
+
+def faults_of(loss, names, medians):
+    """What is slower than it should be."""
+    largest, (*sessions, other) = max(map(max, medians)), medians
+    for name, each in zip(names, sessions):
+        place, wanted = (1, 0.95 * largest) if loss == 0 else (2, 0.8 * other[2])
+        if each[place] < wanted:
+            yield f"{name} at {loss:g} %: {each[place]} and not {wanted:.0f} kbit/s"
 
 
 def built(folder):
@@ -162,7 +176,7 @@ def main(words):
     parser.add_argument("--jitter", type=float, default=5, help="milliseconds; 5 by default")
     parser.add_argument("--seconds", type=int, default=20)
     parser.add_argument("--seed", type=int, default=1)
-    parser.add_argument("--runs", type=int, default=1)
+    parser.add_argument("--runs", type=int, default=5)
     parser.add_argument("--intervals", default="", help="milliseconds between two feedbacks; the default of the settings if absent")
     settings = parser.parse_args(words)
     if not shutil.which("chromium"):
@@ -170,22 +184,24 @@ def main(words):
         return 0
     signal.signal(signal.SIGTERM, lambda *_: sys.exit("terminated"))
     intervals = [int(word) for word in settings.intervals.split(",") if word] or [None]
-    faults = []
     names = ["session" if interval is None else f"session, {interval} ms" for interval in intervals]
-    print(f"| loss | {' | '.join(names)} | Chromium to Chromium |\n|---{'|---' * len(names)}|---|", flush=True)
+    head = f"| loss | {' | '.join(names)} | Chromium to Chromium |\n|---{'|---' * len(names)}|---|"
+    print(head, flush=True)
+    faults, rows = [], []
     with tempfile.TemporaryDirectory() as folder:
         program = built(folder)
         for loss in map(float, settings.losses.split(",")):
+            runs = []
             for run in range(settings.runs):
                 network = Network(loss, settings.round_trip / 2, settings.jitter, settings.seed + 2 * run)
-                found = [figures_of(rates_of(Call(network, program, interval, folder), settings.seconds)) for interval in intervals]
-                found.append(figures_of(rates_of(Call(network), settings.seconds)))
-                print(f"| {loss:g} % | " + " | ".join(", ".join(map(str, each)) for each in found) + " |", flush=True)
-                for name, each in zip(names, found):
-                    place, share = (1, 0.95) if loss == 0 else (2, 0.8)
-                    if each[place] < share * found[-1][place]:
-                        faults.append(f"{name} at {loss:g} %: {each[place]} of {found[-1][place]} kbit/s")
-    print("\n".join([*faults, f"chromium_rates: {len(faults)} faults"]))
+                calls = [Call(network, program, interval, folder) for interval in intervals] + [Call(network)]
+                order = -1 if run % 2 else 1
+                runs.append([figures_of(rates_of(call, settings.seconds)) for call in calls[::order]][::order])
+                print(row(f"{loss:g} %", runs[-1]), flush=True)
+            medians = [[round(statistics.median(each)) for each in zip(*figures)] for figures in zip(*runs)]
+            rows.append(row(f"{loss:g} %", medians))
+            faults += faults_of(loss, names, medians)
+    print("\n".join([f"medians of {settings.runs} runs:", head, *rows, *faults, f"chromium_rates: {len(faults)} faults"]))
     return 1 if faults else 0
 
 

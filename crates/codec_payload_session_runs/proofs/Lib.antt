@@ -2,6 +2,8 @@ pub mod AloneLemmas
 pub mod AssociationLemmas
 pub mod CallLemmas
 pub mod CountLemmas
+pub mod EndingCallLemmas
+pub mod EndingLemmas
 pub mod FateLemmas
 pub mod ReachedLemmas
 pub mod RunLemmas

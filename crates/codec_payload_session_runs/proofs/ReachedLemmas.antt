@@ -49,7 +49,7 @@ abbrev call_of : SessionStep → StepAnswer → Call
 call_of step answer = record { step = step; answer = answer }
 
 -- the streams are the same, or as a report leaves them
-abbrev Same : List StreamState → List StreamState → Type 0
+abbrev pub Same : List StreamState → List StreamState → Type 0
 Same ss ts = (ts ≡ ss) ⊎ ((is_new : Bool) × (room : ℕ) × (ts ≡ all_reported is_new room ss))
 
 -- the streams of a report
@@ -68,7 +68,7 @@ each_streams : (o : Option ℕ) (f : FeedbackSettings) (tick_rate now : ℕ) (du
 each_streams None f tick_rate now due p answer next q got = inl (ap (λ (o : Port). o.streams) got.2)
 each_streams (Some interval) f tick_rate now due p answer next q got = when_streams (is_report_due now due p.streams) f interval tick_rate now due p answer next q got
 
-by_streams : (o : Option FeedbackSettings) (tick_rate now : ℕ) (due : Option ℕ) (p : Port) (answer : Option (Result (Vec ℕ) AllocError)) (next : Option ℕ) (q : Port)
+pub by_streams : (o : Option FeedbackSettings) (tick_rate now : ℕ) (due : Option ℕ) (p : Port) (answer : Option (Result (Vec ℕ) AllocError)) (next : Option ℕ) (q : Port)
     → ReportsBy o tick_rate now due p answer next q → Same p.streams q.streams
 by_streams None tick_rate now due p answer next q got = inl (ap (λ (o : Port). o.streams) got.2)
 by_streams (Some f) tick_rate now due p answer next q got = each_streams f.report_interval f tick_rate now due p answer next q got
@@ -326,7 +326,7 @@ fresh_keeps settings cs c reached fs (y ∷ []) run others are fresh apart known
 )
 fresh_keeps settings cs c reached fs (y ∷ z ∷ zs) run others are fresh apart known alone = absurd fresh
 
-reached_more : (settings : SessionSettings) (cs : List Call) (c : Call) (s t : Session) → Reached settings cs s → Does c.step s c.answer t → Reached settings (cs ++ c ∷ []) t
+pub reached_more : (settings : SessionSettings) (cs : List Call) (c : Call) (s t : Session) → Reached settings cs s → Does c.step s c.answer t → Reached settings (cs ++ c ∷ []) t
 reached_more settings cs c s t got does =
     let m : Moves c s t = moves c.step c.answer s t got.apart got.known does in
     let e : Evolves s.settings c s.port.streams t.port.streams = m.evolves in
@@ -350,7 +350,7 @@ reached_later settings (c ∷ later) cs s t got run =
     subst (λ (zs : List Call). Reached settings zs t) (append_assoc cs (c ∷ []) later)
     (reached_later settings later (cs ++ c ∷ []) run.0 t (reached_more settings cs c s run.0 got run.1) run.2)
 
-reached_new : (settings : SessionSettings) → Reached settings [] (new_session settings)
+pub reached_new : (settings : SessionSettings) → Reached settings [] (new_session settings)
 reached_new settings = record { run = refl; others = refl; apart = tt; known = tt; alone = tt; order = λ ssrc payload_type. refl }
 
 pub reached : (settings : SessionSettings) (cs : List Call) (t : Session) → Runs cs (new_session settings) t → Reached settings cs t
@@ -402,7 +402,7 @@ ended_among settings before now ssrc payload_type why (x ∷ xs) (f ∷ fs) are 
     ended_test (is_of ssrc payload_type x) settings before now ssrc payload_type why x f refl are.0 alone.0
     (λ (is : is_of ssrc payload_type x ≡ false). ended_among settings before now ssrc payload_type why xs fs are.1 alone.1 (λ absent. silent (is, absent)))
 
-runs_split : (cs ds : List Call) (s t : Session) → Runs (cs ++ ds) s t → (mid : Session) × Runs cs s mid × Runs ds mid t
+pub runs_split : (cs ds : List Call) (s t : Session) → Runs (cs ++ ds) s t → (mid : Session) × Runs cs s mid × Runs ds mid t
 runs_split [] ds s t run = (s, refl, run)
 runs_split (c ∷ cs) ds s t run =
     let later = runs_split cs ds run.0 t run.2 in

@@ -1,3 +1,4 @@
 pub mod Counting
+pub mod Endings
 pub mod Lives
 pub mod SessionRuns

@@ -6,6 +6,7 @@ ghost use Rattle.codec_payload_session.specs.Checks.{fault_of};
 ghost use Rattle.codec_payload_session.specs.Ports.{new_session, taken_in, told_counts};
 ghost use Rattle.codec_payload_session.specs.declared.formats.SessionSettings.{SessionSettings as Settings};
 ghost use Rattle.codec_payload_session_runs.specs.Counting.{Counts};
+ghost use Rattle.codec_payload_session_runs.specs.Endings.{EndsHaveCauses, StreamsAreAlone};
 ghost use Rattle.codec_payload_session_runs.specs.Lives.{EachEndedAlone, EachIsAlone, TellsInOrder};
 ghost use Rattle.codec_payload_session_runs.specs.SessionRuns.{Does, Runs, calls_of, refusal_of};
 
@@ -123,6 +124,16 @@ pub fn run_session(
         counts: session.counts(),
     })
 }
+
+/// Each end of a stream has its cause in the run: a BYE, the idle timeout, another format of its SSRC, or a call of the caller.
+pub fn ends_have_causes()
+    ensures { EndsHaveCauses }
+{}
+
+/// At each moment of a run each stream is a receiver alone, also one that a new SSRC replaces before it is announced.
+pub fn streams_are_alone()
+    ensures { StreamsAreAlone }
+{}
 
 /// A session and the run that it made.
 #[derive(Debug, Drop)]

@@ -1,0 +1,305 @@
+-- Streams of a session end for a cause.
+use Rattle.std.proofs.Common.{◌≡◌, ◌<◌, ◌≤◌, ◌∙◌, ◌⊎◌, inl, inr, refl, sym, ap, ap₂, subst, subst₂, ℕ, zero, suc, ◌+◌, ◌-◌, ◌==◌, ◌&&◌, not, cond, leb, Bool, true, false, List, [], ◌∷◌, ◌++◌, map, length, get_or, Option, Some, None, Result, Ok, Err, append_assoc, append-nil, slice_get, slice_set, remove, arith, eqb-true}
+use Rattle.std.specs.Global.{Vec}
+use Rattle.std.specs.List.{position, position_from}
+use Rattle.std.specs.Option.{is_some}
+use Rattle.std.specs.Prelude.{IsErr, nat_le, if◌then◌else◌}
+use Rattle.std.specs.declared.alloc.AllocError.{AllocError}
+use Rattle.std.proofs.lemmas.Bool.Decides.{nat_tests}
+use Rattle.std.proofs.lemmas.Iterator.Adapters.{position_from-zero}
+use Rattle.codec_payload_base.specs.declared.wire.Ticks.{Ticks}
+use Rattle.codec_payload_buffer.specs.Release.{Release}
+use Rattle.codec_payload_jitter.specs.declared.outcome.Outcome.{Outcome}
+use Rattle.codec_payload_jitter.specs.declared.waiting.WaitLimits.{WaitLimits}
+use Rattle.codec_payload_receiver.specs.Sessions.{Session as Receiver}
+use Rattle.codec_payload_receiver.specs.declared.pops.Popped.{Popped}
+use Rattle.codec_payload_receiver.specs.declared.pops.Popped.TheVariants as popped
+use Rattle.codec_payload_receiver.specs.declared.receiver.ReceiveError.{ReceiveError}
+use Rattle.codec_payload_session.specs.Arrivals.{Arrives, BeginsIf, BeginsOrFeeds, BeginsWith, Feeds, FeedsIf, Port, TakesIn, TakesInAs, TakesMedia, arrival_of, goodbye_at, has_place, leaving, left_if, left_where, without}
+use Rattle.codec_payload_session.specs.Changes.{continued, continues, is_left_behind, left_behind, plays}
+use Rattle.codec_payload_session.specs.Pairs.{Pairs, paired_if, paired_when, paired_where}
+use Rattle.codec_payload_session.specs.Reports.{noted, noted_at}
+use Rattle.codec_payload_session.specs.Requests.{Asking, heard_by, number_at, wait_by}
+use Rattle.codec_payload_session.specs.Streams.{Drains, Follows, Plays, Pops, RequestsBy, RestsBy, Steps, StepsBy, Takes, accepted_after, end_by, end_of, heard_unless, is_accepted, is_no_memory, is_of, is_probation, left_when, received, stage_after, stage_left, step_of, step_with, waiting_for, waiting_if, waiting_when}
+use Rattle.codec_payload_session.specs.declared.formats.Format.{Format}
+use Rattle.codec_payload_session.specs.declared.formats.SessionSettings.{SessionSettings}
+use Rattle.codec_payload_session.specs.declared.formats.SsrcPair.{SsrcPair}
+use Rattle.codec_payload_session.specs.declared.session.Arrival.{Arrival}
+use Rattle.codec_payload_session.specs.declared.session.Arrival.TheVariants as arrivals
+use Rattle.codec_payload_session.specs.declared.stream.Ending.{Ending}
+use Rattle.codec_payload_session.specs.declared.stream.Ending.TheVariants as endings
+use Rattle.codec_payload_session.specs.declared.stream.Stage.{Stage}
+use Rattle.codec_payload_session.specs.declared.stream.Stage.TheVariants as stages
+use Rattle.codec_payload_session.specs.declared.stream.StreamState.{StreamState}
+use Rattle.codec_payload_session.specs.Units.{Event, Step}
+use Rattle.codec_payload_session.specs.declared.stream.Step.TheVariants as asks
+use Rattle.codec_payload_session_runs.proofs.FateLemmas.{AreApart, absent_at, found_none, same_sym}
+use Rattle.codec_payload_session_runs.proofs.StreamLemmas.{same_is}
+use Rattle.codec_payload_session_runs.specs.Endings.{HasCause, IsBye, IsCause, IsChange, IsEndCall, IsSilence, last_given, names_other, or_before, time_answered, time_given, time_named}
+use Rattle.codec_payload_session_runs.specs.Lives.{IsAbsent, is_same}
+use Rattle.codec_payload_session_runs.specs.SessionRuns.{Call}
+use Rattle.codec_payload_session_runs.specs.declared.run.SessionStep.{SessionStep}
+use Rattle.codec_payload_session_runs.specs.declared.run.SessionStep.TheVariants as calls
+use Rattle.codec_payload_session_runs.specs.declared.run.StepAnswer.{StepAnswer}
+use Rattle.codec_payload_session_runs.specs.declared.run.StepAnswer.TheVariants as answers
+
+-- how a stream that leaves or drains ends
+abbrev pub ending_of : Stage → Option Ending
+ending_of stages.Probation = None
+ending_of stages.Playing = None
+ending_of (stages.Leaving why at) = Some why
+ending_of (stages.Draining why) = Some why
+
+-- ---- why a poll ends a stream
+
+abbrev pub Reason : (now idle : ℕ) → StreamState → Ending → Type 0
+Reason now idle s why = (ending_of s.stage ≡ Some why) ⊎ ((why ≡ endings.Timeout) × (nat_le idle (now - s.last) ≡ true))
+
+by_idle : (b : Bool) (now idle : ℕ) (s : StreamState) (why : Ending) → nat_le idle (now - s.last) ≡ b → cond b (Some endings.Timeout) None ≡ Some why → Reason now idle s why
+by_idle true now idle s why long is = inr (cc, long)
+by_idle false now idle s why long is = absurd (cc)
+
+by_time : (b : Bool) (own why : Ending) → cond b (Some own) None ≡ Some why → Some own ≡ Some why
+by_time true own why is = is
+by_time false own why is = absurd (cc)
+
+end_reason : (stage : Stage) (now idle : ℕ) (s : StreamState) (why : Ending) → s.stage ≡ stage → end_by now idle s.last stage ≡ Some why → Reason now idle s why
+end_reason stages.Probation now idle s why at is = absurd (cc)
+end_reason stages.Playing now idle s why at is = by_idle (nat_le idle (now - s.last)) now idle s why refl is
+end_reason (stages.Leaving own until) now idle s why at is = inl (ap (λ (st : Stage). ending_of st) at ∙ by_time (nat_le until now) own why is)
+end_reason (stages.Draining own) now idle s why at is = absurd (cc)
+
+-- the same stream, which took no datagram
+record Stays (s t : StreamState) : Type 0 where
+  ssrc_is : t.ssrc ≡ s.ssrc
+  format : t.format ≡ s.format
+  last : t.last ≡ s.last
+
+record Drained (now idle : ℕ) (s t : StreamState) : Type 0 where
+  stays : Stays s t
+  ends : (why : Ending) → ending_of t.stage ≡ Some why → Reason now idle s why
+
+drained : (o : Option Ending) (now idle : ℕ) (s t : StreamState) → end_of now idle s ≡ o → Drains o s t → Drained now idle s t
+drained None now idle s t is got = subst (λ (z : StreamState). Drained now idle s z) (sym got) (record { stays = record { ssrc_is = refl; format = refl; last = refl }; ends = λ why same. inl same })
+drained (Some own) now idle s t is got = subst (λ (z : StreamState). Drained now idle s z) (sym got.2)
+    (record { stays = record { ssrc_is = refl; format = refl; last = refl }; ends = λ why same. end_reason s.stage now idle s why refl (is ∙ same) })
+
+record Followed (m : StreamState) (answer : Step) (t : StreamState) : Type 0 where
+  stays : Stays m t
+  stage : t.stage ≡ m.stage
+  ended : (why : Ending) → answer ≡ asks.Ended why → ending_of m.stage ≡ Some why
+
+-- an answer without an end
+followed : (m : StreamState) (answer own : Step) (t u : StreamState) → answer ≡ own → t ≡ u → Stays m u → u.stage ≡ m.stage → ((why : Ending) → own ≡ asks.Ended why → ending_of m.stage ≡ Some why) → Followed m answer t
+followed m answer own t u is same stays stage ended =
+    subst₂ (λ (a : Step) (z : StreamState). Followed m a z) (sym is) (sym same) (record { stays = stays; stage = stage; ended = ended })
+
+here : (m : StreamState) → Stays m m
+here m = record { ssrc_is = refl; format = refl; last = refl }
+
+asked_ends : (told : Result (Option (Vec ℕ)) AllocError) (m : StreamState) (why : Ending) → step_of told ≡ asks.Ended why → ending_of m.stage ≡ Some why
+asked_ends (Ok None) m why is = absurd (cc)
+asked_ends (Ok (Some packet)) m why is = absurd (cc)
+asked_ends (Err e) m why is = absurd (cc)
+
+popped_ends : (told : Result (Popped Release) AllocError) (m : StreamState) (why : Ending) → step_with told ≡ asks.Ended why → ending_of m.stage ≡ Some why
+popped_ends (Ok (popped.Unit unit)) m why is = absurd (cc)
+popped_ends (Ok (popped.TooLarge unit)) m why is = absurd (cc)
+popped_ends (Ok (popped.Refused fault)) m why is = absurd (cc)
+popped_ends (Err e) m why is = absurd (cc)
+
+requests_follow : (o : Option Asking) (now : ℕ) (m : StreamState) (answer : Step) (t : StreamState) → RequestsBy o now m answer t → Followed m answer t
+requests_follow None now m answer t got = followed m answer asks.Nothing t m got.0 got.1 (here m) refl (λ why is. absurd (cc))
+requests_follow (Some a) now m answer t got =
+    followed m answer (step_of got.told) t (record m { feedback = Some got.asking }) got.answers got.after (record { ssrc_is = refl; format = refl; last = refl }) refl (λ why is. asked_ends got.told m why is)
+
+rests_follow : (stage : Stage) (now : ℕ) (m : StreamState) (answer : Step) (t : StreamState) → m.stage ≡ stage → RestsBy stage now m answer t → Followed m answer t
+rests_follow stages.Probation now m answer t at got = followed m answer asks.Nothing t m got.0 got.1 (here m) refl (λ why is. absurd (cc))
+rests_follow stages.Playing now m answer t at got = requests_follow m.feedback now m answer t got
+rests_follow (stages.Leaving own until) now m answer t at got = followed m answer asks.Nothing t m got.0 got.1 (here m) refl (λ why is. absurd (cc))
+rests_follow (stages.Draining own) now m answer t at got =
+    followed m answer (asks.Ended own) t m got.0 got.1 (here m) refl (λ why is. ap (λ (st : Stage). ending_of st) at ∙ (cc))
+
+follows_follow : (o : Option (Result (Popped Release) AllocError)) (now : ℕ) (m : StreamState) (answer : Step) (t : StreamState) → Follows o now m answer t → Followed m answer t
+follows_follow None now m answer t got = rests_follow m.stage now m answer t refl got
+follows_follow (Some told) now m answer t got = followed m answer (step_with told) t m got.0 got.1 (here m) refl (λ why is. popped_ends told m why is)
+
+-- what a poll makes of a stream that it asks
+pub record Asked (now idle : ℕ) (s : StreamState) (answer : Step) (t : StreamState) : Type 0 where
+  pub ssrc_is : t.ssrc ≡ s.ssrc
+  pub format : t.format ≡ s.format
+  pub last : t.last ≡ s.last
+  pub ends : (why : Ending) → ending_of t.stage ≡ Some why → Reason now idle s why
+  pub ended : (why : Ending) → answer ≡ asks.Ended why → Reason now idle s why
+
+plays_asked : (now : Ticks) (idle : ℕ) (s : StreamState) (answer : Step) (t : StreamState) → Plays now idle s answer t → Asked now.0 idle s answer t
+plays_asked now idle s answer t got =
+    let d : Drained now.0 idle s got.0 = drained (end_of now.0 idle s) now.0 idle s got.0 refl got.1 in
+    let m : StreamState = record got.0 { receiver = got.2.receiver } in
+    let f : Followed m answer t = follows_follow got.2.told now.0 m answer t got.2.follows in
+    record {
+      ssrc_is = f.stays.ssrc_is ∙ d.stays.ssrc_is;
+      format = f.stays.format ∙ d.stays.format;
+      last = f.stays.last ∙ d.stays.last;
+      ends = λ why is. d.ends why (ap (λ (st : Stage). ending_of st) (sym f.stage) ∙ is);
+      ended = λ why is. d.ends why (f.ended why is);
+    }
+
+still_asked : (now idle : ℕ) (s : StreamState) (answer own : Step) (t u : StreamState) → answer ≡ own → t ≡ u → Stays s u → u.stage ≡ s.stage → ((why : Ending) → own ≡ asks.Ended why → Reason now idle s why)
+    → Asked now idle s answer t
+still_asked now idle s answer own t u is same stays stage ended =
+    subst₂ (λ (a : Step) (z : StreamState). Asked now idle s a z) (sym is) (sym same)
+    (record {
+      ssrc_is = stays.ssrc_is;
+      format = stays.format;
+      last = stays.last;
+      ends = λ why ending. inl (ap (λ (st : Stage). ending_of st) (sym stage) ∙ ending);
+      ended = ended;
+    })
+
+by_asked : (b told : Bool) (now : Ticks) (idle : ℕ) (s : StreamState) (answer : Step) (t : StreamState) → StepsBy b told now idle s answer t → Asked now.0 idle s answer t
+by_asked true told now idle s answer t got = still_asked now.0 idle s answer asks.Nothing t s got.0 got.1 (here s) refl (λ why is. absurd (cc))
+by_asked false false now idle s answer t got =
+    still_asked now.0 idle s answer asks.Begun t (record s { told = true }) got.0 got.1 (record { ssrc_is = refl; format = refl; last = refl }) refl (λ why is. absurd (cc))
+by_asked false true now idle s answer t got = plays_asked now idle s answer t got
+
+pub steps_asked : (now : Ticks) (idle : ℕ) (s : StreamState) (answer : Step) (t : StreamState) → Steps now idle s answer t → Asked now.0 idle s answer t
+steps_asked now idle s answer t got = by_asked (is_probation s.stage) s.told now idle s answer t got
+
+-- ---- streams whose end has a cause
+
+pub record Justified (idle : ℕ) (cs : List Call) (s : StreamState) : Type 0 where
+  pub last : last_given s.ssrc s.format.payload_type None cs ≡ Some s.last
+  pub cause : (why : Ending) → ending_of s.stage ≡ Some why → HasCause idle why s.ssrc s.format.payload_type cs
+
+abbrev pub AllJustified : ℕ → List Call → List StreamState → Type 0
+AllJustified idle cs [] = Unit {0}
+AllJustified idle cs (s ∷ ss) = Justified idle cs s × AllJustified idle cs ss
+
+-- the same stream, with nothing changed that matters here
+pub record Same (s t : StreamState) : Type 0 where
+  pub ssrc_is : t.ssrc ≡ s.ssrc
+  pub format : t.format ≡ s.format
+  pub last : t.last ≡ s.last
+  pub stage : t.stage ≡ s.stage
+
+pub last_append : (ssrc payload_type : ℕ) (cs : List Call) (c : Call) (before : Option ℕ)
+    → last_given ssrc payload_type before (cs ++ c ∷ []) ≡ or_before (time_given ssrc payload_type c) (last_given ssrc payload_type before cs)
+last_append ssrc payload_type [] c before = refl
+last_append ssrc payload_type (d ∷ cs) c before = last_append ssrc payload_type cs c (or_before (time_given ssrc payload_type d) before)
+
+pub cause_more : (idle : ℕ) (why : Ending) (ssrc payload_type : ℕ) (cs : List Call) (c : Call) → HasCause idle why ssrc payload_type cs → HasCause idle why ssrc payload_type (cs ++ c ∷ [])
+cause_more idle why ssrc payload_type cs c got =
+    (got.0, got.1, got.2 ++ c ∷ [], ap (λ (zs : List Call). zs ++ c ∷ []) got.3 ∙ append_assoc got.0 (got.1 ∷ got.2) (c ∷ []), got.4)
+
+-- what one call makes of a stream
+pub record Moved (idle : ℕ) (cs : List Call) (c : Call) (s t : StreamState) : Type 0 where
+  pub ssrc_is : t.ssrc ≡ s.ssrc
+  pub format : t.format ≡ s.format
+  pub last : or_before (time_given s.ssrc s.format.payload_type c) (Some s.last) ≡ Some t.last
+  pub ends : last_given s.ssrc s.format.payload_type None cs ≡ Some s.last → (why : Ending) → ending_of t.stage ≡ Some why
+      → (ending_of s.stage ≡ Some why) ⊎ IsCause idle why s.ssrc s.format.payload_type cs c
+
+pub justified_more : (idle : ℕ) (cs : List Call) (c : Call) (s t : StreamState) → Justified idle cs s → Moved idle cs c s t → Justified idle (cs ++ c ∷ []) t
+justified_more idle cs c s t j m = record {
+  last = ap₂ (λ (n : ℕ) (f : Format). last_given n f.payload_type None (cs ++ c ∷ [])) m.ssrc_is m.format ∙ last_append s.ssrc s.format.payload_type cs c None
+      ∙ ap (λ (o : Option ℕ). or_before (time_given s.ssrc s.format.payload_type c) o) j.last ∙ m.last;
+  cause = λ why is. subst₂ (λ (n : ℕ) (f : Format). HasCause idle why n f.payload_type (cs ++ c ∷ [])) (sym m.ssrc_is) (sym m.format) (by_either why (m.ends j.last why is));
+}
+  where
+    by_either : (why : Ending) → (ending_of s.stage ≡ Some why) ⊎ IsCause idle why s.ssrc s.format.payload_type cs c → HasCause idle why s.ssrc s.format.payload_type (cs ++ c ∷ [])
+    by_either why (inl before) = cause_more idle why s.ssrc s.format.payload_type cs c (j.cause why before)
+    by_either why (inr now) = (cs, c, [], refl, now)
+
+pub justified_same : (idle : ℕ) (cs : List Call) (s t : StreamState) → Justified idle cs s → Same s t → Justified idle cs t
+justified_same idle cs s t j m = record {
+  last = ap₂ (λ (n : ℕ) (f : Format). last_given n f.payload_type None cs) m.ssrc_is m.format ∙ j.last ∙ ap (λ (n : ℕ). Some n) (sym m.last);
+  cause = λ why is. subst₂ (λ (n : ℕ) (f : Format). HasCause idle why n f.payload_type cs) (sym m.ssrc_is) (sym m.format) (j.cause why (ap (λ (st : Stage). ending_of st) (sym m.stage) ∙ is));
+}
+
+pub moved_same : (idle : ℕ) (cs : List Call) (c : Call) (s t : StreamState) → time_given s.ssrc s.format.payload_type c ≡ None → Same s t → Moved idle cs c s t
+moved_same idle cs c s t none same = record {
+  ssrc_is = same.ssrc_is;
+  format = same.format;
+  last = ap (λ (o : Option ℕ). or_before o (Some s.last)) none ∙ ap (λ (n : ℕ). Some n) (sym same.last);
+  ends = λ given why is. inl (ap (λ (st : Stage). ending_of st) (sym same.stage) ∙ is);
+}
+
+pub itself : (s : StreamState) → Same s s
+itself s = record { ssrc_is = refl; format = refl; last = refl; stage = refl }
+
+left_ending : (own : Ending) (at : ℕ) (stage : Stage) (why : Ending) → ending_of (stage_left own at stage) ≡ Some why → (ending_of stage ≡ Some why) ⊎ (why ≡ own)
+left_ending own at stages.Probation why is = inr (cc)
+left_ending own at stages.Playing why is = inr (cc)
+left_ending own at (stages.Leaving first before) why is = inl is
+left_ending own at (stages.Draining first) why is = inl is
+
+-- a stream that leaves has a cause among the calls
+pub justified_left : (b : Bool) (own : Ending) (at idle : ℕ) (cs : List Call) (s : StreamState) → Justified idle cs s → (b ≡ true → HasCause idle own s.ssrc s.format.payload_type cs) → Justified idle cs (left_when b own at s)
+justified_left false own at idle cs s j cause = j
+justified_left true own at idle cs s j cause = record { last = j.last; cause = λ why is. by_either why (left_ending own at s.stage why is) }
+  where
+    by_either : (why : Ending) → (ending_of s.stage ≡ Some why) ⊎ (why ≡ own) → HasCause idle why s.ssrc s.format.payload_type cs
+    by_either why (inl before) = j.cause why before
+    by_either why (inr new) = subst (λ (w : Ending). HasCause idle w s.ssrc s.format.payload_type cs) (sym new) (cause refl)
+
+-- ---- lists of streams
+
+abbrev pub AllMoved : ℕ → List Call → Call → List StreamState → List StreamState → Type 0
+AllMoved idle cs c [] [] = Unit {0}
+AllMoved idle cs c [] (t ∷ ts) = ⊥
+AllMoved idle cs c (s ∷ ss) [] = ⊥
+AllMoved idle cs c (s ∷ ss) (t ∷ ts) = Moved idle cs c s t × AllMoved idle cs c ss ts
+
+pub all_more : (idle : ℕ) (cs : List Call) (c : Call) (ss ts : List StreamState) → AllJustified idle cs ss → AllMoved idle cs c ss ts → AllJustified idle (cs ++ c ∷ []) ts
+all_more idle cs c [] [] js ms = tt
+all_more idle cs c [] (t ∷ ts) js ms = absurd ms
+all_more idle cs c (s ∷ ss) [] js ms = absurd ms
+all_more idle cs c (s ∷ ss) (t ∷ ts) js ms = (justified_more idle cs c s t js.0 ms.0, all_more idle cs c ss ts js.1 ms.1)
+
+pub all_mapped : (idle : ℕ) (cs : List Call) (c : Call) (g : StreamState → StreamState) (ss : List StreamState) → ((s : StreamState) → Moved idle cs c s (g s)) → AllMoved idle cs c ss (map g ss)
+all_mapped idle cs c g [] moves = tt
+all_mapped idle cs c g (s ∷ ss) moves = (moves s, all_mapped idle cs c g ss moves)
+
+pub all_silent : (idle : ℕ) (cs : List Call) (c : Call) (ss : List StreamState) → ((ssrc payload_type : ℕ) → time_given ssrc payload_type c ≡ None) → AllMoved idle cs c ss ss
+all_silent idle cs c [] none = tt
+all_silent idle cs c (s ∷ ss) none = (moved_same idle cs c s s (none s.ssrc s.format.payload_type) (itself s), all_silent idle cs c ss none)
+
+-- a change of streams without a call between
+pub same_justified : (idle : ℕ) (cs : List Call) (g : StreamState → StreamState) (ss : List StreamState) → ((s : StreamState) → Same s (g s)) → AllJustified idle cs ss → AllJustified idle cs (map g ss)
+same_justified idle cs g [] same js = tt
+same_justified idle cs g (s ∷ ss) same js = (justified_same idle cs s (g s) js.0 (same s), same_justified idle cs g ss same js.1)
+
+pub all_left : (who : StreamState → Bool) (own : Ending) (at idle : ℕ) (cs : List Call) (ss : List StreamState) → ((s : StreamState) → who s ≡ true → HasCause idle own s.ssrc s.format.payload_type cs)
+    → AllJustified idle cs ss → AllJustified idle cs (map (λ (s : StreamState). left_when (who s) own at s) ss)
+all_left who own at idle cs [] cause js = tt
+all_left who own at idle cs (s ∷ ss) cause js = (justified_left (who s) own at idle cs s js.0 (cause s), all_left who own at idle cs ss cause js.1)
+
+pub justified_append : (idle : ℕ) (cs : List Call) (ss ts : List StreamState) → AllJustified idle cs ss → AllJustified idle cs ts → AllJustified idle cs (ss ++ ts)
+justified_append idle cs [] ts a b = b
+justified_append idle cs (s ∷ ss) ts a b = (a.0, justified_append idle cs ss ts a.1 b)
+
+pub justified_parts : (idle : ℕ) (cs : List Call) (ss ts : List StreamState) → AllJustified idle cs (ss ++ ts) → AllJustified idle cs ss × AllJustified idle cs ts
+justified_parts idle cs [] ts js = (tt, js)
+justified_parts idle cs (s ∷ ss) ts js = let parts = justified_parts idle cs ss ts js.1 in ((js.0, parts.0), parts.1)
+
+pub justified_remove : (idle : ℕ) (cs : List Call) (ss : List StreamState) (i : ℕ) → AllJustified idle cs ss → AllJustified idle cs (remove ss i)
+justified_remove idle cs [] i js = tt
+justified_remove idle cs (s ∷ ss) zero js = js.1
+justified_remove idle cs (s ∷ ss) (suc i) js = (js.0, justified_remove idle cs ss i js.1)
+
+pub others_moved : (idle : ℕ) (cs : List Call) (c : Call) (a b : ℕ) (ss : List StreamState) → IsAbsent a b ss → ((z : StreamState) → is_same z.ssrc z.format.payload_type a b ≡ false → Moved idle cs c z z)
+    → AllMoved idle cs c ss ss
+others_moved idle cs c a b [] absent others = tt
+others_moved idle cs c a b (s ∷ ss) absent others = (others s (same_sym s.ssrc s.format.payload_type a b ∙ absent.0), others_moved idle cs c a b ss absent.1 others)
+
+pub one_moved : (idle : ℕ) (cs : List Call) (c : Call) (ss : List StreamState) (place : ℕ) (x y : StreamState) → slice_get ss place ≡ Some x → AreApart ss → Moved idle cs c x y
+    → ((z : StreamState) → is_same z.ssrc z.format.payload_type x.ssrc x.format.payload_type ≡ false → Moved idle cs c z z) → AllMoved idle cs c ss (slice_set ss place y)
+one_moved idle cs c [] place x y there apart moved others = absurd (cc)
+one_moved idle cs c (z ∷ zs) zero x y there apart moved others =
+    let e : z ≡ x = cc in (
+      subst (λ (w : StreamState). Moved idle cs c w y) (sym e) moved,
+      others_moved idle cs c x.ssrc x.format.payload_type zs (subst (λ (w : StreamState). IsAbsent w.ssrc w.format.payload_type zs) e apart.0) others,
+    )
+one_moved idle cs c (z ∷ zs) (suc i) x y there apart moved others =
+    (others z (absent_at z.ssrc z.format.payload_type zs i x apart.0 there), one_moved idle cs c zs i x y there apart.1 moved others)

@@ -1,0 +1,117 @@
+-- Why the streams of a session end.
+use Rattle.std.specs.Prelude.{◌≡◌, ◌⊎◌, ℕ, ◌-◌, ◌==◌, ◌&&◌, not, nat_le, if◌then◌else◌, Bool, true, false, List, [], ◌∷◌, ◌++◌, Option, Some, None, Result, Ok, Err}
+use Rattle.std.specs.Global.{Vec}
+use Rattle.std.specs.declared.alloc.AllocError.{AllocError}
+use Rattle.codec_payload_base.specs.declared.wire.Ticks.{Ticks}
+use Rattle.codec_payload_session.specs.Arrivals.{goodbye_at}
+use Rattle.codec_payload_session.specs.Ports.{new_session}
+use Rattle.codec_payload_session.specs.declared.formats.SessionSettings.{SessionSettings}
+use Rattle.codec_payload_session.specs.Ports.{Session}
+use Rattle.codec_payload_session.specs.declared.session.Arrival.{Arrival}
+use Rattle.codec_payload_session.specs.declared.session.Arrival.TheVariants as arrivals
+use Rattle.codec_payload_session.specs.declared.stream.Ending.{Ending}
+use Rattle.codec_payload_session.specs.declared.stream.Ending.TheVariants as endings
+use Rattle.codec_payload_session_runs.specs.Lives.{EachIsAlone, ending_poll, is_same}
+use Rattle.codec_payload_session_runs.specs.SessionRuns.{Call, Runs}
+use Rattle.codec_payload_session_runs.specs.declared.run.SessionStep.{SessionStep}
+use Rattle.codec_payload_session_runs.specs.declared.run.SessionStep.TheVariants as steps
+use Rattle.codec_payload_session_runs.specs.declared.run.StepAnswer.{StepAnswer}
+use Rattle.codec_payload_session_runs.specs.declared.run.StepAnswer.TheVariants as answers
+
+-- ---- the latest datagram of a stream
+
+abbrev pub time_named : (ssrc payload_type now : ℕ) → Result Arrival AllocError → Option ℕ
+time_named ssrc payload_type now (Ok (arrivals.Stream s p outcome)) = if is_same ssrc payload_type s p then Some now else None
+time_named ssrc payload_type now (Ok (arrivals.Faulty s p fault)) = if is_same ssrc payload_type s p then Some now else None
+time_named ssrc payload_type now (Ok arrivals.Rtcp) = None
+time_named ssrc payload_type now (Ok arrivals.Malformed) = None
+time_named ssrc payload_type now (Ok arrivals.Unknown) = None
+time_named ssrc payload_type now (Ok arrivals.Refused) = None
+time_named ssrc payload_type now (Ok arrivals.Unassociated) = None
+time_named ssrc payload_type now (Err e) = None
+
+abbrev pub time_answered : (ssrc payload_type now : ℕ) → StepAnswer → Option ℕ
+time_answered ssrc payload_type now (answers.Received arrival) = time_named ssrc payload_type now arrival
+time_answered ssrc payload_type now (answers.Polled event) = None
+time_answered ssrc payload_type now (answers.Reported block) = None
+time_answered ssrc payload_type now (answers.PairAdded added) = None
+time_answered ssrc payload_type now answers.Done = None
+
+abbrev pub time_by : (ssrc payload_type : ℕ) → SessionStep → StepAnswer → Option ℕ
+time_by ssrc payload_type (steps.Receive now micros datagram) answer = time_answered ssrc payload_type now.0 answer
+time_by ssrc payload_type (steps.Poll now) answer = None
+time_by ssrc payload_type (steps.End now s) answer = None
+time_by ssrc payload_type (steps.Finish now) answer = None
+time_by ssrc payload_type (steps.SetWaitLimits s p limits) answer = None
+time_by ssrc payload_type (steps.Report now s p) answer = None
+time_by ssrc payload_type (steps.AddPair s retransmission) answer = None
+time_by ssrc payload_type (steps.RemovePair s) answer = None
+time_by ssrc payload_type steps.RestartTransport answer = None
+
+-- the time of the call, if it gave the stream with this SSRC and payload type a datagram
+abbrev pub time_given : ℕ → ℕ → Call → Option ℕ
+time_given ssrc payload_type c = time_by ssrc payload_type c.step c.answer
+
+abbrev pub or_before : Option ℕ → Option ℕ → Option ℕ
+or_before None before = before
+or_before (Some at) before = Some at
+
+-- the time of the last of the calls that gave the stream a datagram; without one, what was before
+abbrev pub last_given : ℕ → ℕ → Option ℕ → List Call → Option ℕ
+last_given ssrc payload_type before [] = before
+last_given ssrc payload_type before (c ∷ cs) = last_given ssrc payload_type (or_before (time_given ssrc payload_type c) before) cs
+
+-- ---- causes
+
+-- a datagram with a BYE that names the SSRC (RFC 3550, section 6.6)
+abbrev pub IsBye : ℕ → Call → Type 0
+IsBye ssrc c = (now : Ticks) × (micros : Option ℕ) × (datagram : Vec ℕ) × (c.step ≡ steps.Receive now micros datagram) × (goodbye_at datagram.items ssrc ≡ true)
+
+-- the caller ended the streams of the SSRC, or all streams
+abbrev pub IsEndCall : ℕ → Call → Type 0
+IsEndCall ssrc c = ((now : Ticks) × (c.step ≡ steps.End now ssrc)) ⊎ ((now : Ticks) × (c.step ≡ steps.Finish now))
+
+abbrev pub names_other : (ssrc payload_type : ℕ) → Arrival → Bool
+names_other ssrc payload_type (arrivals.Stream s p outcome) = (s == ssrc) && not (p == payload_type)
+names_other ssrc payload_type (arrivals.Faulty s p fault) = (s == ssrc) && not (p == payload_type)
+names_other ssrc payload_type arrivals.Rtcp = false
+names_other ssrc payload_type arrivals.Malformed = false
+names_other ssrc payload_type arrivals.Unknown = false
+names_other ssrc payload_type arrivals.Refused = false
+names_other ssrc payload_type arrivals.Unassociated = false
+
+-- a datagram went to the stream of the same SSRC and another payload type
+abbrev pub IsChange : ℕ → ℕ → Call → Type 0
+IsChange ssrc payload_type c = (arrival : Arrival) × (c.answer ≡ answers.Received (Ok arrival)) × (names_other ssrc payload_type arrival ≡ true)
+
+-- a poll, as long after the latest datagram of the stream as the idle timeout
+abbrev pub IsSilence : (idle ssrc payload_type : ℕ) → List Call → Call → Type 0
+IsSilence idle ssrc payload_type before c =
+    (now : Ticks) × (at : ℕ) × (c.step ≡ steps.Poll now) × (last_given ssrc payload_type None before ≡ Some at) × (nat_le idle (now.0 - at) ≡ true)
+
+-- the call after these calls lets the stream end
+abbrev pub IsCause : (idle : ℕ) → Ending → (ssrc payload_type : ℕ) → List Call → Call → Type 0
+IsCause idle endings.Bye ssrc payload_type before c = IsBye ssrc c
+IsCause idle endings.Timeout ssrc payload_type before c = IsSilence idle ssrc payload_type before c
+IsCause idle endings.Told ssrc payload_type before c = IsEndCall ssrc c
+IsCause idle endings.Changed ssrc payload_type before c = IsChange ssrc payload_type c
+
+-- one of the calls let the stream end
+abbrev pub HasCause : (idle : ℕ) → Ending → (ssrc payload_type : ℕ) → List Call → Type 0
+HasCause idle why ssrc payload_type calls =
+    (before : List Call) × (c : Call) × (after : List Call) × (calls ≡ before ++ c ∷ after) × IsCause idle why ssrc payload_type before c
+
+-- ---- whole runs
+
+-- each event that says why a stream ended has its cause: a BYE of its SSRC, its idle timeout, a call of the caller, or another format of
+-- its SSRC. Nothing else ends an announced stream
+abbrev pub EndsHaveCauses : Type 0
+EndsHaveCauses =
+    (settings : SessionSettings) (before after : List Call) (now : Ticks) (ssrc payload_type : ℕ) (why : Ending) (s : Session)
+    → Runs (before ++ ending_poll now ssrc payload_type why ∷ after) (new_session settings) s
+    → HasCause settings.idle_timeout why ssrc payload_type (before ++ ending_poll now ssrc payload_type why ∷ [])
+
+-- at each moment of a run each stream is a receiver alone. So was a stream in probation until a new SSRC took its place, without an
+-- event
+abbrev pub StreamsAreAlone : Type 0
+StreamsAreAlone = (settings : SessionSettings) (calls : List Call) (s : Session) → Runs calls (new_session settings) s → EachIsAlone settings calls s.port.streams
