@@ -9,6 +9,9 @@ arrivals of its transport, and then to a second peer connection of its page; in 
 the same network: the same losses, delay and jitter, from the same seeds. Prints kbit/s after 5 s and after 10 s, each the mean of
 three seconds, and the mean of the second half; then the medians of the runs. Fails unless by the medians the session reaches 95 % of
 the largest bitrate within 10 s without losses, and in the second half 80 % of what the other receiver has with losses.
+
+If other programs keep the cores busy, packets and frames are late, and both bitrates fall: run it by `chrt -r 1`, which gives all
+that it starts real-time priority.
 """
 
 import argparse
