@@ -104,14 +104,14 @@ $(shared): $(out)/codec_payload.o packaging/codec_payload.map
 
 # The tests and three examples: each is a program over the archive. `strict=-Werror` is how the repository builds them.
 programs = $(addprefix $(tests)/,first loopback port \
-    checks datagrams session history forward waiting congestion packets values vectors frames oom forward_oom descriptions)
+    checks datagrams session history forward waiting congestion packets values vectors frames oom forward_oom beyond descriptions)
 
 vpath %.c c/tests examples
 $(tests)/%: %.c $(wildcard c/tests/*.h) $(headers) $(LIBRARY)
 	@mkdir -p $(tests)
 	$(CC) -std=c99 $(warnings) $(strict) $(CPPFLAGS) $(CFLAGS) $(SANITIZERS) $(LDFLAGS) -Wl,--gc-sections -Iinclude $< $(LIBRARY) $(wrapped) -o $@
 
-$(tests)/oom $(tests)/forward_oom: wrapped = -Wl,--wrap=malloc,--wrap=realloc,--wrap=free
+$(tests)/oom $(tests)/forward_oom $(tests)/beyond: wrapped = -Wl,--wrap=malloc,--wrap=realloc,--wrap=free
 
 check: $(programs)
 	c/tests/check.sh $(tests) $(RUN)

@@ -10,6 +10,7 @@ In C each type has its own struct around a handle, so that the compiler distingu
 docs/use/C.md, is the text of examples/first.c. The last line says how many functions and structs are the same; the status is 0 if all are.
 
 c/src/calls.c, which accepts NULL with a length of 0, is the output of `check_header.py --calls`, and is compared too.
+c/tests/beyond.c calls each function that takes memory.
 """
 import os
 import re
@@ -224,6 +225,18 @@ def calls(functions):
     return "\n".join(text)
 
 
+def taking_memory():
+    """The functions of the header whose comment says [m]."""
+    marked = False
+    for line in read("include/codec_payload.h").splitlines():
+        name = re.search(r"\b(cpay_\w+)\(", line)
+        if line.startswith(("/*", " *")):
+            marked = "[m]" in line or marked and not line.startswith("/*")
+        elif marked and name:
+            yield name[1]
+            marked = False
+
+
 def main():
     if sys.argv[1:] == ["--calls"]:
         print(calls(header()[0]), end="")
@@ -245,6 +258,7 @@ def main():
     wrong += [f"header: {kind} is not one handle" for kind in KINDS if written_structs.get(kind) != HANDLE]
     if read("c/src/calls.c") != calls(as_written):
         wrong.append("c/src/calls.c is not what check_header.py --calls prints")
+    wrong += [f"c/tests/beyond.c does not call {name}" for name in taking_memory() if f"{name}(" not in read("c/tests/beyond.c")]
     if not functions or not structs:
         wrong.append("no function, or no struct, was found")
     counts = f"{len(functions)} functions and {len(structs)} structs"

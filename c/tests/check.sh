@@ -7,9 +7,9 @@
 # examples: first, in memory, and over UDP on loopback a stream, loopback, and a port with two senders, port. The stored script of
 # the program payload_vectors: vectors. Headers of frames, compared with other readers, and hostile frames: frames, frames.txt.
 # Allocations less frees after each type of use, and each allocation of a session refused in turn: oom, and of a forwarder:
-# forward_oom. Session descriptions in c/tests/sdp: descriptions. Each is read as NAME.txt says, which was written by hand after the
-# RFCs; the faults are in faults.txt, and what gives no settings of a session is in clashes.txt; and changed copies are read
-# within bounds. The status is 0 if all passed.
+# forward_oom. Each call that takes memory on inputs of each size, with all memory: beyond. Session descriptions in c/tests/sdp:
+# descriptions. Each is read as NAME.txt says, which was written by hand after the RFCs; the faults are in faults.txt, and what
+# gives no settings of a session is in clashes.txt; and changed copies are read within bounds. The status is 0 if all passed.
 set -eu
 folder=$1
 shift
@@ -28,7 +28,7 @@ says() {
     [ "$(sed -n "$2p" "$work/$1")" = "$3" ] || fail "$1.c printed something else: $(sed -n "$2p" "$work/$1")"
 }
 
-for name in first checks datagrams session history forward waiting congestion packets values loopback port oom forward_oom; do
+for name in first checks datagrams session history forward waiting congestion packets values loopback port oom forward_oom beyond; do
     "$@" "$folder/$name" >"$work/$name" || {
         cat "$work/$name" >&2
         fail "$name.c failed"

@@ -1,6 +1,7 @@
 -- The streams of a report, one after another.
 use Rattle.std.proofs.Common.{◌≡◌, ◌<◌, ◌≤◌, ◌∙◌, ◌||◌, ◌&&◌, ◌==◌, not, cond, leb, ℕ, zero, suc, ◌+◌, ◌-◌, List, [], ◌∷◌, ◌++◌, length, take, drop, set, get_or, Bool, true, false, Option, Some, None, Result, Ok, Err, IfOk, IfErr, ap, refl, sym, subst, arith, append_assoc}
 use Rattle.std.proofs.lemmas.Bool.{and_parts, leb-true}
+use Rattle.std.proofs.lemmas.Bool.Decides.{nat_tests}
 use Rattle.std.proofs.lemmas.List.{append-nil, drop-set-lt, drop_all, drop_more, length-take, take_all, take_more_set}
 use Rattle.std.specs.Global.{Vec}
 use Rattle.std.specs.List.{cons_option, filter_map}
@@ -39,7 +40,7 @@ count_none is_new (s ∷ ss) i count next within is same counted =
 
 take_first : (room : ℕ) (s : StreamState) (ss : List StreamState) → 1 ≤ room → take room (s ∷ ss) ≡ s ∷ take (room - 1) ss
 take_first zero s ss some = absurd (omega (arith, some))
-take_first (suc n) s ss some = refl
+take_first (suc n) s ss some = let less : n ≡ suc n - 1 = omega arith in ap (λ (m : ℕ). s ∷ take m ss) less
 
 bytes_with : (o : Option ReportBlock) (bs : List ReportBlock) → bytes_of (cons_option o bs) ≡ bytes_if o ++ bytes_of bs
 bytes_with None bs = refl
@@ -71,7 +72,7 @@ block_more is_new room left tick_rate now ss i s a b within at is less more =
 
 none_in : (room : ℕ) (b : Bool) (s : StreamState) (ss : List StreamState) → (leb 1 room && b) ≡ false → take room (due_if b s ss) ≡ take room ss
 none_in zero b s ss is = refl
-none_in (suc n) true s ss is = absurd cc
+none_in (suc n) true s ss is = absurd (grind (arith, nat_tests))
 none_in (suc n) false s ss is = refl
 
 none_first : (is_new : Bool) (room : ℕ) (l : List StreamState) (s : StreamState) (later : List StreamState) → l ≡ s ∷ later → is_first_chosen is_new room l ≡ false
@@ -169,12 +170,13 @@ due_again true is_new room s ss =
 due_again false is_new room s ss =
     ap (λ (r : Bool). r && (false || not (not is_new && s.was_reported))) (same_reported false is_new room s ss) ∙ as_before (is_reported s ss) is_new s.was_reported
 
-one_fewer : (due : Bool) (room : ℕ) (s t : StreamState) (rest left : List StreamState) → length left ≡ length rest - room_after (leb 1 room && due) room
-    → length (due_if (cond (leb 1 room && due) false due) t left) ≡ length (due_if due s rest) - room
-one_fewer true zero s t rest left fewer = omega (arith, fewer)
-one_fewer true (suc room) s t rest left fewer = omega (arith, fewer)
-one_fewer false zero s t rest left fewer = omega (arith, fewer)
-one_fewer false (suc room) s t rest left fewer = omega (arith, fewer)
+one_fewer : (some due : Bool) (room : ℕ) (s t : StreamState) (rest left : List StreamState) → leb 1 room ≡ some → length left ≡ length rest - room_after (some && due) room
+    → length (due_if (cond (some && due) false due) t left) ≡ length (due_if due s rest) - room
+one_fewer true true room s t rest left is fewer = omega (arith, fewer, leb-true 1 room is)
+one_fewer true false room s t rest left is fewer = fewer
+one_fewer false true zero s t rest left is fewer = omega (arith, fewer)
+one_fewer false true (suc room) s t rest left is fewer = absurd (grind (arith, nat_tests))
+one_fewer false false room s t rest left is fewer = fewer
 
 pub take_turns : (is_new : Bool) (room : ℕ) (ss : List StreamState) → length (due_streams false (all_reported is_new room ss)) ≡ length (due_streams is_new ss) - room
 take_turns is_new room [] = omega arith
@@ -182,7 +184,7 @@ take_turns is_new room (s ∷ ss) =
     let b : Bool = is_chosen is_new room s ss in
     let left : List StreamState = due_streams false (all_reported is_new (room_after b room) ss) in
     ap (λ (c : Bool). length (due_if c (reported_if b is_new s) left)) (due_again b is_new (room_after b room) s ss)
-    ∙ one_fewer (is_due is_new s ss) room s (reported_if b is_new s) (due_streams is_new ss) left (take_turns is_new (room_after b room) ss)
+    ∙ one_fewer (leb 1 room) (is_due is_new s ss) room s (reported_if b is_new s) (due_streams is_new ss) left refl (take_turns is_new (room_after b room) ss)
 
 -- ---- a report is sent
 

@@ -1,8 +1,8 @@
 -- Each call of a session, and why its streams end.
-use Rattle.std.proofs.Common.{◌≡◌, ◌∙◌, ◌⊎◌, inl, inr, refl, sym, ap, ap₂, subst, subst₂, ℕ, zero, suc, ◌+◌, ◌==◌, ◌&&◌, ◌||◌, not, cond, min, Bool, true, false, List, [], ◌∷◌, ◌++◌, map, get_or, Option, Some, None, is_some, Result, Ok, Err, append_assoc, append-nil, slice_get, slice_set, arith, eqb-true}
+use Rattle.std.proofs.Common.{◌≡◌, ◌∙◌, ◌⊎◌, inl, inr, refl, sym, ap, ap₂, subst, subst₂, ℕ, zero, suc, ◌+◌, ◌-◌, ◌^◌, ◌==◌, ◌&&◌, not, cond, min, Bool, true, false, List, [], ◌∷◌, ◌++◌, get_or, Option, Some, None, is_some, Result, Ok, Err, append_assoc, append-nil, slice_get, slice_set, arith, eqb-true}
 use Rattle.std.specs.Global.{Vec}
 use Rattle.std.specs.List.{position, position_from}
-use Rattle.std.specs.Prelude.{IsErr, is_ok, nat_le, nat_lt}
+use Rattle.std.specs.Prelude.{IsErr, is_ok, nat_le}
 use Rattle.std.specs.declared.alloc.AllocError.{AllocError}
 use Rattle.std.proofs.lemmas.Bool.{and_parts}
 use Rattle.std.proofs.lemmas.Bool.Decides.{nat_tests}
@@ -17,9 +17,9 @@ use Rattle.codec_payload_rtcp.specs.RtcpPackets.{Packet}
 use Rattle.codec_payload_rtcp.specs.RtcpReading.{compound_at}
 use Rattle.codec_payload_rtcp.specs.declared.packet.RtcpError.{RtcpError}
 use Rattle.codec_payload_session.specs.Accepting.{Accepts, noted_in, time_for}
-use Rattle.codec_payload_session.specs.Arrivals.{Arrives, BeginsIf, BeginsOrFeeds, BeginsWith, Feeds, FeedsIf, Port, StaysEmpty, TakesIn, TakesInAs, TakesMedia, added, arrival_of, goodbye_at, has_place, leaving, left_if, left_where, without}
+use Rattle.codec_payload_session.specs.Arrivals.{Arrives, BeginsIf, BeginsOrFeeds, BeginsWith, Feeds, FeedsIf, Port, TakesInAs, TakesMedia, arrival_of, goodbye_at, has_place, leaving, left_where, without}
 use Rattle.codec_payload_session.specs.Associations.{AssociatesBy, pair_at}
-use Rattle.codec_payload_session.specs.Changes.{continued, continues, is_left_behind, is_playing, left_behind, plays, takes_turns}
+use Rattle.codec_payload_session.specs.Changes.{continued, continues, is_left_behind, is_playing, plays, takes_turns}
 use Rattle.codec_payload_session.specs.Pairs.{Pairs, paired_if, paired_when, paired_where, with_pair}
 use Rattle.codec_payload_session.specs.Polls.{GoesOn, PollsAfter, SendsAfter, TurnsOrReports, report_event, transport_event}
 use Rattle.codec_payload_session.specs.Ports.{Receives, Session, everyone, new_session}
@@ -44,16 +44,15 @@ use Rattle.codec_payload_session.specs.declared.stream.Ending.{Ending}
 use Rattle.codec_payload_session.specs.declared.stream.Ending.TheVariants as endings
 use Rattle.codec_payload_session.specs.declared.stream.Stage.{Stage}
 use Rattle.codec_payload_session.specs.declared.stream.Stage.TheVariants as stages
-use Rattle.codec_payload_session.specs.declared.stream.Step.TheVariants as asks
 use Rattle.codec_payload_session.specs.declared.stream.StreamState.{StreamState}
 use Rattle.codec_payload_session_runs.proofs.AloneLemmas.{poll_of}
-use Rattle.codec_payload_session_runs.proofs.EndingLemmas.{AllJustified, AllMoved, Asked, Justified, Moved, Reason, Same, all_left, all_mapped, all_more, all_silent, cause_more, ending_of, itself, justified_append, justified_more, justified_parts, justified_remove, justified_same, last_append, moved_same, one_moved, others_moved, same_justified, steps_asked}
+use Rattle.codec_payload_session_runs.proofs.EndingLemmas.{AllJustified, AllMoved, Asked, Justified, Moved, Reason, Same, all_left, all_more, all_silent, cause_more, ending_of, itself, justified_append, justified_more, justified_parts, justified_remove, justified_same, last_append, moved_same, one_moved, others_moved, same_justified, steps_asked}
 use Rattle.codec_payload_session_runs.proofs.FateLemmas.{AreApart, found_none, of_is}
 use Rattle.codec_payload_session_runs.proofs.ReachedLemmas.{Reached, by_streams, reached, reached_more, reached_new, runs_split}
 use Rattle.codec_payload_session_runs.proofs.ReachedLemmas.{Same as SameOrReported}
-use Rattle.codec_payload_session_runs.proofs.StreamLemmas.{call_of, same_is}
+use Rattle.codec_payload_session_runs.proofs.StreamLemmas.{IsOwn, Kind, call_of, same_is, steps_stepped}
 use Rattle.codec_payload_session_runs.specs.Endings.{EndsHaveCauses, HasCause, IsCause, last_given, names_other, or_before, time_given, time_named}
-use Rattle.codec_payload_session_runs.specs.Lives.{IsAbsent, ending_poll, is_same}
+use Rattle.codec_payload_session_runs.specs.Lives.{IsAbsent, ending_poll, is_same, one_event}
 use Rattle.codec_payload_session_runs.specs.SessionRuns.{AddsPair, Call, Does, Runs}
 use Rattle.codec_payload_session_runs.specs.declared.run.SessionStep.{SessionStep}
 use Rattle.codec_payload_session_runs.specs.declared.run.SessionStep.TheVariants as calls
@@ -290,12 +289,17 @@ continues_by true idle cs now micros datagram wait ssrc f answer ss names js =
     all_left (is_left_behind now.0 wait ssrc f) endings.Changed now.0 idle (cs ++ call_of now micros datagram answer ∷ []) ss
     (λ s left.
     let told = names refl in
-    let parts = left_parts _ _ _ _ _ _ left in
-    (cs, call_of now micros datagram answer, [], refl, (
-      arrival_of ssrc f.payload_type told.0,
-      ap (λ (a : Result Arrival AllocError). answers.Received a) told.1,
-      names_left ssrc f.payload_type s.ssrc s.format.payload_type told.0 parts.0 parts.1,
-    ))) js
+    let parts = left_parts _ _ _ _ _ _ left in (
+      cs,
+      call_of now micros datagram answer,
+      [],
+      refl,
+      (
+        arrival_of ssrc f.payload_type told.0,
+        ap (λ (a : Result Arrival AllocError). answers.Received a) told.1,
+        names_left ssrc f.payload_type s.ssrc s.format.payload_type told.0 parts.0 parts.1,
+      ),
+    )) js
 
 takes_media : (idle : ℕ) (cs : List Call) (now : Ticks) (micros : Option ℕ) (datagram : Vec ℕ) (settings : SessionSettings) (ssrc : ℕ) (f : Format) (p : Port) (answer : Result Arrival AllocError) (q : Port)
     → AreApart p.streams → AllJustified idle cs p.streams → TakesMedia settings ssrc f now datagram.items p answer q → AllJustified idle (cs ++ call_of now micros datagram answer ∷ []) q.streams
@@ -361,9 +365,10 @@ absent_paired ssrc named a b (s ∷ ss) absent =
 apart_paired : (ssrc : ℕ) (named : List SsrcPair) (ss : List StreamState) → AreApart ss → AreApart (paired_where ssrc named ss)
 apart_paired ssrc named [] apart = tt
 apart_paired ssrc named (s ∷ ss) apart =
-    let same : Same s (paired_when (s.ssrc == ssrc) named s) = paired_same (s.ssrc == ssrc) named s in
-    (subst₂ (λ (n : ℕ) (f : Format). IsAbsent n f.payload_type (paired_where ssrc named ss)) (sym same.ssrc_is) (sym same.format) (absent_paired ssrc named s.ssrc s.format.payload_type ss apart.0),
-    apart_paired ssrc named ss apart.1)
+    let same : Same s (paired_when (s.ssrc == ssrc) named s) = paired_same (s.ssrc == ssrc) named s in (
+      subst₂ (λ (n : ℕ) (f : Format). IsAbsent n f.payload_type (paired_where ssrc named ss)) (sym same.ssrc_is) (sym same.format) (absent_paired ssrc named s.ssrc s.format.payload_type ss apart.0),
+      apart_paired ssrc named ss apart.1,
+    )
 
 paired_justified : (idle : ℕ) (cs : List Call) (ssrc : ℕ) (named : List SsrcPair) (ss : List StreamState) → AllJustified idle cs ss → AllJustified idle cs (paired_where ssrc named ss)
 paired_justified idle cs ssrc named ss js = same_justified idle cs (paired_if ssrc named) ss (λ s. paired_same (s.ssrc == ssrc) named s) js
@@ -408,14 +413,10 @@ quiet_moved idle cs now event [] (t ∷ ts) quiet = absurd quiet
 quiet_moved idle cs now event (s ∷ ss) [] quiet = absurd quiet
 quiet_moved idle cs now event (s ∷ ss) (t ∷ ts) quiet = (asked_moved idle cs now event s _ t (steps_asked now idle s _ t quiet.0), quiet_moved idle cs now event ss ts quiet.1)
 
-kept_justified : (step : Step) (idle : ℕ) (cs : List Call) (s : StreamState) (rest : List StreamState) → Justified idle cs s → AllJustified idle cs rest → AllJustified idle cs (kept_after step s rest)
-kept_justified asks.Begun idle cs s rest j js = (j, js)
-kept_justified (asks.Unit unit) idle cs s rest j js = (j, js)
-kept_justified (asks.TooLarge unit) idle cs s rest j js = (j, js)
-kept_justified (asks.Refused fault) idle cs s rest j js = (j, js)
-kept_justified (asks.Feedback packet) idle cs s rest j js = (j, js)
-kept_justified (asks.Ended why) idle cs s rest j js = js
-kept_justified asks.Nothing idle cs s rest j js = (j, js)
+kept_justified : (idle : ℕ) (cs : List Call) (told after : Bool) (ssrc payload_type : ℕ) (event : Option Event) (kept : List StreamState → List StreamState) (y : StreamState) (rest : List StreamState)
+    → Kind told after ssrc payload_type event kept y → Justified idle cs y → AllJustified idle cs rest → AllJustified idle cs (kept rest)
+kept_justified idle cs told after ssrc payload_type event kept y rest (inl stays) j js = subst (λ (ss : List StreamState). AllJustified idle cs ss) (sym (stays.1 rest)) (j, js)
+kept_justified idle cs told after ssrc payload_type event kept y rest (inr ends) j js = subst (λ (ss : List StreamState). AllJustified idle cs ss) (sym (ends.3 rest)) js
 
 takes_turn : (o : Option Event) (idle : ℕ) (cs : List Call) (now : Ticks) (event : Option Event) (p q : Port) → AllJustified idle cs p.streams → TakesTurn now idle p o q → AllJustified idle (cs ++ poll_of now event ∷ []) q.streams
 takes_turn None idle cs now event p q js got =
@@ -429,7 +430,9 @@ takes_turn (Some e) idle cs now event p q js got =
     justified_more idle cs c got.stream got.stepped parts.1.0 (asked_moved idle cs now event got.stream got.step got.stepped (steps_asked now idle got.stream got.step got.stepped got.steps)) in
     let rest : AllJustified idle (cs ++ c ∷ []) got.rest = all_more idle cs c got.rest got.rest parts.1.1 (all_silent idle cs c got.rest (λ s t. refl)) in
     subst (λ (o : Port). AllJustified idle (cs ++ c ∷ []) o.streams) (sym got.left)
-    (justified_append idle (cs ++ c ∷ []) got.quiet (kept_after got.step got.stepped got.rest) front (kept_justified got.step idle (cs ++ c ∷ []) got.stepped got.rest one rest))
+    (justified_append idle (cs ++ c ∷ []) got.quiet (kept_after got.step got.stepped got.rest) front
+    (kept_justified idle (cs ++ c ∷ []) got.stream.told got.stepped.told got.stream.ssrc got.stream.format.payload_type (event_of got.stepped got.step) (λ (zs : List StreamState). kept_after got.step got.stepped zs) got.stepped got.rest
+    (steps_stepped now idle got.stream got.step got.stepped got.steps).kind one rest))
 
 reported_same : (b is_new : Bool) (s : StreamState) → Same s (reported_if b is_new s)
 reported_same true is_new s = record { ssrc_is = refl; format = refl; last = refl; stage = refl }
@@ -467,14 +470,13 @@ polls (w ∷ ws) idle cs now s event t is js got = stays idle cs (poll_of now ev
 
 -- ---- the event that ends a stream
 
-step_ends : (step : Step) (s : StreamState) (ssrc payload_type : ℕ) (why : Ending) → Some (events.Ended ssrc payload_type why) ≡ event_of s step → (step ≡ asks.Ended why) × (s.ssrc ≡ ssrc) × (s.format.payload_type ≡ payload_type)
-step_ends asks.Begun s ssrc payload_type why is = absurd (cc)
-step_ends (asks.Unit unit) s ssrc payload_type why is = absurd (cc)
-step_ends (asks.TooLarge unit) s ssrc payload_type why is = absurd (cc)
-step_ends (asks.Refused fault) s ssrc payload_type why is = absurd (cc)
-step_ends (asks.Feedback packet) s ssrc payload_type why is = absurd (cc)
-step_ends (asks.Ended own) s ssrc payload_type why is = (cc, cc, cc)
-step_ends asks.Nothing s ssrc payload_type why is = absurd (cc)
+-- the end is that of the stream which was asked
+own_end : (b : Bool) (now : Ticks) (ssrc payload_type s p : ℕ) (why : Ending) → is_same ssrc payload_type s p ≡ b → IsOwn now s p (Some (events.Ended ssrc payload_type why)) → is_same ssrc payload_type s p ≡ true
+own_end true now ssrc payload_type s p why is own = is
+own_end false now ssrc payload_type s p why is own =
+    let event : Event = events.Ended ssrc payload_type why in
+    let no : event ∷ [] ≡ [] = sym (ap (λ (c : Bool). one_event c event) (same_is ssrc payload_type)) ∙ (own ssrc payload_type is).0 in
+    absurd (cc)
 
 turn_ends : (idle : ℕ) (cs : List Call) (now : Ticks) (ssrc payload_type : ℕ) (why : Ending) (p q : Port) → AllJustified idle cs p.streams → TakesTurn now idle p (Some (events.Ended ssrc payload_type why)) q
     → HasCause idle why ssrc payload_type (cs ++ ending_poll now ssrc payload_type why ∷ [])
@@ -482,21 +484,22 @@ turn_ends idle cs now ssrc payload_type why p q js got =
     let x : StreamState = got.stream in
     let parts = justified_parts idle cs got.front (x ∷ got.rest) (subst (λ (ss : List StreamState). AllJustified idle cs ss) got.there js) in
     let a : Asked now.0 idle x got.step got.stepped = steps_asked now idle x got.step got.stepped got.steps in
-    let ends = step_ends got.step got.stepped ssrc payload_type why got.tells in
-    let ssrc_is : x.ssrc ≡ ssrc = sym a.ssrc_is ∙ ends.1 in
-    let type_is : x.format.payload_type ≡ payload_type = ap (λ (f : Format). f.payload_type) (sym a.format) ∙ ends.2 in
-    subst₂ (λ (n m : ℕ). HasCause idle why n m (cs ++ ending_poll now ssrc payload_type why ∷ [])) ssrc_is type_is (by_reason x parts.1.0 (a.ended why ends.0))
+    let own : IsOwn now x.ssrc x.format.payload_type (Some (events.Ended ssrc payload_type why)) =
+    subst (λ (e : Option Event). IsOwn now x.ssrc x.format.payload_type e) (sym got.tells) (steps_stepped now idle x got.step got.stepped got.steps).own in
+    let same = and_parts (x.ssrc == ssrc) (x.format.payload_type == payload_type) (own_end (is_same ssrc payload_type x.ssrc x.format.payload_type) now ssrc payload_type x.ssrc x.format.payload_type why refl own) in
+    subst₂ (λ (n m : ℕ). HasCause idle why n m (cs ++ ending_poll now ssrc payload_type why ∷ [])) (eqb-true x.ssrc ssrc same.0) (eqb-true x.format.payload_type payload_type same.1)
+    (by_reason x parts.1.0 (a.ended why (got.stepped, ssrc, payload_type, sym got.tells)))
   where
     by_reason : (x : StreamState) → Justified idle cs x → Reason now.0 idle x why → HasCause idle why x.ssrc x.format.payload_type (cs ++ ending_poll now ssrc payload_type why ∷ [])
     by_reason x j (inl same) = cause_more idle why x.ssrc x.format.payload_type cs (ending_poll now ssrc payload_type why) (j.cause why same)
     by_reason x j (inr late) =
         (cs, ending_poll now ssrc payload_type why, [], refl, subst (λ (w : Ending). IsCause idle w x.ssrc x.format.payload_type cs (ending_poll now ssrc payload_type why)) (sym late.0) (now, x.last, refl, j.last, late.1))
 
-reports_nothing : (o : Option (Result (Vec ℕ) AllocError)) (ssrc payload_type : ℕ) (why : Ending) → Some (events.Ended ssrc payload_type why) ≡ report_event o → ⊥
+reports_nothing : (o : Option (Result (Vec ℕ) AllocError)) (ssrc payload_type : ℕ) (why : Ending) → ◌≡◌ {A = Option Event} (Some (events.Ended ssrc payload_type why)) (report_event o) → ⊥
 reports_nothing None ssrc payload_type why is = absurd (cc)
 reports_nothing (Some packet) ssrc payload_type why is = absurd (cc)
 
-transport_nothing : (o : Option (Result (Vec ℕ) AllocError)) (ssrc payload_type : ℕ) (why : Ending) → Some (events.Ended ssrc payload_type why) ≡ transport_event o → ⊥
+transport_nothing : (o : Option (Result (Vec ℕ) AllocError)) (ssrc payload_type : ℕ) (why : Ending) → ◌≡◌ {A = Option Event} (Some (events.Ended ssrc payload_type why)) (transport_event o) → ⊥
 transport_nothing None ssrc payload_type why is = absurd (cc)
 transport_nothing (Some packet) ssrc payload_type why is = absurd (cc)
 

@@ -1,47 +1,27 @@
 -- Streams of a session end for a cause.
-use Rattle.std.proofs.Common.{◌≡◌, ◌<◌, ◌≤◌, ◌∙◌, ◌⊎◌, inl, inr, refl, sym, ap, ap₂, subst, subst₂, ℕ, zero, suc, ◌+◌, ◌-◌, ◌==◌, ◌&&◌, not, cond, leb, Bool, true, false, List, [], ◌∷◌, ◌++◌, map, length, get_or, Option, Some, None, Result, Ok, Err, append_assoc, append-nil, slice_get, slice_set, remove, arith, eqb-true}
+use Rattle.std.proofs.Common.{◌≡◌, ◌∙◌, ◌⊎◌, inl, inr, refl, sym, ap, ap₂, subst, subst₂, ℕ, zero, suc, ◌-◌, cond, Bool, true, false, List, [], ◌∷◌, ◌++◌, map, Option, Some, None, Result, Ok, Err, append_assoc, slice_get, slice_set, remove}
 use Rattle.std.specs.Global.{Vec}
-use Rattle.std.specs.List.{position, position_from}
-use Rattle.std.specs.Option.{is_some}
-use Rattle.std.specs.Prelude.{IsErr, nat_le, if◌then◌else◌}
+use Rattle.std.specs.Prelude.{nat_le}
 use Rattle.std.specs.declared.alloc.AllocError.{AllocError}
-use Rattle.std.proofs.lemmas.Bool.Decides.{nat_tests}
-use Rattle.std.proofs.lemmas.Iterator.Adapters.{position_from-zero}
 use Rattle.codec_payload_base.specs.declared.wire.Ticks.{Ticks}
 use Rattle.codec_payload_buffer.specs.Release.{Release}
-use Rattle.codec_payload_jitter.specs.declared.outcome.Outcome.{Outcome}
-use Rattle.codec_payload_jitter.specs.declared.waiting.WaitLimits.{WaitLimits}
-use Rattle.codec_payload_receiver.specs.Sessions.{Session as Receiver}
 use Rattle.codec_payload_receiver.specs.declared.pops.Popped.{Popped}
 use Rattle.codec_payload_receiver.specs.declared.pops.Popped.TheVariants as popped
-use Rattle.codec_payload_receiver.specs.declared.receiver.ReceiveError.{ReceiveError}
-use Rattle.codec_payload_session.specs.Arrivals.{Arrives, BeginsIf, BeginsOrFeeds, BeginsWith, Feeds, FeedsIf, Port, TakesIn, TakesInAs, TakesMedia, arrival_of, goodbye_at, has_place, leaving, left_if, left_where, without}
-use Rattle.codec_payload_session.specs.Changes.{continued, continues, is_left_behind, left_behind, plays}
-use Rattle.codec_payload_session.specs.Pairs.{Pairs, paired_if, paired_when, paired_where}
-use Rattle.codec_payload_session.specs.Reports.{noted, noted_at}
-use Rattle.codec_payload_session.specs.Requests.{Asking, heard_by, number_at, wait_by}
-use Rattle.codec_payload_session.specs.Streams.{Drains, Follows, Plays, Pops, RequestsBy, RestsBy, Steps, StepsBy, Takes, accepted_after, end_by, end_of, heard_unless, is_accepted, is_no_memory, is_of, is_probation, left_when, received, stage_after, stage_left, step_of, step_with, waiting_for, waiting_if, waiting_when}
+use Rattle.codec_payload_session.specs.Requests.{Asking}
+use Rattle.codec_payload_session.specs.Streams.{Drains, Follows, Plays, RequestsBy, RestsBy, Steps, StepsBy, end_by, end_of, is_probation, left_when, stage_left, step_of, step_with}
 use Rattle.codec_payload_session.specs.declared.formats.Format.{Format}
-use Rattle.codec_payload_session.specs.declared.formats.SessionSettings.{SessionSettings}
-use Rattle.codec_payload_session.specs.declared.formats.SsrcPair.{SsrcPair}
-use Rattle.codec_payload_session.specs.declared.session.Arrival.{Arrival}
-use Rattle.codec_payload_session.specs.declared.session.Arrival.TheVariants as arrivals
 use Rattle.codec_payload_session.specs.declared.stream.Ending.{Ending}
 use Rattle.codec_payload_session.specs.declared.stream.Ending.TheVariants as endings
 use Rattle.codec_payload_session.specs.declared.stream.Stage.{Stage}
 use Rattle.codec_payload_session.specs.declared.stream.Stage.TheVariants as stages
 use Rattle.codec_payload_session.specs.declared.stream.StreamState.{StreamState}
+use Rattle.codec_payload_session.specs.Turns.{event_of}
 use Rattle.codec_payload_session.specs.Units.{Event, Step}
-use Rattle.codec_payload_session.specs.declared.stream.Step.TheVariants as asks
-use Rattle.codec_payload_session_runs.proofs.FateLemmas.{AreApart, absent_at, found_none, same_sym}
-use Rattle.codec_payload_session_runs.proofs.StreamLemmas.{same_is}
-use Rattle.codec_payload_session_runs.specs.Endings.{HasCause, IsBye, IsCause, IsChange, IsEndCall, IsSilence, last_given, names_other, or_before, time_answered, time_given, time_named}
+use Rattle.codec_payload_session.specs.declared.session.Event.TheVariants as events
+use Rattle.codec_payload_session_runs.proofs.FateLemmas.{AreApart, absent_at, same_sym}
+use Rattle.codec_payload_session_runs.specs.Endings.{HasCause, IsCause, last_given, or_before, time_given}
 use Rattle.codec_payload_session_runs.specs.Lives.{IsAbsent, is_same}
 use Rattle.codec_payload_session_runs.specs.SessionRuns.{Call}
-use Rattle.codec_payload_session_runs.specs.declared.run.SessionStep.{SessionStep}
-use Rattle.codec_payload_session_runs.specs.declared.run.SessionStep.TheVariants as calls
-use Rattle.codec_payload_session_runs.specs.declared.run.StepAnswer.{StepAnswer}
-use Rattle.codec_payload_session_runs.specs.declared.run.StepAnswer.TheVariants as answers
 
 -- how a stream that leaves or drains ends
 abbrev pub ending_of : Stage → Option Ending
@@ -69,6 +49,25 @@ end_reason stages.Playing now idle s why at is = by_idle (nat_le idle (now - s.l
 end_reason (stages.Leaving own until) now idle s why at is = inl (ap (λ (st : Stage). ending_of st) at ∙ by_time (nat_le until now) own why is)
 end_reason (stages.Draining own) now idle s why at is = absurd (cc)
 
+-- the answer has the event of an end
+abbrev pub Says : Step → Ending → Type 0
+Says answer why = (u : StreamState) × (n : ℕ) × (p : ℕ) × (event_of u answer ≡ Some (events.Ended n p why))
+
+abbrev is_end : Option Event → Bool
+is_end None = false
+is_end (Some (events.Begun s p)) = false
+is_end (Some (events.Unit s p time decodable keyframe unit)) = false
+is_end (Some (events.TooLarge s p unit)) = false
+is_end (Some (events.Refused s p fault)) = false
+is_end (Some (events.Feedback s p packet)) = false
+is_end (Some (events.Telephone s p time marker payload)) = false
+is_end (Some (events.Report packet)) = false
+is_end (Some (events.TransportFeedback packet)) = false
+is_end (Some (events.Ended s p why)) = true
+
+not_end : {A : Type 0} (o : Option Event) (n p : ℕ) (why : Ending) → is_end o ≡ false → o ≡ Some (events.Ended n p why) → A
+not_end o n p why none is = let no : false ≡ true = sym none ∙ ap (λ (e : Option Event). is_end e) is in absurd (cc)
+
 -- the same stream, which took no datagram
 record Stays (s t : StreamState) : Type 0 where
   ssrc_is : t.ssrc ≡ s.ssrc
@@ -87,38 +86,41 @@ drained (Some own) now idle s t is got = subst (λ (z : StreamState). Drained no
 record Followed (m : StreamState) (answer : Step) (t : StreamState) : Type 0 where
   stays : Stays m t
   stage : t.stage ≡ m.stage
-  ended : (why : Ending) → answer ≡ asks.Ended why → ending_of m.stage ≡ Some why
+  ended : (why : Ending) → Says answer why → ending_of m.stage ≡ Some why
 
 -- an answer without an end
-followed : (m : StreamState) (answer own : Step) (t u : StreamState) → answer ≡ own → t ≡ u → Stays m u → u.stage ≡ m.stage → ((why : Ending) → own ≡ asks.Ended why → ending_of m.stage ≡ Some why) → Followed m answer t
+followed : (m : StreamState) (answer own : Step) (t u : StreamState) → answer ≡ own → t ≡ u → Stays m u → u.stage ≡ m.stage → ((why : Ending) → Says own why → ending_of m.stage ≡ Some why) → Followed m answer t
 followed m answer own t u is same stays stage ended =
     subst₂ (λ (a : Step) (z : StreamState). Followed m a z) (sym is) (sym same) (record { stays = stays; stage = stage; ended = ended })
 
 here : (m : StreamState) → Stays m m
 here m = record { ssrc_is = refl; format = refl; last = refl }
 
-asked_ends : (told : Result (Option (Vec ℕ)) AllocError) (m : StreamState) (why : Ending) → step_of told ≡ asks.Ended why → ending_of m.stage ≡ Some why
-asked_ends (Ok None) m why is = absurd (cc)
-asked_ends (Ok (Some packet)) m why is = absurd (cc)
-asked_ends (Err e) m why is = absurd (cc)
+asked_ends : (told : Result (Option (Vec ℕ)) AllocError) (m : StreamState) (why : Ending) → Says (step_of told) why → ending_of m.stage ≡ Some why
+asked_ends (Ok None) m why is = not_end _ is.1 is.2 why refl is.3
+asked_ends (Ok (Some packet)) m why is = not_end _ is.1 is.2 why refl is.3
+asked_ends (Err e) m why is = not_end _ is.1 is.2 why refl is.3
 
-popped_ends : (told : Result (Popped Release) AllocError) (m : StreamState) (why : Ending) → step_with told ≡ asks.Ended why → ending_of m.stage ≡ Some why
-popped_ends (Ok (popped.Unit unit)) m why is = absurd (cc)
-popped_ends (Ok (popped.TooLarge unit)) m why is = absurd (cc)
-popped_ends (Ok (popped.Refused fault)) m why is = absurd (cc)
-popped_ends (Err e) m why is = absurd (cc)
+popped_ends : (told : Result (Popped Release) AllocError) (m : StreamState) (why : Ending) → Says (step_with told) why → ending_of m.stage ≡ Some why
+popped_ends (Ok (popped.Unit unit)) m why is = not_end _ is.1 is.2 why refl is.3
+popped_ends (Ok (popped.TooLarge unit)) m why is = not_end _ is.1 is.2 why refl is.3
+popped_ends (Ok (popped.Refused fault)) m why is = not_end _ is.1 is.2 why refl is.3
+popped_ends (Err e) m why is = not_end _ is.1 is.2 why refl is.3
+
+same_why : (a b : ℕ) (own : Ending) (n p : ℕ) (why : Ending) → ◌≡◌ {A = Option Event} (Some (events.Ended a b own)) (Some (events.Ended n p why)) → Some own ≡ Some why
+same_why a b own n p why is = cc
 
 requests_follow : (o : Option Asking) (now : ℕ) (m : StreamState) (answer : Step) (t : StreamState) → RequestsBy o now m answer t → Followed m answer t
-requests_follow None now m answer t got = followed m answer asks.Nothing t m got.0 got.1 (here m) refl (λ why is. absurd (cc))
+requests_follow None now m answer t got = followed m answer _ t m got.0 got.1 (here m) refl (λ why is. not_end _ is.1 is.2 why refl is.3)
 requests_follow (Some a) now m answer t got =
     followed m answer (step_of got.told) t (record m { feedback = Some got.asking }) got.answers got.after (record { ssrc_is = refl; format = refl; last = refl }) refl (λ why is. asked_ends got.told m why is)
 
 rests_follow : (stage : Stage) (now : ℕ) (m : StreamState) (answer : Step) (t : StreamState) → m.stage ≡ stage → RestsBy stage now m answer t → Followed m answer t
-rests_follow stages.Probation now m answer t at got = followed m answer asks.Nothing t m got.0 got.1 (here m) refl (λ why is. absurd (cc))
+rests_follow stages.Probation now m answer t at got = followed m answer _ t m got.0 got.1 (here m) refl (λ why is. not_end _ is.1 is.2 why refl is.3)
 rests_follow stages.Playing now m answer t at got = requests_follow m.feedback now m answer t got
-rests_follow (stages.Leaving own until) now m answer t at got = followed m answer asks.Nothing t m got.0 got.1 (here m) refl (λ why is. absurd (cc))
+rests_follow (stages.Leaving own until) now m answer t at got = followed m answer _ t m got.0 got.1 (here m) refl (λ why is. not_end _ is.1 is.2 why refl is.3)
 rests_follow (stages.Draining own) now m answer t at got =
-    followed m answer (asks.Ended own) t m got.0 got.1 (here m) refl (λ why is. ap (λ (st : Stage). ending_of st) at ∙ (cc))
+    followed m answer _ t m got.0 got.1 (here m) refl (λ why is. ap (λ (st : Stage). ending_of st) at ∙ same_why is.0.ssrc is.0.format.payload_type own is.1 is.2 why is.3)
 
 follows_follow : (o : Option (Result (Popped Release) AllocError)) (now : ℕ) (m : StreamState) (answer : Step) (t : StreamState) → Follows o now m answer t → Followed m answer t
 follows_follow None now m answer t got = rests_follow m.stage now m answer t refl got
@@ -130,7 +132,7 @@ pub record Asked (now idle : ℕ) (s : StreamState) (answer : Step) (t : StreamS
   pub format : t.format ≡ s.format
   pub last : t.last ≡ s.last
   pub ends : (why : Ending) → ending_of t.stage ≡ Some why → Reason now idle s why
-  pub ended : (why : Ending) → answer ≡ asks.Ended why → Reason now idle s why
+  pub ended : (why : Ending) → Says answer why → Reason now idle s why
 
 plays_asked : (now : Ticks) (idle : ℕ) (s : StreamState) (answer : Step) (t : StreamState) → Plays now idle s answer t → Asked now.0 idle s answer t
 plays_asked now idle s answer t got =
@@ -145,7 +147,7 @@ plays_asked now idle s answer t got =
       ended = λ why is. d.ends why (f.ended why is);
     }
 
-still_asked : (now idle : ℕ) (s : StreamState) (answer own : Step) (t u : StreamState) → answer ≡ own → t ≡ u → Stays s u → u.stage ≡ s.stage → ((why : Ending) → own ≡ asks.Ended why → Reason now idle s why)
+still_asked : (now idle : ℕ) (s : StreamState) (answer own : Step) (t u : StreamState) → answer ≡ own → t ≡ u → Stays s u → u.stage ≡ s.stage → ((why : Ending) → Says own why → Reason now idle s why)
     → Asked now idle s answer t
 still_asked now idle s answer own t u is same stays stage ended =
     subst₂ (λ (a : Step) (z : StreamState). Asked now idle s a z) (sym is) (sym same)
@@ -158,9 +160,9 @@ still_asked now idle s answer own t u is same stays stage ended =
     })
 
 by_asked : (b told : Bool) (now : Ticks) (idle : ℕ) (s : StreamState) (answer : Step) (t : StreamState) → StepsBy b told now idle s answer t → Asked now.0 idle s answer t
-by_asked true told now idle s answer t got = still_asked now.0 idle s answer asks.Nothing t s got.0 got.1 (here s) refl (λ why is. absurd (cc))
+by_asked true told now idle s answer t got = still_asked now.0 idle s answer _ t s got.0 got.1 (here s) refl (λ why is. not_end _ is.1 is.2 why refl is.3)
 by_asked false false now idle s answer t got =
-    still_asked now.0 idle s answer asks.Begun t (record s { told = true }) got.0 got.1 (record { ssrc_is = refl; format = refl; last = refl }) refl (λ why is. absurd (cc))
+    still_asked now.0 idle s answer _ t (record s { told = true }) got.0 got.1 (record { ssrc_is = refl; format = refl; last = refl }) refl (λ why is. not_end _ is.1 is.2 why refl is.3)
 by_asked false true now idle s answer t got = plays_asked now idle s answer t got
 
 pub steps_asked : (now : Ticks) (idle : ℕ) (s : StreamState) (answer : Step) (t : StreamState) → Steps now idle s answer t → Asked now.0 idle s answer t
@@ -284,7 +286,8 @@ justified_parts idle cs [] ts js = (tt, js)
 justified_parts idle cs (s ∷ ss) ts js = let parts = justified_parts idle cs ss ts js.1 in ((js.0, parts.0), parts.1)
 
 pub justified_remove : (idle : ℕ) (cs : List Call) (ss : List StreamState) (i : ℕ) → AllJustified idle cs ss → AllJustified idle cs (remove ss i)
-justified_remove idle cs [] i js = tt
+justified_remove idle cs [] zero js = tt
+justified_remove idle cs [] (suc i) js = tt
 justified_remove idle cs (s ∷ ss) zero js = js.1
 justified_remove idle cs (s ∷ ss) (suc i) js = (js.0, justified_remove idle cs ss i js.1)
 

@@ -425,6 +425,19 @@ impl Model {
     }
 }
 
+/// No memory is refused here, so no datagram finds none.
+fn assert_told(arrival: &Result<Arrival, AllocError>) {
+    use ReceiveError::{BlocksOutOfMemory, OutOfMemory};
+    assert!(!matches!(
+        arrival,
+        Err(AllocError)
+            | Ok(Arrival::Faulty {
+                fault: OutOfMemory | BlocksOutOfMemory,
+                ..
+            })
+    ));
+}
+
 /// The same line as the model's poll.
 fn line(event: Event) -> String {
     match event {
@@ -449,6 +462,7 @@ fn line(event: Event) -> String {
             payload_type,
             fault,
         } => {
+            assert_ne!(fault, PacketError::OutOfMemory, "no memory was refused");
             let unit: Result<Vec<u8>, _> = Err(LostFrame::Refused(fault));
             format!("{:?} {unit:?}", (ssrc, payload_type))
         }
@@ -618,7 +632,7 @@ impl Both {
 
     fn receive(&mut self, (sent, bytes): (Sent, Vec<u8>)) {
         let arrival = self.session.receive(Ticks(self.now), &bytes);
-        assert!(arrival.is_ok());
+        assert_told(&arrival);
         self.model.receive(self.now, &sent, &bytes);
     }
 

@@ -1,6 +1,7 @@
 //! Packetizers and depacketizers, RED, and patches of VP8 descriptors.
 
 use crate::input::Input;
+use crate::told::told;
 use codec_payload::*;
 
 const CODECS: [(Codec, u32); 11] = [
@@ -67,7 +68,7 @@ pub fn depacketize(input: &mut Input) {
             detect_vp9_keyframe(payload),
             detect_av1_keyframe(payload),
         );
-        let _ = depacketizer.depacketize(payload, &mut out, &mut extra);
+        let _ = told(depacketizer.depacketize(payload, &mut out, &mut extra));
         assert_eq!(&out[..before.len()], before);
     }
 }
@@ -79,7 +80,7 @@ pub fn units(input: &mut Input) {
     let mtu = usize::from(input.word() % 1_500);
     let mut packetizer = packetizer(&spec, how, id);
     let frame = input.0;
-    let Ok(packets) = packetizer.packetize(mtu, frame) else {
+    let Ok(packets) = told(packetizer.packetize(mtu, frame)) else {
         return;
     };
     assert!(spec.codec == Codec::Null || packets.iter().all(|packet| packet.len() <= mtu));
@@ -152,9 +153,9 @@ pub fn red(input: &mut Input) {
         }
     }
     let bytes = input.0;
-    if let Ok(blocks) = RedDecoder::decode(bytes) {
+    if let Ok(blocks) = told(RedDecoder::decode(bytes)) {
         assert!(!blocks.is_empty());
-        let _ = receiver.recover(SeqNo(100), 100 * step, bytes);
+        let _ = told(receiver.recover(SeqNo(100), 100 * step, bytes));
     }
 }
 

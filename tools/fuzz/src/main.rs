@@ -1,5 +1,5 @@
 //! libFuzzer calls `LLVMFuzzerTestOneInput` with each input. The variable `FUZZ_TARGET` names the target. A target panics if a
-//! property does not hold.
+//! property does not hold; that no call answers out of memory is one of each target.
 #![no_main]
 
 mod buffer;
@@ -9,6 +9,7 @@ mod media;
 mod packets;
 mod receiver;
 mod session;
+mod told;
 
 use input::Input;
 use std::sync::OnceLock;

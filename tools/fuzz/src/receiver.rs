@@ -2,6 +2,7 @@
 
 use crate::formats::{depacketizer, spec};
 use crate::input::Input;
+use crate::told::told;
 use codec_payload::Ticks;
 use codec_payload::jitter::WaitLimits;
 use codec_payload::stream::{Receiver, ReceiverSettings, RedSettings, Retransmission};
@@ -88,7 +89,7 @@ pub fn receiver(input: &mut Input) {
         let how = input.byte();
         match how % 16 {
             0 | 1 => {
-                for unit in receiver.units(Ticks(now)).flatten() {
+                for unit in receiver.units(Ticks(now)).flat_map(told) {
                     let range = unit.seq_range();
                     assert!(
                         range.start().0 <= range.end().0
@@ -106,7 +107,7 @@ pub fn receiver(input: &mut Input) {
             },
             kind => {
                 let datagram = datagram(kind, how / 16, &mut number, input);
-                let _ = receiver.receive(Ticks(now), &datagram);
+                let _ = told(receiver.receive(Ticks(now), &datagram));
             }
         }
         counted(&receiver, is_named);

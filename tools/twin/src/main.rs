@@ -48,6 +48,9 @@ const CODECS: [(Codec, u32, u32); 10] = [
     (Codec::Tele, 13, 8_000),
 ];
 
+/// `CPAY_OUT_OF_MEMORY`. No allocation is refused here, so no call may answer it.
+const OUT_OF_MEMORY: u32 = 17;
+
 /// How many calls were compared, and which fault is which status.
 #[derive(Default)]
 struct Compared {
@@ -56,9 +59,14 @@ struct Compared {
 }
 
 impl Compared {
-    /// The same fault has the same status each time.
+    /// The same fault has the same status each time, and is not out of memory.
     fn fault(&mut self, fault: &dyn Debug, status: u32) {
-        let known = *self.faults.entry(format!("{fault:?}")).or_insert(status);
+        let text = format!("{fault:?}");
+        assert!(
+            !text.contains("OutOfMemory") && !text.contains("AllocError"),
+            "{text}, and no memory was refused"
+        );
+        let known = *self.faults.entry(text).or_insert(status);
         assert_eq!(known, status, "{fault:?}");
     }
 
@@ -71,7 +79,10 @@ impl Compared {
         self.calls += 1;
         match (ours, theirs) {
             (Ok(ours), Ok(theirs)) => assert_eq!(ours, theirs),
-            (Err(fault), Err(status)) => self.fault(&fault, status),
+            (Err(fault), Err(status)) => {
+                assert_ne!(status, OUT_OF_MEMORY, "{fault:?}");
+                self.fault(&fault, status);
+            }
             (ours, theirs) => panic!("{ours:?} and {theirs:?}"),
         }
     }
@@ -311,7 +322,10 @@ fn receive(input: &mut Input, compared: &mut Compared) {
                 match (ours, theirs.receive(now, &datagram)) {
                     // Each outcome has a number, which is remembered as the status of a fault is.
                     (Ok(outcome), Ok(number)) => compared.fault(&outcome, number),
-                    (Err(fault), Err(status)) => compared.fault(&fault, status),
+                    (Err(fault), Err(status)) => {
+                        assert_ne!(status, OUT_OF_MEMORY, "{fault:?}");
+                        compared.fault(&fault, status);
+                    }
                     (ours, theirs) => panic!("{ours:?} and {theirs:?}"),
                 }
             }

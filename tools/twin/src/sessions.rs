@@ -1,7 +1,7 @@
 //! Sessions of both, side by side.
 
 use super::input::Input;
-use super::{Compared, codec, proved_session};
+use super::{Compared, OUT_OF_MEMORY, codec, proved_session};
 use codec_payload::jitter::Outcome;
 use codec_payload::keyframes::FromKeyframe;
 use codec_payload::session::{
@@ -218,6 +218,7 @@ fn poll(
     };
     let (wanted, given, fault) = told(ours);
     if let Some(fault) = fault {
+        assert_ne!(fields[3], OUT_OF_MEMORY.into(), "{fault}");
         compared.fault(&fault, fields[3] as u32);
         fields[3] = 0;
     }
@@ -251,6 +252,7 @@ fn receive(
             fault,
         } => {
             let answer: Result<Outcome, ReceiveError> = Err(fault);
+            assert_ne!(found[3], OUT_OF_MEMORY.into(), "{fault:?}");
             compared.fault(&answer, (found[3] << 8 | found[4]) as u32);
             [0, ssrc.into(), payload_type.into(), found[3], found[4]]
         }

@@ -1,6 +1,7 @@
 //! A session, and what has to hold after each of its calls.
 
 use super::OWN;
+use crate::told::told;
 use codec_payload::Ticks;
 use codec_payload::jitter::{Outcome, WaitLimits};
 use codec_payload::rtcp::{CompoundRule, RtcpPacket, read_compound};
@@ -58,6 +59,9 @@ impl Watch {
         self.counts.received += 1;
         let arrival = self.session.receive(Ticks(self.now), datagram);
         let arrival = arrival.expect("there is memory");
+        if let Arrival::Faulty { fault, .. } = arrival {
+            let _ = told::<(), _>(Err(fault));
+        }
         self.note_telephone(&arrival, datagram);
         let is_media = |format: &Format| format.payload_type == datagram[1] & 0x7f;
         assert!(arrival != Arrival::Unknown || !self.formats.iter().any(is_media));
@@ -206,10 +210,15 @@ impl Watch {
             }
             Event::TooLarge {
                 ssrc, payload_type, ..
-            }
-            | Event::Refused {
-                ssrc, payload_type, ..
             } => assert!(self.announced.contains_key(&(ssrc, payload_type))),
+            Event::Refused {
+                ssrc,
+                payload_type,
+                fault,
+            } => {
+                let _ = told::<(), _>(Err(fault));
+                assert!(self.announced.contains_key(&(ssrc, payload_type)));
+            }
             Event::Telephone { payload_type, .. } => {
                 assert_eq!(payload_type, 97);
                 self.telephone -= 1;

@@ -1,0 +1,435 @@
+//! Packetizers and depacketizers, RED, and the buffers of packets.
+
+use crate::{Call, made, told};
+use codec_payload::buffer::{Incoming, PackedHeader, PackedMeta};
+use codec_payload::jitter::{JitterBuffer, WaitLimits};
+use codec_payload::media::av1::{Av1SequenceHeader, front_obu, write_av1c};
+use codec_payload::payload::{MemorySink, OutgoingPacket, PacketSink, Payloader};
+use codec_payload::payloads::PayloadWriter;
+use codec_payload::wire::{RtpHeader, ToPayload};
+use codec_payload::*;
+
+pub const CALLS: [Call; 16] = [
+    Call(&["Packetizer::packetize"], packetize),
+    Call(&["Packetizer::packetize_into"], packetize_into),
+    Call(&["Depacketizer::depacketize"], depacketize),
+    Call(
+        &[
+            "PayloadWriter::expect",
+            "PayloadWriter::begin",
+            "PayloadWriter::put",
+            "PayloadWriter::end",
+            "Payloads::new",
+            "Payloads::copy_of",
+            "Payloads::settle",
+        ],
+        write_payloads,
+    ),
+    Call(&["Payloader::push_sample", "PacketSink::send"], payloader),
+    Call(
+        &[
+            "RedEncoder::encode",
+            "RedDecoder::decode",
+            "RedReceiver::recover",
+        ],
+        red_blocks,
+    ),
+    Call(&["RedSender::wrap", "RedSender::wrap_into"], red_sender),
+    Call(
+        &["DepacketizingBuffer::push", "DepacketizingBuffer::pop"],
+        buffer,
+    ),
+    Call(
+        &[
+            "DepacketizingBuffer::store",
+            "DepacketizingBuffer::pop_into",
+        ],
+        buffer_into,
+    ),
+    Call(
+        &[
+            "DepacketizingBuffer::store_packed",
+            "DepacketizingBuffer::store_two",
+            "DepacketizingBuffer::pop_unit",
+            "DepacketizingBuffer::pop_counted",
+            "DepacketizingBuffer::pop_counted_into",
+            "DepacketizingBuffer::pop_unit_counted",
+        ],
+        buffer_counted,
+    ),
+    Call(&["JitterBuffer::push", "JitterBuffer::pop"], jitter),
+    Call(
+        &["JitterBuffer::push_packed", "JitterBuffer::pop_into"],
+        jitter_packed,
+    ),
+    Call(
+        &["JitterBuffer::push_no_media", "JitterBuffer::pop_unit"],
+        jitter_no_media,
+    ),
+    Call(
+        &[
+            "JitterBuffer::push_retransmitted",
+            "JitterBuffer::push_recovered",
+        ],
+        jitter_again,
+    ),
+    Call(&["PopUnits::pop_at"], units),
+    Call(&["write_av1c"], av1c),
+];
+
+const CODECS: [Codec; 11] = [
+    Codec::Opus,
+    Codec::PCMU,
+    Codec::PCMA,
+    Codec::G722,
+    Codec::CN,
+    Codec::AmrWb,
+    Codec::Tele,
+    Codec::Vp8,
+    Codec::Vp9,
+    Codec::Av1,
+    Codec::Null,
+];
+
+pub fn packetizer(codec: Codec) -> CodecPacketizer {
+    CodecPacketizer::from_codec(codec).expect("it has one")
+}
+
+pub fn depacketizer(codec: Codec) -> CodecDepacketizer {
+    CodecDepacketizer::from_codec(codec).expect("it has one")
+}
+
+/// A frame of about this many bytes. That of AV1 has as many OBUs as bytes allow, and that of AMR-WB as many frames.
+fn frame(codec: Codec, size: usize) -> Vec<u8> {
+    match codec {
+        // OBUs of type 6 with a size and one byte (AV1 bitstream specification, section 5.3).
+        Codec::Av1 => [0x32, 1, 9].repeat(size.div_ceil(3)),
+        Codec::AmrWb => [vec![0x04], vec![7; 17]].concat().repeat(size.div_ceil(18)),
+        _ => vec![0x82; size],
+    }
+}
+
+fn packetize(size: usize) {
+    for codec in CODECS {
+        for mtu in [0, 1, 60, 1_200, 1_500, usize::MAX] {
+            let _ = told(packetizer(codec).packetize(mtu, &frame(codec, size)));
+        }
+    }
+}
+
+fn packetize_into(size: usize) {
+    for codec in CODECS {
+        let mut out = made(Payloads::new(65_535, 65_535));
+        let _ = told(packetizer(codec).packetize_into(60, &frame(codec, size.min(129)), &mut out));
+        let mut out = made(Payloads::new(12, 16));
+        let _ = told(packetizer(codec).packetize_into(1_400, &frame(codec, size), &mut out));
+    }
+}
+
+/// Payloads of any bytes, and those of a frame.
+fn depacketize(size: usize) {
+    for codec in CODECS {
+        let (mut it, mut out, mut extra) = (depacketizer(codec), Vec::new(), CodecExtra::None);
+        let payloads = packetizer(codec)
+            .packetize(60, &frame(codec, size))
+            .unwrap_or_default();
+        for payload in payloads {
+            let _ = told(it.depacketize(&payload, &mut out, &mut extra));
+        }
+        for first in [0, 0x10, 0x2a, 0x80, 0x8f, 0xff] {
+            let payload = vec![first; size];
+            let _ = told(depacketizer(codec).depacketize(&payload, &mut Vec::new(), &mut extra));
+        }
+    }
+    // VP9 with three layers and as many pictures in a group as a byte has (RFC 9628, section 4.2.1).
+    let structure = [&[0x0a, 0x48, 255][..], &vec![0x0c; 2 * size], &[7, 7]].concat();
+    let _ = told(depacketizer(Codec::Vp9).depacketize(
+        &structure,
+        &mut Vec::new(),
+        &mut CodecExtra::None,
+    ));
+}
+
+fn write_payloads(size: usize) {
+    let room = size.min(1_500);
+    let mut out = made(Payloads::new(room, room));
+    made(out.copy_of(&vec![vec![1; size.min(100)]; size.min(3_000)]));
+    made(out.settle(Ok(())));
+    let mut vectors: Vec<Vec<u8>> = Vec::new();
+    fn fill<W: PayloadWriter>(writer: &mut W, size: usize) {
+        made(writer.expect(1, size));
+        let mut payload = made(writer.begin(size));
+        made(writer.put(&mut payload, &vec![7; size]));
+        made(writer.end(payload));
+    }
+    out.clear();
+    fill(&mut out, size);
+    fill(&mut vectors, size);
+    assert_eq!(out.get(0), vectors[0]);
+}
+
+fn sample(bytes: Vec<u8>) -> ToPayload {
+    ToPayload {
+        pt: Pt::from(96),
+        wallclock: Ticks(0),
+        rtp_time: MediaTime::from_90khz(3_000),
+        bytes,
+        start_of_talk_spurt: true,
+        ext_vals: ExtensionValues::default(),
+    }
+}
+
+fn payloader(size: usize) {
+    let spec = CodecSpec {
+        codec: Codec::Vp8,
+        clock_rate: Frequency::NINETY_KHZ,
+        octet_align: false,
+    };
+    let mut sink = MemorySink::new(0);
+    let mut payloader = Payloader::new(spec, Vp9PacketizerMode::Flexible, 0).expect("VP8 has one");
+    made(payloader.push_sample(&sample(vec![0x82; size]), 10, &mut sink));
+    let packet = OutgoingPacket {
+        pt: Pt::from(96),
+        seq_no: sink.next_seq_no(),
+        rtp_time: 0,
+        wallclock: Ticks(0),
+        marker: true,
+        nackable: true,
+        ext_vals: ExtensionValues::default(),
+        payload: vec![1; size],
+    };
+    made(sink.send(packet));
+    assert!(sink.packets().len() > size / 10);
+}
+
+/// A payload of RED with as many blocks, each of two bytes, and one of the largest blocks (RFC 2198, section 3).
+fn red_blocks(size: usize) {
+    let blocks: Vec<_> = (0..size.min(4_000))
+        .map(|place| RedundantBlock {
+            pt: 111,
+            timestamp_offset: (place % 16_384) as u32,
+            payload: vec![1, 2],
+        })
+        .collect();
+    let many = made(RedEncoder::encode(111, &[7; 3], &blocks));
+    // 32 blocks are read at most.
+    assert!(made(RedDecoder::decode(&many)).len() > blocks.len().min(32));
+    let large = RedundantBlock {
+        pt: 111,
+        timestamp_offset: 960,
+        payload: vec![3; size.min(1_023)],
+    };
+    let two = made(RedEncoder::encode(111, &vec![7; size], &[large]));
+    let receiver = RedReceiver::new(111, 1).expect("a step");
+    let deep = RedReceiver::new(111, 960).expect("a step");
+    made(receiver.recover(SeqNo(70_000), 70_000, &many));
+    made(deep.recover(SeqNo(70_000), 70_000, &two));
+    let _ = told(RedDecoder::decode(&vec![0xff; size]));
+    let _ = told(receiver.recover(SeqNo(9), 9, &vec![0x80; size]));
+}
+
+fn red_sender(size: usize) {
+    let all: Vec<u32> = (1..=8).collect();
+    for budget in [0, 1_200, usize::MAX] {
+        let mut one = RedSender::new(Pt::from(63), Pt::from(111), &all);
+        let mut other = RedSender::new(Pt::from(63), Pt::from(111), &all);
+        let mut out = Vec::new();
+        for place in 0..20 {
+            let payload = vec![place as u8; size];
+            made(other.wrap_into(&payload, 960 * place, budget, &mut out));
+            assert_eq!(made(one.wrap(payload, 960 * place, budget)), out);
+        }
+    }
+}
+
+fn meta(number: u64, marker: bool) -> RtpMeta {
+    let mut meta = RtpMeta::of(
+        SeqNo(number),
+        MediaTime::from_90khz(number),
+        Pt::from(96),
+        Ticks(number),
+    );
+    meta.header.marker = marker;
+    meta
+}
+
+/// An empty buffer of Opus for as many packets.
+fn empty(size: usize) -> DepacketizingBuffer {
+    DepacketizingBuffer::with_limit(depacketizer(Codec::Opus), usize::MAX, size.clamp(1, 65_536))
+}
+
+/// How many packets are pushed into a buffer: one above its limit.
+fn packets(size: usize) -> u64 {
+    size.min(10_000) as u64 + 1
+}
+
+/// A frame of VP8 of that many packets (RFC 7741, section 4.2), and single packets in any order.
+fn buffer(size: usize) {
+    let mut frame = DepacketizingBuffer::with_limit(depacketizer(Codec::Vp8), 0, 65_536);
+    let last = packets(size);
+    for number in 0..=last {
+        let first = if number == 0 { 0x10 } else { 0 };
+        let mut it = meta(number, number == last);
+        it.time = MediaTime::from_90khz(3_000);
+        made(frame.push(it, vec![first, 1, 2]));
+    }
+    let unit = frame.pop().expect("a frame").map(|unit| unit.bytes.len());
+    assert_eq!(made(unit), 2 * (last as usize + 1));
+    let mut buffer = empty(size);
+    for number in 0..last {
+        made(buffer.push(
+            meta(number * 7_919 % 65_521, true),
+            vec![1; size.min(1_500)],
+        ));
+    }
+    while let Some(unit) = buffer.pop() {
+        made(unit);
+    }
+}
+
+fn buffer_into(size: usize) {
+    let (mut buffer, mut bytes, mut metas) = (empty(size), Vec::new(), Vec::new());
+    for number in (0..packets(size)).rev() {
+        made(buffer.store(meta(2 * number, true), vec![1; size.min(1_500)]));
+    }
+    buffer.set_hold_back(0);
+    while let Some(unit) = buffer.pop_into(&mut bytes, &mut metas) {
+        made(unit);
+    }
+}
+
+fn buffer_counted(size: usize) {
+    let (mut buffer, mut unit) = (empty(size), PoppedUnit::new());
+    let incoming = |number| Incoming {
+        meta: meta(number, true),
+        payload: vec![1; size.min(1_500)],
+    };
+    for number in 0..packets(size) / 2 {
+        made(buffer.store_two(incoming(4 * number), incoming(4 * number + 1)));
+        let packed = made(PackedMeta::of(&meta(4 * number + 2, true)));
+        made(buffer.store_packed(packed, vec![1; size]));
+    }
+    buffer.set_hold_back(0);
+    for _ in 0..3 {
+        let _ = buffer.pop_counted().0.map(made);
+        let (mut bytes, mut metas) = (Vec::new(), Vec::new());
+        let _ = buffer.pop_counted_into(&mut bytes, &mut metas).0.map(made);
+        let _ = buffer.pop_unit_counted(&mut unit).0.map(made);
+    }
+    while let Some(unit) = buffer.pop_unit(&mut unit) {
+        made(unit);
+    }
+}
+
+fn header(number: u16) -> RtpHeader {
+    RtpHeader {
+        payload_type: Pt::from(111),
+        sequence_number: number,
+        timestamp: 960 * u32::from(number),
+        ssrc: 7,
+        marker: true,
+        ext_vals: ExtensionValues::default(),
+    }
+}
+
+/// A jitter buffer of Opus for as many packets.
+fn jitters(size: usize) -> JitterBuffer {
+    let numbers = codec_payload::jitter::SequenceNumbers::new();
+    let limits = WaitLimits {
+        hold_back: Some(usize::MAX),
+        start: usize::MAX,
+        max_wait: None,
+    };
+    JitterBuffer::over(numbers, empty(size), Frequency::FORTY_EIGHT_KHZ, limits)
+        .with_room_for(usize::MAX)
+}
+
+/// The numbers of packets: with gaps, back and forth, and with jumps that are restarts.
+fn numbers(size: usize) -> impl Iterator<Item = u16> {
+    (0..packets(size)).map(|place| {
+        let jump = place / 500 * 30_000;
+        (3 * (place ^ 1) + jump) as u16
+    })
+}
+
+fn jitter(size: usize) {
+    let mut buffer = jitters(size);
+    for number in numbers(size) {
+        made(buffer.push(
+            Ticks(number.into()),
+            header(number),
+            vec![1; size.min(1_500)],
+        ));
+    }
+    buffer.finish();
+    while let Some(unit) = buffer.pop(Ticks(u64::MAX)) {
+        made(unit);
+    }
+}
+
+fn jitter_packed(size: usize) {
+    let (mut buffer, mut bytes, mut metas) = (jitters(size), Vec::new(), Vec::new());
+    for number in numbers(size) {
+        let packed = made(PackedHeader::new(&header(number)));
+        made(buffer.push_packed(Ticks(0), packed, vec![1; size.min(1_500)]));
+    }
+    buffer.finish();
+    while let Some(unit) = buffer.pop_into(Ticks(9), &mut bytes, &mut metas) {
+        made(unit);
+    }
+}
+
+fn jitter_no_media(size: usize) {
+    let (mut buffer, mut unit) = (jitters(size), PoppedUnit::new());
+    made(buffer.push(Ticks(0), header(0), vec![1]));
+    // In a row, each second one, and back.
+    for place in 0..packets(size) as u16 {
+        for number in [
+            place,
+            2 * (place % 1_000),
+            500_u16.wrapping_sub(place % 500),
+        ] {
+            made(buffer.push_no_media(number));
+        }
+        made(buffer.push(Ticks(0), header(3 * (place % 900)), vec![1]));
+    }
+    buffer.finish();
+    while let Some(unit) = buffer.pop_unit(Ticks(9), &mut unit) {
+        made(unit);
+    }
+}
+
+fn jitter_again(size: usize) {
+    let mut buffer = jitters(size);
+    for place in 0..packets(size) as u16 {
+        let number = 4 * (place % 700);
+        made(buffer.push(Ticks(0), header(number), vec![1; size.min(1_500)]));
+        made(buffer.push_retransmitted(Ticks(0), header(number.wrapping_sub(2)), vec![1; size]));
+        made(buffer.push_recovered(Ticks(0), header(number.wrapping_sub(3)), vec![1; size]));
+    }
+}
+
+/// The units of both buffers, by their iterators.
+fn units(size: usize) {
+    let (mut buffer, mut jitter) = (empty(size), jitters(size));
+    for number in 0..packets(size) {
+        made(buffer.push(meta(number, true), vec![1]));
+        made(jitter.push(Ticks(0), header(number as u16), vec![1]));
+    }
+    buffer.set_hold_back(0);
+    jitter.finish();
+    for unit in buffer.units() {
+        made(unit);
+    }
+    for unit in jitter.units(Ticks(9)) {
+        made(unit);
+    }
+}
+
+/// The configuration of a file, from a sequence header of that many bytes.
+fn av1c(size: usize) {
+    let unit = [0x0a, 0x0a, 0, 0, 0, 2, 0xaf, 0xf7, 0x9b, 0x5f, 0x20, 8];
+    let (obu, _) = front_obu(&unit).expect("an OBU");
+    let header = Av1SequenceHeader::parse(obu.payload).expect("a sequence header");
+    made(write_av1c(&header, &vec![0x0a; size], &mut Vec::new()));
+}
