@@ -24,8 +24,8 @@ NUMBERS = {
     "usize": "size_t",
     "bool": "bool",
 }
-# The one pointer in a struct, which C sees as a pointer to an unknown type.
-FLAT = {"*mut u8": "void *"}
+# The pointers in structs: a handle's, which C sees as a pointer to an unknown type, and to bytes that C reads.
+FLAT = {"*mut u8": "void *", "*const u8": "const uint8_t *"}
 # The struct of the header for each type that a handle of the library can hold. Each has its own call to free it.
 KINDS = [
     "cpay_packetizer", "cpay_buffer", "cpay_depacketizer", "cpay_red_sender", "cpay_sender", "cpay_history", "cpay_forwarder",

@@ -44,7 +44,7 @@
  * OUTPUT BUFFERS. A call that returns bytes writes them to the front of your buffer, and their number to a `bytes` field or to
  * *size. If the buffer is too small, the call returns CPAY_TOO_SMALL, reports the required size, and nothing is lost: the packet or
  * unit waits for the next call of the same name. So a first call may pass a length of 0. (cpay_history_resend and the
- * calls of a forwarder spend nothing, and keep nothing waiting.)
+ * calls of a forwarder spend nothing, and keep nothing waiting.) One call lends its bytes instead: cpay_depacketizer_unit.
  *
  * POINTERS. NULL is allowed with a length of 0; with another length the call returns CPAY_INVALID (false, if it returns a bool).
  * All other pointers must be valid, except the argument of *_free. An argument that a call writes must not overlap any other
@@ -1540,10 +1540,25 @@ CPAY_CHECKED cpay_status cpay_depacketizer_new(cpay_depacketizer *depacketizer, 
 /** Reads a payload, and appends its media bytes. docs/use/FORMATS.md says for each codec what an error leaves. [m] */
 CPAY_CHECKED cpay_status cpay_depacketize(cpay_depacketizer *depacketizer, const uint8_t *payload, size_t payload_len);
 
-/** Returns the bytes and the codec-specific data of the payloads since the previous such call, and starts again: call it once a
+/** Returns the bytes and the codec-specific data of the payloads since the unit began, and begins the next unit: call it once a
  * frame is complete. */
 CPAY_CHECKED cpay_status cpay_depacketized(cpay_depacketizer *depacketizer, size_t *size, cpay_extra *extra, uint8_t *bytes,
                                            size_t bytes_len);
+
+/** A unit in the memory of a depacketizer. */
+typedef struct {
+    const uint8_t *at; /**< its bytes; read none if `bytes` is 0 */
+    size_t bytes;      /**< how many they are */
+    cpay_extra extra;
+} cpay_lent_unit;
+
+/** Lends the bytes that cpay_depacketized would copy, and changes nothing. Read them until the next call with this handle, which may
+ * move or free them; never write them. Then call cpay_depacketizer_clear. */
+CPAY_CHECKED cpay_status cpay_depacketizer_unit(cpay_depacketizer *depacketizer, cpay_lent_unit *unit);
+
+/** Begins the next unit: forgets the bytes and the codec-specific data so far, and keeps their memory. What continues in a stream stays:
+ * ids of VP8 and VP9, the beginning of an OBU of AV1. */
+CPAY_CHECKED cpay_status cpay_depacketizer_clear(cpay_depacketizer *depacketizer);
 
 /* ---- RED (RFC 2198) ---- */
 

@@ -432,6 +432,9 @@ public:
         std::size_t size = 0;
         return to.fill(size, [&](room it) { return depacketized(size, extra, it); });
     }
+    /** The unit without a copy, until the next call. */
+    [[nodiscard]] cpay_status unit(cpay_lent_unit &unit) noexcept { return cpay_depacketizer_unit(get(), &unit); }
+    [[nodiscard]] cpay_status clear() noexcept { return cpay_depacketizer_clear(get()); }
 };
 
 /** Payloads in, RED payloads that repeat earlier ones out (RFC 2198). */

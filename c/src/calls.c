@@ -688,6 +688,16 @@ cpay_status cpay_depacketized(cpay_depacketizer *depacketizer, size_t *size, cpa
     return proved_cpay_depacketized(&depacketizer->handle, size, extra, bytes ? bytes : (uint8_t *)nothing, bytes_len);
 }
 
+cpay_status proved_cpay_depacketizer_unit(cpay_handle *depacketizer, cpay_lent_unit *unit);
+cpay_status cpay_depacketizer_unit(cpay_depacketizer *depacketizer, cpay_lent_unit *unit) {
+    return proved_cpay_depacketizer_unit(&depacketizer->handle, unit);
+}
+
+cpay_status proved_cpay_depacketizer_clear(cpay_handle *depacketizer);
+cpay_status cpay_depacketizer_clear(cpay_depacketizer *depacketizer) {
+    return proved_cpay_depacketizer_clear(&depacketizer->handle);
+}
+
 cpay_status proved_cpay_red_sender_new(cpay_handle *sender, uint8_t red_pt, uint8_t primary_pt, const uint32_t *distances,
                                        size_t distances_len);
 cpay_status cpay_red_sender_new(cpay_red_sender *sender, uint8_t red_pt, uint8_t primary_pt, const uint32_t *distances,

@@ -18,6 +18,7 @@ static void refusals(any *it, cpay_status packets, cpay_status units, cpay_statu
     cpay_unit unit = {.first = 7};
     cpay_buffer_counts_info counts = {.held = 7};
     cpay_extra extra = {.picture_id = 7};
+    cpay_lent_unit lent = {.bytes = 7};
     uint8_t payload[1] = {0};
     if (packets) {
         CHECK(cpay_packetize(&it->packetizer, 100, false, payload, 1, &count) == packets);
@@ -35,9 +36,11 @@ static void refusals(any *it, cpay_status packets, cpay_status units, cpay_statu
     if (pieces) {
         CHECK(cpay_depacketize(&it->depacketizer, payload, 1) == pieces);
         CHECK(cpay_depacketized(&it->depacketizer, &count, &extra, bytes, 4) == pieces);
+        CHECK(cpay_depacketizer_unit(&it->depacketizer, &lent) == pieces);
+        CHECK(cpay_depacketizer_clear(&it->depacketizer) == pieces);
     }
     CHECK(same(bytes, "\7\7\7\7", 4));
-    CHECK(count == 7 && packet.bytes == 7 && unit.first == 7 && counts.held == 7 && extra.picture_id == 7);
+    CHECK(count == 7 && packet.bytes == 7 && unit.first == 7 && counts.held == 7 && extra.picture_id == 7 && lent.bytes == 7);
 }
 
 /* The text of each status. */
@@ -326,6 +329,36 @@ static void looks(void) {
     CHECK(cpay_extend_number(65536, true, 32769) == 32769);
 }
 
+/* A unit that is lent: the bytes are those that cpay_depacketized copies, and it begins anew only when that is said. */
+static void lent(void) {
+    cpay_depacketizer depacketizer = CPAY_INIT;
+    cpay_spec vp8 = spec_of(CPAY_VP8, 90000);
+    cpay_lent_unit unit = {.bytes = 7};
+    cpay_extra extra = {0};
+    uint8_t bytes[8] = {0};
+    size_t size = 9;
+    CHECK(cpay_depacketizer_unit(&depacketizer, &unit) == CPAY_EMPTY && unit.bytes == 7);
+    CHECK(cpay_depacketizer_clear(&depacketizer) == CPAY_EMPTY);
+    CHECK(cpay_depacketizer_new(&depacketizer, &vp8) == CPAY_OK);
+    CHECK(cpay_depacketizer_unit(&depacketizer, &unit) == CPAY_OK && unit.bytes == 0 && unit.extra.kind == CPAY_EXTRA_NONE);
+    CHECK(cpay_depacketize(&depacketizer, (const uint8_t *)"\x10\x82\x49", 3) == CPAY_OK);
+    CHECK(cpay_depacketize(&depacketizer, (const uint8_t *)"\x00\x83", 2) == CPAY_OK);
+    for (int i = 0; i < 2; i++)
+        CHECK(cpay_depacketizer_unit(&depacketizer, &unit) == CPAY_OK && unit.bytes == 3 && same(unit.at, "\x82\x49\x83", 3));
+    CHECK(unit.extra.kind == CPAY_EXTRA_VP8 && unit.extra.is_keyframe);
+    CHECK(cpay_depacketized(&depacketizer, &size, &extra, bytes, 2) == CPAY_TOO_SMALL && size == 3);
+    CHECK(cpay_depacketizer_unit(&depacketizer, &unit) == CPAY_OK && unit.bytes == 3 && same(unit.at, "\x82\x49\x83", 3));
+    CHECK(cpay_depacketizer_clear(&depacketizer) == CPAY_OK);
+    CHECK(cpay_depacketizer_unit(&depacketizer, &unit) == CPAY_OK && unit.bytes == 0 && unit.extra.kind == CPAY_EXTRA_NONE);
+    CHECK(cpay_depacketized(&depacketizer, &size, &extra, bytes, 8) == CPAY_OK && size == 0);
+    /* What comes after it is a unit of its own, also in the memory of the last one. */
+    CHECK(cpay_depacketize(&depacketizer, (const uint8_t *)"\x10\x85", 2) == CPAY_OK);
+    CHECK(cpay_depacketizer_unit(&depacketizer, &unit) == CPAY_OK && unit.bytes == 1 && unit.at[0] == 0x85);
+    CHECK(!unit.extra.is_keyframe);
+    CHECK(cpay_depacketized(&depacketizer, &size, &extra, bytes, 8) == CPAY_OK && size == 1 && bytes[0] == 0x85);
+    cpay_depacketizer_free(&depacketizer);
+}
+
 /* Payloads of VP9 (RFC 9628, section 4.2) and of telephone events through a depacketizer. */
 static void pieces(void) {
     cpay_depacketizer depacketizer = CPAY_INIT;
@@ -491,6 +524,7 @@ int main(void) {
     telephone();
     looks();
     pieces();
+    lent();
     nulls();
     frames();
     return checked();

@@ -37,6 +37,7 @@ static int video(uint32_t codec, int *met) {
         cpay_packet_info packet = {0};
         cpay_unit unit = {0};
         cpay_extra extra = {0};
+        cpay_lent_unit lent = {0};
         AGAIN(status, cpay_packetize(&sender, MTU, false, frame, FRAME, &count));
         if (status) return 4;
         for (size_t k = 0; k < count; k++) {
@@ -62,6 +63,8 @@ static int video(uint32_t codec, int *met) {
         if (cpay_buffer_pop(&buffer, &unit, bytes, FRAME) != CPAY_OK || memcmp(bytes, frame, FRAME)) return 12;
         if (cpay_buffer_pop(&buffer, &unit, bytes, FRAME) != CPAY_NONE) return 13;
         memset(bytes, 0, FRAME);
+        if (cpay_depacketizer_unit(&pieces, &lent) != CPAY_OK) return 17;
+        if (*met == 0 && (lent.bytes != FRAME || memcmp(lent.at, frame, FRAME))) return 18;
         if (cpay_depacketized(&pieces, &size, &extra, bytes, FRAME) != CPAY_OK) return 14;
         if (*met == 0 && (size != FRAME || memcmp(bytes, frame, FRAME))) return 15;
     }

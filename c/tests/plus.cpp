@@ -155,7 +155,10 @@ void over_payloads() {
     cpay_unit unit = {};
     cpay_extra extra = {};
     CHECK(to.pop(unit, found) == CPAY_OK && has(found, frame) && unit.last == 2);
+    cpay_lent_unit lent = {};
+    CHECK(reads.unit(lent) == CPAY_OK && lent.bytes == frame.size() && std::equal(frame.begin(), frame.end(), lent.at));
     CHECK(reads.depacketized(extra, found) == CPAY_OK && has(found, frame) && extra.kind == CPAY_EXTRA_VP8);
+    CHECK(reads.clear() == CPAY_OK && reads.unit(lent) == CPAY_OK && lent.bytes == 0);
 }
 
 void over_a_history() {

@@ -153,6 +153,15 @@ static void depacketize(void) {
     check(cpay_depacketized(&depacketizer, &size, &extra, space, sizeof space));
 }
 
+/* The frame is read where the depacketizer has it. */
+static void depacketize_lent(void) {
+    cpay_lent_unit unit = {0};
+    for (size_t i = 0; i < packet_count; i++) check(cpay_depacketize(&depacketizer, packets + starts[i], starts[i + 1] - starts[i]));
+    check(cpay_depacketizer_unit(&depacketizer, &unit));
+    __asm__ volatile("" : : "r"(unit.at) : "memory");
+    check(cpay_depacketizer_clear(&depacketizer));
+}
+
 /* Copies each packet into separate memory. */
 static void copy(void) {
     uint8_t **all = malloc((packet_count + 1) * sizeof *all);
@@ -309,9 +318,9 @@ static work *frames_case(const char *family, const char *call) {
     if (!strcmp(call, "packetize-into")) return packetize_into;
     if (!strcmp(call, "copy")) return copy;
     if (!strcmp(call, "memcpy")) return copy_into;
-    if (!strcmp(call, "depacketize")) {
+    if (!strncmp(call, "depacketize", 11)) {
         check(cpay_depacketizer_new(&depacketizer, &spec));
-        return depacketize;
+        return strcmp(call, "depacketize") ? depacketize_lent : depacketize;
     }
     if (strcmp(call, "send")) return NULL;
     const cpay_sender_settings settings = {.spec = spec, .mtu = mtu, .ssrc = 7, .payload_type = 96};
@@ -413,7 +422,7 @@ static work *case_of(const char *family, const char *call, uint64_t *frames) {
 }
 
 static void list_cases(void) {
-    static const char *const calls[] = {"packetize", "packetize-into", "send", "depacketize", "copy", "memcpy"};
+    static const char *const calls[] = {"packetize", "packetize-into", "send", "depacketize", "depacketize-lent", "copy", "memcpy"};
     static const char *const rest[] = {
         "red-1/wrap", "red-1/decode", "red-1/copy", "red-12/wrap", "red-12/decode", "red-12/copy", "red-135/wrap", "red-135/decode",
         "red-135/copy", "buffer-64/in-order", "buffer-512/in-order", "buffer-4096/in-order", "buffer-65536/in-order",

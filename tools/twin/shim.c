@@ -2,6 +2,7 @@
  * codec_payload.h changes nothing here. */
 #include "codec_payload.h"
 #include <stdlib.h>
+#include <string.h>
 
 enum { FLEXIBLE = 1, VP8_IDS = 2, OCTET_ALIGN = 4 };
 
@@ -55,10 +56,24 @@ uint32_t twin_depacketize(void *depacketizer, const uint8_t *payload, size_t pay
     return cpay_depacketize(depacketizer, payload, payload_len);
 }
 
-/* The result of the payloads: bytes, and from the codec-specific data its type, its keyframe bit and its picture id (or 0). */
+/* What cpay_depacketized does, by the calls that lend. */
+static cpay_status lent(cpay_depacketizer *depacketizer, size_t *size, cpay_extra *extra, uint8_t *bytes, size_t bytes_len) {
+    cpay_lent_unit unit = { 0 };
+    cpay_status status = cpay_depacketizer_unit(depacketizer, &unit);
+    if (status) return status;
+    *size = unit.bytes;
+    *extra = unit.extra;
+    if (bytes_len < unit.bytes) return CPAY_TOO_SMALL;
+    if (unit.bytes) memcpy(bytes, unit.at, unit.bytes);
+    return cpay_depacketizer_clear(depacketizer);
+}
+
+/* The result of the payloads, by each of the two ways in turn: bytes, and from the codec-specific data its type, its keyframe bit and its picture id (or 0). */
 uint32_t twin_depacketized(void *depacketizer, uint8_t *bytes, size_t bytes_len, size_t *size, uint64_t extra[3]) {
+    static unsigned turn;
     cpay_extra told = { 0 };
-    cpay_status status = cpay_depacketized(depacketizer, size, &told, bytes, bytes_len);
+    cpay_status status = turn++ % 2 ? lent(depacketizer, size, &told, bytes, bytes_len)
+                                    : cpay_depacketized(depacketizer, size, &told, bytes, bytes_len);
     extra[0] = told.kind;
     extra[1] = told.is_keyframe;
     extra[2] = told.has_picture_id ? told.picture_id : 0;

@@ -10,6 +10,8 @@ use Rattle.codec_payload_handle.specs.declared.extra.Extra.{Extra}
 use Rattle.codec_payload_handle.specs.declared.object.Assembler.{Assembler}
 use Rattle.codec_payload_handle.specs.declared.object.Object.{Object}
 use Rattle.codec_payload_handle.specs.declared.object.Object.TheVariants as objects
+use Rattle.codec_payload_c.specs.declared.depacketizer.LentUnit.{LentUnit}
+use Rattle.std_alloc.specs.Vec.{vec_ptr}
 
 -- a new depacketizer, without bytes of a unit
 abbrev pub IsAssemblerOf : Option DepacketizerState → Object → Type 0
@@ -32,3 +34,26 @@ pub record Takes (r : Assembler) (status size : ℕ) (extra : Extra) (before byt
   pub bytes_left : s.bytes.items ≡ (if status == 0 then [] else r.bytes.items)
   pub extra_left : s.extra ≡ (if status == 0 then told.None else r.extra)
   pub depacketizer : s.depacketizer ≡ r.depacketizer
+
+-- where the unit so far is: the block of the depacketizer's own bytes
+pub record LentBy (r : Assembler) (unit : LentUnit) : Type 0 where
+  pub place : unit.at ≡ vec_ptr r.bytes
+  pub size : unit.bytes ≡ length r.bytes.items
+  pub tells : unit.extra ≡ extra_told r.extra
+
+-- the unit so far is lent: it stays in the depacketizer, which is unchanged
+pub record Lends (r : Assembler) (status : ℕ) (unit : LentUnit) (s : Assembler) : Type 0 where
+  pub answers : status ≡ 0
+  pub lent : LentBy s unit
+  pub same : s ≡ r
+
+-- the next unit begins, without bytes and data
+pub record StartsAnew (r s : Assembler) : Type 0 where
+  pub bytes : s.bytes.items ≡ []
+  pub extra : s.extra ≡ told.None
+  pub depacketizer : s.depacketizer ≡ r.depacketizer
+
+-- the unit so far is forgotten
+pub record Forgets (r : Assembler) (status : ℕ) (s : Assembler) : Type 0 where
+  pub answers : status ≡ 0
+  pub anew : StartsAnew r s

@@ -1,7 +1,7 @@
 //! Depacketizers for callers that restore the order of packets themselves.
 
 ghost use Rattle.std.specs.Prelude.{◌≡◌, ◌≢◌, is_some};
-ghost use Rattle.codec_payload_c.specs.Assemblers.{IsAssemblerOf, Takes, Unpacks};
+ghost use Rattle.codec_payload_c.specs.Assemblers.{Forgets, IsAssemblerOf, Lends, LentBy, StartsAnew, Takes, Unpacks};
 ghost use Rattle.codec_payload_handle.specs.Kinds.{Makes, OnAssembler, Refuses, is_assembler};
 ghost use Rattle.codec_payload_handle.specs.Settings.{depacketizer_set};
 
@@ -13,6 +13,18 @@ use codec_payload_handle::object::{Assembler, Object};
 use codec_payload_handle::settings::{Spec, depacketizer_of};
 use codec_payload_handle::status;
 use std::alloc::Global;
+
+/// A unit in the memory of a depacketizer.
+#[repr(C)]
+#[derive(Drop)]
+pub struct LentUnit {
+    /// Where its bytes begin.
+    pub at: *const u8,
+    /// The number of its bytes.
+    pub bytes: usize,
+    /// The codec-specific data of its payloads.
+    pub extra: Extra,
+}
 
 /// Reads a payload, and appends its bytes to the unit so far.
 fn depacketize(assembler: &mut Assembler, payload: &[u8]) -> u32
@@ -27,6 +39,23 @@ fn depacketize(assembler: &mut Assembler, payload: &[u8]) -> u32
     }
 }
 
+/// Tells where the unit so far is.
+fn lend(assembler: &Assembler, unit: &mut LentUnit)
+    ensures { LentBy assembler.now unit.new }
+{
+    unit.at = assembler.bytes.as_ptr();
+    unit.bytes = assembler.bytes.len();
+    tell_extra(&mut unit.extra, &assembler.extra);
+}
+
+/// Starts the next unit in the same memory.
+fn start_anew(assembler: &mut Assembler)
+    ensures { StartsAnew assembler.old assembler.new }
+{
+    assembler.bytes.clear();
+    assembler.extra = CodecExtra::None;
+}
+
 /// Writes the unit so far to the output buffer, and starts the next one.
 fn take(assembler: &mut Assembler, size: &mut usize, extra: &mut Extra, bytes: &mut [u8]) -> u32
     ensures { Takes assembler.old result size.new extra.new bytes.old bytes.new assembler.new }
@@ -36,8 +65,7 @@ fn take(assembler: &mut Assembler, size: &mut usize, extra: &mut Extra, bytes: &
     if !fill(bytes, &assembler.bytes) {
         return status::TOO_SMALL;
     }
-    assembler.bytes.clear();
-    assembler.extra = CodecExtra::None;
+    start_anew(assembler);
     status::OK
 }
 
@@ -107,6 +135,51 @@ pub extern "C" fn cpay_depacketized(
     };
     let answer = match &mut *object {
         Object::Assembler(assembler) => take(assembler, size, extra, bytes),
+        _ => status::OTHER_KIND,
+    };
+    handle.put(object);
+    answer
+}
+
+/// Tells where the unit so far is: in the depacketizer's memory, until the next call with the handle.
+#[unsafe(no_mangle)]
+pub extern "C" fn cpay_depacketizer_unit(
+    alloc: Global,
+    handle: &mut Handle,
+    unit: &mut LentUnit,
+) -> u32
+    ensures lends { OnAssembler handle.old.place.value (λ r s. Lends r result unit.new s) handle.new.place.value }
+    ensures refused { Refuses is_assembler handle.old.place.value result handle.new.place.value }
+    ensures unchanged { result ≢ 0 → unit.new ≡ unit.old }
+{
+    let Some(mut object) = handle.take(alloc) else {
+        return status::EMPTY;
+    };
+    let answer = match &mut *object {
+        Object::Assembler(assembler) => {
+            lend(assembler, unit);
+            status::OK
+        }
+        _ => status::OTHER_KIND,
+    };
+    handle.put(object);
+    answer
+}
+
+/// Starts the next unit, and keeps the memory of the unit so far.
+#[unsafe(no_mangle)]
+pub extern "C" fn cpay_depacketizer_clear(alloc: Global, handle: &mut Handle) -> u32
+    ensures forgets { OnAssembler handle.old.place.value (λ r s. Forgets r result s) handle.new.place.value }
+    ensures refused { Refuses is_assembler handle.old.place.value result handle.new.place.value }
+{
+    let Some(mut object) = handle.take(alloc) else {
+        return status::EMPTY;
+    };
+    let answer = match &mut *object {
+        Object::Assembler(assembler) => {
+            start_anew(assembler);
+            status::OK
+        }
         _ => status::OTHER_KIND,
     };
     handle.put(object);
