@@ -201,9 +201,9 @@ entry_at ss es place ssrc at d few are within has point =
     let b = behind_of ss es ssrc place at place 0 d are point (omega arith) within has in
     let here : at < length es = omega (arith, b.behind, b.within) in
     let is : (x : Entry) → (get_or es at x).place ≡ place = λ x.
-        let le = never_falls es are.rise at b.index x b.behind b.within in
-        let ge = point.behind at x (omega arith) here in
-        omega (arith, le, ge, b.place_is x, b.ssrc_is x, (are.told at x here).within, within, few) in
+    let le = never_falls es are.rise at b.index x b.behind b.within in
+    let ge = point.behind at x (omega arith) here in
+    omega (arith, le, ge, b.place_is x, b.ssrc_is x, (are.told at x here).within, within, few) in
     record {
       within = here;
       is = is;
@@ -263,9 +263,9 @@ told_less ss place x within other told =
     let a = lowered_is place x in
     elim (cases_lt x.place place) [
       | inl low ↦ record {
-          within = omega (arith, a.low low, told.within, long, low, within);
-          has = ap (λ (i : ℕ). get_or (remove ss place) i 0) (a.low low) ∙ get_or-remove_below ss place 0 x.place low within ∙ told.has ∙ sym a.ssrc_is;
-        }
+        within = omega (arith, a.low low, told.within, long, low, within);
+        has = ap (λ (i : ℕ). get_or (remove ss place) i 0) (a.low low) ∙ get_or-remove_below ss place 0 x.place low within ∙ told.has ∙ sym a.ssrc_is;
+      }
       | inr high ↦
           let behind : place < x.place = omega (arith, high, other) in
           let is : (lowered place x).place ≡ x.place - 1 = omega (arith, a.high behind) in
@@ -289,21 +289,21 @@ kept_at es at i within l =
     let long = length-remove es at within in
     elim (cases_lt i at) [
       | inl low ↦ record {
-          old = i;
-          other = λ same. absurd (omega (arith, low, same));
-          within = omega (arith, l, long);
-          is = λ d. get_or-remove_below es at d i low within;
-          low = λ _. refl;
-          high = λ le. absurd (omega (arith, le, low));
-        }
+        old = i;
+        other = λ same. absurd (omega (arith, low, same));
+        within = omega (arith, l, long);
+        is = λ d. get_or-remove_below es at d i low within;
+        low = λ _. refl;
+        high = λ le. absurd (omega (arith, le, low));
+      }
       | inr high ↦ record {
-          old = i + 1;
-          other = λ same. absurd (omega (arith, high, same));
-          within = omega (arith, l, long);
-          is = λ d. get_or-remove_above es at d i high within;
-          low = λ less. absurd (omega (arith, less, high));
-          high = λ _. refl;
-        }
+        old = i + 1;
+        other = λ same. absurd (omega (arith, high, same));
+        within = omega (arith, l, long);
+        is = λ d. get_or-remove_above es at d i high within;
+        low = λ less. absurd (omega (arith, less, high));
+        high = λ _. refl;
+      }
     ]
 
 pub dropped : (ss : List ℕ) (es : List Entry) (place at : ℕ) → length ss < 2 ^ 64 → AreEntries ss es → place < length ss → IsEntry ss es place at
@@ -317,7 +317,7 @@ dropped ss es place at few are within it = record {
       let two : get_or (map (lowered place) (remove es at)) j d ≡ lowered place (get_or es b.old d) = get_or-map (lowered place) (remove es at) j d d (omega (arith, l, long)) ∙ ap (lowered place) (b.is d) in
       let rises : a.old < b.old = in_turn i j a b less in
       rw (one, two) (lowered_order place (get_or es a.old d) (get_or es b.old d) (it.only a.old d a.within a.other) (it.only b.old d b.within b.other)
-        (omega (arith, (are.told a.old d a.within).within, few)) (omega (arith, (are.told b.old d b.within).within, few)) (are.rise a.old b.old d rises b.within));
+      (omega (arith, (are.told a.old d a.within).within, few)) (omega (arith, (are.told b.old d b.within).within, few)) (are.rise a.old b.old d rises b.within));
   told = λ i d l.
       let long : length (map (lowered place) (remove es at)) ≡ length (remove es at) = length-map (remove es at) (lowered place) in
       let a = kept_at es at i it.within (omega (arith, l, long)) in
@@ -339,6 +339,7 @@ dropped ss es place at few are within it = record {
       ]
       | inr high ↦ omega (arith, a.high high, b.high (omega (arith, high, less)), less)
     ]
+
     still : (q p : ℕ) → IsListed p es → p ≢ place → ((x : Entry) → x.place ≡ p → (lowered place x).place ≡ q) → IsListed q (map (lowered place) (remove es at))
     still q p was other lowers =
         let long : length (map (lowered place) (remove es at)) ≡ length (remove es at) = length-map (remove es at) (lowered place) in
@@ -363,6 +364,7 @@ dropped ss es place at few are within it = record {
       where
         nothing : Entry
         nothing = record { ssrc = 0; place = 0 }
+
         not_there : at ≤ was.at → at < was.at
         not_there le = elim (cases_lt at was.at) [
           | inl less ↦ less

@@ -1,5 +1,6 @@
 -- Levels of which some are not right yet.
 use Rattle.std.proofs.Common.{◌≡◌, ℕ, zero, suc, ◌<◌, ◌≤◌, ◌/◌, [], ◌∷◌, List, length, get_or, set, refl, ap, ◌∙◌, sym, subst, arith, length-set, drop, ◌++◌}
+use Rattle.std.proofs.lemmas.List.{set-get_or}
 use Rattle.std.specs.Global.{Vec}
 use Rattle.codec_payload_index.specs.Times.{AreLevels, bottom, halved, least_of}
 use Rattle.codec_payload_index.proofs.HalvedLemmas.{least_above}
@@ -61,6 +62,25 @@ pub pending_ends : (place time : ℕ) (ls : List (Vec ℕ)) → IsPending (lengt
 pending_ends place time [] is = tt
 pending_ends place time (l ∷ []) is = is.0
 pending_ends place time (l ∷ m ∷ ls) is = (is.0, pending_ends place time (m ∷ ls) is.1)
+
+same_time : (ts : List ℕ) (place time d : ℕ) → get_or ts place d ≡ time → set ts place time ≡ ts
+same_time ts place time d there = ap (λ (t : ℕ). set ts place t) (sym there) ∙ set-get_or ts place d
+
+-- the time is there already, so all levels are right
+pub pending_stops : (i place time d : ℕ) (ls : List (Vec ℕ)) (l : Vec ℕ) → IsPending i place time ls → i < length ls → l ≡ get_or ls i l → get_or l.items place d ≡ time → AreLevels ls
+pending_stops zero place time d [] l is within at there = absurd (omega (arith, within))
+pending_stops zero place time d (k ∷ ls) l is within at there = is.1
+pending_stops (suc i) place time d [] l is within at there = absurd (omega (arith, within))
+pending_stops (suc i) place time d (k ∷ []) l is within at there = absurd (omega (arith, within))
+pending_stops (suc zero) place time d (k ∷ m ∷ ls) l is within at there =
+    let same : set m.items place time ≡ m.items = same_time m.items place time d (subst (λ (x : Vec ℕ). get_or x.items place d ≡ time) at there) in
+    (sym (is.0 ∙ same), pending_stops zero place time d (m ∷ ls) l is.1 (omega (arith, within)) at there)
+pending_stops (suc (suc i)) place time d (k ∷ m ∷ ls) l is within at there = (is.0, pending_stops (suc i) place time d (m ∷ ls) l is.1 (omega (arith, within)) at there)
+
+pub first_stops : (i place time d : ℕ) (ls : List (Vec ℕ)) (l : Vec ℕ) → i < length ls → l ≡ get_or ls i l → get_or l.items place d ≡ time → bottom ls ≡ first_after i place time (bottom ls)
+first_stops zero place time d [] l within at there = absurd (omega (arith, within))
+first_stops zero place time d (k ∷ ls) l within at there = sym (same_time k.items place time d (subst (λ (x : Vec ℕ). get_or x.items place d ≡ time) at there))
+first_stops (suc i) place time d ls l within at there = refl
 
 -- the first level has the time at once, and stays
 pub first_stays : (i place time : ℕ) (ls : List (Vec ℕ)) (u : Vec ℕ) (place' time' : ℕ) (l : Vec ℕ) → i < length ls → l ≡ get_or ls i l → u.items ≡ set l.items place time

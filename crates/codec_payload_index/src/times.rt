@@ -30,6 +30,13 @@ impl Times {
         Ok(Times { levels })
     }
 
+    /// Returns the number of times.
+    pub fn len(&self) -> usize
+        ensures { result ≡ length self.now }
+    {
+        first_level(&self.levels).len()
+    }
+
     /// Returns the least time, or 2^64 - 1 without one.
     pub fn least(&self) -> u64
         ensures { result ≡ least_of self.now }
@@ -50,6 +57,16 @@ impl Times {
         ensures { result ≡ first_come now self.now }
     {
         first(&self.levels, now)
+    }
+}
+
+/// Returns the first level.
+fn first_level(levels: &[Vec<u64>]) -> &[u64]
+    ensures { result.now ≡ bottom levels.now }
+{
+    match levels {
+        [level, ..] => level,
+        [] => &[],
     }
 }
 
@@ -131,7 +148,7 @@ fn first_below(level: &[u64], pair: Option<usize>, now: u64) -> Option<usize>
     }
 }
 
-/// Replaces the time at a place, in all levels.
+/// Replaces the time at a place, in the levels in which it changes a time.
 fn set(levels: &mut Vec<Vec<u64>>, place: usize, time: u64)
     requires levels { AreLevels levels.old.items }
     requires place { place < length (bottom levels.old.items) }
@@ -142,6 +159,9 @@ fn set(levels: &mut Vec<Vec<u64>>, place: usize, time: u64)
     let mut time_there = time;
     let mut level = 0;
     while level < levels.len() {
+        if levels[level][place_there] == time_there {
+            return;
+        }
         time_there = set_at(&mut levels[level], place_there, time_there);
         place_there = place_there / 2;
         level += 1;
