@@ -1,4 +1,5 @@
-# Builds, tests and installs the library for C, from c/generated, the assembly of the proved library, and three files of C.
+# Builds, tests and installs the library for C, from c/generated, the assembly of the proved library, and three files of C in
+# c/src.
 # A C compiler and make do; on x86-64 and AArch64 Linux.
 #
 #   make                                  the archive and the shared library, in c/out
@@ -16,7 +17,7 @@
 #   make deb                              Debian packages, in c/out, by debhelper: the shared library, what is wanted to build
 #                                         against it and, where libpcap and libavformat are there, the recorder
 #   make deb-aarch64                      the same for arm64 by the cross compiler, without the recorder
-#   make check-install                    installs into a fresh folder and builds against it (scripts/install_test.sh)
+#   make check-install                    installs into a fresh folder and builds against it (packaging/install_test.sh)
 #   make clean
 #
 # CC, CFLAGS, CPPFLAGS and LDFLAGS are yours. `make check LIBRARY=libcodec_payload.a tests=FOLDER` tests another archive.
@@ -49,7 +50,8 @@ pictures = $(wildcard docs/pictures/*.svg docs/pictures/*.webp)
 manual = $(out)/man/man3
 recorder = tools/rtp_record
 vectors = crates/payload_vectors
-shipped = Makefile include packaging $(documents) $(pages) $(pictures) $(wildcard c/*.c c/*.cpp c/*.h c/*.sh c/*.txt c/sdp/* c/generated/*.S) \
+shipped = Makefile include packaging $(documents) $(pages) $(pictures) $(wildcard c/src/*.c c/generated/*.S) \
+    $(wildcard examples/*.c c/tests/*.c c/tests/*.cpp c/tests/*.h c/tests/*.sh c/tests/*.txt c/tests/sdp/*) \
     $(vectors)/stdin $(vectors)/stdout \
     $(addprefix $(recorder)/,Makefile README.md rtp_record.1 completion.bash) $(wildcard $(recorder)/*.c $(recorder)/*.h)
 # Without libpcap and libavformat the packages are made without the recorder.
@@ -84,7 +86,7 @@ $(assembly):
 $(out)/proved.o: $(assembly) | $(out)
 	$(CC) $(CPPFLAGS) -c -Wa,--noexecstack $< -o $@
 
-$(out)/%.o: c/%.c $(headers) | $(out)
+$(out)/%.o: c/src/%.c $(headers) | $(out)
 	$(compile) -c $< -o $@
 
 # One object, whose names for others are the calls of the header alone.
@@ -100,27 +102,29 @@ $(shared): $(out)/codec_payload.o packaging/codec_payload.map
 	$(CC) -shared -Wl,-soname,$(soname) -Wl,--version-script=packaging/codec_payload.map -Wl,-z,defs -Wl,-z,noexecstack \
 	    $(CFLAGS) $(LDFLAGS) $< -o $@
 
-# The tests: each is a program over the archive. `strict=-Werror` is how the repository builds them.
-programs = $(addprefix $(tests)/,example checks datagrams session history forward waiting congestion packets values loopback port vectors frames oom forward_oom descriptions)
+# The tests and three examples: each is a program over the archive. `strict=-Werror` is how the repository builds them.
+programs = $(addprefix $(tests)/,first loopback port \
+    checks datagrams session history forward waiting congestion packets values vectors frames oom forward_oom descriptions)
 
-$(tests)/%: c/%.c $(wildcard c/*.h) $(headers) $(LIBRARY)
+vpath %.c c/tests examples
+$(tests)/%: %.c $(wildcard c/tests/*.h) $(headers) $(LIBRARY)
 	@mkdir -p $(tests)
 	$(CC) -std=c99 $(warnings) $(strict) $(CPPFLAGS) $(CFLAGS) $(SANITIZERS) $(LDFLAGS) -Wl,--gc-sections -Iinclude $< $(LIBRARY) $(wrapped) -o $@
 
 $(tests)/oom $(tests)/forward_oom: wrapped = -Wl,--wrap=malloc,--wrap=realloc,--wrap=free
 
 check: $(programs)
-	c/check.sh $(tests) $(RUN)
+	c/tests/check.sh $(tests) $(RUN)
 
 # The header for C++, as two standards; the examples compile as C++ too.
-$(tests)/plus%: c/plus.cpp c/check.h $(headers) $(LIBRARY)
+$(tests)/plus%: c/tests/plus.cpp c/tests/check.h $(headers) $(LIBRARY)
 	@mkdir -p $(tests)
 	$(CXX) -std=c++$* $(warnings) $(strict) $(CPPFLAGS) $(CFLAGS) $(SANITIZERS) $(LDFLAGS) -Iinclude $< $(LIBRARY) -o $@
 
 check-plus: $(tests)/plus17 $(tests)/plus20
 	$(RUN) $(tests)/plus17
 	$(RUN) $(tests)/plus20
-	for it in c/example.c c/loopback.c c/port.c $(wildcard examples/*.c); do \
+	for it in $(wildcard examples/*.c); do \
 	    $(CXX) -std=c++20 -x c++ -Wall $(strict) -Iinclude -fsyntax-only $$it || exit 1; done
 
 check-sanitized:
@@ -132,7 +136,10 @@ cross = CC=$(CROSS)gcc CXX=$(CROSS)g++ AR=$(CROSS)ar OBJCOPY=$(CROSS)objcopy out
 check-aarch64:
 	$(MAKE) check $(cross) RUN="qemu-aarch64 -L /usr/aarch64-linux-gnu"
 
-example loopback: %: $(tests)/%
+example: $(tests)/first
+	$(RUN) $<
+
+loopback: $(tests)/loopback
 	$(RUN) $<
 
 man: $(manual)/codec_payload.h.3
@@ -191,7 +198,7 @@ deb-aarch64:
 	    packages='DEB_BUILD_OPTIONS=nocheck DEB_BUILD_PROFILES="cross nocheck pkg.codec-payload.notools" dpkg-buildpackage -b -us -uc -d -aarm64'
 
 check-install: all
-	scripts/install_test.sh
+	packaging/install_test.sh
 
 clean:
 	rm -rf $(out)

@@ -57,7 +57,7 @@
  *
  * FILES. codec_payload_media.h, which this file includes, has calls that read payloads and frames.
  *
- * AN EXAMPLE: c/example.c, in full. */
+ * AN EXAMPLE: examples/first.c, in full. */
 #if 0
 #include "codec_payload.h"
 #include <stdio.h>

@@ -197,7 +197,7 @@ def main():
     if folder is None and sys.argv[1:] != ["check"]:
         stop("rt is not there")
     if folder is not None:
-        if subprocess.run([f"{ROOT}/scripts/rt_free.py"], check=False).returncode != 0:
+        if subprocess.run([f"{ROOT}/scripts/kit.py", "free"], check=False).returncode != 0:
             stop("another rt works in this copy")
         for name in crates()[TOP]:
             ran(["rt", "lib"], f"{ROOT}/crates/{name}", f"{name} is not proved")

@@ -7,11 +7,11 @@
 #
 # The tests. The assembly belongs to these sources, and a new run of the script makes the same (scripts/assembly.py check). The
 # header agrees with the library; it compiles as C99 and C11 and, if there is a C++ compiler, as C++11 and C++20; the compiler
-# detects a struct of the wrong type, and an ignored status. `make check` (c/check.sh says what runs) over both archives; over
+# detects a struct of the wrong type, and an ignored status. `make check` (c/tests/check.sh says what runs) over both archives; over
 # the assembly also with the address and undefined-behaviour sanitizers, over jemalloc and mimalloc, and for AArch64 by qemu.
-# The header for C++ (c/plus.cpp). The ABI (scripts/abi.sh). If there is cargo: scripts of payload_vectors through each library,
-# compared byte for byte with the program over the generated Rust crate (c/vectors.c, c/inputs.py, tools/lines); the calls beside
-# those of the crate (tools/twin); and changed session descriptions read by c/sdp.c and by the crate. The installed files
+# The header for C++ (c/tests/plus.cpp). The ABI (packaging/abi.sh). If there is cargo: scripts of payload_vectors through each library,
+# compared byte for byte with the program over the generated Rust crate (c/tests/vectors.c, c/tests/inputs.py, tools/lines); the calls beside
+# those of the crate (tools/twin); and changed session descriptions read by c/src/sdp.c and by the crate. The installed files
 # (install_test.sh).
 #
 # Needs a C compiler ($CC or cc) with its sanitizers, make, binutils and Python 3; for tools/lines and tools/twin cargo; for the
@@ -40,18 +40,18 @@ step() {
     }
 }
 
-# One archive of the library as rt builds it, of c/calls.c over it, of c/sdp.c, and of the kit's three functions that call
+# One archive of the library as rt builds it, of c/src/calls.c over it, of c/src/sdp.c, and of the kit's three functions that call
 # malloc, realloc and free. It exports only the calls of the header: the proved calls are named proved_* and become local.
 build_proved() {
     kit=$(dirname "$(rt doc)")
-    "$root/scripts/rt_free.py" || fail "another rt works in this copy"
+    "$root/scripts/kit.py" free || fail "another rt works in this copy"
     (cd "$root/crates/codec_payload_c" && rt lib) >"$work/lib.log" 2>&1 || {
         cat "$work/lib.log" >&2
         fail "the library is not proved"
     }
     rm -f "$out/proved/libcodec_payload.a"
-    "$compiler" -std=c99 $warnings -O2 -fPIC -I"$root/include" -c "$root/c/calls.c" -o "$work/calls.o" &&
-        "$compiler" -std=c99 $warnings -O2 -fPIC -I"$root/include" -c "$root/c/sdp.c" -o "$work/sdp.o" &&
+    "$compiler" -std=c99 $warnings -O2 -fPIC -I"$root/include" -c "$root/c/src/calls.c" -o "$work/calls.o" &&
+        "$compiler" -std=c99 $warnings -O2 -fPIC -I"$root/include" -c "$root/c/src/sdp.c" -o "$work/sdp.o" &&
         (cd "$work" && cp "$root/crates/codec_payload_c/out/libcodec_payload_c.a" "$kit/c/liblibc_c.a" . &&
             nm --defined-only --extern-only libcodec_payload_c.a | sed -n 's/.* \(cpay_[a-z0-9_]*\)$/\1 proved_\1/p' >names &&
             objcopy --redefine-syms=names libcodec_payload_c.a &&
@@ -60,7 +60,7 @@ build_proved() {
             ar rcs "$out/proved/libcodec_payload.a" codec_payload.o) || fail "the archive is not made"
 }
 
-# Runs every script through the library, by the program $1 of c/vectors.c, and through payload_vectors of tools/lines; both answer
+# Runs every script through the library, by the program $1 of c/tests/vectors.c, and through payload_vectors of tools/lines; both answer
 # the same bytes and the same status.
 compare_scripts() {
     count=0
@@ -88,7 +88,7 @@ refuses() {
 
 # The headers as each standard, and mistakes that a compiler finds.
 check_headers() {
-    "$root/scripts/check_header.py" || fail "the header and the library differ"
+    "$root/c/check_header.py" || fail "the header and the library differ"
     for header in "$root/include"/*.h; do
         for standard in c99 c11; do
             "$compiler" -std=$standard $warnings -fsyntax-only -x c "$header" || fail "$header is no $standard"
@@ -111,7 +111,7 @@ run_other_allocators() {
         path=$(find /usr/lib -name "$library" 2>/dev/null | head -n 1)
         [ -n "$path" ] || continue
         for name in checks datagrams session history forward waiting congestion packets values; do
-            LD_PRELOAD=$path "$out/tests/$name" >/dev/null || fail "c/$name.c failed over $library"
+            LD_PRELOAD=$path "$out/tests/$name" >/dev/null || fail "$name.c failed over $library"
         done
         allocators="$allocators, $library"
     done
@@ -151,7 +151,7 @@ fi
 twin="without cargo, so without tools/lines and tools/twin"
 if command -v cargo >/dev/null; then
     step cargo build --offline --quiet --release --manifest-path tools/lines/Cargo.toml
-    c/inputs.py "$work/scripts" >/dev/null
+    c/tests/inputs.py "$work/scripts" >/dev/null
     for tests in tests tests-sanitized proved/tests; do
         case $tests in
         proved/*) command -v rt >/dev/null || continue ;;
@@ -163,16 +163,16 @@ if command -v cargo >/dev/null; then
         fail "the library and the generated Rust crate differ"
     }
     twin="$count scripts; $(tail -n 1 "$work/twin")"
-    for given in c/sdp/*.sdp; do
+    for given in c/tests/sdp/*.sdp; do
         "$out/tests/descriptions" changed 3000 <"$given" >"$work/wanted"
         (cd tools/twin && cargo run --offline --quiet --release -- changed 3000) <"$given" >"$work/found"
         cmp "$work/wanted" "$work/found" || fail "C and Rust read a changed copy of $given differently"
     done
     twin="$twin; session descriptions in C and Rust"
 fi
-step scripts/abi.sh
+step packaging/abi.sh
 abi=$(tail -n 1 "$work/log")
-step scripts/install_test.sh
+step packaging/install_test.sh
 installed=$(tail -n 1 "$work/log" | sed "s/: all passed$//")
 
 echo "C: $assembly; the headers, the tests with and without sanitizers, over $allocators; $proved; $arm; $abi; $twin; $installed:" \

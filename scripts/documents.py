@@ -50,7 +50,7 @@ PICTURE_BYTES = 80_000
 SHOTS = ["live_server.webp"]
 FENCE = re.compile(r"^( *)```(.*)$")
 # Commands of the documents that this script runs, in the root of the repository: they need nothing built, and are quick.
-RUN_HERE = ["scripts/mutants.py --stale", "scripts/check_header.py", "tools/measure/count_lines.sh", "scripts/documents.py"]
+RUN_HERE = ["scripts/mutants.py --stale", "c/check_header.py", "tools/measure/count_lines.sh", "scripts/documents.py"]
 # All other commands: how a command begins, and the file that runs it, with the words in that file.
 RUN_ELSEWHERE = {
     "scripts/test.sh": ("scripts/test.sh", "scripts/test.sh --no-proofs"),
@@ -85,18 +85,18 @@ RUN_ELSEWHERE = {
     "cd rust": ("scripts/rust.sh", 'cd "$root/rust"'),
     "scripts/pictures.py": ("scripts/documents.py", "scripts/pictures.py"),
     "scripts/assembly.py": ("scripts/bindings.sh", "step scripts/assembly.py"),
-    "scripts/abi.sh": ("scripts/bindings.sh", "step scripts/abi.sh"),
+    "packaging/abi.sh": ("scripts/bindings.sh", "step packaging/abi.sh"),
     "make check": ("scripts/bindings.sh", "step make check"),
     "make check-aarch64": ("scripts/bindings.sh", "step make check-aarch64"),
-    "make loopback": ("c/check.sh", "loopback"),
-    "make example": ("c/check.sh", "example"),
-    "make install": ("scripts/install_test.sh", "install PREFIX="),
-    "make man": ("scripts/install_test.sh", "doxygen"),
-    "make dist": ("scripts/install_test.sh", "dist"),
-    "make deb": ("scripts/install_test.sh", "deb"),
+    "make loopback": ("c/tests/check.sh", "loopback"),
+    "make example": ("c/tests/check.sh", "first"),
+    "make install": ("packaging/install_test.sh", "install PREFIX="),
+    "make man": ("packaging/install_test.sh", "doxygen"),
+    "make dist": ("packaging/install_test.sh", "dist"),
+    "make deb": ("packaging/install_test.sh", "deb"),
     "make -C tools/rtp_record": ("tools/rtp_record/test.sh", "make -s all"),
     "make": ("tools/rtp_record/test.sh", "make -s all"),
-    "cc program.c": ("scripts/install_test.sh", "pkg-config --cflags codec-payload"),
+    "cc program.c": ("packaging/install_test.sh", "pkg-config --cflags codec-payload"),
     "cargo test": ("scripts/rust.sh", "cargo test --quiet"),
     "cargo run --example": ("scripts/rust.sh", "cargo run --quiet --example"),
     "cargo run": ("scripts/documents.py", '"cargo", "run"'),
@@ -109,7 +109,7 @@ RUN_ELSEWHERE = {
     "./install.sh": ("scripts/test.sh", "tools/rtp_record/install.sh"),
     "./rtp_record": ("scripts/test.sh", "runs tools/rtp_record/test.sh"),
     "./live_server": ("tools/live_server/test.py", '"live_server"'),
-    "make -C ../..": ("scripts/install_test.sh", "make"),
+    "make -C ../..": ("packaging/install_test.sh", "make"),
     "cd crates/": ("tests/vectors/process.py", '["rt", "run"]'),
     "cd tools/lines": ("tests/vectors/process.py", "cwd=LINES"),
     "cargo run --quiet --bin payload_": ("tests/vectors/process.py", "stored(program, name)"),

@@ -436,7 +436,7 @@ def compiled(source, program, folder, archive):
 def c_programs(folder, archive):
     log, program = f"{folder}/log", f"{folder}/program"
     sources = [f"examples/{it}" for it in sorted(os.listdir(f"{ROOT}/examples")) if it.endswith(".c")]
-    for source in [*sources, "c/example.c", "c/loopback.c", "c/port.c"]:
+    for source in sources:
         # The recorder needs a capture: it follows below.
         if os.path.basename(source)[:-2] in {*RECEIVE_NOTHING, "recorder"}:
             continue

@@ -1,7 +1,11 @@
 #!/bin/sh
-# Refuses each allocation of the library's calls in turn, and checks what then comes. Three programs are run:
+# Refuses each allocation of the library's calls in turn, and checks what then comes.
 #
-# - `c/vectors.c` over the proved library for C, and the proved `payload_vectors` if there is rt, on the stored input of
+#   scripts/refuse.sh    over the library as `make` builds it
+#
+# Three programs are run:
+#
+# - `c/tests/vectors.c` over the proved library for C, and the proved `payload_vectors` if there is rt, on the stored input of
 #   payload_vectors, on one input of each other codec, and on one with RED: each prints the whole output with status 0, or only the
 #   line `out of memory` on standard error, with status 1.
 # - `tools/refused` over the library for C, once for each call that allocates: it prints the full right answer, or fault 17, and how things are after it;
@@ -24,10 +28,10 @@ trap 'rm -rf "$work"' EXIT
 make -s -C "$root" >/dev/null
 library=$root/c/out/libcodec_payload.a
 "${CC:-cc}" -std=c99 -O1 -I"$root/include" "$root/tools/refused/refused.c" "$library" -o "$work/calls"
-"${CC:-cc}" -std=c99 -O1 -I"$root/include" "$root/c/vectors.c" "$library" -o "$work/vectors"
+"${CC:-cc}" -std=c99 -O1 -I"$root/include" "$root/c/tests/vectors.c" "$library" -o "$work/vectors"
 programs=$work/vectors
 if command -v rt >/dev/null; then
-    "$root/scripts/rt_free.py" || exit 1
+    "$root/scripts/kit.py" free || exit 1
     (cd "$stored" && rt run <stdin) >"$work/run" 2>&1 || {
         cat "$work/run"
         exit 1

@@ -13,7 +13,7 @@
 # - With valgrind: no datagram of a peer that chooses its numbers takes more instructions than its bound (tools/measure/rust_speed.py).
 # - The programs over lines, tools/lines: rustfmt and clippy have nothing to say, and each test vector gets its answer
 #   (tests/vectors/process.py).
-# - With clang's libFuzzer: two seconds of each fuzz target (scripts/fuzz.sh). With Debian's packages of crates: rust-extras/test.sh.
+# - With clang's libFuzzer: two seconds of each fuzz target (tools/fuzz/fuzz.sh). With Debian's packages of crates: rust-extras/test.sh.
 #
 # The last line says what passed; the status is 0 if all did.
 set -eu
@@ -77,7 +77,7 @@ if [ "${1:-}" != quick ]; then
     step "$root/tools/eraser/plants.py"
     step "$root/rust-extras/test.sh"
     if ls /usr/lib/llvm-*/lib/clang/*/lib/linux/libclang_rt.fuzzer-x86_64.a >/dev/null 2>&1; then
-        step "$root/scripts/fuzz.sh" 2
+        step "$root/tools/fuzz/fuzz.sh" 2
         programs="$programs; $(tail -n 1 "$work/log")"
     fi
 fi

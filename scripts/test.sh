@@ -90,23 +90,23 @@ runs() {
 }
 
 # The quick checks come first: a fault that they find costs no proof.
-runs scripts/format.sh
+runs scripts/kit.py layout
 runs scripts/mutants.py --stale
 runs scripts/documents.py --quick
 runs scripts/statements.py --check
 runs scripts/theorem.py --check
-runs scripts/check_header.py
+runs c/check_header.py
 runs scripts/rust.sh
 runs scripts/toy_codec.sh
 early_passed=$passed
 early_failed=$failed
 if [ "${1:-}" != --no-proofs ]; then
-    scripts/rt_free.py || exit 1
+    scripts/kit.py free || exit 1
     rt ci 2>&1 | tee "$work/proofs"
     counts=$(tail -n 1 "$work/proofs")
     set -- $(printf '%s\n' "$counts" | sed -n 's/^\([0-9]*\) passed, \([0-9]*\) failed.*/\1 \2/p') '' ''
     [ "${1:-0}" -gt 0 ] || set -- 0 1
-    [ "$2" -ne 0 ] || scripts/keep_proved.py
+    [ "$2" -ne 0 ] || scripts/kit.py keep
     passed=$((early_passed + $1))
     failed=$((early_failed + $2))
 fi

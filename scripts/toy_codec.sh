@@ -34,7 +34,7 @@ cd rust
 step cargo test --quiet --test toy
 step cargo test --quiet --lib
 cd ..
-step "${CC:-cc}" -std=c11 -Wall -Werror -fsyntax-only -Iinclude c/vectors.c
+step "${CC:-cc}" -std=c11 -Wall -Werror -fsyntax-only -Iinclude c/tests/vectors.c
 if [ "${1:-}" = prove ]; then
     for crate in codec_payload_base codec_payload_audio codec_payload_codec codec_payload_buffer codec_payload_payloader \
         codec_payload_buffer_runs codec_payload_handle payload_vectors; do

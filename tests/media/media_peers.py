@@ -2,13 +2,13 @@
 """Compares the facts that the library for C reads from frames with those of other readers.
 
     tests/media/media_peers.py             all comparisons; the last line counts them
-    tests/media/media_peers.py rows        also writes some of the other readers' facts to c/frames.txt, which c/check.sh reads
+    tests/media/media_peers.py rows        also writes some of the other readers' facts to c/tests/frames.txt, which c/tests/check.sh reads
     tests/media/media_peers.py times       the nanoseconds of one cpay_frame_info for each type of frame
 
 The frames come from encoders (tests/media/media_frames.sh); headers of VP9 and AV1 are made field by field at random; and there are
 hostile ones: beginnings, all strings of one and two bytes, and frames with a byte changed. The readers are ffmpeg's bitstream filter
 `trace_headers` (VP9, AV1), ffprobe, ffmpeg's muxer of MP4 (av1C), libvpx (VP8) and libopus. If one of them refuses a frame that
-the standard allows, it is left out. c/frames.c queries the library, with and without the sanitizers.
+the standard allows, it is left out. c/tests/frames.c queries the library, with and without the sanitizers.
 
 Needs the library (`make`), a C compiler, and ffmpeg with libvpx, libaom and libopus.
 """
@@ -103,7 +103,7 @@ def facts_from(program, codec, frames):
 def build(folder, name, flags):
     program = folder / name
     subprocess.run(
-        ["cc", "-std=c99", "-O2", "-g", *flags, f"-I{ROOT}/include", ROOT / "c/frames.c"]
+        ["cc", "-std=c99", "-O2", "-g", *flags, f"-I{ROOT}/include", ROOT / "c/tests/frames.c"]
         + [ROOT / "c/out/libcodec_payload.a", "-o", program],
         check=True,
     )
@@ -472,7 +472,7 @@ def main():
         frames = [(codec, read_hex(folder, name)[place][:700]) for codec, name, place in seeds]
         print("under the sanitizers:", ask(checked, "hostile", frames)[-1])
     if sys.argv[1:] == ["rows"]:
-        write_rows(ROOT / "c/frames.txt")
+        write_rows(ROOT / "c/tests/frames.txt")
     for what, count in sorted(counts.items()):
         print(f"{count:7} {what}")
     print(f"media_peers: {sum(counts.values())} answers compared, none differs")

@@ -43,7 +43,7 @@ def build():
 
 def prove():
     """Proves and builds payload_vectors; returns its path."""
-    if subprocess.run([os.path.join(ROOT, "scripts", "rt_free.py")], check=False).returncode != 0:
+    if subprocess.run([os.path.join(ROOT, "scripts", "kit.py"), "free"], check=False).returncode != 0:
         sys.exit("another rt works in this copy")
     with open(f"{CRATE}/stdin", "rb") as given:
         ran = subprocess.run(["rt", "run"], cwd=CRATE, stdin=given, stdout=subprocess.PIPE, stderr=subprocess.STDOUT, check=False)
@@ -136,7 +136,7 @@ def streams(program):
 
 def beside(program, count):
     """Generated scripts, answered as the program in plain Rust does."""
-    sys.path.insert(0, os.path.join(ROOT, "c"))
+    sys.path.insert(0, os.path.join(ROOT, "c", "tests"))
     import inputs  # pylint: disable=import-outside-toplevel
 
     def answer(path, script):

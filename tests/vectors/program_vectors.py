@@ -1,7 +1,7 @@
 """Inputs of the program payload_vectors, each with its output and status.
 
 The outputs are worked out by the RFCs of the formats and of the buffer (docs/use/FORMATS.md, BUFFER.md). tests/vectors/process.py runs them
-through the program, and c/inputs.py gives the same inputs to the library for C.
+through the program, and c/tests/inputs.py gives the same inputs to the library for C.
 """
 from typing import NamedTuple
 

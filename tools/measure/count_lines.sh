@@ -23,9 +23,9 @@ printf 'contracts and ghost items in src: %s\n' "$clauses"
     lines 'Rust: lib.rs and memory.rs' '//' rust/src/lib.rs rust/src/memory.rs
     lines 'Rust: ext' '//' $(git ls-files 'rust/src/ext*')
     lines 'Rust: sdp' '//' $(git ls-files 'rust/src/sdp*')
-    lines 'C: calls.c' '/?[*]' c/calls.c
-    lines 'C: memory.c' '/?[*]' c/memory.c
-    lines 'C: sdp.c' '/?[*]' c/sdp.c
+    lines 'C: calls.c' '/?[*]' c/src/calls.c
+    lines 'C: memory.c' '/?[*]' c/src/memory.c
+    lines 'C: sdp.c' '/?[*]' c/src/sdp.c
     lines 'C: assembly.py' '#' scripts/assembly.py
     lines 'assembly: x86_64' '#' c/generated/x86_64-linux.S
     lines 'assembly: aarch64' '//' c/generated/aarch64-linux.S

@@ -13,7 +13,7 @@ library=$root/c/out/libcodec_payload.a
 work=$(mktemp -d)
 trap 'rm -rf "$work"' EXIT
 make -s -C "$root" >/dev/null
-"${CC:-cc}" -std=c99 -O1 -I"$root/include" "$root/c/held.c" "$library" -o "$work/held"
+"${CC:-cc}" -std=c99 -O1 -I"$root/include" "$root/tools/measure/held.c" "$library" -o "$work/held"
 
 # instructions ORDER HELD: how many a push and a pop take
 instructions() {

@@ -372,7 +372,7 @@ pub extern "C" fn cpay_forwarder_want(alloc: Global, handle: &mut Handle, ssrc: 
     answer
 }
 
-/// Forwards nothing until a source is wanted again.
+/// Forwards nothing until the next `cpay_forwarder_want`.
 #[unsafe(no_mangle)]
 pub extern "C" fn cpay_forwarder_mute(alloc: Global, handle: &mut Handle) -> u32
     ensures mutes { OnPacketForwarder handle.old.place.value (λ r s. (result ≡ 0) × (s ≡ record r { forwarder = record r.forwarder { source = None; wanted = None } })) handle.new.place.value }
@@ -410,7 +410,7 @@ pub extern "C" fn cpay_forwarder_source(alloc: Global, handle: &mut Handle, ssrc
     answer
 }
 
-/// Reports the SSRC of the source that is wanted.
+/// Reports the SSRC of the source to forward.
 #[unsafe(no_mangle)]
 pub extern "C" fn cpay_forwarder_wanted(alloc: Global, handle: &mut Handle, ssrc: &mut u32) -> u32
     ensures tells { OnPacketForwarder handle.old.place.value (λ r s. (s ≡ r) × TellsNumber r.forwarder.wanted result ssrc.old ssrc.new) handle.new.place.value }

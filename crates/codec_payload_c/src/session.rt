@@ -1,13 +1,13 @@
 //! Sessions: the datagrams of a port in, the events of its streams out.
 
-ghost use Rattle.std.specs.Prelude.{◌≡◌, ◌≢◌, ◌<◌, IfSome, IsSome, length, nat_le, Option};
+ghost use Rattle.std.specs.Prelude.{◌≡◌, ◌≢◌, ◌<◌, length, Option};
 ghost use Rattle.codec_payload_core.specs.Faults.{fault_number};
 ghost use Rattle.codec_payload_core.specs.Release.{Release};
 ghost use Rattle.codec_payload_session.specs.Idle.{next_of};
 ghost use Rattle.codec_payload_session.specs.Ports.{ends_all, ends_of, restarts_transport};
 ghost use Rattle.codec_payload_session.specs.Units.{HasUnit, with_unit};
 ghost use Rattle.codec_payload_c.specs.SessionFormats.{IsPortSessionOf, MakesSession, is_in_range};
-ghost use Rattle.codec_payload_c.specs.Sessions.{Hands, PollsEvent, ReceivesDatagram, TakesDatagram, TellsArrival, TellsEvent, TellsJudgedBy, TellsOfStream, TellsTaken, arrived_as, bytes_in, ending_number, event_with, is_no_memory, telephone_unit};
+ghost use Rattle.codec_payload_c.specs.Sessions.{HandsOver, PollsEvent, ReceivesDatagram, TakesDatagram, TellsArrival, TellsEvent, TellsJudgedBy, TellsOfStream, TellsTaken, arrived_as, bytes_in, ending_number, event_with, is_no_memory, telephone_unit};
 ghost use Rattle.codec_payload_c.specs.StreamReceivers.{TellsNumber, at_once_if};
 ghost use Rattle.codec_payload_handle.specs.Kinds.{OnPortSession, Refuses, is_port_session};
 ghost use Rattle.codec_payload_handle.specs.Units.{no_unit};
@@ -329,15 +329,16 @@ fn bytes_of<'a>(event: &'a SessionEvent<()>, popped: &'a PoppedUnit) -> &'a [u8]
     }
 }
 
-/// Hands over the event that waits: it is described, and its bytes go to the output buffer. If that is too small, the event still
-/// waits.
+/// Hands over the event that waits, if one does: it is described, and its bytes go to the output buffer. If that is too small, the
+/// event still waits.
 fn hand_over(port: &mut PortSession, alloc: Global, event: &mut Event, bytes: &mut [u8]) -> u32
-    requires { IsSome port.old.waiting }
-    ensures hands { IfSome port.old.waiting (λ next. Hands (is_no_memory next) (nat_le (length (bytes_in next)) (length bytes.old)) next result (record { event_before = event.old; event = event.new; before = bytes.old; bytes = bytes.new }) (record port.old { waiting = Option.None }) port.new) }
+    ensures hands { HandsOver port.old.waiting result (record { event_before = event.old; event = event.new; before = bytes.old; bytes = bytes.new }) (record port.old { waiting = Option.None }) port.new }
     ensures untouched { result ≢ 0 → bytes.new ≡ bytes.old }
     ensures unchanged { result ≢ 0 → result ≢ 33 → event.new ≡ event.old }
 {
-    let (next, popped) = port.waiting.parts();
+    let Some((next, popped)) = port.waiting.parts() else {
+        return status::NONE;
+    };
     if is_no_memory(next) {
         port.waiting.clear(alloc);
         return status::OUT_OF_MEMORY;
@@ -357,15 +358,10 @@ fn poll(port: &mut PortSession, alloc: Global, now: u64, event: &mut Event, byte
     ensures untouched { result ≢ 0 → bytes.new ≡ bytes.old }
     ensures unchanged { result ≢ 0 → result ≢ 33 → event.new ≡ event.old }
 {
-    if port.waiting.is_some() {
-        return hand_over(port, alloc, event, bytes);
+    if !port.waiting.is_some() {
+        port.waiting.poll(&mut port.session, Ticks(now));
     }
-    port.waiting.poll(&mut port.session, Ticks(now));
-    if port.waiting.is_some() {
-        hand_over(port, alloc, event, bytes)
-    } else {
-        status::NONE
-    }
+    hand_over(port, alloc, event, bytes)
 }
 
 /// Creates a session with these settings, formats, payload types without media and pairs of SSRCs, in an empty handle. A payload

@@ -19,6 +19,9 @@ use Rattle.codec_payload_feedback.specs.Feedback.{AppendsAll, AppendsNack, Bound
 pub none_more : (old : List ℕ) → AppendsAll [] old old
 none_more old = ([], refl, sym (append-nil old))
 
+pub one_more : (old new : List ℕ) (p : Packet) → Appends old new p → AppendsAll (p ∷ []) old new
+one_more old new p got = (got.0, (got.0, [], got.1, refl, sym (append-nil got.0)), got.2)
+
 unpadded_both : (ps qs : List Packet) (front rest : List ℕ) → AreUnpadded ps front → AreUnpadded qs rest → AreUnpadded (ps ++ qs) (front ++ rest)
 unpadded_both [] qs front rest first second = subst (λ (bytes : List ℕ). AreUnpadded qs bytes) (sym (ap (λ (f : List ℕ). f ++ rest) first)) second
 unpadded_both (p ∷ ps) qs front rest first second =
@@ -78,13 +81,10 @@ few_due now s old numbers kept none is =
 
 -- ---- transport-wide feedback
 
-one : (p : Packet) (a b : List ℕ) → Appends a b p → AppendsAll (p ∷ []) a b
-one p a b h = (h.0, (h.0, [], h.1, refl, sym (append-nil h.0)), h.2)
-
 pub all_three : (s : Source) (p : Packet) (a b c d : List ℕ) → a ≡ [] → AppendsAll (report_part s) a b → AppendsAll (description_part s) b c → Appends c d p → AreUnpadded (report_part s ++ (description_part s ++ p ∷ [])) d
 all_three s p a b c d none report cname feedback =
     let three : AppendsAll (report_part s ++ (description_part s ++ p ∷ [])) [] d =
-    both (report_part s) (description_part s ++ p ∷ []) [] b d (subst (λ (l : List ℕ). AppendsAll (report_part s) l b) none report) (both (description_part s) (p ∷ []) b c d cname (one p c d feedback)) in
+    both (report_part s) (description_part s ++ p ∷ []) [] b d (subst (λ (l : List ℕ). AppendsAll (report_part s) l b) none report) (both (description_part s) (p ∷ []) b c d cname (one_more c d p feedback)) in
     subst (λ (l : List ℕ). AreUnpadded (report_part s ++ (description_part s ++ p ∷ [])) l) (sym three.2) three.1
 
 -- ---- the description of a source
@@ -93,13 +93,18 @@ named : (ssrc : ℕ) (name : List ℕ) → 1 ≤ length name → cname_by ssrc n
 named ssrc [] some = absurd (omega (arith, some))
 named ssrc (c ∷ cs) some = refl
 
+pub name_described : {X E : Type 0} (result : Result X E) (ssrc : ℕ) (name a b : List ℕ) → 1 ≤ length name → OnOk result (Appends a b (source_description (cname_chunk ssrc name ∷ [])))
+    → OnOk result (AppendsAll (cname_by ssrc name) a b)
+name_described (Ok x) ssrc name a b some got =
+    subst (λ (ps : List Packet). AppendsAll ps a b) (sym (named ssrc name some)) (one_more a b (source_description (cname_chunk ssrc name ∷ [])) got)
+name_described (Err e) ssrc name a b some got = tt
+
 pub described : {X E : Type 0} (result : Result X E) (s : Source) (ssrc : ℕ) (name a b : List ℕ) → s.has_report ≡ true → s.ssrc ≡ ssrc → s.cname ≡ name → 1 ≤ length name
     → OnOk result (Appends a b (source_description (cname_chunk ssrc name ∷ []))) → OnOk result (AppendsAll (description_part s) a b)
-described (Ok x) s ssrc name a b report from is some got =
-    let packets : description_part s ≡ source_description (cname_chunk ssrc name ∷ []) ∷ [] =
-    ap (λ (r : Bool). cname_if r s) report ∙ ap (λ (n : ℕ). cname_by n s.cname) from ∙ ap (λ (n : List ℕ). cname_by ssrc n) is ∙ named ssrc name some in
-    subst (λ (ps : List Packet). AppendsAll ps a b) (sym packets) (one (source_description (cname_chunk ssrc name ∷ [])) a b got)
-described (Err e) s ssrc name a b report from is some got = tt
+described result s ssrc name a b report from is some got =
+    let packets : description_part s ≡ cname_by ssrc name =
+    ap (λ (r : Bool). cname_if r s) report ∙ ap (λ (n : ℕ). cname_by n s.cname) from ∙ ap (λ (n : List ℕ). cname_by ssrc n) is in
+    subst (λ (ps : List Packet). OnOk result (AppendsAll ps a b)) (sym packets) (name_described result ssrc name a b some got)
 
 -- ---- nothing is due
 

@@ -1,1 +1,1 @@
-mod FeedbackLemmas
+pub mod FeedbackLemmas

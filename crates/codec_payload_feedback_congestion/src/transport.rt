@@ -304,7 +304,7 @@ fn read_body(
     })
 }
 
-/// Reads feedback control information. What is behind the last delta is not looked at. It needs memory for up to 65,535 statuses,
+/// Reads feedback control information. Bytes behind the last delta are not read. It needs memory for up to 65,535 statuses,
 /// whatever the number of bytes.
 ///
 /// # Errors

@@ -1,6 +1,6 @@
 //! An event of a session whose unit is in memory that the next unit uses again.
 
-ghost use Rattle.std.specs.Prelude.{◌≡◌, IsSome, None, Some, is_some};
+ghost use Rattle.std.specs.Prelude.{◌≡◌, IfSome, None, Some, is_some, option_map};
 ghost use Rattle.codec_payload_session.specs.Polls.{Polls};
 ghost use Rattle.codec_payload_session.specs.Units.{HasUnit, with_unit};
 ghost use Rattle.codec_payload_handle.specs.Slots.{latest_packets};
@@ -58,15 +58,14 @@ impl EventSlot {
         self.event = session.poll_into(now, &mut self.unit);
     }
 
-    /// Lends the event, and the memory with its unit.
-    pub fn parts(&self) -> (&Event<()>, &PoppedUnit)
-        requires { IsSome self.now }
-        ensures value { self.now ≡ Some (with_unit result.0.now result.1.now) }
-        ensures some { HasUnit (Some (with_unit result.0.now result.1.now)) }
+    /// Lends the event, if there is one, and the memory with its unit.
+    pub fn parts(&self) -> Option<(&Event<()>, &PoppedUnit)>
+        ensures value { option_map (λ parts. with_unit parts.0.now parts.1.now) result ≡ self.now }
+        ensures some { IfSome result (λ parts. HasUnit (Some (with_unit parts.0.now parts.1.now))) }
     {
         match &self.event {
-            Some(event) => (event, &self.unit),
-            None => unreachable!(),
+            Some(event) => Some((event, &self.unit)),
+            None => None,
         }
     }
 

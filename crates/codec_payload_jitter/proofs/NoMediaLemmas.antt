@@ -128,7 +128,7 @@ in_rises_after m n (k ∷ ks) less rises = by_tests (ltb k n) (eqb k n) refl ref
     by_tests : (a b : Bool) → ltb k n ≡ a → eqb k n ≡ b → (k < n → RisesAfter k (no_media_in n ks)) → RisesAfter m (cond a (k ∷ no_media_in n ks) (cond b (k ∷ ks) (n ∷ k ∷ ks)))
     by_tests true b is equal later = (rises.0, later (grind (arith, nat_tests)))
     by_tests false true is equal later = rises
-    by_tests false false is equal later = let past : n < k = grind (arith, nat_tests) in (less, past, rises.1)
+    by_tests false false is equal later = let past : n < k = grind (arith, nat_tests) in (less, (past, rises.1))
 
 in_rises : (n : ℕ) (ns : List ℕ) → Rises ns → Rises (no_media_in n ns)
 in_rises n [] rises = tt
@@ -152,8 +152,8 @@ noted_rises n ns rises = few_rises (no_media_in n ns) (in_rises n ns rises)
 
 pub left_rises : (s : State) (ns : List ℕ) → Rises ns → Rises (no_media_left s ns)
 left_rises s [] rises = tt
-left_rises s (n ∷ ns) rises = by_test (is_done s n)
+left_rises s (n ∷ ns) rises = by_test (left_rises (passed_number s n) ns (after_rises n ns rises)) (is_done s n)
   where
-    by_test : (b : Bool) → Rises (cond b (no_media_left (passed_number s n) ns) (n ∷ ns))
-    by_test true = left_rises (passed_number s n) ns (after_rises n ns rises)
-    by_test false = rises
+    by_test : Rises (no_media_left (passed_number s n) ns) → (b : Bool) → Rises (cond b (no_media_left (passed_number s n) ns) (n ∷ ns))
+    by_test later true = later
+    by_test later false = rises

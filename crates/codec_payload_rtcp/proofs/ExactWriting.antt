@@ -1,24 +1,39 @@
 -- The bytes of packets that are written, exactly.
-use Rattle.std.proofs.Common.{◌≡◌, ℕ, take, drop, replicate, ◌+◌, ◌-◌, ◌/◌, ◌%◌, ◌<◌, ◌≤◌, List, [], ◌∷◌, ◌++◌, length, false, Some, None, Result, refl, sym, ap, ◌∙◌, arith, append_assoc, length-append, true, eqb, leb, ◌&&◌}
+use Rattle.std.proofs.Common.{◌≡◌, ℕ, suc, take, drop, replicate, ◌+◌, ◌-◌, ◌/◌, ◌%◌, ◌<◌, ◌≤◌, List, [], ◌∷◌, ◌++◌, length, false, Some, None, Result, sym, ap, ◌∙◌, arith, append_assoc, length-append, true, eqb, leb, ◌&&◌}
 use Rattle.std.specs.Prelude.{OnOk, get_or}
 use Rattle.std.specs.Int.{w16, w32, to_be_bytes}
 use Rattle.std.proofs.lemmas.Bool.{and_parts, leb-true}
 use Rattle.std.proofs.lemmas.List.{append-nil, length-drop, length-take, take-replicate, take_all}
 use Rattle.codec_payload_rtcp.specs.RtcpPackets.{header_bytes}
-use Rattle.codec_payload_rtcp.specs.RtcpWriting.{cname_bytes, cname_head, ending_zeros, leaving_bytes, padded_bytes, padding_fits, reason_bytes}
+use Rattle.codec_payload_rtcp.specs.RtcpWriting.{cname_chunk, cname_head, ending_zeros, leaving_bytes, padded_bytes, padding_fits, reason_bytes}
 use Rattle.codec_payload_rtcp.specs.Sdes.{Item, items_bytes}
-use Rattle.codec_payload_rtcp.specs.SdesWriting.{chunk_bytes}
+use Rattle.codec_payload_rtcp.specs.SdesWriting.{chunk_bytes, description_bytes}
 use Rattle.codec_payload_rtcp.proofs.RtcpWriting.{on_written}
 
+-- the item of a canonical name
+name_item : (name : List ℕ) → items_bytes (record { kind = 1; text = name } ∷ []) ≡ 1 ∷ length name ∷ name
+name_item name = ap (λ (t : List ℕ). 1 ∷ length name ∷ t) (append-nil name)
+
+name_chunk : (ssrc : ℕ) (name : List ℕ) → chunk_bytes (cname_chunk ssrc name) ≡ to_be_bytes w32 ssrc ++ ((1 ∷ length name ∷ name) ++ ending_zeros (suc (suc (length name))))
+name_chunk ssrc name = ap (λ (t : List ℕ). to_be_bytes w32 ssrc ++ (t ++ ending_zeros (length t))) (name_item name)
+
+-- the bytes of a chunk with a canonical name
+pub name_chunk_length : (ssrc : ℕ) (name : List ℕ) → length (chunk_bytes (cname_chunk ssrc name)) ≡ 6 + length name + (4 - (length name + 2) % 4)
+name_chunk_length ssrc name =
+    omega (arith, ap (λ (l : List ℕ). length l) (name_chunk ssrc name), length-append name (ending_zeros (suc (suc (length name)))), length-take {A = ℕ} (4 - suc (suc (length name)) % 4) (0 ∷ 0 ∷ 0 ∷ 0 ∷ []))
+
 pub cname_exact : {X E : Type 0} (result : Result X E) (ssrc zeros words : ℕ) (cname fill head old new : List ℕ) → zeros ≡ 4 - (length cname + 2) % 4 → words ≡ (6 + length cname + zeros) / 4
-    → head ≡ cname_head words ssrc (length cname) → fill ≡ take zeros (0 ∷ 0 ∷ 0 ∷ 0 ∷ []) → OnOk result (new ≡ ((old ++ head) ++ cname) ++ fill) → OnOk result (new ≡ old ++ cname_bytes ssrc cname)
+    → head ≡ cname_head words ssrc (length cname) → fill ≡ take zeros (0 ∷ 0 ∷ 0 ∷ 0 ∷ []) → OnOk result (new ≡ ((old ++ head) ++ cname) ++ fill) → OnOk result (new ≡ old ++ description_bytes (cname_chunk ssrc cname))
 cname_exact result ssrc zeros words cname fill head old new is many e1 e2 h =
-    let front : head ≡ cname_head ((6 + length cname + (4 - (length cname + 2) % 4)) / 4) ssrc (length cname) =
-    e1 ∙ ap (λ (w : ℕ). cname_head w ssrc (length cname)) (many ∙ ap (λ (z : ℕ). (6 + length cname + z) / 4) is) in
-    let end : fill ≡ ending_zeros (length cname + 2) = e2 ∙ ap (λ (z : ℕ). take {A = ℕ} z (0 ∷ 0 ∷ 0 ∷ 0 ∷ [])) is in
+    let whole : ℕ = length (chunk_bytes (cname_chunk ssrc cname)) / 4 in
+    let count : words ≡ whole = many ∙ ap (λ (n : ℕ). n / 4) (ap (λ (z : ℕ). 6 + length cname + z) is ∙ sym (name_chunk_length ssrc cname)) in
+    let front : head ≡ cname_head whole ssrc (length cname) = e1 ∙ ap (λ (w : ℕ). cname_head w ssrc (length cname)) count in
+    let left : zeros ≡ 4 - suc (suc (length cname)) % 4 = omega (arith, is) in
+    let end : fill ≡ ending_zeros (suc (suc (length cname))) = e2 ∙ ap (λ (z : ℕ). take {A = ℕ} z (0 ∷ 0 ∷ 0 ∷ 0 ∷ [])) left in
     on_written result _ _ h (λ e.
     e ∙ append_assoc (old ++ head) cname fill ∙ append_assoc old head (cname ++ fill) ∙ ap (λ (t : List ℕ). old ++ (t ++ (cname ++ fill))) front
-    ∙ ap (λ (t : List ℕ). old ++ (cname_head ((6 + length cname + (4 - (length cname + 2) % 4)) / 4) ssrc (length cname) ++ (cname ++ t))) end)
+    ∙ ap (λ (t : List ℕ). old ++ (cname_head whole ssrc (length cname) ++ (cname ++ t))) end
+    ∙ ap (λ (t : List ℕ). old ++ (header_bytes false 1 202 whole ++ t)) (sym (name_chunk ssrc cname)))
 
 pub chunk_exact : {X E : Type 0} (result : Result X E) (ssrc used : ℕ) (is : List Item) (old first second new : List ℕ) → first ≡ old ++ to_be_bytes w32 ssrc → second ≡ first ++ items_bytes is
     → used ≡ length second - length old → OnOk result (new ≡ second ++ take (4 - used % 4) (0 ∷ 0 ∷ 0 ∷ 0 ∷ [])) → OnOk result (new ≡ old ++ chunk_bytes (record { ssrc = ssrc; items = is }))

@@ -1,8 +1,9 @@
 -- Chunks of source descriptions that are written, one after another.
-use Rattle.std.specs.Prelude.{◌≡◌, ℕ, ◌&&◌, nat_le, Bool, true, false, List, [], ◌∷◌, ◌++◌, length, Result, Ok, Err}
+use Rattle.std.specs.Prelude.{◌≡◌, ℕ, ◌/◌, ◌&&◌, nat_le, Bool, true, false, List, [], ◌∷◌, ◌++◌, length, Result, Ok, Err}
 use Rattle.codec_payload_rtcp.specs.declared.packet.RtcpError.{RtcpError}
 use Rattle.codec_payload_rtcp.specs.Steps.{fault_of}
 use Rattle.std.specs.Int.{w32, to_be_bytes}
+use Rattle.codec_payload_rtcp.specs.RtcpPackets.{header_bytes}
 use Rattle.codec_payload_rtcp.specs.RtcpWriting.{ending_zeros}
 use Rattle.codec_payload_rtcp.specs.Sdes.{Item, Chunk, FitsChunk, IsChunk, items_bytes}
 use Rattle.codec_payload_rtcp.specs.SdesReading.{chunks_at, chunks_in}
@@ -31,6 +32,10 @@ AppendsChunk old new c = (written : List ℕ) × FitsChunk c × IsChunk c writte
 -- the SSRC, the items, and the fewest zeros that end them and a word
 abbrev pub chunk_bytes : Chunk → List ℕ
 chunk_bytes c = to_be_bytes w32 c.ssrc ++ (items_bytes c.items ++ ending_zeros (length (items_bytes c.items)))
+
+-- a source description of one chunk: the header with the length in words less one, and the chunk
+abbrev pub description_bytes : Chunk → List ℕ
+description_bytes c = header_bytes false 1 202 (length (chunk_bytes c) / 4) ++ chunk_bytes c
 
 -- these chunks, and nothing after them
 abbrev pub AreWholeChunks : List Chunk → List ℕ → Type 0

@@ -7,8 +7,8 @@ ghost use Rattle.codec_payload_rtcp.specs.RtcpPackets.{FitsSender, header_bytes,
 ghost use Rattle.codec_payload_rtcp.specs.RtcpItems.{are_items, reason_short, report_fits};
 ghost use Rattle.codec_payload_rtcp.specs.RtcpValues.{description_of, leaving_of, sender_of, receiver_of, nack_of, picture_loss_of, full_intra_of};
 ghost use Rattle.codec_payload_base.specs.Flags.{AreBytes};
-ghost use Rattle.codec_payload_rtcp.specs.SdesWriting.{description_fits};
-ghost use Rattle.codec_payload_rtcp.specs.RtcpWriting.{Appends, AppendsPadded, OneMore, AreCompound, LastPadded, padding_fits, feedback_head, sender_head, receiver_head, cname_bytes, cname_head, cname_chunk, leaving_bytes, padded_bytes};
+ghost use Rattle.codec_payload_rtcp.specs.SdesWriting.{description_bytes, description_fits};
+ghost use Rattle.codec_payload_rtcp.specs.RtcpWriting.{Appends, AppendsPadded, OneMore, AreCompound, LastPadded, padding_fits, feedback_head, sender_head, receiver_head, cname_head, cname_chunk, leaving_bytes, padded_bytes};
 
 use crate::packet::{
     FullIntraRequest, Goodbye, Nack, PictureLoss, ReceiverReport, SenderReport, SourceDescription,
@@ -225,7 +225,7 @@ fn cname_head(words: u16, ssrc: u32, len: u8) -> [u8; 10]
 pub fn write_cname(ssrc: u32, cname: &[u8], out: &mut Vec<u8>) -> Result<(), AllocError>
     requires { length cname.now ≤ 255 }
     ensures packet { OnOk result (Appends out.old.items out.new.items (source_description (cname_chunk ssrc cname.now ∷ []))) }
-    ensures exact { OnOk result (out.new.items ≡ out.old.items ++ cname_bytes ssrc cname.now) }
+    ensures exact { OnOk result (out.new.items ≡ out.old.items ++ description_bytes (cname_chunk ssrc cname.now)) }
 {
     let zeros = 4 - (cname.len() + 2) % 4;
     let words = (6 + cname.len() + zeros) / 4;

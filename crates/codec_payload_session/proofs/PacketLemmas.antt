@@ -2,11 +2,14 @@
 use Rattle.std.proofs.Common.{◌≡◌, ◌<◌, ◌≤◌, ◌∙◌, ◌⊎◌, inl, inr, ℕ, suc, max, min, ◌+◌, ◌-◌, ◌*◌, ◌/◌, ◌%◌, List, [], ◌∷◌, ◌++◌, length, map, true, Result, Ok, Err, OnOk, ap, refl, sym, subst, arith, append_assoc, length-append}
 use Rattle.std.proofs.lemmas.Bool.{cases_lt}
 use Rattle.std.proofs.lemmas.List.{append-nil, length-take, map-append}
-use Rattle.codec_payload_feedback.specs.Feedback.{AppendsAll, cname_by, cname_part}
+use Rattle.codec_payload_feedback.specs.Feedback.{AppendsAll, cname_part}
+use Rattle.codec_payload_feedback.proofs.FeedbackLemmas.{both, none_more, one_more}
 use Rattle.codec_payload_rtcp.specs.RtcpItems.{block_bytes}
-use Rattle.codec_payload_rtcp.specs.RtcpPackets.{IsCompound, IsPacket, Packet, source_description}
-use Rattle.codec_payload_rtcp.specs.RtcpWriting.{Appends, AreCompound, AreUnpadded, cname_bytes, cname_chunk, ending_zeros}
+use Rattle.codec_payload_rtcp.specs.RtcpPackets.{IsCompound, IsPacket, Packet}
+use Rattle.codec_payload_rtcp.specs.RtcpWriting.{Appends, AreCompound, AreUnpadded, cname_chunk}
+use Rattle.codec_payload_rtcp.specs.SdesWriting.{description_bytes}
 use Rattle.codec_payload_rtcp.specs.declared.items.ReportBlock.{ReportBlock}
+use Rattle.codec_payload_rtcp.proofs.ExactWriting.{name_chunk_length}
 use Rattle.codec_payload_session.specs.Requests.{source_for}
 use Rattle.codec_payload_session.specs.Reporting.{AppendsGroups, AreGroups, IsReport, blocks_within, bytes_of, most_blocks, name_length, report_of_group, report_packets}
 use Rattle.codec_payload_session.specs.declared.formats.FeedbackSettings.{FeedbackSettings}
@@ -22,23 +25,6 @@ blocks_length (b ∷ bs) = omega (arith, length-append (block_bytes b) (bytes_of
 
 pub whole_blocks : (bs : List ReportBlock) (bytes : List ℕ) → bytes ≡ bytes_of bs → length bytes % 24 ≡ 0
 whole_blocks bs bytes is = omega (arith, ap (λ (l : List ℕ). length l) is, blocks_length bs)
-
--- ---- packets one after another
-
-none_more : (old : List ℕ) → AppendsAll [] old old
-none_more old = ([], refl, sym (append-nil old))
-
-one_more : (old new : List ℕ) (p : Packet) → Appends old new p → AppendsAll (p ∷ []) old new
-one_more old new p got = (got.0, (got.0, [], got.1, refl, sym (append-nil got.0)), got.2)
-
-unpadded_both : (ps qs : List Packet) (front rest : List ℕ) → AreUnpadded ps front → AreUnpadded qs rest → AreUnpadded (ps ++ qs) (front ++ rest)
-unpadded_both [] qs front rest first second = subst (λ (bytes : List ℕ). AreUnpadded qs bytes) (sym (ap (λ (f : List ℕ). f ++ rest) first)) second
-unpadded_both (p ∷ ps) qs front rest first second =
-    (first.0, first.1 ++ rest, first.2, unpadded_both ps qs first.1 rest first.3 second, ap (λ (f : List ℕ). f ++ rest) first.4 ∙ append_assoc first.0 first.1 rest)
-
-both : (ps qs : List Packet) (a b c : List ℕ) → AppendsAll ps a b → AppendsAll qs b c → AppendsAll (ps ++ qs) a c
-both ps qs a b c first second =
-    (first.0 ++ second.0, unpadded_both ps qs first.0 second.0 first.1 second.1, second.2 ∙ ap (λ (l : List ℕ). l ++ second.0) first.2 ∙ append_assoc a first.0 second.0)
 
 -- ---- groups
 
@@ -144,24 +130,14 @@ within_or_more long = swapped (cases_lt 24 long)
     swapped (inr short) = inl short
 
 -- a source description with a name
-cname_length : (ssrc : ℕ) (name : List ℕ) → length (cname_bytes ssrc name) ≡ 12 + 4 * ((length name + 2) / 4)
-cname_length ssrc name =
-    omega (arith, length-append name (ending_zeros (length name + 2)), length-take {A = ℕ} (4 - (length name + 2) % 4) (0 ∷ 0 ∷ 0 ∷ 0 ∷ []))
+cname_length : (ssrc : ℕ) (name : List ℕ) → length (description_bytes (cname_chunk ssrc name)) ≡ 12 + 4 * ((length name + 2) / 4)
+cname_length ssrc name = omega (arith, name_chunk_length ssrc name)
 
-pub name_written : {X E : Type 0} (result : Result X E) (ssrc : ℕ) (name a b : List ℕ) → 1 ≤ length name → OnOk result (b ≡ a ++ cname_bytes ssrc name) → OnOk result (length b ≡ length a + name_length (length name))
+pub name_written : {X E : Type 0} (result : Result X E) (ssrc : ℕ) (name a b : List ℕ) → 1 ≤ length name → OnOk result (b ≡ a ++ description_bytes (cname_chunk ssrc name)) → OnOk result (length b ≡ length a + name_length (length name))
 name_written (Ok x) ssrc [] a b some written = absurd (omega (arith, some))
-name_written (Ok x) ssrc (n ∷ ns) a b some written = omega (arith, ap (λ (l : List ℕ). length l) written, length-append a (cname_bytes ssrc (n ∷ ns)), cname_length ssrc (n ∷ ns))
+name_written (Ok x) ssrc (n ∷ ns) a b some written =
+    omega (arith, ap (λ (l : List ℕ). length l) written, length-append a (description_bytes (cname_chunk ssrc (n ∷ ns))), cname_length ssrc (n ∷ ns))
 name_written (Err e) ssrc name a b some written = tt
-
-named : (ssrc : ℕ) (name : List ℕ) → 1 ≤ length name → cname_by ssrc name ≡ source_description (cname_chunk ssrc name ∷ []) ∷ []
-named ssrc [] some = absurd (omega (arith, some))
-named ssrc (c ∷ cs) some = refl
-
-pub name_described : {X E : Type 0} (result : Result X E) (ssrc : ℕ) (name a b : List ℕ) → 1 ≤ length name → OnOk result (Appends a b (source_description (cname_chunk ssrc name ∷ [])))
-    → OnOk result (AppendsAll (cname_by ssrc name) a b)
-name_described (Ok x) ssrc name a b some got =
-    subst (λ (ps : List Packet). AppendsAll ps a b) (sym (named ssrc name some)) (one_more a b (source_description (cname_chunk ssrc name ∷ [])) got)
-name_described (Err e) ssrc name a b some got = tt
 
 -- ---- the packet
 

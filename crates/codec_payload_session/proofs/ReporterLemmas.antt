@@ -1,25 +1,56 @@
 -- The streams of a report, one after another.
-use Rattle.std.proofs.Common.{◌≡◌, ◌<◌, ◌≤◌, ◌∙◌, ◌||◌, leb, ℕ, zero, suc, ◌+◌, ◌-◌, List, [], ◌∷◌, ◌++◌, length, take, drop, set, get_or, Bool, true, false, Option, Some, None, Result, Ok, Err, IfOk, IfErr, ap, refl, sym, subst, arith, append_assoc}
+use Rattle.std.proofs.Common.{◌≡◌, ◌<◌, ◌≤◌, ◌∙◌, ◌||◌, ◌&&◌, ◌==◌, not, cond, leb, ℕ, zero, suc, ◌+◌, ◌-◌, List, [], ◌∷◌, ◌++◌, length, take, drop, set, get_or, Bool, true, false, Option, Some, None, Result, Ok, Err, IfOk, IfErr, ap, refl, sym, subst, arith, append_assoc}
 use Rattle.std.proofs.lemmas.Bool.{and_parts, leb-true}
-use Rattle.std.proofs.lemmas.List.{append-nil, drop-set-lt, drop_all, drop_more, take_all, take_more_set}
+use Rattle.std.proofs.lemmas.List.{append-nil, drop-set-lt, drop_all, drop_more, length-take, take_all, take_more_set}
 use Rattle.std.specs.Global.{Vec}
+use Rattle.std.specs.List.{cons_option, filter_map}
 use Rattle.std.specs.declared.alloc.AllocError.{AllocError}
 use Rattle.codec_payload_rtcp.specs.declared.items.ReportBlock.{ReportBlock}
 use Rattle.codec_payload_session.specs.Arrivals.{Port}
 use Rattle.codec_payload_session.specs.Reports.{block_of}
-use Rattle.codec_payload_session.specs.Reporting.{IsReport, Reports, ReportsEach, ReportsIf, all_reported, any_due, blocks_if, blocks_of, blocks_with, bytes_if, bytes_of, due_after, is_chosen, is_due, is_first_chosen, is_first_due, is_first_reported, is_new_round, is_report_due, most_blocks, one_if, reported_count, reported_if, room_after}
+use Rattle.codec_payload_session.specs.Reporting.{IsReport, Reports, ReportsEach, ReportsIf, all_reported, blocks_of, bytes_if, bytes_of, due_after, due_if, due_streams, has_announced, is_chosen, is_due, is_first_chosen, is_first_due, is_new_round, is_report_due, is_reported, most_blocks, reported_if, room_after}
 use Rattle.codec_payload_session.specs.declared.formats.FeedbackSettings.{FeedbackSettings}
 use Rattle.codec_payload_session.specs.declared.stream.StreamState.{StreamState}
 
+-- ---- streams that are due
+
+-- the stream at a place is due, or it is not
+due_here : (is_new : Bool) (ss : List StreamState) (i : ℕ) (d : StreamState) (b : Bool) → i < length ss → is_first_due is_new (drop i ss) ≡ b
+    → due_streams is_new (drop i ss) ≡ due_if b (get_or ss i d) (due_streams is_new (drop (i + 1) ss))
+due_here is_new ss i d b within is =
+    let rest : List StreamState = drop (i + 1) ss in
+    let front : drop i ss ≡ get_or ss i d ∷ rest = drop_more ss i d within in
+    let it : is_due is_new (get_or ss i d) rest ≡ b = ap (λ (l : List StreamState). is_first_due is_new l) (sym front) ∙ is in
+    ap (λ (l : List StreamState). due_streams is_new l) front ∙ ap (λ (c : Bool). due_if c (get_or ss i d) (due_streams is_new rest)) it
+
+pub count_one : (is_new : Bool) (ss : List StreamState) (i count next : ℕ) → i < length ss → is_first_due is_new (drop i ss) ≡ true → next ≡ count + 1
+    → count + length (due_streams is_new (drop i ss)) ≡ length (due_streams is_new ss) → next + length (due_streams is_new (drop (i + 1) ss)) ≡ length (due_streams is_new ss)
+count_one is_new [] i count next within is more counted = absurd (omega (arith, within))
+count_one is_new (s ∷ ss) i count next within is more counted =
+    omega (arith, ap (λ (l : List StreamState). length l) (due_here is_new (s ∷ ss) i s true within is), more, counted)
+
+pub count_none : (is_new : Bool) (ss : List StreamState) (i count next : ℕ) → i < length ss → is_first_due is_new (drop i ss) ≡ false → next ≡ count
+    → count + length (due_streams is_new (drop i ss)) ≡ length (due_streams is_new ss) → next + length (due_streams is_new (drop (i + 1) ss)) ≡ length (due_streams is_new ss)
+count_none is_new [] i count next within is same counted = absurd (omega (arith, within))
+count_none is_new (s ∷ ss) i count next within is same counted =
+    omega (arith, ap (λ (l : List StreamState). length l) (due_here is_new (s ∷ ss) i s false within is), same, counted)
+
 -- ---- blocks
 
-bytes_with : (o : Option ReportBlock) (bs : List ReportBlock) → bytes_of (blocks_with o bs) ≡ bytes_if o ++ bytes_of bs
+take_first : (room : ℕ) (s : StreamState) (ss : List StreamState) → 1 ≤ room → take room (s ∷ ss) ≡ s ∷ take (room - 1) ss
+take_first zero s ss some = absurd (omega (arith, some))
+take_first (suc n) s ss some = refl
+
+bytes_with : (o : Option ReportBlock) (bs : List ReportBlock) → bytes_of (cons_option o bs) ≡ bytes_if o ++ bytes_of bs
 bytes_with None bs = refl
 bytes_with (Some b) bs = refl
 
-bytes_first : (is_new : Bool) (room tick_rate now : ℕ) (s : StreamState) (ss : List StreamState) (b : Bool) → is_chosen is_new room s ss ≡ b
-    → bytes_of (blocks_of is_new room tick_rate now (s ∷ ss)) ≡ bytes_of (blocks_if b tick_rate now s (blocks_of is_new (room_after b room) tick_rate now ss))
-bytes_first is_new room tick_rate now s ss b is = ap (λ (c : Bool). bytes_of (blocks_if c tick_rate now s (blocks_of is_new (room_after c room) tick_rate now ss))) is
+-- what makes a stream one of this report
+chosen_parts : (is_new : Bool) (room : ℕ) (l : List StreamState) → is_first_chosen is_new room l ≡ true → (1 ≤ room) × (is_first_due is_new l ≡ true)
+chosen_parts is_new room [] is = absurd cc
+chosen_parts is_new room (s ∷ later) is =
+    let both = and_parts (leb 1 room) (is_due is_new s later) is in
+    (leb-true 1 room both.0, both.1)
 
 -- the stream at a place gave its block
 pub block_more : (is_new : Bool) (room left tick_rate now : ℕ) (ss : List StreamState) (i : ℕ) (s : StreamState) (a b : List ℕ) → i < length ss → s ≡ get_or ss i s → is_first_chosen is_new room (drop i ss) ≡ true → left ≡ room - 1
@@ -27,47 +58,51 @@ pub block_more : (is_new : Bool) (room left tick_rate now : ℕ) (ss : List Stre
 block_more is_new room left tick_rate now ss i s a b within at is less more =
     let rest : List StreamState = drop (i + 1) ss in
     let others : List ℕ = bytes_of (blocks_of is_new (room - 1) tick_rate now rest) in
-    let front : drop i ss ≡ s ∷ rest = drop_more ss i s within ∙ ap (λ (x : StreamState). x ∷ rest) (sym at) in
-    let has : is_chosen is_new room s rest ≡ true = ap (λ (l : List StreamState). is_first_chosen is_new room l) (sym front) ∙ is in
-    let whole : bytes_of (blocks_of is_new room tick_rate now (s ∷ rest)) ≡ bytes_if (block_of tick_rate now s) ++ others =
-    bytes_first is_new room tick_rate now s rest true has ∙ bytes_with (block_of tick_rate now s) (blocks_of is_new (room - 1) tick_rate now rest) in
+    let parts = chosen_parts is_new room (drop i ss) is in
+    let due : due_streams is_new (drop i ss) ≡ s ∷ due_streams is_new rest = due_here is_new ss i s true within parts.1 ∙ ap (λ (x : StreamState). x ∷ due_streams is_new rest) (sym at) in
+    let front : take room (due_streams is_new (drop i ss)) ≡ s ∷ take (room - 1) (due_streams is_new rest) =
+    ap (λ (l : List StreamState). take room l) due ∙ take_first room s (due_streams is_new rest) parts.0 in
+    let whole : bytes_of (blocks_of is_new room tick_rate now (drop i ss)) ≡ bytes_if (block_of tick_rate now s) ++ others =
+    ap (λ (l : List StreamState). bytes_of (filter_map (block_of tick_rate now) l)) front ∙ bytes_with (block_of tick_rate now s) (blocks_of is_new (room - 1) tick_rate now rest) in
     ap (λ (n : ℕ). b ++ bytes_of (blocks_of is_new n tick_rate now rest)) less
     ∙ ap (λ (l : List ℕ). l ++ others) more
     ∙ append_assoc a (bytes_if (block_of tick_rate now s)) others
     ∙ ap (λ (l : List ℕ). a ++ l) (sym whole)
-    ∙ ap (λ (l : List StreamState). a ++ bytes_of (blocks_of is_new room tick_rate now l)) (sym front)
 
-none_at : (is_new : Bool) (room tick_rate now : ℕ) (ss : List StreamState) (i : ℕ) (d : StreamState) (a b : List ℕ) → i < length ss → is_first_chosen is_new room (drop i ss) ≡ false → b ≡ a
-    → b ++ bytes_of (blocks_of is_new room tick_rate now (drop (i + 1) ss)) ≡ a ++ bytes_of (blocks_of is_new room tick_rate now (drop i ss))
-none_at is_new room tick_rate now ss i d a b within is same =
-    let rest : List StreamState = drop (i + 1) ss in
-    let front : drop i ss ≡ get_or ss i d ∷ rest = drop_more ss i d within in
-    let has : is_chosen is_new room (get_or ss i d) rest ≡ false = ap (λ (l : List StreamState). is_first_chosen is_new room l) (sym front) ∙ is in
-    ap (λ (l : List ℕ). l ++ bytes_of (blocks_of is_new room tick_rate now rest)) same
-    ∙ ap (λ (l : List ℕ). a ++ l) (sym (bytes_first is_new room tick_rate now (get_or ss i d) rest false has))
-    ∙ ap (λ (l : List StreamState). a ++ bytes_of (blocks_of is_new room tick_rate now l)) (sym front)
+none_in : (room : ℕ) (b : Bool) (s : StreamState) (ss : List StreamState) → (leb 1 room && b) ≡ false → take room (due_if b s ss) ≡ take room ss
+none_in zero b s ss is = refl
+none_in (suc n) true s ss is = absurd cc
+none_in (suc n) false s ss is = refl
 
--- the stream at a place is not reported
+none_first : (is_new : Bool) (room : ℕ) (l : List StreamState) (s : StreamState) (later : List StreamState) → l ≡ s ∷ later → is_first_chosen is_new room l ≡ false
+    → take room (due_streams is_new l) ≡ take room (due_streams is_new later)
+none_first is_new room l s later front is =
+    ap (λ (x : List StreamState). take room (due_streams is_new x)) front
+    ∙ none_in room (is_due is_new s later) s (due_streams is_new later) (ap (λ (x : List StreamState). is_first_chosen is_new room x) (sym front) ∙ is)
+
+-- the stream at a place gave no block
 pub block_none : (is_new : Bool) (room left tick_rate now : ℕ) (ss : List StreamState) (i : ℕ) (a b : List ℕ) → i < length ss → is_first_chosen is_new room (drop i ss) ≡ false → left ≡ room → b ≡ a
     → b ++ bytes_of (blocks_of is_new left tick_rate now (drop (i + 1) ss)) ≡ a ++ bytes_of (blocks_of is_new room tick_rate now (drop i ss))
 block_none is_new room left tick_rate now [] i a b within is stays same = absurd (omega (arith, within))
 block_none is_new room left tick_rate now (s ∷ ss) i a b within is stays same =
-    ap (λ (n : ℕ). b ++ bytes_of (blocks_of is_new n tick_rate now (drop (i + 1) (s ∷ ss)))) stays ∙ none_at is_new room tick_rate now (s ∷ ss) i s a b within is same
+    let rest : List StreamState = drop (i + 1) (s ∷ ss) in
+    let front : drop i (s ∷ ss) ≡ get_or (s ∷ ss) i s ∷ rest = drop_more (s ∷ ss) i s within in
+    ap (λ (n : ℕ). b ++ bytes_of (blocks_of is_new n tick_rate now rest)) stays
+    ∙ ap (λ (l : List ℕ). l ++ bytes_of (blocks_of is_new room tick_rate now rest)) same
+    ∙ ap (λ (l : List StreamState). a ++ bytes_of (filter_map (block_of tick_rate now) l)) (sym (none_first is_new room (drop i (s ∷ ss)) (get_or (s ∷ ss) i s) rest front is))
 
-with_few : (o : Option ReportBlock) (bs : List ReportBlock) (room : ℕ) → length bs ≤ room - 1 → 1 ≤ room → length (blocks_with o bs) ≤ room
-with_few None bs room few some = omega (arith, few)
-with_few (Some b) bs room few some = omega (arith, few, some)
-
-if_few : (b : Bool) (tick_rate now : ℕ) (s : StreamState) (bs : List ReportBlock) (room : ℕ) → length bs ≤ room_after b room → (b ≡ true → 1 ≤ room) → length (blocks_if b tick_rate now s bs) ≤ room
-if_few true tick_rate now s bs room few some = with_few (block_of tick_rate now s) bs room few (some refl)
-if_few false tick_rate now s bs room few some = few
+few_of : (tick_rate now : ℕ) (ss : List StreamState) → length (filter_map (block_of tick_rate now) ss) ≤ length ss
+few_of tick_rate now [] = omega arith
+few_of tick_rate now (s ∷ ss) = with_few (block_of tick_rate now s) (filter_map (block_of tick_rate now) ss) (length ss) (few_of tick_rate now ss)
+  where
+    with_few : (o : Option ReportBlock) (bs : List ReportBlock) (n : ℕ) → length bs ≤ n → length (cons_option o bs) ≤ suc n
+    with_few None bs n few = omega (arith, few)
+    with_few (Some b) bs n few = omega (arith, few)
 
 -- no more blocks than there is room for
 pub few_blocks : (is_new : Bool) (room tick_rate now : ℕ) (ss : List StreamState) → length (blocks_of is_new room tick_rate now ss) ≤ room
-few_blocks is_new room tick_rate now [] = omega arith
-few_blocks is_new room tick_rate now (s ∷ ss) =
-    if_few (is_chosen is_new room s ss) tick_rate now s _ room (few_blocks is_new (room_after (is_chosen is_new room s ss) room) tick_rate now ss)
-    (λ is. leb-true 1 room (and_parts (leb 1 room) (is_due is_new s ss) is).0)
+few_blocks is_new room tick_rate now ss =
+    omega (arith, few_of tick_rate now (take room (due_streams is_new ss)), length-take room (due_streams is_new ss))
 
 -- ---- fractions
 
@@ -93,50 +128,61 @@ pub all_mixed : (is_new : Bool) (room : ℕ) (ts whole : List StreamState) (i : 
 all_mixed is_new room ts whole i end made =
     sym (append-nil ts) ∙ ap (λ (l : List StreamState). l ++ []) (sym (take_all i ts end)) ∙ ap (λ (l : List StreamState). take i ts ++ all_reported is_new room l) (sym (drop_all i ts end)) ∙ made
 
--- ---- how many streams are reported
+-- ---- turns
 
--- one more place
-count_at : (ss : List StreamState) (i : ℕ) (d : StreamState) (b : Bool) → i < length ss → b ≡ is_first_reported (drop i ss) → one_if b + reported_count (drop (i + 1) ss) ≡ reported_count (drop i ss)
-count_at ss i d b within is =
-    let front : drop i ss ≡ get_or ss i d ∷ drop (i + 1) ss = drop_more ss i d within in
-    ap (λ (c : Bool). one_if c + reported_count (drop (i + 1) ss)) (is ∙ ap (λ (l : List StreamState). is_first_reported l) front) ∙ sym (ap (λ (l : List StreamState). reported_count l) front)
+-- a report changes neither who is announced nor any SSRC
+same_if : (b is_new : Bool) (s : StreamState) → ((reported_if b is_new s).told ≡ s.told) × ((reported_if b is_new s).ssrc ≡ s.ssrc)
+same_if true is_new s = (refl, refl)
+same_if false is_new s = (refl, refl)
 
-pub count_more : (ss : List StreamState) (i : ℕ) (b : Bool) → i < length ss → b ≡ is_first_reported (drop i ss) → one_if b + reported_count (drop (i + 1) ss) ≡ reported_count (drop i ss)
-count_more [] i b within is = absurd (omega (arith, within))
-count_more (s ∷ ss) i b within is = count_at (s ∷ ss) i s b within is
+same_announced : (ssrc : ℕ) (is_new : Bool) (room : ℕ) (ss : List StreamState) → has_announced ssrc (all_reported is_new room ss) ≡ has_announced ssrc ss
+same_announced ssrc is_new room [] = refl
+same_announced ssrc is_new room (s ∷ ss) =
+    let b : Bool = is_chosen is_new room s ss in
+    let it = same_if b is_new s in
+    ap (λ (t : Bool). (t && ((reported_if b is_new s).ssrc == ssrc)) || has_announced ssrc (all_reported is_new (room_after b room) ss)) it.0
+    ∙ ap (λ (n : ℕ). (s.told && (n == ssrc)) || has_announced ssrc (all_reported is_new (room_after b room) ss)) it.1
+    ∙ ap (λ (t : Bool). (s.told && (s.ssrc == ssrc)) || t) (same_announced ssrc is_new (room_after b room) ss)
 
-pub count_one : (ss : List StreamState) (i count : ℕ) (next : ℕ) → i < length ss → is_first_reported (drop i ss) ≡ true → next ≡ count + 1 → count + reported_count (drop i ss) ≡ reported_count ss
-    → next + reported_count (drop (i + 1) ss) ≡ reported_count ss
-count_one ss i count next within is more counted =
-    let one : 1 + reported_count (drop (i + 1) ss) ≡ reported_count (drop i ss) = count_more ss i true within (sym is) in
-    omega (arith, one, more, counted)
+same_reported : (b is_new : Bool) (room : ℕ) (s : StreamState) (ss : List StreamState) → is_reported (reported_if b is_new s) (all_reported is_new room ss) ≡ is_reported s ss
+same_reported b is_new room s ss =
+    let it = same_if b is_new s in
+    ap (λ (t : Bool). t && not (has_announced (reported_if b is_new s).ssrc (all_reported is_new room ss))) it.0
+    ∙ ap (λ (n : ℕ). s.told && not (has_announced n (all_reported is_new room ss))) it.1
+    ∙ ap (λ (t : Bool). s.told && not t) (same_announced s.ssrc is_new room ss)
 
-pub count_none : (ss : List StreamState) (i count : ℕ) (next : ℕ) → i < length ss → is_first_reported (drop i ss) ≡ false → next ≡ count → count + reported_count (drop i ss) ≡ reported_count ss
-    → next + reported_count (drop (i + 1) ss) ≡ reported_count ss
-count_none ss i count next within is same counted =
-    let none : 0 + reported_count (drop (i + 1) ss) ≡ reported_count (drop i ss) = count_more ss i false within (sym is) in
-    omega (arith, none, same, counted)
+-- a stream of this report is not due again in its round
+not_again : (reported : Bool) → (reported && (false || not true)) ≡ false
+not_again true = refl
+not_again false = refl
 
--- the stream at a place is not due
-none_due_at : (ss : List StreamState) (i : ℕ) (d : StreamState) → i < length ss → is_first_due false (drop i ss) ≡ false → any_due (drop (i + 1) ss) ≡ any_due (drop i ss)
-none_due_at ss i d within is =
-    let front : drop i ss ≡ get_or ss i d ∷ drop (i + 1) ss = drop_more ss i d within in
-    let no : is_due false (get_or ss i d) (drop (i + 1) ss) ≡ false = ap (λ (l : List StreamState). is_first_due false l) (sym front) ∙ is in
-    sym (ap (λ (l : List StreamState). any_due l) front ∙ ap (λ (b : Bool). b || any_due (drop (i + 1) ss)) no)
+-- another stream is due as before
+as_before : (reported is_new was : Bool) → (reported && (false || not (not is_new && was))) ≡ (reported && (is_new || not was))
+as_before true true was = refl
+as_before true false was = refl
+as_before false is_new was = refl
 
-pub none_due : (ss : List StreamState) (i : ℕ) → i < length ss → is_first_due false (drop i ss) ≡ false → any_due (drop (i + 1) ss) ≡ any_due (drop i ss)
-none_due [] i within is = absurd (omega (arith, within))
-none_due (s ∷ ss) i within is = none_due_at (s ∷ ss) i s within is
+due_again : (b is_new : Bool) (room : ℕ) (s : StreamState) (ss : List StreamState)
+    → is_due false (reported_if b is_new s) (all_reported is_new room ss) ≡ cond b false (is_due is_new s ss)
+due_again true is_new room s ss =
+    ap (λ (r : Bool). r && (false || not true)) (same_reported true is_new room s ss) ∙ not_again (is_reported s ss)
+due_again false is_new room s ss =
+    ap (λ (r : Bool). r && (false || not (not is_new && s.was_reported))) (same_reported false is_new room s ss) ∙ as_before (is_reported s ss) is_new s.was_reported
 
-some_due_at : (ss : List StreamState) (i : ℕ) (d : StreamState) → i < length ss → is_first_due false (drop i ss) ≡ true → any_due (drop i ss) ≡ true
-some_due_at ss i d within is =
-    let front : drop i ss ≡ get_or ss i d ∷ drop (i + 1) ss = drop_more ss i d within in
-    let yes : is_due false (get_or ss i d) (drop (i + 1) ss) ≡ true = ap (λ (l : List StreamState). is_first_due false l) (sym front) ∙ is in
-    ap (λ (l : List StreamState). any_due l) front ∙ ap (λ (b : Bool). b || any_due (drop (i + 1) ss)) yes
+one_fewer : (due : Bool) (room : ℕ) (s t : StreamState) (rest left : List StreamState) → length left ≡ length rest - room_after (leb 1 room && due) room
+    → length (due_if (cond (leb 1 room && due) false due) t left) ≡ length (due_if due s rest) - room
+one_fewer true zero s t rest left fewer = omega (arith, fewer)
+one_fewer true (suc room) s t rest left fewer = omega (arith, fewer)
+one_fewer false zero s t rest left fewer = omega (arith, fewer)
+one_fewer false (suc room) s t rest left fewer = omega (arith, fewer)
 
-pub some_due : (ss : List StreamState) (i : ℕ) → i < length ss → is_first_due false (drop i ss) ≡ true → any_due (drop i ss) ≡ true
-some_due [] i within is = absurd (omega (arith, within))
-some_due (s ∷ ss) i within is = some_due_at (s ∷ ss) i s within is
+pub take_turns : (is_new : Bool) (room : ℕ) (ss : List StreamState) → length (due_streams false (all_reported is_new room ss)) ≡ length (due_streams is_new ss) - room
+take_turns is_new room [] = omega arith
+take_turns is_new room (s ∷ ss) =
+    let b : Bool = is_chosen is_new room s ss in
+    let left : List StreamState = due_streams false (all_reported is_new (room_after b room) ss) in
+    ap (λ (c : Bool). length (due_if c (reported_if b is_new s) left)) (due_again b is_new (room_after b room) s ss)
+    ∙ one_fewer (is_due is_new s ss) room s (reported_if b is_new s) (due_streams is_new ss) left (take_turns is_new (room_after b room) ss)
 
 -- ---- a report is sent
 

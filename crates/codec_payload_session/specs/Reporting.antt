@@ -1,7 +1,7 @@
 -- The receiver reports that a session sends by itself (RFC 3550, sections 6.1 and 6.4.2).
-use Rattle.std.specs.Prelude.{◌≡◌, ◌≤◌, ℕ, zero, suc, ◌+◌, ◌-◌, ◌*◌, ◌/◌, ◌%◌, max, min, ◌==◌, ◌&&◌, ◌||◌, not, nat_le, Bool, true, false, List, [], ◌∷◌, ◌++◌, map, Option, Some, None, Result, Ok, Err, length}
+use Rattle.std.specs.Prelude.{◌≡◌, ◌≤◌, ℕ, zero, suc, ◌+◌, ◌-◌, ◌*◌, ◌/◌, ◌%◌, max, min, ◌==◌, ◌&&◌, ◌||◌, not, nat_le, Bool, true, false, List, [], ◌∷◌, ◌++◌, map, take, Option, Some, None, Result, Ok, Err, length}
 use Rattle.std.specs.Global.{Vec}
-use Rattle.std.specs.List.{flat_map}
+use Rattle.std.specs.List.{filter_map, flat_map}
 use Rattle.std.specs.declared.alloc.AllocError.{AllocError}
 use Rattle.codec_payload_feedback.specs.Feedback.{AppendsAll, cname_part}
 use Rattle.codec_payload_rtcp.specs.RtcpItems.{block_bytes}
@@ -38,25 +38,25 @@ abbrev pub is_first_due : Bool → List StreamState → Bool
 is_first_due is_new [] = false
 is_first_due is_new (s ∷ later) = is_due is_new s later
 
-abbrev pub any_due : List StreamState → Bool
-any_due [] = false
-any_due (s ∷ ss) = is_due false s ss || any_due ss
+abbrev pub due_if : Bool → StreamState → List StreamState → List StreamState
+due_if true s ss = s ∷ ss
+due_if false s ss = ss
 
-abbrev pub one_if : Bool → ℕ
-one_if true = 1
-one_if false = 0
-
--- how many streams are reported
-abbrev pub reported_count : List StreamState → ℕ
-reported_count [] = 0
-reported_count (s ∷ ss) = one_if (is_reported s ss) + reported_count ss
+-- the streams that this round of reports had no block about, in the order in which they began; in a new round all that are reported
+abbrev pub due_streams : Bool → List StreamState → List StreamState
+due_streams is_new [] = []
+due_streams is_new (s ∷ later) = due_if (is_due is_new s later) s (due_streams is_new later)
 
 -- a new round of reports begins with each report that has room for all streams, and once no stream is left that this round had no
 -- block about
 abbrev pub is_new_round : ℕ → List StreamState → Bool
-is_new_round room ss = nat_le (reported_count ss) room || not (any_due ss)
+is_new_round room ss = nat_le (length (due_streams true ss)) room || (length (due_streams false ss) == 0)
 
--- the stream has a block, if the report has room for one
+-- the blocks about the first of these streams, for as many as there is room; a stream of which nothing came has none
+abbrev pub blocks_of : Bool → ℕ → ℕ → ℕ → List StreamState → List ReportBlock
+blocks_of is_new room tick_rate now ss = filter_map (block_of tick_rate now) (take room (due_streams is_new ss))
+
+-- the stream is due, and the report has room for it
 abbrev pub is_chosen : Bool → ℕ → StreamState → List StreamState → Bool
 is_chosen is_new room s later = nat_le 1 room && is_due is_new s later
 
@@ -68,20 +68,6 @@ abbrev pub room_after : Bool → ℕ → ℕ
 room_after true room = room - 1
 room_after false room = room
 
-abbrev pub blocks_with : Option ReportBlock → List ReportBlock → List ReportBlock
-blocks_with None bs = bs
-blocks_with (Some b) bs = b ∷ bs
-
-abbrev pub blocks_if : Bool → ℕ → ℕ → StreamState → List ReportBlock → List ReportBlock
-blocks_if true tick_rate now s bs = blocks_with (block_of tick_rate now s) bs
-blocks_if false tick_rate now s bs = bs
-
--- the blocks about the first due streams that have one, for as many streams as there is room, in the order in which they began
-abbrev pub blocks_of : Bool → ℕ → ℕ → ℕ → List StreamState → List ReportBlock
-blocks_of is_new room tick_rate now [] = []
-blocks_of is_new room tick_rate now (s ∷ ss) =
-    blocks_if (is_chosen is_new room s ss) tick_rate now s (blocks_of is_new (room_after (is_chosen is_new room s ss) room) tick_rate now ss)
-
 -- the next report of a reported stream starts its fraction here
 abbrev pub reported_if : Bool → Bool → StreamState → StreamState
 reported_if true is_new s = record (reported_by s) { was_reported = true }
@@ -91,6 +77,11 @@ reported_if false is_new s = record s { was_reported = not is_new && s.was_repor
 abbrev pub all_reported : Bool → ℕ → List StreamState → List StreamState
 all_reported is_new room [] = []
 all_reported is_new room (s ∷ ss) = reported_if (is_chosen is_new room s ss) is_new s ∷ all_reported is_new (room_after (is_chosen is_new room s ss) room) ss
+
+-- a report takes as many streams off its round as it has room for; so while no stream begins or ends, n streams have a block each in
+-- n / room reports, rounded up
+abbrev pub TakeTurns : Type 0
+TakeTurns = (is_new : Bool) (room : ℕ) (ss : List StreamState) → length (due_streams false (all_reported is_new room ss)) ≡ length (due_streams is_new ss) - room
 
 -- ---- the packet
 

@@ -4,7 +4,7 @@
 ghost use Rattle.std.specs.Prelude.{◌≡◌, ◌++◌, ◌+◌, ◌*◌, min, ◌<◌, ◌≤◌, ◌%◌, drop, max, IfErr, IfOk, IfSome, OnOk, length};
 ghost use Rattle.codec_payload_feedback.specs.Feedback.{AppendsAll, cname_by, cname_part};
 ghost use Rattle.codec_payload_rtcp.specs.RtcpWriting.{Appends};
-ghost use Rattle.codec_payload_session.specs.Reporting.{AppendsGroups, IsReport, ReportsBy, ReportsEach, all_reported, any_announced, any_due, blocks_of, blocks_within, bytes_if, bytes_of, due_after, has_announced, is_first_chosen, is_first_due, is_first_reported, is_new_round, is_report_due, is_time, most_blocks, reported_count, room_after, name_length, planned, report_deadline, report_of_group, reported_if};
+ghost use Rattle.codec_payload_session.specs.Reporting.{AppendsGroups, IsReport, ReportsBy, ReportsEach, TakeTurns, all_reported, any_announced, blocks_of, blocks_within, bytes_if, bytes_of, due_after, due_streams, has_announced, is_first_chosen, is_first_due, is_first_reported, is_new_round, is_report_due, is_time, most_blocks, name_length, planned, report_deadline, report_of_group, reported_if, room_after};
 ghost use Rattle.codec_payload_session.specs.Reports.{block_of};
 ghost use Rattle.codec_payload_session.specs.Requests.{source_for};
 ghost use Rattle.codec_payload_session.specs.Streams.{later};
@@ -23,6 +23,11 @@ use std::alloc::{AllocError, Global};
 
 /// The bytes of the 31 blocks that a receiver report holds at most.
 const MOST_BYTES: usize = 31 * 24;
+
+/// Each report takes as many streams off its round as it has room for, so each stream has its turn.
+pub fn reports_take_turns()
+    ensures { TakeTurns }
+{}
 
 /// Which streams the next report is about.
 #[derive(Clone, Copy)]
@@ -72,7 +77,7 @@ impl Streams {
         Some(packet)
     }
 
-    /// Returns the packet with the blocks of the streams whose turn it is. If memory runs out, nothing has changed.
+    /// Returns the packet with the blocks of the first streams that are due. If memory runs out, nothing has changed.
     fn report_all(
         &mut self,
         feedback: &FeedbackSettings,
@@ -227,25 +232,13 @@ fn is_chosen(streams: &[StreamState], place: usize, is_new: bool, room: usize) -
     room > 0 && is_due(streams, place, is_new)
 }
 
-/// Returns whether a stream is left that this round had no block about.
-fn any_due(streams: &[StreamState]) -> bool
-    ensures { result ≡ any_due streams.now }
-{
-    for place in 0..streams.len() {
-        if is_due(streams, place, false) {
-            return true;
-        }
-    }
-    false
-}
-
-/// Returns how many streams are reported.
-fn reported_count(streams: &[StreamState]) -> usize
-    ensures { result ≡ reported_count streams.now }
+/// Returns how many streams this round had no block about, or in a new round how many are reported.
+fn due_count(streams: &[StreamState], is_new: bool) -> usize
+    ensures { result ≡ length (due_streams is_new streams.now) }
 {
     let mut count = 0;
     for place in 0..streams.len() {
-        if is_reported(streams, place) {
+        if is_due(streams, place, is_new) {
             count += 1;
         }
     }
@@ -253,13 +246,13 @@ fn reported_count(streams: &[StreamState]) -> usize
 }
 
 /// Returns which streams the next report is about, if it has room for so many: all streams, if there is room for all or the round
-/// is over, else those that had no block in this round.
+/// has ended, else those that had no block in this round.
 fn next_round(streams: &[StreamState], room: usize) -> Round
     ensures is_new { result.is_new ≡ is_new_round room streams.now }
     ensures room { result.room ≡ room }
 {
     Round {
-        is_new: reported_count(streams) <= room || !any_due(streams),
+        is_new: due_count(streams, true) <= room || due_count(streams, false) == 0,
         room,
     }
 }
@@ -291,7 +284,7 @@ fn most_blocks(feedback: &FeedbackSettings) -> usize
     blocks_within(feedback.max_report.saturating_sub(name)).max(1)
 }
 
-/// Appends the blocks about the streams whose turn it is.
+/// Appends the blocks about the first streams that are due.
 fn append_blocks(
     streams: &[StreamState],
     round: Round,
@@ -337,7 +330,7 @@ fn room_after(is_chosen: bool, room: usize) -> usize
     }
 }
 
-/// Starts the fraction of the next report of each stream here whose turn it is.
+/// Starts the fraction of the next report here, for each stream that this report is about.
 fn start_fractions(streams: &mut [StreamState], round: Round)
     ensures { streams.new ≡ all_reported round.is_new round.room streams.old }
 {

@@ -63,7 +63,7 @@ impl Streams {
         Some(packet)
     }
 
-    /// Returns the packet with the blocks of the streams whose turn it is. If memory runs out, nothing has changed.
+    /// Returns the packet with the blocks of the first streams that are due. If memory runs out, nothing has changed.
     fn report_all(
         &mut self,
         feedback: &FeedbackSettings,
@@ -190,21 +190,11 @@ fn is_chosen(streams: &[StreamState], place: usize, is_new: bool, room: usize) -
     room > 0 && is_due(streams, place, is_new)
 }
 
-/// Returns whether a stream is left that this round had no block about.
-fn any_due(streams: &[StreamState]) -> bool {
-    for place in 0..streams.len() {
-        if is_due(streams, place, false) {
-            return true;
-        }
-    }
-    false
-}
-
-/// Returns how many streams are reported.
-fn reported_count(streams: &[StreamState]) -> usize {
+/// Returns how many streams this round had no block about, or in a new round how many are reported.
+fn due_count(streams: &[StreamState], is_new: bool) -> usize {
     let mut count = 0;
     for place in 0..streams.len() {
-        if is_reported(streams, place) {
+        if is_due(streams, place, is_new) {
             count += 1;
         }
     }
@@ -212,10 +202,10 @@ fn reported_count(streams: &[StreamState]) -> usize {
 }
 
 /// Returns which streams the next report is about, if it has room for so many: all streams, if there is room for all or the round
-/// is over, else those that had no block in this round.
+/// has ended, else those that had no block in this round.
 fn next_round(streams: &[StreamState], room: usize) -> Round {
     Round {
-        is_new: reported_count(streams) <= room || !any_due(streams),
+        is_new: due_count(streams, true) <= room || due_count(streams, false) == 0,
         room,
     }
 }
@@ -240,7 +230,7 @@ fn most_blocks(feedback: &FeedbackSettings) -> usize {
     blocks_within(feedback.max_report.saturating_sub(name)).max(1)
 }
 
-/// Appends the blocks about the streams whose turn it is.
+/// Appends the blocks about the first streams that are due.
 fn append_blocks(
     streams: &[StreamState],
     round: Round,
@@ -280,7 +270,7 @@ fn room_after(is_chosen: bool, room: usize) -> usize {
     }
 }
 
-/// Starts the fraction of the next report of each stream here whose turn it is.
+/// Starts the fraction of the next report here, for each stream that this report is about.
 fn start_fractions(streams: &mut [StreamState], round: Round) {
     let mut room = round.room;
     for place in 0..streams.len() {

@@ -1,4 +1,4 @@
-//! A description as text: what `c/descriptions.c` prints of it.
+//! A description as text: what `c/tests/descriptions.c` prints of it.
 
 use codec_payload::Codec;
 use codec_payload::sdp::{self, Format, Kind, Media, Role, SessionError};
@@ -289,7 +289,7 @@ fn drawn(seed: &mut u32, below: usize) -> usize {
     (*seed >> 8) as usize % below
 }
 
-/// Copies a description with one to eight changes: those of `c/descriptions.c`.
+/// Copies a description with one to eight changes: those of `c/tests/descriptions.c`.
 pub fn changed(given: &str, mut seed: u32) -> String {
     const BYTES: &[u8] = b"0123456789:/;= *\n\ram\t-";
     let mut bytes = given.as_bytes().to_vec();

@@ -1,4 +1,4 @@
-//! Session descriptions: `c/sdp` has descriptions of Chromium, Firefox, GStreamer and pion, examples of the RFCs, and sections that
+//! Session descriptions: `c/tests/sdp` has descriptions of Chromium, Firefox, GStreamer and pion, examples of the RFCs, and sections that
 //! join formats. What is read
 //! of each was written by hand after the RFCs, as was the table of faults.
 
@@ -10,28 +10,28 @@ use dump::{changed, dump};
 
 const DESCRIPTIONS: [(&str, &str); 6] = [
     (
-        include_str!("../../../c/sdp/chromium.sdp"),
-        include_str!("../../../c/sdp/chromium.txt"),
+        include_str!("../../../c/tests/sdp/chromium.sdp"),
+        include_str!("../../../c/tests/sdp/chromium.txt"),
     ),
     (
-        include_str!("../../../c/sdp/firefox.sdp"),
-        include_str!("../../../c/sdp/firefox.txt"),
+        include_str!("../../../c/tests/sdp/firefox.sdp"),
+        include_str!("../../../c/tests/sdp/firefox.txt"),
     ),
     (
-        include_str!("../../../c/sdp/gstreamer.sdp"),
-        include_str!("../../../c/sdp/gstreamer.txt"),
+        include_str!("../../../c/tests/sdp/gstreamer.sdp"),
+        include_str!("../../../c/tests/sdp/gstreamer.txt"),
     ),
     (
-        include_str!("../../../c/sdp/pion.sdp"),
-        include_str!("../../../c/sdp/pion.txt"),
+        include_str!("../../../c/tests/sdp/pion.sdp"),
+        include_str!("../../../c/tests/sdp/pion.txt"),
     ),
     (
-        include_str!("../../../c/sdp/joined.sdp"),
-        include_str!("../../../c/sdp/joined.txt"),
+        include_str!("../../../c/tests/sdp/joined.sdp"),
+        include_str!("../../../c/tests/sdp/joined.txt"),
     ),
     (
-        include_str!("../../../c/sdp/rfcs.sdp"),
-        include_str!("../../../c/sdp/rfcs.txt"),
+        include_str!("../../../c/tests/sdp/rfcs.sdp"),
+        include_str!("../../../c/tests/sdp/rfcs.txt"),
     ),
 ];
 
@@ -45,7 +45,7 @@ fn descriptions_of_peers() {
 #[test]
 fn faults() {
     let mut rows = 0;
-    for row in include_str!("../../../c/sdp/faults.txt").lines() {
+    for row in include_str!("../../../c/tests/sdp/faults.txt").lines() {
         if row.is_empty() || row.starts_with('#') {
             continue;
         }

@@ -45,7 +45,7 @@ fn dump(text: &str) -> Vec<String> {
 
 #[test]
 fn chromium() {
-    let text = include_str!("../../../c/sdp/chromium.sdp");
+    let text = include_str!("../../../c/tests/sdp/chromium.sdp");
     let wanted = [
         "111 Opus/48000 red 63/960",
         "9 G722/8000",
@@ -88,7 +88,10 @@ fn firefox() {
         "pair 3310425182 44369015",
         "wait 100 200",
     ];
-    assert_eq!(dump(include_str!("../../../c/sdp/firefox.sdp")), wanted);
+    assert_eq!(
+        dump(include_str!("../../../c/tests/sdp/firefox.sdp")),
+        wanted
+    );
 }
 
 #[test]
@@ -102,7 +105,10 @@ fn gstreamer() {
         "pair 2222 178515863",
         "wait 200 200",
     ];
-    assert_eq!(dump(include_str!("../../../c/sdp/gstreamer.sdp")), wanted);
+    assert_eq!(
+        dump(include_str!("../../../c/tests/sdp/gstreamer.sdp")),
+        wanted
+    );
 }
 
 #[test]
@@ -119,7 +125,7 @@ fn pion() {
         "telephone events []",
         "wait 100 200",
     ];
-    assert_eq!(dump(include_str!("../../../c/sdp/pion.sdp")), wanted);
+    assert_eq!(dump(include_str!("../../../c/tests/sdp/pion.sdp")), wanted);
 }
 
 fn packet(payload_type: u8, ssrc: u32, number: u8, payload: &[u8]) -> Vec<u8> {
@@ -143,7 +149,7 @@ fn stream(session: &mut Session, datagram: &[u8]) -> Result<Option<(u32, u8)>, F
 /// Packets as Chromium sends them: VP8, its retransmission, and Opus in RED (RFC 2198: 0x6f is the header of the primary block).
 #[test]
 fn a_session_of_chromium() -> Result<(), Fail> {
-    let text = include_str!("../../../c/sdp/chromium.sdp");
+    let text = include_str!("../../../c/tests/sdp/chromium.sdp");
     let (video, again, audio) = (27_689_401, 1_659_217_349, 3_859_731_468);
     let mut session = Session::new(settings(text)?).expect("settings that can be met");
     let vp8 = packet(96, video, 1, &[0x10, 1]);
@@ -225,7 +231,7 @@ fn faults_by_name() {
 #[test]
 fn clashes() {
     let mut rows = 0;
-    for row in include_str!("../../../c/sdp/clashes.txt").lines() {
+    for row in include_str!("../../../c/tests/sdp/clashes.txt").lines() {
         if row.is_empty() || row.starts_with('#') {
             continue;
         }
@@ -296,8 +302,8 @@ fn red_over_a_format() {
 fn changed_descriptions() {
     let mut made = 0;
     for given in [
-        include_str!("../../../c/sdp/chromium.sdp"),
-        include_str!("../../../c/sdp/rfcs.sdp"),
+        include_str!("../../../c/tests/sdp/chromium.sdp"),
+        include_str!("../../../c/tests/sdp/rfcs.sdp"),
     ] {
         for seed in 0..300 {
             let text = changed(given, seed);

@@ -155,7 +155,7 @@ fn pairs_at_the_edge() -> Result<(), Fail> {
 /// own, whose `apt` is RED's. It goes to the stream as the RED packet that was lost, as the retransmission of the media itself does.
 #[test]
 fn retransmissions_of_red() -> Result<(), Fail> {
-    let text = include_str!("../../../c/sdp/gstreamer.sdp");
+    let text = include_str!("../../../c/tests/sdp/gstreamer.sdp");
     let mut settings = codec_payload::sdp::session_settings(&codec_payload::sdp::read(text)?)?;
     settings.video.start = 0;
     settings.probation = 1;
@@ -187,7 +187,7 @@ fn retransmissions_of_red() -> Result<(), Fail> {
 /// The same without a payload type of retransmissions of the media, or under an SSRC without a pair: it is not for a stream.
 #[test]
 fn retransmissions_of_red_alone() -> Result<(), Fail> {
-    let text = include_str!("../../../c/sdp/gstreamer.sdp");
+    let text = include_str!("../../../c/tests/sdp/gstreamer.sdp");
     let sections = codec_payload::sdp::read(text)?;
     let mut without = codec_payload::sdp::session_settings(&sections)?;
     without.formats[0].retransmission = None;

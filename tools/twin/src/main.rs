@@ -3,7 +3,7 @@
 //! `twin COUNT` makes COUNT random sequences of calls of packetizers, depacketizers, receivers, sessions, histories and limits of
 //! waiting each; `twin FOLDER` takes the sequences of depacketizers and receivers from the fuzzer's corpora, FOLDER/depacketize and FOLDER/receiver. `twin
 //! changed COUNT` prints what the crate reads of COUNT changed copies of the session description on its standard input, as
-//! c/descriptions.c does.
+//! c/tests/descriptions.c does.
 
 #[path = "../../../rust/tests/sdp/dump.rs"]
 mod descriptions;

@@ -1,5 +1,6 @@
 use Rattle.std.proofs.Common.{rules}
-use Rattle.codec_payload_session.proofs.PacketLemmas.{name_described, name_written}
+use Rattle.codec_payload_feedback.proofs.FeedbackLemmas.{name_described}
+use Rattle.codec_payload_session.proofs.PacketLemmas.{name_written}
 use Rattle.codec_payload_session.proofs.reporter.write_name_of.Goals as goal
 
 pub returns-clause-length : goal.returns-clause-length

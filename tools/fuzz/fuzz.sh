@@ -1,17 +1,16 @@
 #!/bin/sh
 # Fuzzes rust/ with coverage, by clang's libFuzzer.
 #
-#   scripts/fuzz.sh SECONDS [TARGET..]   runs each target of tools/fuzz for that time
+#   tools/fuzz/fuzz.sh SECONDS [TARGET..]   runs each target of tools/fuzz for that time
 #
 # Inputs are kept in tools/fuzz/target/corpus/TARGET, beside the seeds that tools/fuzz/seeds.py makes of the test vectors. An input that
 # breaks a property is kept as tools/fuzz/target/TARGET-crash-*. Needs cargo and clang with its runtime libraries (Debian:
 # libclang-rt-*-dev). The last line says how many inputs were run; the status is 0 if none failed.
 set -eu
 
-root=$(cd "$(dirname "$0")/.." && pwd)
 seconds=$1
 shift
-cd "$root/tools/fuzz"
+cd "$(dirname "$0")"
 runtime=$(find /usr/lib/llvm-*/lib/clang/ -name 'libclang_rt.fuzzer-x86_64.a' 2>/dev/null | sort | tail -n 1)
 [ -n "$runtime" ] || {
     echo "there is no libFuzzer: install clang and its libclang-rt-*-dev" >&2

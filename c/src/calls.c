@@ -1,5 +1,5 @@
 /* The calls of codec_payload.h over the proved calls, which accept a handle of any type and no NULL. Here NULL with a length of 0
- * becomes a valid pointer; NULL with another length is refused. Written by scripts/check_header.py --calls. */
+ * becomes a valid pointer; NULL with another length is refused. Written by c/check_header.py --calls. */
 #include "codec_payload.h"
 
 typedef char status_is_four_bytes[sizeof(cpay_status) == 4 ? 1 : -1];

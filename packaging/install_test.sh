@@ -1,6 +1,8 @@
 #!/bin/sh
 # Installs the library for C into a fresh folder, and builds against the installed files, as users would.
 #
+#   packaging/install_test.sh    over the library as `make` builds it; also `make check-install`
+#
 # The archive and the shared library export only the calls of the header. The example is built by pkg-config, as C and as C++,
 # against the shared library and against the archive, and by CMake if there is cmake; each prints the expected output. The same
 # for the tarball of `make dist`, unpacked elsewhere and without rt, where `make check` passes. In the end all is uninstalled,
@@ -125,7 +127,7 @@ packs() {
         cat "$work/blhc" >&2
         fail "blhc misses flags in the build of the packages"
     }
-    "$compiler" -std=c11 -I"$work/deb/usr/include" "$1/c/example.c" -L"$folder" -lcodec_payload -o "$work/packed" &&
+    "$compiler" -std=c11 -I"$work/deb/usr/include" "$1/examples/first.c" -L"$folder" -lcodec_payload -o "$work/packed" &&
         LD_LIBRARY_PATH=$folder "$work/packed" >"$work/printed" || fail "the example fails against the Debian packages"
     packed=", the Debian packages"
     if pkg-config --exists libpcap libavformat libavcodec libavutil; then
@@ -135,7 +137,7 @@ packs() {
     command -v aarch64-linux-gnu-gcc >/dev/null && command -v qemu-aarch64 >/dev/null || return 0
     packages "$1" deb-aarch64 c/out/aarch64
     folder=$(dirname "$(find "$work/deb-aarch64" -name libcodec_payload.so.0)")
-    aarch64-linux-gnu-gcc -std=c11 -I"$work/deb-aarch64/usr/include" "$1/c/example.c" -L"$folder" -lcodec_payload -o "$work/arm" &&
+    aarch64-linux-gnu-gcc -std=c11 -I"$work/deb-aarch64/usr/include" "$1/examples/first.c" -L"$folder" -lcodec_payload -o "$work/arm" &&
         qemu-aarch64 -L /usr/aarch64-linux-gnu -E LD_LIBRARY_PATH="$folder" "$work/arm" >"$work/printed" ||
         fail "the example fails against the Debian packages for arm64"
     packed="$packed and those for arm64"
@@ -162,8 +164,8 @@ installs() {
     exports "" "$prefix/lib/libcodec_payload.a"
     exports -D "$prefix/lib/libcodec_payload.so.0"
     is_protected "$prefix/lib/libcodec_payload.a" "$prefix/lib/libcodec_payload.so.0"
-    builds_by_pkg_config "$1/c/example.c"
-    builds_by_cmake "$1/c/example.c"
+    builds_by_pkg_config "$1/examples/first.c"
+    builds_by_cmake "$1/examples/first.c"
     make -s -C "$1" uninstall PREFIX="$prefix"
     [ -z "$(find "$prefix" ! -type d)" ] || fail "something is left of what was installed"
 }

@@ -1,10 +1,10 @@
 #!/bin/sh
 # Compares the ABI of the shared library with packaging/codec_payload.abi, the description of the last release's ABI.
 #
-#   scripts/abi.sh         a call, a struct or a number that is gone or changed fails; new calls, structs and numbers do not
-#   scripts/abi.sh dump    writes packaging/codec_payload.abi, with a release that has another soname, or the first of its soname
+#   packaging/abi.sh         a call, a struct or a number that is gone or changed fails; new calls, structs and numbers do not
+#   packaging/abi.sh dump    writes packaging/codec_payload.abi, with a release that has another soname, or the first of its soname
 #
-# What it compares are the exports of the library and, by the debug information of c/calls.c, their parameters, structs and numbers.
+# What it compares are the exports of the library and, by the debug information of c/src/calls.c, their parameters, structs and numbers.
 # Before it compares it finds a struct that grew, so a comparison that sees nothing fails. Needs make, a C compiler, and abidw and
 # abidiff (Debian: abigail-tools); without these it says so. docs/use/C.md has the rules. The last line says what passed.
 set -eu

@@ -1,12 +1,15 @@
 #!/usr/bin/env python3
 """Compares the header, include/codec_payload.h with codec_payload_media.h, with the exports of codec_payload_c.
 
+  c/check_header.py            compares all that stands below
+  c/check_header.py --calls    prints c/src/calls.c, as the header says
+
 The header is written by hand. This script reads both and compares every function: its name, its result, and the name and type of
 each parameter; every struct that crosses: its fields in order with their types; and the numbers of the statuses and of the codecs.
 In C each type has its own struct around a handle, so that the compiler distinguishes them. The example in the header, and in
-docs/use/C.md, is the text of c/example.c. The last line says how many functions and structs are the same; the status is 0 if all are.
+docs/use/C.md, is the text of examples/first.c. The last line says how many functions and structs are the same; the status is 0 if all are.
 
-c/calls.c, which accepts NULL with a length of 0, is the output of `check_header.py --calls`, and is compared too.
+c/src/calls.c, which accepts NULL with a length of 0, is the output of `check_header.py --calls`, and is compared too.
 """
 import os
 import re
@@ -40,7 +43,7 @@ EXPORT = re.compile(
 
 CALLS_BEGIN = """\
 /* The calls of codec_payload.h over the proved calls, which accept a handle of any type and no NULL. Here NULL with a length of 0
- * becomes a valid pointer; NULL with another length is refused. Written by scripts/check_header.py --calls. */
+ * becomes a valid pointer; NULL with another length is refused. Written by c/check_header.py --calls. */
 #include "codec_payload.h"
 
 typedef char status_is_four_bytes[sizeof(cpay_status) == 4 ? 1 : -1];
@@ -186,7 +189,7 @@ def wrapped(start, parts, end, indent):
 
 
 def calls(functions):
-    """The text of c/calls.c."""
+    """The text of c/src/calls.c."""
     text = [CALLS_BEGIN]
     for kind in KINDS:
         text.append(f"void {kind}_free({kind} *{kind.split('_')[-1]}) {{\n    if ({kind.split('_')[-1]}) "
@@ -235,13 +238,13 @@ def main():
         *differences("header: struct", structs, its_structs),
         *(f"header: {name} is not {value}" for name, value in in_c.items() if numbers.get(name) != value),
     ]
-    if f"#if 0\n{read('c/example.c')}#endif\n" not in read("include/codec_payload.h"):
-        wrong.append("header: the example is not that of c/example.c")
-    if f"```c\n{read('c/example.c')}```\n" not in read("docs/use/C.md"):
-        wrong.append("docs/use/C.md: the example is not that of c/example.c")
+    if f"#if 0\n{read('examples/first.c')}#endif\n" not in read("include/codec_payload.h"):
+        wrong.append("header: the example is not that of examples/first.c")
+    if f"```c\n{read('examples/first.c')}```\n" not in read("docs/use/C.md"):
+        wrong.append("docs/use/C.md: the example is not that of examples/first.c")
     wrong += [f"header: {kind} is not one handle" for kind in KINDS if written_structs.get(kind) != HANDLE]
-    if read("c/calls.c") != calls(as_written):
-        wrong.append("c/calls.c is not what check_header.py --calls prints")
+    if read("c/src/calls.c") != calls(as_written):
+        wrong.append("c/src/calls.c is not what check_header.py --calls prints")
     if not functions or not structs:
         wrong.append("no function, or no struct, was found")
     counts = f"{len(functions)} functions and {len(structs)} structs"

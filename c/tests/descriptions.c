@@ -1,4 +1,4 @@
-/* Reads session descriptions by codec_payload_sdp.h. c/check.sh compares the output with c/sdp.
+/* Reads session descriptions by codec_payload_sdp.h. c/tests/check.sh compares the output with c/tests/sdp.
  *
  *   descriptions <NAME.sdp             prints the sections and the settings of a session as NAME.txt has them, or the fault
  *   descriptions faults <TABLE         reads lines LINE|ERROR|DESCRIPTION, with \n for the ends of lines; fails if one differs

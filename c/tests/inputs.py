@@ -1,7 +1,7 @@
 #!/usr/bin/env python3
 """Writes scripts for the program payload_vectors into a folder, one per file.
 
-  c/inputs.py FOLDER
+  c/tests/inputs.py FOLDER
 
 They are its stored input, the inputs of tests/vectors/program_vectors.py, and two hundred that a fixed generator makes for all codecs,
 with lost, repeated and late packets. The generator is part of this script, so its numbers are the same everywhere.
@@ -9,7 +9,7 @@ with lost, repeated and late packets. The generator is part of this script, so i
 import os
 import sys
 
-ROOT = os.path.dirname(os.path.dirname(os.path.realpath(__file__)))
+ROOT = os.path.dirname(os.path.dirname(os.path.dirname(os.path.realpath(__file__))))
 VECTORS = f"{ROOT}/crates/payload_vectors"
 sys.path.insert(0, f"{ROOT}/tests/vectors")
 
