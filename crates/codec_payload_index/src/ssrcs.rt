@@ -8,6 +8,9 @@ ghost use Rattle.codec_payload_index.specs.Ssrcs.{IsFirstFrom, Rises, key, key_o
 use std::alloc::{AllocError, Global};
 use std::marker::Model;
 
+/// Up to how many SSRCs a walk is faster than a search.
+const FEW: usize = 16;
+
 /// A list of SSRCs. It may have an SSRC at several places.
 #[derive(Debug, Drop)]
 pub struct Ssrcs {
@@ -50,6 +53,17 @@ impl Ssrcs {
     pub fn find(&self, ssrc: u32, from: usize) -> Option<usize>
         ensures { IsFirstFrom from ssrc self.now result }
     {
+        if self.list.len() <= FEW {
+            walk(&self.list, ssrc, from)
+        } else {
+            self.look_up(ssrc, from)
+        }
+    }
+
+    /// Finds the same place by a search.
+    fn look_up(&self, ssrc: u32, from: usize) -> Option<usize>
+        ensures { IsFirstFrom from ssrc self.now result }
+    {
         let at = search(&self.entries, ssrc, from);
         if at >= self.entries.len() {
             return None;
@@ -86,6 +100,21 @@ impl Ssrcs {
         self.entries.remove(at);
         lower(&mut self.entries, place);
     }
+}
+
+/// Finds the first place from `from` on by a step for each place.
+#[inline(always)]
+fn walk(ssrcs: &[u32], ssrc: u32, from: usize) -> Option<usize>
+    ensures { IsFirstFrom from ssrc ssrcs.now result }
+{
+    let mut place = from;
+    while place < ssrcs.len() {
+        if ssrcs[place] == ssrc {
+            return Some(place);
+        }
+        place += 1;
+    }
+    None
 }
 
 /// Returns how many entries come before this SSRC and place.

@@ -1,7 +1,7 @@
 //! A list of times, which knows the least one and finds the first one that has come. It has levels: each level above the first has
 //! the lesser of each two times of the level below it.
 
-ghost use Rattle.std.specs.Prelude.{◌≡◌, ◌<◌, ◌≤◌, IfOk, ℕ, List, ◌+◌, ◌*◌, ◌/◌, Option, length, nat_le, slice_index, slice_set};
+ghost use Rattle.std.specs.Prelude.{◌≡◌, ◌<◌, ◌≤◌, IfOk, ℕ, List, [], ◌+◌, ◌*◌, ◌/◌, Option, length, nat_le, slice_index, slice_set};
 ghost use Rattle.codec_payload_index.specs.Times.{AreLevels, bottom, chosen, first_come, halved, least_of};
 
 use std::alloc::{AllocError, Global};
@@ -22,6 +22,15 @@ impl Model for Times {
 }
 
 impl Times {
+    /// Returns an empty list. Does not allocate.
+    pub fn new(alloc: Global) -> Times
+        ensures { result ≡ [] }
+    {
+        Times {
+            levels: Vec::new(alloc),
+        }
+    }
+
     /// Returns a list with these times.
     pub fn of(alloc: Global, times: Vec<u64>) -> Result<Times, AllocError>
         ensures { IfOk result (λ made. made ≡ times.items) }

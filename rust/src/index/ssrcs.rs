@@ -5,6 +5,9 @@
 use crate::memory::{AllocError, TryVec};
 use alloc::vec::Vec;
 
+/// Up to how many SSRCs a walk is faster than a search.
+const FEW: usize = 16;
+
 /// A list of SSRCs. It may have an SSRC at several places.
 #[derive(Debug)]
 pub struct Ssrcs {
@@ -32,6 +35,15 @@ impl Ssrcs {
     /// Returns the first place from `from` on that has this SSRC.
     #[inline(always)]
     pub fn find(&self, ssrc: u32, from: usize) -> Option<usize> {
+        if self.list.len() <= FEW {
+            walk(&self.list, ssrc, from)
+        } else {
+            self.look_up(ssrc, from)
+        }
+    }
+
+    /// Finds the same place by a search.
+    fn look_up(&self, ssrc: u32, from: usize) -> Option<usize> {
         let at = search(&self.entries, ssrc, from);
         if at >= self.entries.len() {
             return None;
@@ -62,6 +74,19 @@ impl Ssrcs {
         self.entries.remove(at);
         lower(&mut self.entries, place);
     }
+}
+
+/// Finds the first place from `from` on by a step for each place.
+#[inline(always)]
+fn walk(ssrcs: &[u32], ssrc: u32, from: usize) -> Option<usize> {
+    let mut place = from;
+    while place < ssrcs.len() {
+        if ssrcs[place] == ssrc {
+            return Some(place);
+        }
+        place += 1;
+    }
+    None
 }
 
 /// Returns how many entries come before this SSRC and place.

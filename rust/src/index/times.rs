@@ -13,6 +13,11 @@ pub struct Times {
 }
 
 impl Times {
+    /// Returns an empty list. Does not allocate.
+    pub fn new() -> Times {
+        Times { levels: Vec::new() }
+    }
+
     /// Returns a list with these times.
     pub fn of(times: Vec<u64>) -> Result<Times, AllocError> {
         let levels = levels_of(times)?;
