@@ -1,13 +1,13 @@
 -- Entries in rising order of SSRCs.
-use Rattle.std.proofs.Common.{◌≡◌, ◌≢◌, ◌<◌, ◌≤◌, ◌⊎◌, ℕ, suc, zero, ◌+◌, ◌-◌, ◌*◌, ◌^◌, List, [], ◌∷◌, ◌++◌, length, get_or, set, map, take, drop, Option, Some, None, Bool, true, false, cond, refl, ap, ◌∙◌, sym, subst, add-one, arith, inl, inr}
-use Rattle.std.specs.List.{AllWithin, insert, remove}
+use Rattle.std.proofs.Common.{◌≡◌, ◌≢◌, ◌<◌, ◌≤◌, ℕ, suc, zero, ◌+◌, ◌-◌, ◌^◌, List, [], ◌∷◌, ◌++◌, length, get_or, set, map, take, drop, Some, None, Bool, refl, ap, ◌∙◌, sym, subst, add-one, arith, inl, inr}
+use Rattle.std.specs.List.{insert, remove}
 use Rattle.std.specs.List.Sorted.{IsNonDecreasingBy, IsPartitionPoint}
 use Rattle.std.proofs.lemmas.Bool.{cases_lt}
 use Rattle.std.specs.Prelude.{nat_lt}
 use Rattle.std.proofs.lemmas.Bool.Decides.{nat_tests}
 use Rattle.std.proofs.lemmas.List.{get_or_append_left, get_or_at, get_or-map, length-append, length-map}
 use Rattle.std.proofs.lemmas.List.Edits.{get_or-insert_above, get_or-insert_at, get_or-insert_below, get_or-remove_above, get_or-remove_below, length-insert, length-remove}
-use Rattle.codec_payload_index.specs.Ssrcs.{AreEntries, IsFirstFrom, IsListed, IsPlaceFrom, IsTold, Rises, key, key_of, lowered}
+use Rattle.codec_payload_index.specs.Ssrcs.{AreEntries, IsFirstFrom, IsListed, IsTold, Rises, key, key_of, lowered}
 use Rattle.codec_payload_index.specs.declared.ssrcs.Entry.{Entry}
 
 -- within a list the default does not matter

@@ -1,4 +1,4 @@
-use Rattle.std.proofs.Common.{◌≡◌, ◌∙◌, ◌<◌, length, arith, sym, ap}
+use Rattle.std.proofs.Common.{◌∙◌, ◌<◌, length, arith, ap}
 use Rattle.codec_payload_index.specs.Ssrcs.{lowered}
 use Rattle.codec_payload_index.proofs.EntryLemmas.{preserved}
 use Rattle.codec_payload_index.proofs.ssrcs.lower.Goals as goal

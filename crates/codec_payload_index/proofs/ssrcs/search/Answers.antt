@@ -1,6 +1,5 @@
-use Rattle.std.proofs.Common.{◌≡◌, ◌<◌, ◌≤◌, Bool, true, false, arith, rules, ltb-true, ltb-false}
+use Rattle.std.proofs.Common.{rules, ltb-true, ltb-false}
 use Rattle.std.specs.Prelude.{nat_lt}
-use Rattle.std.specs.List.Sorted.{IsPartitionPoint}
 use Rattle.std.proofs.lemmas.Bool.{ltb-true, ltb-false}
 use Rattle.std.proofs.lemmas.List.Sorted.{IsPartitionPoint-from_clause, IsPartitionedBy-ltb}
 use Rattle.codec_payload_index.specs.Ssrcs.{key, key_of}

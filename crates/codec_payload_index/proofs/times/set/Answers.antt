@@ -1,5 +1,4 @@
-use Rattle.std.proofs.Common.{◌≡◌, ◌∙◌, ◌<◌, ◌/◌, length, get_or, subst, sym, arith, add-one, ℕ, length-set}
-use Rattle.std.specs.Global.{Vec}
+use Rattle.std.proofs.Common.{◌≡◌, ◌∙◌, ◌<◌, ◌/◌, length, subst, sym, arith, add-one, ℕ, length-set}
 use Rattle.codec_payload_index.proofs.LevelLemmas.{IsPending, has_room, pending_next, pending_ends, pending_stops, first_stays}
 use Rattle.codec_payload_index.proofs.times.set.Goals as goal
 

@@ -1,6 +1,5 @@
 use Rattle.std.proofs.Common.{◌≡◌, ◌<◌, ◌≤◌, ◌++◌, ◌∷◌, [], ℕ, ◌^◌, ◌∙◌, List, length, arith, subst, ap, refl}
 use Rattle.std.specs.List.{insert}
-use Rattle.codec_payload_index.specs.Ssrcs.{AreEntries}
 use Rattle.codec_payload_index.specs.declared.ssrcs.Entry.{Entry}
 use Rattle.codec_payload_index.proofs.EntryLemmas.{IsPoint, added, point_of}
 use Rattle.codec_payload_index.proofs.ssrcs.Ssrcs.push.Goals as goal

@@ -1,8 +1,8 @@
 use Rattle.std.proofs.Common.{◌≡◌, ◌<◌, ℕ, ◌^◌, ◌∙◌, List, length, get_or, map, arith, subst, sym, ap}
 use Rattle.std.specs.List.{remove}
-use Rattle.codec_payload_index.specs.Ssrcs.{AreEntries, lowered}
+use Rattle.codec_payload_index.specs.Ssrcs.{lowered}
 use Rattle.codec_payload_index.specs.declared.ssrcs.Entry.{Entry}
-use Rattle.codec_payload_index.proofs.EntryLemmas.{IsPoint, IsEntry, dropped, entry_at, point_of, same_there}
+use Rattle.codec_payload_index.proofs.EntryLemmas.{IsPoint, dropped, entry_at, point_of, same_there}
 use Rattle.codec_payload_index.proofs.ssrcs.Ssrcs.remove.Goals as goal
 
 pub remove-requires : goal.remove-requires

@@ -1,8 +1,8 @@
-use Rattle.std.proofs.Common.{◌≡◌, ◌<◌, ◌≤◌, ℕ, ◌^◌, ◌∙◌, List, Option, Some, None, length, arith, subst}
+use Rattle.std.proofs.Common.{◌<◌, ◌≤◌, ℕ, ◌^◌, List, Some, None, length, arith, subst}
 use Rattle.codec_payload_index.specs.Ssrcs.{IsFirstFrom}
 use Rattle.codec_payload_index.specs.declared.ssrcs.Entry.{Entry}
 use Rattle.codec_payload_index.proofs.EntryLemmas.{IsPoint, found, not_found, past_end, point_of}
-use Rattle.codec_payload_index.proofs.ssrcs.Ssrcs.find.Goals as goal
+use Rattle.codec_payload_index.proofs.ssrcs.Ssrcs.look_up.Goals as goal
 
 pub returns-then-at-len : goal.returns-then-at-len
 returns-then-at-len c =
