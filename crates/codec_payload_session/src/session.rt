@@ -25,6 +25,7 @@ use crate::stream::{Ending, StreamInfo, earlier};
 use crate::streams::{Streams, Who};
 use crate::telephone::TelephoneQueue;
 use crate::transport::{note, reporter_for, restart, transport_deadline};
+use crate::waking::due_in;
 use codec_payload_base::error::PacketError;
 use codec_payload_base::wire::Ticks;
 use codec_payload_buffer::buffer::PoppedUnit;
@@ -442,7 +443,7 @@ impl Session {
         if !self.telephone.is_empty() {
             return Some(Ticks(0));
         }
-        let streams = self.streams.due_in(self.settings.idle_timeout);
+        let streams = due_in(&self.streams.list, self.settings.idle_timeout);
         let report = report_deadline(&self.streams.list, self.report_due);
         match earlier(
             earlier(streams, report),

@@ -20,7 +20,6 @@ ghost use Rattle.codec_payload_session.specs.Waking.{FeedsOne, StepsPort};
 
 use crate::changes::{continues, leave_behind};
 use crate::compound::take_packets;
-use crate::dues::Dues;
 use crate::formats::{Format, SessionSettings, SsrcPair};
 use crate::pairs::{pair, with_pair};
 use crate::session::{Arrival, Event};
@@ -53,8 +52,6 @@ pub(crate) struct Streams {
     pub(crate) ended: u64,
     /// Until when the streams have no event.
     pub(crate) waking: Waking,
-    /// When each of them may have an event.
-    pub(crate) dues: Dues,
 }
 
 /// The step of the stream at a place.
@@ -77,11 +74,11 @@ impl Model for Streams {
 
     ghost Value = { Port };
 
-    ghost use Rattle.codec_payload_session.specs.Waking.{IsBound};
+    ghost use Rattle.codec_payload_session.specs.Waking.{IsIndexed};
 
     ghost view = { λ s. record { streams = s.list.items; finished = s.finished; ended = s.ended } };
 
-    ghost invariant = { λ s. IsBound s.waking s.list.items };
+    ghost invariant = { λ s. IsIndexed s.waking s.ssrcs s.list.items };
 }
 
 impl Streams {
@@ -96,7 +93,6 @@ impl Streams {
             finished: false,
             ended: 0,
             waking: Waking::unknown(),
-            dues: Dues::unknown(alloc),
         }
     }
 
@@ -275,7 +271,6 @@ impl Streams {
         requires { place < length self.old.streams }
         ensures { Feeds probation place now datagram.now self.old result self.new }
     {
-        self.dues.except(self.waking, place, &self.list);
         self.waking = self.waking.except(place, &self.list);
         let stream = &mut self.list[place];
         feed_one(stream, probation, now, datagram)
@@ -375,8 +370,6 @@ impl Streams {
         let turn = step_first(&mut self.list, now, idle_timeout, unit);
         if turn.is_none() {
             self.waking = Waking::of(&self.list);
-            self.dues
-                .find(self.alloc, &self.list, idle_timeout, self.waking.fed);
         }
         turn
     }
@@ -428,13 +421,6 @@ impl Streams {
             }
             Step::Nothing => None,
         }
-    }
-
-    /// Returns when a stream may have an event without a datagram.
-    pub(crate) fn due_in(&self, idle_timeout: u64) -> Option<u64>
-        ensures { result ≡ due_in idle_timeout self.now.streams }
-    {
-        self.dues.due_in(self.waking, &self.list, idle_timeout)
     }
 
     /// Ends these streams at that time.
