@@ -8,7 +8,6 @@ mod changes;
 #[doc(hidden)]
 pub mod checks;
 mod compound;
-mod dues;
 #[doc(hidden)]
 pub mod formats;
 mod goodbyes;

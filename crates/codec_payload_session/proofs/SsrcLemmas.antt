@@ -15,6 +15,13 @@ use Rattle.codec_payload_receiver.specs.declared.receiver.ReceiveError.{ReceiveE
 use Rattle.codec_payload_receiver.specs.Sessions.{Session as Receiver}
 use Rattle.std.specs.declared.result.Result.{Result}
 use Rattle.codec_payload_session.specs.Streams.{Drains, Plays, Pops, RequestsBy, RestsBy, Steps, StepsBy, is_of, Follows, StreamState, Takes, end_of, heard_unless, is_accepted, is_no_memory, is_probation, left_when, received, waiting_for, waiting_when}
+use Rattle.codec_payload_jitter.specs.declared.jitter.WaitLimits.{WaitLimits}
+use Rattle.codec_payload_session.specs.Changes.{continued, is_left_behind, left_behind}
+use Rattle.codec_payload_session.specs.Pairs.{paired_when}
+use Rattle.codec_payload_session.specs.Reporting.{all_reported, is_chosen, reported_if, room_after}
+use Rattle.codec_payload_session.specs.declared.formats.Format.{Format}
+use Rattle.codec_payload_session.specs.declared.formats.SsrcPair.{SsrcPair}
+use Rattle.codec_payload_session.specs.declared.stream.Ending.TheVariants as endings
 use Rattle.codec_payload_session.specs.Turns.{AreQuiet, FirstSteps, StepsFirst}
 use Rattle.codec_payload_session.specs.Units.{Step, Turn}
 use Rattle.codec_payload_session.specs.Waking.{IsBound, IsIndexed, SaysNothing, ssrcs_of}
@@ -216,3 +223,27 @@ is_not_of ssrc payload_type x other =
     and_false : (a b : Bool) → b ≡ false → (a && b) ≡ false
     and_false true b is = is
     and_false false b is = refl
+
+-- ---- calls
+
+pub waiting_when_ssrc : (b : Bool) (limits : WaitLimits) (s : StreamState) → (waiting_when b limits s).ssrc ≡ s.ssrc
+waiting_when_ssrc true limits s = refl
+waiting_when_ssrc false limits s = refl
+
+pub paired_when_ssrc : (b : Bool) (pairs : List SsrcPair) (s : StreamState) → (paired_when b pairs s).ssrc ≡ s.ssrc
+paired_when_ssrc true pairs s = refl
+paired_when_ssrc false pairs s = refl
+
+pub same_continued : (b : Bool) (now wait ssrc : ℕ) (f : Format) (ss : List StreamState) → ssrcs_of (continued b now wait ssrc f ss) ≡ ssrcs_of ss
+same_continued true now wait ssrc f ss = same_mapped (left_behind now wait ssrc f) ss (λ s. left_ssrc (is_left_behind now wait ssrc f s) endings.Changed now s)
+same_continued false now wait ssrc f ss = refl
+
+pub same_reported : (is_new : Bool) (room : ℕ) (ss : List StreamState) → ssrcs_of (all_reported is_new room ss) ≡ ssrcs_of ss
+same_reported is_new room [] = refl
+same_reported is_new room (s ∷ ss) =
+    ap (λ (n : ℕ). n ∷ ssrcs_of (all_reported is_new (room_after (is_chosen is_new room s ss) room) ss)) (reported_ssrc (is_chosen is_new room s ss))
+    ∙ ap (λ (l : List ℕ). s.ssrc ∷ l) (same_reported is_new (room_after (is_chosen is_new room s ss) room) ss)
+  where
+    reported_ssrc : (b : Bool) → (reported_if b is_new s).ssrc ≡ s.ssrc
+    reported_ssrc true = refl
+    reported_ssrc false = refl
