@@ -8,3 +8,4 @@ pub mod Restarts
 pub mod Runs
 pub mod Waiting
 pub mod OwnReceiving
+pub mod Staying
