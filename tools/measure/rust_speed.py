@@ -38,30 +38,31 @@ POPS = {"bare": "`pop`", "unit": "`pop_unit`", "once": "one `pop_unit`"}
 BUILDS = {"as cargo builds it": {}, "`codegen-units = 1`": {"CODEGEN_UNITS": "1"}, "and `lto = \"fat\"`": {"CODEGEN_UNITS": "1", "LTO": "fat"}}
 # The kinds of tools/speed/src/bin/hostile.rs, each with its largest number of instructions.
 CHOSEN = {
-    ("frames", 4): ("VP8 of 4 packets a frame, nothing lost", 6_000),
-    ("frames", 64): ("of 64 packets", 6_000),
-    ("frames", 1_000): ("of 1,000 packets", 6_000),
-    ("gap", 1_024): ("1,024 packets held behind a lost one", 6_000),
-    ("gaps", 1_024): ("1,024 packets held, each behind a lost one", 800_000),
-    ("no_media", 1_024): ("1,024 numbers without media, each behind a lost packet", 9_000_000),
-    ("opens", 1_024): ("the same, and each datagram comes behind one more", 800_000),
-    ("fills", 1_024): ("the same, and each datagram is a lost one", 800_000),
-    ("jumps", 64): ("a packet whose number is far ahead of all others", 430_000),
-    ("repeats", 64): ("a packet that is held", 6_000),
-    ("times", 1): ("a frame whose time is anywhere", 6_000),
-    ("blocks", 32): ("RED with 32 blocks, all of lost packets", 480_000),
-    ("requests", 350): ("RTCP: a NACK with 350 pairs", 12_000),
-    ("reports", 1): ("RTCP: a receiver report of 31 blocks", 42_000),
-    ("goodbyes", 11): ("RTCP: BYE of 341 SSRCs", 110_000),
-    ("strays", 1_000): ("a packet of a new SSRC, all 64 places taken by senders of one packet", 110_000),
+    ("frames", 4): ("VP8 of 4 packets a frame, nothing lost", 3_100),
+    ("frames", 64): ("of 64 packets", 3_700),
+    ("frames", 1_000): ("of 1,000 packets", 3_000),
+    ("gap", 1_024): ("1,024 packets held behind a lost one", 3_400),
+    ("gaps", 1_024): ("1,024 packets held, each behind a lost one", 290_000),
+    ("opens", 1_024): ("the same, and each datagram comes behind one more lost packet", 290_000),
+    ("fills", 1_024): ("the same, and each datagram is a packet that was lost", 343_000),
+    ("no_media", 1_024): ("1,024 numbers without media, each behind a lost packet", 482_000),
+    ("jumps", 64): ("a packet whose number is far ahead of all others", 150_000),
+    ("repeats", 64): ("a packet that is held", 2_900),
+    ("times", 1): ("a frame whose time is anywhere", 3_900),
+    ("blocks", 32): ("RED with 32 blocks, all of lost packets", 186_000),
+    ("requests", 350): ("RTCP: a NACK with 350 pairs", 1_000),
+    ("reports", 1): ("RTCP: a receiver report of 31 blocks", 1_000),
+    ("goodbyes", 11): ("RTCP: BYE of 341 SSRCs", 8_300),
+    ("strays", 1_000): ("a packet of a new SSRC, all 64 places taken by senders of one packet", 115_000),
 }
 HOSTILE = {"goodbyes": "300 BYEs of nobody, 1,200 bytes", "strays": "a packet of a new SSRC, all places taken"}
 
 
-def collected(*words):
-    """The instructions of a run of a program."""
+def collected(*words, within=None):
+    """The instructions of a run of a program, or of one of its functions with all that it calls."""
+    only = [f"--toggle-collect={within}"] if within else []
     with tempfile.TemporaryDirectory() as folder:
-        ran = subprocess.run(["valgrind", "--tool=callgrind", f"--callgrind-out-file={folder}/out", *map(str, words)],
+        ran = subprocess.run(["valgrind", "--tool=callgrind", f"--callgrind-out-file={folder}/out", *only, *map(str, words)],
                              capture_output=True, text=True, check=True)
     return int(re.search(r"Collected : (\d+)", ran.stderr)[1])
 
@@ -95,7 +96,7 @@ def print_sessions():
 
 
 def of_hostile(kind, size, counts=(40, 80)):
-    few, many = (collected(f"{SPEED}/target/release/hostile", kind, size, count) for count in counts)
+    few, many = (collected(f"{SPEED}/target/release/hostile", kind, size, count, within="hostile::Load::receive") for count in counts)
     return (many - few) / (counts[1] - counts[0])
 
 

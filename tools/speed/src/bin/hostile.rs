@@ -21,7 +21,8 @@
 //! With `-plain` after the kind the sender answers no requests for missing packets.
 //!
 //! After that each of COUNT datagrams is polled until it has no event, and the next deadline is asked for. The difference of two
-//! runs under callgrind, divided by the difference of their datagrams, is what such a datagram takes.
+//! runs under callgrind, divided by the difference of their datagrams, is what such a datagram takes; what makes the datagrams does
+//! not count (`--toggle-collect=hostile::Load::receive`).
 
 use codec_payload::session::{FeedbackSettings, Format, Session, SessionSettings};
 use codec_payload::stream::RedSettings;
@@ -122,6 +123,8 @@ struct Load {
 }
 
 impl Load {
+    /// Under callgrind only what is below this call counts, so not what makes a datagram.
+    #[inline(never)]
     fn receive(&mut self, datagram: &[u8]) {
         let now = Ticks(self.now / 1_000);
         self.session.receive(now, datagram).expect("memory");
