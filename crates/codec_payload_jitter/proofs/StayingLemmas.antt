@@ -1,15 +1,22 @@
 -- Which numbers can become missing, or stop being missing.
-use Rattle.std.proofs.Common.{◌≡◌, ◌≢◌, ◌∙◌, refl, ap, sym, subst, ℕ, List, [], ◌∷◌, Bool, true, false, length, cond, ltb, leb, eqb, arith, ◌||◌, ◌&&◌, not, Option, Some, None, drop, inl, inr}
+use Rattle.std.proofs.Common.{◌≡◌, ◌≢◌, ◌∙◌, refl, ap, sym, subst, ℕ, List, [], ◌∷◌, Bool, true, false, length, cond, ltb, leb, eqb, arith, ◌||◌, ◌&&◌, not, Option, Some, None, drop, inl, inr, ◌++◌, ◌<◌, ◌≤◌, Result, Ok, Err}
 use Rattle.std.proofs.lemmas.Bool.Decides.{nat_tests}
 use Rattle.codec_payload_codec.proofs.CaseLemmas.{by_test}
 use Rattle.codec_payload_buffer.specs.declared.buffer.unit.RtpMeta.{RtpMeta}
-use Rattle.codec_payload_buffer.specs.Held.{Held, has_number, number_of, placed}
+use Rattle.codec_payload_buffer.specs.Held.{AllAbove, Held, IsAboveCutoff, above, has_number, number_of, placed}
 use Rattle.codec_payload_buffer.specs.Blanks.{is_right_after, passed_number}
-use Rattle.codec_payload_buffer.specs.Steps.{State, is_at_most, is_dropped, kept_to_limit, pushed, without_lowest}
+use Rattle.codec_payload_buffer.specs.declared.buffer.frames.CompleteFrame.{CompleteFrame}
+use Rattle.codec_payload_base.specs.Time.{Time}
+use Rattle.codec_payload_buffer.proofs.FrameParts.{IsRun}
+use Rattle.codec_payload_base.specs.declared.error.PacketError.{PacketError}
+use Rattle.codec_payload_buffer.specs.Release.{Release}
+use Rattle.codec_payload_buffer.proofs.PopLemmas.{order_due, part_due}
+use Rattle.codec_payload_buffer.proofs.LeavingLemmas.{passes_sound}
+use Rattle.codec_payload_buffer.proofs.RowLemmas.{above_all}
+use Rattle.codec_payload_buffer.specs.Steps.{IsSound, Passes, Pops, due_of, none, one_more, State, is_at_most, is_dropped, kept_to_limit, pushed, without_lowest}
 use Rattle.codec_payload_buffer.proofs.StretchLemmas.{has_placed}
-use Rattle.codec_payload_jitter.specs.NoMediaNumbers.{is_done, is_in, kept_few, no_media_in, no_media_left, noted_no_media, passed_no_media}
-use Rattle.codec_payload_jitter.specs.Receiving.{Arrival, TakesIn}
-use Rattle.codec_payload_jitter.specs.Staying.{StoreChangesOne, NoteChangesTwo, PassChangesNone, forgotten, first_number}
+use Rattle.codec_payload_jitter.specs.NoMediaNumbers.{is_done, is_in, kept_few, no_media_in, no_media_left, passed_no_media}
+use Rattle.codec_payload_jitter.specs.Staying.{PopChangesNone, StoreChangesOne, NoteChangesTwo, PassChangesNone, first_number}
 
 -- a packet of another number is placed
 other_placed : (m : ℕ) (p : Held) (hs : List Held) → m ≢ number_of p → has_number m (placed p hs) ≡ has_number m hs
@@ -88,10 +95,10 @@ above_before m n s = by_test (is_right_after s.cutoff n && not (has_number n s.h
     (λ e above. below_next s.cutoff m n (left_of_and (is_right_after s.cutoff n) (not (has_number n s.held)) e) above)
     (λ e above. above)
 
-above_all : (m : ℕ) (s : State) (ns : List ℕ) → is_at_most (passed_no_media s ns).cutoff m ≡ false → is_at_most s.cutoff m ≡ false
-above_all m s [] = λ above. above
-above_all m s (n ∷ ns) = by_test (is_done s n) (λ b. is_at_most (cond b (passed_no_media (passed_number s n) ns) s).cutoff m ≡ false → is_at_most s.cutoff m ≡ false)
-    (λ e above. above_before m n s (above_all m (passed_number s n) ns above))
+above_passed : (m : ℕ) (s : State) (ns : List ℕ) → is_at_most (passed_no_media s ns).cutoff m ≡ false → is_at_most s.cutoff m ≡ false
+above_passed m s [] = λ above. above
+above_passed m s (n ∷ ns) = by_test (is_done s n) (λ b. is_at_most (cond b (passed_no_media (passed_number s n) ns) s).cutoff m ≡ false → is_at_most s.cutoff m ≡ false)
+    (λ e above. above_before m n s (above_passed m (passed_number s n) ns above))
     (λ e above. above)
 
 -- a number that is passed is at or below the cutoff after that
@@ -106,9 +113,77 @@ pass_changes_none m s [] = λ above. refl
 pass_changes_none m s (n ∷ ns) = by_test (is_done s n)
     (λ b. is_at_most (cond b (passed_no_media (passed_number s n) ns) s).cutoff m ≡ false → is_in m (cond b (no_media_left (passed_number s n) ns) (n ∷ ns)) ≡ is_in m (n ∷ ns))
     (λ e above.
-    let now : is_at_most (passed_number s n).cutoff m ≡ false = above_all m (passed_number s n) ns above in
+    let now : is_at_most (passed_number s n).cutoff m ≡ false = above_passed m (passed_number s n) ns above in
     let low : is_at_most (passed_number s n).cutoff n ≡ true = passed_below n s e in
     let unlike : n ≢ m = λ same. let both : is_at_most (passed_number s n).cutoff m ≡ true = subst (λ k. is_at_most (passed_number s n).cutoff k ≡ true) same low in absurd (cc) in
     let differ : eqb n m ≡ false = grind (arith, nat_tests) in
     pass_changes_none m (passed_number s n) ns above ∙ sym (ap (λ b. b || is_in m ns) differ))
     (λ e above. refl)
+
+-- ---- pops
+
+-- n is above the cutoff, if there is one
+abbrev IsOver : Option ℕ → ℕ → Type 0
+IsOver None n = Unit {0}
+IsOver (Some c) n = c < n
+
+over_from : (c : Option ℕ) (m : ℕ) → is_at_most c m ≡ false → IsOver c m
+over_from None m above = tt
+over_from (Some c) m above = grind (arith, nat_tests, above)
+
+first_over : (c : ℕ) (packets after : List Held) (first last : ℕ) (time : Time) → IsRun first last time packets → AllAbove c (packets ++ after) → c < first
+first_over c [] after first last time run a = absurd run
+first_over c (p ∷ []) after first last time run a = omega (arith, a.0, run.0)
+first_over c (p ∷ q ∷ ps) after first last time run a = omega (arith, a.0, run.0)
+
+over_by : (cutoff : Option ℕ) (before packets after : List Held) (first last : ℕ) (time : Time) → IsRun first last time packets → IsAboveCutoff cutoff (before ++ (packets ++ after)) → IsOver cutoff first
+over_by None before packets after first last time run a = tt
+over_by (Some c) before packets after first last time run a = first_over c packets after first last time run (above_all c before (packets ++ after) a)
+
+-- the frame that is due lies above the cutoff
+due_over : (s : State) (f : CompleteFrame) → IsSound s → due_of s ≡ Some f → IsOver s.cutoff f.first
+due_over s f sound due =
+    let part = part_due s f due in
+    over_by s.cutoff part.2.before part.0 part.1 f.first f.last part.2.time part.2.run (rw part.2.whole at sound.above)
+
+over_less : (cutoff : Option ℕ) (m n : ℕ) → IsOver cutoff m → m ≤ n → IsOver cutoff n
+over_less None m n over le = tt
+over_less (Some c) m n over le = omega (arith, over, le)
+
+has_above : (n last : ℕ) (hs : List Held) → last < n → has_number n (above last hs) ≡ has_number n hs
+has_above n last [] lt = refl
+has_above n last (p ∷ ps) lt =
+    by_test (ltb last (number_of p)) (λ b. has_number n (cond b (p ∷ above last ps) (above last ps)) ≡ has_number n (p ∷ ps))
+    (λ e. ap (λ b. eqb (number_of p) n || b) (has_above n last ps lt))
+    (λ e. let differ : eqb (number_of p) n ≡ false = grind (arith, nat_tests, e, lt) in has_above n last ps lt ∙ sym (ap (λ b. b || has_number n ps) differ))
+
+-- the frame that is due and all packets below it leave
+left_has : (t u : State) (f : CompleteFrame) (m : ℕ) → IsSound t → due_of t ≡ Some f → u.held ≡ above f.last t.held → u.cutoff ≡ Some f.last → IsOver u.cutoff m
+    → (has_number m u.held ≡ has_number m t.held) × IsOver t.cutoff m
+left_has t u f m sound due held cut up =
+    let lt : f.last < m = subst (λ (c : Option ℕ). IsOver c m) cut up in
+    (ap (has_number m) held ∙ has_above m f.last t.held lt, over_less t.cutoff f.first m (due_over t f sound due) (omega (arith, lt, order_due t f due)))
+
+passes_has : (s t : State) (over : List CompleteFrame) (m : ℕ) → Passes s over t → IsSound s → IsOver t.cutoff m → has_number m t.held ≡ has_number m s.held
+passes_has s t over m none sound up = refl
+passes_has s u over m (one_more {t = t} passes p) sound up =
+    let one = left_has t u p.frame m (passes_sound s t _ passes sound) p.is_due (ap (λ (x : State). x.held) p.left) (ap (λ (x : State). x.cutoff) p.left) up in
+    one.0 ∙ passes_has s t _ m passes sound one.1
+
+over_has : (s t u : State) (over : List CompleteFrame) (f : CompleteFrame) (m : ℕ) → Passes s over t → IsSound s → due_of t ≡ Some f → u.held ≡ above f.last t.held → u.cutoff ≡ Some f.last
+    → IsOver u.cutoff m → has_number m u.held ≡ has_number m s.held
+over_has s t u over f m passes sound due held cut up =
+    let one = left_has t u f m (passes_sound s t over passes sound) due held cut up in
+    one.0 ∙ passes_has s t over m passes sound one.1
+
+pops_has : (m : ℕ) (s u : State) (answer : Option (Result Release PacketError)) → IsSound s → Pops s answer u → IsOver u.cutoff m → has_number m u.held ≡ has_number m s.held
+pops_has m s u None sound (over, (passes, rest)) up = passes_has s u over m passes sound up
+pops_has m s u (Some (Ok r)) sound (over, (t, passes, takes)) up =
+    over_has s t u over takes.frame m passes sound takes.is_due (ap (λ (x : State). x.held) takes.left) (ap (λ (x : State). x.cutoff) takes.left) up
+pops_has m s u (Some (Err fault)) sound (over, (t, passes, inl stalls)) up =
+    ap (λ (x : State). has_number m x.held) stalls.1.left ∙ passes_has s t over m passes sound (subst (λ (c : Option ℕ). IsOver c m) (ap (λ (x : State). x.cutoff) stalls.1.left) up)
+pops_has m s u (Some (Err fault)) sound (over, (t, passes, inr takes)) up =
+    over_has s t u over takes.frame m passes sound takes.is_due (ap (λ (x : State). x.held) takes.left) (ap (λ (x : State). x.cutoff) takes.left) up
+
+pub pop_changes_none : PopChangesNone
+pop_changes_none m s t answer sound pops above = pops_has m s t answer sound pops (over_from t.cutoff m above)

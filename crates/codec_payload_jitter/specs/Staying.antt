@@ -1,10 +1,10 @@
 -- Which numbers can become missing, or stop being missing: above the cutoff those alone that are stored, noted or forgotten.
-use Rattle.std.specs.Prelude.{◌≡◌, ◌≢◌, ℕ, Bool, false, if◌then◌else◌, List, [], ◌∷◌, Option, Some, None, nat_lt, length, Result}
+use Rattle.std.specs.Prelude.{◌≡◌, ◌≢◌, ℕ, false, if◌then◌else◌, List, [], ◌∷◌, Option, Some, None, nat_lt, length, Result}
 use Rattle.codec_payload_base.specs.declared.error.PacketError.{PacketError}
 use Rattle.codec_payload_buffer.specs.Held.{has_number}
 use Rattle.codec_payload_buffer.specs.Release.{Release}
-use Rattle.codec_payload_buffer.specs.Steps.{State, is_at_most}
-use Rattle.codec_payload_jitter.specs.NoMediaNumbers.{Rises, is_in, no_media_in, no_media_left, noted_no_media, passed_no_media}
+use Rattle.codec_payload_buffer.specs.Steps.{IsSound, Pops, State, is_at_most}
+use Rattle.codec_payload_jitter.specs.NoMediaNumbers.{is_in, no_media_in, no_media_left, noted_no_media, passed_no_media}
 use Rattle.codec_payload_jitter.specs.Receiving.{Arrival, TakesIn}
 
 -- a packet is stored, and one may be evicted
@@ -28,3 +28,9 @@ NoteChangesTwo = (n m : ℕ) (ns : List ℕ) → m ≢ n → forgotten n ns ≢ 
 -- the cutoff moves past numbers without media, which are forgotten
 abbrev pub PassChangesNone : Type 0
 PassChangesNone = (m : ℕ) (s : State) (ns : List ℕ) → is_at_most (passed_no_media s ns).cutoff m ≡ false → is_in m (no_media_left s ns) ≡ is_in m ns
+
+-- a pop releases a unit, refuses a frame, or skips frames
+abbrev pub PopChangesNone : Type 0
+PopChangesNone =
+    (m : ℕ) (s t : State) (answer : Option (Result Release PacketError)) → IsSound s → Pops s answer t → is_at_most t.cutoff m ≡ false
+    → has_number m t.held ≡ has_number m s.held

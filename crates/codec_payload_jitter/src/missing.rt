@@ -4,6 +4,7 @@ ghost use Rattle.std.specs.Prelude.{◌≡◌, ◌∷◌, ◌+◌, ◌<◌, ◌�
 ghost use Rattle.codec_payload_jitter.specs.Missing.{absent_between, missing_numbers};
 
 use crate::jitter::JitterBuffer;
+pub use crate::theorems::few_numbers_change;
 use codec_payload_codec::codec::{Depacketizer, NoBox};
 use std::marker::Model;
 
