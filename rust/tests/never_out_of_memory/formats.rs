@@ -9,10 +9,18 @@ use codec_payload::payloads::PayloadWriter;
 use codec_payload::wire::{RtpHeader, ToPayload};
 use codec_payload::*;
 
-pub const CALLS: [Call; 16] = [
+pub const CALLS: [Call; 17] = [
     Call(&["Packetizer::packetize"], packetize),
     Call(&["Packetizer::packetize_into"], packetize_into),
     Call(&["Depacketizer::depacketize"], depacketize),
+    Call(
+        &[
+            "Packetizer::packetize",
+            "Packetizer::packetize_into",
+            "Depacketizer::depacketize",
+        ],
+        boxes,
+    ),
     Call(
         &[
             "PayloadWriter::expect",
@@ -99,20 +107,42 @@ pub fn depacketizer(codec: Codec) -> CodecDepacketizer {
     CodecDepacketizer::from_codec(codec).expect("it has one")
 }
 
-/// A frame of about this many bytes. That of AV1 has as many OBUs as bytes allow, and that of AMR-WB as many frames.
-fn frame(codec: Codec, size: usize) -> Vec<u8> {
+/// Frames of about this many bytes. AV1: as many OBUs as bytes allow, and one OBU. AMR-WB: as many frames as bytes allow.
+fn frames(codec: Codec, size: usize) -> Vec<Vec<u8>> {
     match codec {
-        // OBUs of type 6 with a size and one byte (AV1 bitstream specification, section 5.3).
-        Codec::Av1 => [0x32, 1, 9].repeat(size.div_ceil(3)),
-        Codec::AmrWb => [vec![0x04], vec![7; 17]].concat().repeat(size.div_ceil(18)),
-        _ => vec![0x82; size],
+        // OBUs of type 6 with a size (AV1 bitstream specification, section 5.3; LEB128 in three bytes, section 4.10.5).
+        Codec::Av1 => {
+            let [low, middle, high] = [size, size >> 7, size >> 14].map(|it| it as u8 & 0x7f);
+            let head = [0x32, 0x80 | low, 0x80 | middle, high];
+            vec![
+                [0x32, 1, 9].repeat(size.div_ceil(3)),
+                [&head[..], &vec![9; size]].concat(),
+            ]
+        }
+        Codec::AmrWb => vec![[vec![0x04], vec![7; 17]].concat().repeat(size.div_ceil(18))],
+        _ => vec![vec![0x82; size]],
     }
+}
+
+/// Both layouts of AMR-WB (RFC 4867, section 4); other codecs ignore it.
+fn specs(codec: Codec) -> [CodecSpec; 2] {
+    [false, true].map(|octet_align| CodecSpec {
+        codec,
+        clock_rate: Frequency::NINETY_KHZ,
+        octet_align,
+    })
 }
 
 fn packetize(size: usize) {
     for codec in CODECS {
-        for mtu in [0, 1, 60, 1_200, 1_500, usize::MAX] {
-            let _ = told(packetizer(codec).packetize(mtu, &frame(codec, size)));
+        for frame in frames(codec, size) {
+            for mtu in [0, 1, 60, 1_200, 1_500, usize::MAX] {
+                for spec in specs(codec) {
+                    let mut it = packetizer(codec);
+                    it.configure_for(&spec);
+                    let _ = told(it.packetize(mtu, &frame));
+                }
+            }
         }
     }
 }
@@ -120,21 +150,46 @@ fn packetize(size: usize) {
 fn packetize_into(size: usize) {
     for codec in CODECS {
         let mut out = made(Payloads::new(65_535, 65_535));
-        let _ = told(packetizer(codec).packetize_into(60, &frame(codec, size.min(129)), &mut out));
+        for frame in frames(codec, size.min(129)) {
+            let _ = told(packetizer(codec).packetize_into(60, &frame, &mut out));
+        }
         let mut out = made(Payloads::new(12, 16));
-        let _ = told(packetizer(codec).packetize_into(1_400, &frame(codec, size), &mut out));
+        for frame in frames(codec, size) {
+            let _ = told(packetizer(codec).packetize_into(1_400, &frame, &mut out));
+            let _ = told(packetizer(codec).packetize_into(usize::MAX, &frame, &mut out));
+        }
     }
 }
 
-/// Payloads of any bytes, and those of a frame.
+/// A format of a caller's own, here one of the library, behind a box.
+fn boxes(size: usize) {
+    let mut sends = CodecPacketizer::Boxed(BoxedPacketizer(Box::new(OpusPacketizer {})));
+    let mut it = CodecDepacketizer::Boxed(BoxedDepacketizer(Box::new(OpusDepacketizer {})));
+    let mut out = made(Payloads::new(12, 16));
+    let frame = vec![7; size];
+    made(sends.packetize_into(usize::MAX, &frame, &mut out));
+    for payload in made(sends.packetize(usize::MAX, &frame)) {
+        made(it.depacketize(&payload, &mut vec![0; size], &mut CodecExtra::None));
+    }
+}
+
+/// Payloads of any bytes, and those of a frame, in front of which the output has bytes.
 fn depacketize(size: usize) {
     for codec in CODECS {
-        let (mut it, mut out, mut extra) = (depacketizer(codec), Vec::new(), CodecExtra::None);
-        let payloads = packetizer(codec)
-            .packetize(60, &frame(codec, size))
-            .unwrap_or_default();
-        for payload in payloads {
-            let _ = told(it.depacketize(&payload, &mut out, &mut extra));
+        let mut extra = CodecExtra::None;
+        for (frame, spec) in frames(codec, size)
+            .iter()
+            .flat_map(|it| specs(codec).map(|spec| (it, spec)))
+        {
+            for (mtu, before) in [(60, 0), (1_500, size), (usize::MAX, 3)] {
+                let (mut sends, mut it) = (packetizer(codec), depacketizer(codec));
+                sends.configure_for(&spec);
+                it.configure_for(&spec);
+                let mut out = vec![0; before];
+                for payload in sends.packetize(mtu, frame).unwrap_or_default() {
+                    let _ = told(it.depacketize(&payload, &mut out, &mut extra));
+                }
+            }
         }
         for first in [0, 0x10, 0x2a, 0x80, 0x8f, 0xff] {
             let payload = vec![first; size];
@@ -431,5 +486,5 @@ fn av1c(size: usize) {
     let unit = [0x0a, 0x0a, 0, 0, 0, 2, 0xaf, 0xf7, 0x9b, 0x5f, 0x20, 8];
     let (obu, _) = front_obu(&unit).expect("an OBU");
     let header = Av1SequenceHeader::parse(obu.payload).expect("a sequence header");
-    made(write_av1c(&header, &vec![0x0a; size], &mut Vec::new()));
+    made(write_av1c(&header, &vec![0x0a; size], &mut vec![0; size]));
 }
