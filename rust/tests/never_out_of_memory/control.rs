@@ -297,6 +297,7 @@ fn reporter(size: usize) {
         let large = numbered(20_000, size);
         let packet = RtpPacket::parse(&large).expect("a packet");
         made(reporter.receive_packet(1 << 30, &packet));
+        made(reporter.receive(1 << 30, &numbered(20_001, size)));
         let mut count = 0;
         while made(reporter.take_due(Ticks(9), &source)).is_some() && count < 50 {
             count += 1;

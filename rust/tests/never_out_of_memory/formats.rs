@@ -161,9 +161,22 @@ fn packetize_into(size: usize) {
     }
 }
 
-/// A format of a caller's own, here one of the library, behind a box.
+/// A format of a caller's own: a packet for each frame.
+#[derive(Debug)]
+struct Whole;
+
+impl Packetizer for Whole {
+    fn packetize(&mut self, _mtu: usize, b: &[u8]) -> Result<Vec<Vec<u8>>, PacketError> {
+        Ok(vec![b.to_vec()])
+    }
+
+    fn is_marker(&mut self, _data: &[u8], _previous: Option<&[u8]>, last: bool) -> bool {
+        last
+    }
+}
+
 fn boxes(size: usize) {
-    let mut sends = CodecPacketizer::Boxed(BoxedPacketizer(Box::new(OpusPacketizer {})));
+    let mut sends = CodecPacketizer::Boxed(BoxedPacketizer(Box::new(Whole)));
     let mut it = CodecDepacketizer::Boxed(BoxedDepacketizer(Box::new(OpusDepacketizer {})));
     let mut out = made(Payloads::new(12, 16));
     let frame = vec![7; size];
@@ -208,7 +221,10 @@ fn depacketize(size: usize) {
 fn write_payloads(size: usize) {
     let room = size.min(1_500);
     let mut out = made(Payloads::new(room, room));
-    made(out.copy_of(&vec![vec![1; size.min(100)]; size.min(3_000)]));
+    for _ in 0..2 {
+        made(out.copy_of(&vec![vec![1; size.min(100)]; size.min(3_000)]));
+        made(out.expect(size, size));
+    }
     made(out.settle(Ok(())));
     let mut vectors: Vec<Vec<u8>> = Vec::new();
     fn fill<W: PayloadWriter>(writer: &mut W, size: usize) {
@@ -243,6 +259,7 @@ fn payloader(size: usize) {
     let mut sink = MemorySink::new(0);
     let mut payloader = Payloader::new(spec, Vp9PacketizerMode::Flexible, 0).expect("VP8 has one");
     made(payloader.push_sample(&sample(vec![0x82; size]), 10, &mut sink));
+    made(payloader.push_sample(&sample(vec![0x82; size]), usize::MAX, &mut sink));
     let packet = OutgoingPacket {
         pt: Pt::from(96),
         seq_no: sink.next_seq_no(),

@@ -147,6 +147,10 @@ fn history(size: usize) {
             made(history.resend(Ticks(1), number, &mut out));
             made(history.resend_within(Ticks(9), number, size, &mut out));
         }
+        // Late packets, in front of all others.
+        for number in (4_900..5_000_u16).rev().step_by(2) {
+            made(history.keep(&packet(VP8, 7, number, 0, &payload)));
+        }
         let _ = told(history.keep(&vec![0x80; size]));
     }
 }
@@ -189,6 +193,13 @@ fn forwarder(size: usize) {
                 made(forwarder.write(number as u64, &packet, &mut out));
                 made(forwarder.write_again(&packet, &mut out));
             }
+        }
+        // Other sources, which begin with keyframes.
+        for ssrc in [8, 9] {
+            forwarder.want(ssrc);
+            let bytes = packet(VP8, ssrc, 0, 0, &payload(0, payload_size(size)));
+            let packet = RtpPacket::parse(&bytes).expect("a packet");
+            made(forwarder.write(1_000_000, &packet, &mut out));
         }
     }
 }
