@@ -145,6 +145,12 @@ fn descriptions(size: usize) {
             &mut chunks,
         ));
     }
+    let short = SdesItem {
+        kind: CNAME,
+        text: b"me",
+    };
+    let many = vec![short; size.min(5_000)];
+    made(codec_payload::rtcp::write_chunk(1, &many, &mut out));
     let all = SourceDescription {
         count,
         chunks: &chunks,
@@ -173,6 +179,8 @@ fn nacks(size: usize) {
         let numbers: Vec<u16> = (0..size).map(|it| (it * step) as u16).collect();
         let (mut pairs, mut out) = (Vec::new(), vec![0; size]);
         made(pack_numbers(&numbers, &mut pairs));
+        made(pack_numbers(&numbers, &mut out));
+        out.truncate(size);
         pairs.truncate(4 * 65_533);
         let nack = Nack {
             sender_ssrc: 1,
@@ -369,6 +377,7 @@ fn rtp_packets(size: usize) {
     };
     let elements: Vec<_> = (0..size.min(1_000)).map(element).collect();
     let mut bytes = Vec::new();
+    made(write_elements(&elements, &mut vec![0; size]));
     let form = made(write_elements(&elements, &mut bytes));
     let csrcs = vec![1; 4 * size.min(15)];
     let header = PacketHeader {
@@ -425,7 +434,19 @@ fn extensions(size: usize) {
         &vec![1; size],
     ]
     .concat();
-    for datagram in [plain, numbered(9, size), vec![1; size]] {
+    // An extension of many elements, in the two-byte form.
+    let element = |place: usize| Element {
+        id: 6 + (place % 200) as u8,
+        bytes: &[7],
+    };
+    let elements: Vec<_> = (0..size.min(20_000)).map(element).collect();
+    let mut bytes = Vec::new();
+    let form = made(write_elements(&elements, &mut bytes));
+    let mut many = vec![0x90, 96, 0, 1, 0, 0, 0, 0, 0, 0, 0, 7];
+    many.extend(form.profile().to_be_bytes());
+    many.extend(((bytes.len() / 4) as u16).to_be_bytes());
+    many.extend(bytes);
+    for datagram in [plain, numbered(9, size), many, vec![1; size]] {
         for id in [5, 15, 255] {
             let _ = told(write_numbered(id, 9, &datagram, &mut out));
         }

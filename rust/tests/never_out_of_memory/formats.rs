@@ -209,13 +209,12 @@ fn depacketize(size: usize) {
             let _ = told(depacketizer(codec).depacketize(&payload, &mut Vec::new(), &mut extra));
         }
     }
-    // VP9 with three layers and as many pictures in a group as a byte has (RFC 9628, section 4.2.1).
+    // VP9 with three layers and as many pictures in a group as a byte has, twice (RFC 9628, section 4.2.1).
     let structure = [&[0x0a, 0x48, 255][..], &vec![0x0c; 2 * size], &[7, 7]].concat();
-    let _ = told(depacketizer(Codec::Vp9).depacketize(
-        &structure,
-        &mut Vec::new(),
-        &mut CodecExtra::None,
-    ));
+    let (mut it, mut extra) = (depacketizer(Codec::Vp9), CodecExtra::None);
+    for _ in 0..2 {
+        let _ = told(it.depacketize(&structure, &mut Vec::new(), &mut extra));
+    }
 }
 
 fn write_payloads(size: usize) {
