@@ -119,7 +119,11 @@ fn frames(codec: Codec, size: usize) -> Vec<Vec<u8>> {
                 [&head[..], &vec![9; size]].concat(),
             ]
         }
-        Codec::AmrWb => vec![[vec![0x04], vec![7; 17]].concat().repeat(size.div_ceil(18))],
+        // A frame of type 0 with its header (RFC 4867, section 5.3), and many.
+        Codec::AmrWb => {
+            let one = [vec![0x04], vec![7; 17]].concat();
+            vec![one.repeat(size.div_ceil(18)), one]
+        }
         _ => vec![vec![0x82; size]],
     }
 }
@@ -209,11 +213,27 @@ fn depacketize(size: usize) {
             let _ = told(depacketizer(codec).depacketize(&payload, &mut Vec::new(), &mut extra));
         }
     }
-    // VP9 with three layers and as many pictures in a group as a byte has, twice (RFC 9628, section 4.2.1).
-    let structure = [&[0x0a, 0x48, 255][..], &vec![0x0c; 2 * size], &[7, 7]].concat();
-    let (mut it, mut extra) = (depacketizer(Codec::Vp9), CodecExtra::None);
-    for _ in 0..2 {
-        let _ = told(it.depacketize(&structure, &mut Vec::new(), &mut extra));
+    described(size);
+}
+
+/// VP9 with three layers, with and without their sizes, and as many pictures in a group as a byte has, twice (RFC 9628, section
+/// 4.2.1); AMR-WB with as many frames, octet-aligned (RFC 4867, section 4.4).
+fn described(size: usize) {
+    let mut extra = CodecExtra::None;
+    for layers in [0x48, 0x58] {
+        let structure = [&[0x0a, layers][..], &[0; 12], &[255], &vec![0x0c; 2 * size]].concat();
+        let plain = [&[0x0a, layers, 255][..], &vec![0x0c; 2 * size], &[7, 7]].concat();
+        let mut it = depacketizer(Codec::Vp9);
+        for payload in [&structure, &plain, &structure, &plain] {
+            let _ = told(it.depacketize(payload, &mut vec![0; size], &mut extra));
+        }
+    }
+    let contents = [vec![0x84; size], vec![0x04], vec![7; 17 * (size + 1)]].concat();
+    for spec in specs(Codec::AmrWb) {
+        let mut it = depacketizer(Codec::AmrWb);
+        it.configure_for(&spec);
+        let payload = [&[0xf0][..], &contents].concat();
+        let _ = told(it.depacketize(&payload, &mut vec![0; size], &mut extra));
     }
 }
 
