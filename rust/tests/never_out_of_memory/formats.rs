@@ -330,6 +330,8 @@ fn red_sender(size: usize) {
             made(other.wrap_into(&payload, 960 * place, budget, &mut out));
             assert_eq!(made(one.wrap(payload, 960 * place, budget)), out);
         }
+        made(other.wrap(vec![1; size], 0, budget));
+        made(one.wrap_into(&vec![1; size], 0, budget, &mut out));
     }
 }
 
