@@ -102,7 +102,7 @@ fn reports(size: usize) {
         };
         made(block.write(&mut blocks));
     }
-    let (mut out, extension) = (Vec::new(), words(size));
+    let (mut out, extension) = (vec![0; size], words(size));
     let (blocks, extension) = (&blocks[..], &extension[..]);
     let sent = SenderReport {
         ssrc: 1,
@@ -128,7 +128,7 @@ fn reports(size: usize) {
 
 fn descriptions(size: usize) {
     let text = vec![b'n'; size.min(255)];
-    let (mut out, mut chunks) = (Vec::new(), Vec::new());
+    let (mut out, mut chunks) = (vec![0; size], Vec::new());
     made(write_cname(1, &text, &mut out));
     let items = vec![
         SdesItem {
@@ -145,6 +145,12 @@ fn descriptions(size: usize) {
             &mut chunks,
         ));
     }
+    let short = SdesItem {
+        kind: CNAME,
+        text: b"me",
+    };
+    let many = vec![short; size.min(5_000)];
+    made(codec_payload::rtcp::write_chunk(1, &many, &mut out));
     let all = SourceDescription {
         count,
         chunks: &chunks,
@@ -163,7 +169,7 @@ fn goodbye(size: usize) {
             ssrcs: &ssrcs,
             reason,
         };
-        made(goodbye.write(&mut Vec::new()));
+        made(goodbye.write(&mut vec![0; size]));
     }
 }
 
@@ -171,8 +177,10 @@ fn goodbye(size: usize) {
 fn nacks(size: usize) {
     for step in [1, 20] {
         let numbers: Vec<u16> = (0..size).map(|it| (it * step) as u16).collect();
-        let (mut pairs, mut out) = (Vec::new(), Vec::new());
+        let (mut pairs, mut out) = (Vec::new(), vec![0; size]);
         made(pack_numbers(&numbers, &mut pairs));
+        made(pack_numbers(&numbers, &mut out));
+        out.truncate(size);
         pairs.truncate(4 * 65_533);
         let nack = Nack {
             sender_ssrc: 1,
@@ -204,7 +212,7 @@ fn keyframes(size: usize) {
         media_ssrc: 0,
         entries: &entries,
     };
-    made(request.write(&mut Vec::new()));
+    made(request.write(&mut vec![0; size]));
 }
 
 /// The settings of a schedule, with capacities below, at and above what is missing.
@@ -230,14 +238,14 @@ fn schedule(size: usize) {
     for capacity in [0, 1, size, usize::MAX] {
         for missing in missing(size) {
             let mut schedule = NackSchedule::new(nack_settings(capacity));
-            let mut numbers = Vec::new();
+            let mut numbers = vec![0; size];
             made(schedule.refresh(Ticks(0), &missing));
             made(schedule.append_due(Ticks(50), &mut numbers));
             made(schedule.take_due(Ticks(50), &mut numbers));
             made(schedule.refresh(Ticks(60), &missing[missing.len() / 2..]));
             made(schedule.refresh(Ticks(70), &missing));
             made(schedule.take_due(Ticks(u64::MAX), &mut numbers));
-            assert!(numbers.len() >= 2 * missing.len().min(capacity));
+            assert!(numbers.len() >= size + 2 * missing.len().min(capacity));
         }
     }
 }
@@ -264,7 +272,7 @@ fn arrivals(size: usize) {
             let number = (place * 3) ^ (place % 2);
             made(log.arrived(number as u16, place * 300));
         }
-        let mut out = Vec::new();
+        let mut out = vec![0; size];
         made(append_report(&log, 0, usize::MAX, &mut out));
         made(append_report(&log, 0, size, &mut out));
         while log.has_unreported() {
@@ -297,6 +305,7 @@ fn reporter(size: usize) {
         let large = numbered(20_000, size);
         let packet = RtpPacket::parse(&large).expect("a packet");
         made(reporter.receive_packet(1 << 30, &packet));
+        made(reporter.receive(1 << 30, &numbered(20_001, size)));
         let mut count = 0;
         while made(reporter.take_due(Ticks(9), &source)).is_some() && count < 50 {
             count += 1;
@@ -314,7 +323,7 @@ fn transport(size: usize) {
     control.extend(vec![1; size]);
     let feedback = made(read_transport_feedback(&control));
     let _ = told(read_transport_feedback(&control[..control.len() / 2]));
-    let mut out = Vec::new();
+    let mut out = vec![0; size];
     made(write_transport_packet(1, 2, &words(size), &mut out));
     let ssrcs = vec![1; 4 * size.min(255)];
     made(write_remb_packet(1, u64::MAX, &ssrcs, &mut out));
@@ -350,10 +359,10 @@ fn congestion(size: usize) {
             reports,
             timestamp: 0,
         };
-        let mut out = Vec::new();
+        let mut out = vec![0; size];
         if feedback.fits() {
             made(feedback.write(&mut out));
-            let read = made(CongestionFeedback::read(&out[4..]));
+            let read = made(CongestionFeedback::read(&out[size + 4..]));
             assert_eq!(read.reports.len(), feedback.reports.len());
         }
     }
@@ -368,6 +377,7 @@ fn rtp_packets(size: usize) {
     };
     let elements: Vec<_> = (0..size.min(1_000)).map(element).collect();
     let mut bytes = Vec::new();
+    made(write_elements(&elements, &mut vec![0; size]));
     let form = made(write_elements(&elements, &mut bytes));
     let csrcs = vec![1; 4 * size.min(15)];
     let header = PacketHeader {
@@ -382,7 +392,7 @@ fn rtp_packets(size: usize) {
             bytes: &bytes,
         }),
     };
-    let mut out = Vec::new();
+    let mut out = vec![0; size];
     if header.fits() {
         made(header.write(&mut out));
         let payload = vec![1; size];
@@ -417,14 +427,26 @@ fn extensions(size: usize) {
         voice_activity: Some(true),
         ..ExtensionValues::default()
     };
-    made(ids.write(&values, &mut Vec::new()));
-    let mut out = Vec::new();
+    made(ids.write(&values, &mut vec![0; size]));
+    let mut out = vec![0; size];
     let plain = [
         &[0x80, 96, 0, 1, 0, 0, 0, 0, 0, 0, 0, 7][..],
         &vec![1; size],
     ]
     .concat();
-    for datagram in [plain, numbered(9, size), vec![1; size]] {
+    // An extension of many elements, in the two-byte form.
+    let element = |place: usize| Element {
+        id: 6 + (place % 200) as u8,
+        bytes: &[7],
+    };
+    let elements: Vec<_> = (0..size.min(20_000)).map(element).collect();
+    let mut bytes = Vec::new();
+    let form = made(write_elements(&elements, &mut bytes));
+    let mut many = vec![0x90, 96, 0, 1, 0, 0, 0, 0, 0, 0, 0, 7];
+    many.extend(form.profile().to_be_bytes());
+    many.extend(((bytes.len() / 4) as u16).to_be_bytes());
+    many.extend(bytes);
+    for datagram in [plain, numbered(9, size), many, vec![1; size]] {
         for id in [5, 15, 255] {
             let _ = told(write_numbered(id, 9, &datagram, &mut out));
         }

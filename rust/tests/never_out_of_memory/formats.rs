@@ -9,10 +9,18 @@ use codec_payload::payloads::PayloadWriter;
 use codec_payload::wire::{RtpHeader, ToPayload};
 use codec_payload::*;
 
-pub const CALLS: [Call; 16] = [
+pub const CALLS: [Call; 17] = [
     Call(&["Packetizer::packetize"], packetize),
     Call(&["Packetizer::packetize_into"], packetize_into),
     Call(&["Depacketizer::depacketize"], depacketize),
+    Call(
+        &[
+            "Packetizer::packetize",
+            "Packetizer::packetize_into",
+            "Depacketizer::depacketize",
+        ],
+        boxes,
+    ),
     Call(
         &[
             "PayloadWriter::expect",
@@ -99,20 +107,46 @@ pub fn depacketizer(codec: Codec) -> CodecDepacketizer {
     CodecDepacketizer::from_codec(codec).expect("it has one")
 }
 
-/// A frame of about this many bytes. That of AV1 has as many OBUs as bytes allow, and that of AMR-WB as many frames.
-fn frame(codec: Codec, size: usize) -> Vec<u8> {
+/// Frames of about this many bytes. AV1: as many OBUs as bytes allow, and one OBU. AMR-WB: as many frames as bytes allow.
+fn frames(codec: Codec, size: usize) -> Vec<Vec<u8>> {
     match codec {
-        // OBUs of type 6 with a size and one byte (AV1 bitstream specification, section 5.3).
-        Codec::Av1 => [0x32, 1, 9].repeat(size.div_ceil(3)),
-        Codec::AmrWb => [vec![0x04], vec![7; 17]].concat().repeat(size.div_ceil(18)),
-        _ => vec![0x82; size],
+        // OBUs of type 6 with a size (AV1 bitstream specification, section 5.3; LEB128 in three bytes, section 4.10.5).
+        Codec::Av1 => {
+            let [low, middle, high] = [size, size >> 7, size >> 14].map(|it| it as u8 & 0x7f);
+            let head = [0x32, 0x80 | low, 0x80 | middle, high];
+            vec![
+                [0x32, 1, 9].repeat(size.div_ceil(3)),
+                [&head[..], &vec![9; size]].concat(),
+            ]
+        }
+        // A frame of type 0 with its header (RFC 4867, section 5.3), and many.
+        Codec::AmrWb => {
+            let one = [vec![0x04], vec![7; 17]].concat();
+            vec![one.repeat(size.div_ceil(18)), one]
+        }
+        _ => vec![vec![0x82; size]],
     }
+}
+
+/// Both layouts of AMR-WB (RFC 4867, section 4); other codecs ignore it.
+fn specs(codec: Codec) -> [CodecSpec; 2] {
+    [false, true].map(|octet_align| CodecSpec {
+        codec,
+        clock_rate: Frequency::NINETY_KHZ,
+        octet_align,
+    })
 }
 
 fn packetize(size: usize) {
     for codec in CODECS {
-        for mtu in [0, 1, 60, 1_200, 1_500, usize::MAX] {
-            let _ = told(packetizer(codec).packetize(mtu, &frame(codec, size)));
+        for frame in frames(codec, size) {
+            for mtu in [0, 1, 60, 1_200, 1_500, usize::MAX] {
+                for spec in specs(codec) {
+                    let mut it = packetizer(codec);
+                    it.configure_for(&spec);
+                    let _ = told(it.packetize(mtu, &frame));
+                }
+            }
         }
     }
 }
@@ -120,40 +154,96 @@ fn packetize(size: usize) {
 fn packetize_into(size: usize) {
     for codec in CODECS {
         let mut out = made(Payloads::new(65_535, 65_535));
-        let _ = told(packetizer(codec).packetize_into(60, &frame(codec, size.min(129)), &mut out));
+        for frame in frames(codec, size.min(129)) {
+            let _ = told(packetizer(codec).packetize_into(60, &frame, &mut out));
+        }
         let mut out = made(Payloads::new(12, 16));
-        let _ = told(packetizer(codec).packetize_into(1_400, &frame(codec, size), &mut out));
+        for frame in frames(codec, size) {
+            let _ = told(packetizer(codec).packetize_into(1_400, &frame, &mut out));
+            let _ = told(packetizer(codec).packetize_into(usize::MAX, &frame, &mut out));
+        }
     }
 }
 
-/// Payloads of any bytes, and those of a frame.
+/// A format of a caller's own: a packet for each frame.
+#[derive(Debug)]
+struct Whole;
+
+impl Packetizer for Whole {
+    fn packetize(&mut self, _mtu: usize, b: &[u8]) -> Result<Vec<Vec<u8>>, PacketError> {
+        Ok(vec![b.to_vec()])
+    }
+
+    fn is_marker(&mut self, _data: &[u8], _previous: Option<&[u8]>, last: bool) -> bool {
+        last
+    }
+}
+
+fn boxes(size: usize) {
+    let mut sends = CodecPacketizer::Boxed(BoxedPacketizer(Box::new(Whole)));
+    let mut it = CodecDepacketizer::Boxed(BoxedDepacketizer(Box::new(OpusDepacketizer {})));
+    let mut out = made(Payloads::new(12, 16));
+    let frame = vec![7; size];
+    made(sends.packetize_into(usize::MAX, &frame, &mut out));
+    for payload in made(sends.packetize(usize::MAX, &frame)) {
+        made(it.depacketize(&payload, &mut vec![0; size], &mut CodecExtra::None));
+    }
+}
+
+/// Payloads of any bytes, and those of a frame, in front of which the output has bytes.
 fn depacketize(size: usize) {
     for codec in CODECS {
-        let (mut it, mut out, mut extra) = (depacketizer(codec), Vec::new(), CodecExtra::None);
-        let payloads = packetizer(codec)
-            .packetize(60, &frame(codec, size))
-            .unwrap_or_default();
-        for payload in payloads {
-            let _ = told(it.depacketize(&payload, &mut out, &mut extra));
+        let mut extra = CodecExtra::None;
+        for (frame, spec) in frames(codec, size)
+            .iter()
+            .flat_map(|it| specs(codec).map(|spec| (it, spec)))
+        {
+            for (mtu, before) in [(60, 0), (1_500, size), (usize::MAX, 3)] {
+                let (mut sends, mut it) = (packetizer(codec), depacketizer(codec));
+                sends.configure_for(&spec);
+                it.configure_for(&spec);
+                let mut out = vec![0; before];
+                for payload in sends.packetize(mtu, frame).unwrap_or_default() {
+                    let _ = told(it.depacketize(&payload, &mut out, &mut extra));
+                }
+            }
         }
         for first in [0, 0x10, 0x2a, 0x80, 0x8f, 0xff] {
             let payload = vec![first; size];
             let _ = told(depacketizer(codec).depacketize(&payload, &mut Vec::new(), &mut extra));
         }
     }
-    // VP9 with three layers and as many pictures in a group as a byte has (RFC 9628, section 4.2.1).
-    let structure = [&[0x0a, 0x48, 255][..], &vec![0x0c; 2 * size], &[7, 7]].concat();
-    let _ = told(depacketizer(Codec::Vp9).depacketize(
-        &structure,
-        &mut Vec::new(),
-        &mut CodecExtra::None,
-    ));
+    described(size);
+}
+
+/// VP9 with three layers, with and without their sizes, and as many pictures in a group as a byte has, twice (RFC 9628, section
+/// 4.2.1); AMR-WB with as many frames, octet-aligned (RFC 4867, section 4.4).
+fn described(size: usize) {
+    let mut extra = CodecExtra::None;
+    for layers in [0x48, 0x58] {
+        let structure = [&[0x0a, layers][..], &[0; 12], &[255], &vec![0x0c; 2 * size]].concat();
+        let plain = [&[0x0a, layers, 255][..], &vec![0x0c; 2 * size], &[7, 7]].concat();
+        let mut it = depacketizer(Codec::Vp9);
+        for payload in [&structure, &plain, &structure, &plain] {
+            let _ = told(it.depacketize(payload, &mut vec![0; size], &mut extra));
+        }
+    }
+    let contents = [vec![0x84; size], vec![0x04], vec![7; 17 * (size + 1)]].concat();
+    for spec in specs(Codec::AmrWb) {
+        let mut it = depacketizer(Codec::AmrWb);
+        it.configure_for(&spec);
+        let payload = [&[0xf0][..], &contents].concat();
+        let _ = told(it.depacketize(&payload, &mut vec![0; size], &mut extra));
+    }
 }
 
 fn write_payloads(size: usize) {
     let room = size.min(1_500);
     let mut out = made(Payloads::new(room, room));
-    made(out.copy_of(&vec![vec![1; size.min(100)]; size.min(3_000)]));
+    for _ in 0..2 {
+        made(out.copy_of(&vec![vec![1; size.min(100)]; size.min(3_000)]));
+        made(out.expect(size, size));
+    }
     made(out.settle(Ok(())));
     let mut vectors: Vec<Vec<u8>> = Vec::new();
     fn fill<W: PayloadWriter>(writer: &mut W, size: usize) {
@@ -188,6 +278,7 @@ fn payloader(size: usize) {
     let mut sink = MemorySink::new(0);
     let mut payloader = Payloader::new(spec, Vp9PacketizerMode::Flexible, 0).expect("VP8 has one");
     made(payloader.push_sample(&sample(vec![0x82; size]), 10, &mut sink));
+    made(payloader.push_sample(&sample(vec![0x82; size]), usize::MAX, &mut sink));
     let packet = OutgoingPacket {
         pt: Pt::from(96),
         seq_no: sink.next_seq_no(),
@@ -239,6 +330,8 @@ fn red_sender(size: usize) {
             made(other.wrap_into(&payload, 960 * place, budget, &mut out));
             assert_eq!(made(one.wrap(payload, 960 * place, budget)), out);
         }
+        made(other.wrap(vec![1; size], 0, budget));
+        made(one.wrap_into(&vec![1; size], 0, budget, &mut out));
     }
 }
 
@@ -431,5 +524,5 @@ fn av1c(size: usize) {
     let unit = [0x0a, 0x0a, 0, 0, 0, 2, 0xaf, 0xf7, 0x9b, 0x5f, 0x20, 8];
     let (obu, _) = front_obu(&unit).expect("an OBU");
     let header = Av1SequenceHeader::parse(obu.payload).expect("a sequence header");
-    made(write_av1c(&header, &vec![0x0a; size], &mut Vec::new()));
+    made(write_av1c(&header, &vec![0x0a; size], &mut vec![0; size]));
 }

@@ -11,7 +11,7 @@ use codec_payload::rtp::RtpPacket;
 use codec_payload::stream::ParsedDatagram;
 use codec_payload::*;
 
-pub const CALLS: [Call; 12] = [
+pub const CALLS: [Call; 13] = [
     Call(
         &["Sender::new", "Sender::send", "Sender::set_format"],
         sender,
@@ -53,6 +53,7 @@ pub const CALLS: [Call; 12] = [
     Call(&["Session::receive", "Session::poll"], missing_packets),
     Call(&["Session::receive_at", "Session::poll_into"], many_streams),
     Call(&["Session::add_pair"], pairs),
+    Call(&["Session::receive", "Receiver::receive"], many_types),
     Call(&["read", "session_settings"], descriptions),
     Call(&["Media::receiver_settings"], receiver_settings),
 ];
@@ -147,6 +148,10 @@ fn history(size: usize) {
             made(history.resend(Ticks(1), number, &mut out));
             made(history.resend_within(Ticks(9), number, size, &mut out));
         }
+        // Late packets, in front of all others.
+        for number in (4_900..5_000_u16).rev().step_by(2) {
+            made(history.keep(&packet(VP8, 7, number, 0, &payload)));
+        }
         let _ = told(history.keep(&vec![0x80; size]));
     }
 }
@@ -189,6 +194,13 @@ fn forwarder(size: usize) {
                 made(forwarder.write(number as u64, &packet, &mut out));
                 made(forwarder.write_again(&packet, &mut out));
             }
+        }
+        // Other sources, which begin with keyframes.
+        for ssrc in [8, 9] {
+            forwarder.want(ssrc);
+            let bytes = packet(VP8, ssrc, 0, 0, &payload(0, payload_size(size)));
+            let packet = RtpPacket::parse(&bytes).expect("a packet");
+            made(forwarder.write(1_000_000, &packet, &mut out));
         }
     }
 }
@@ -432,12 +444,47 @@ fn many_streams(size: usize) {
             made(session.receive_at(Ticks(0), 100, &numbered(100 + ssrc, number)));
         }
     }
+    let large = packet(VP8, 99, 0, 0, &keyframe(payload_size(size)));
+    made(session.receive_at(Ticks(0), 100, &large));
+    made(session.add_pair(99, 100_000));
     for now in [0, 20, 1_000] {
         while let Some(event) = session.poll_into(Ticks(now), &mut unit) {
             checked(&event);
         }
     }
-    assert_eq!(session.stream_count(), count as usize);
+    assert_eq!(session.stream_count(), count as usize + 1);
+}
+
+/// As many payload types as there are, each in turn a format, without media, and of telephone events; and pairs.
+fn many_types(size: usize) {
+    let types: Vec<u8> = (0..64).chain(98..128).take(size).collect();
+    let video = |it: &u8| format(*it, Codec::Vp8, Frequency::NINETY_KHZ);
+    for kind in 0..3 {
+        let mut settings = SessionSettings::live();
+        settings.formats = vec![video(&VP8)];
+        match kind {
+            0 => settings.formats.extend(types.iter().map(video)),
+            1 => settings.no_media = types.clone(),
+            _ => settings.telephone_events = types.clone(),
+        }
+        settings.pairs = (0..size.min(1_000) as u32)
+            .map(|it| SsrcPair {
+                ssrc: it,
+                retransmission: 100_000 + it,
+            })
+            .collect();
+        let mut session = Session::new(settings).expect("settings that can be met");
+        for payload_type in [VP8, 5] {
+            made(session.receive(Ticks(0), &packet(payload_type, 7, 1, 0, &keyframe(1))));
+        }
+        let mut undecided = ReceiverSettings::for_stream(VP8, Codec::Vp8, Frequency::NINETY_KHZ);
+        undecided.no_media = types.clone();
+        let depacketizer = depacketizer(Codec::Vp8);
+        let mut receiver: Receiver = Receiver::new(depacketizer, undecided).expect("in range");
+        for number in 0..3 {
+            made(receiver.receive(Ticks(0), &packet(VP8, 7, number, 0, &keyframe(1))));
+        }
+    }
 }
 
 fn pairs(size: usize) {
