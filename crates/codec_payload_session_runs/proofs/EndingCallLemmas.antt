@@ -63,13 +63,13 @@ use Rattle.codec_payload_session_runs.specs.declared.run.StepAnswer.TheVariants 
 
 waiting_same : (o : Option ℕ) (s : StreamState) → Same s (waiting_for o s)
 waiting_same None s = itself s
-waiting_same (Some wait) s = record { ssrc_is = refl; format = refl; last = refl; stage = refl }
+waiting_same (Some wait) s = record { ssrc_is = refl; format = refl; last = refl; stage = refl; accepted = refl }
 
-received_same : (accepted : Bool) (now : ℕ) (bytes : List ℕ) (r : Receiver) (s : StreamState) → Same s (received now bytes accepted r s)
+pub received_same : (accepted : Bool) (now : ℕ) (bytes : List ℕ) (r : Receiver) (s : StreamState) → Same s (received now bytes accepted r s)
 received_same true now bytes r s =
     let w = waiting_same (wait_by (heard_by now (number_at s.format bytes) s.feedback)) (record s { receiver = r; feedback = heard_by now (number_at s.format bytes) s.feedback }) in
-    record { ssrc_is = w.ssrc_is; format = w.format; last = w.last; stage = w.stage }
-received_same false now bytes r s = record { ssrc_is = refl; format = refl; last = refl; stage = refl }
+    record { ssrc_is = w.ssrc_is; format = w.format; last = w.last; stage = w.stage; accepted = w.accepted }
+received_same false now bytes r s = record { ssrc_is = refl; format = refl; last = refl; stage = refl; accepted = refl }
 
 by_probation : (b : Bool) (why : Ending) → ending_of (cond b stages.Playing stages.Probation) ≡ Some why → None ≡ Some why
 by_probation true why is = is
@@ -229,7 +229,7 @@ nobody_continues ssrc f ss none goes =
     let no : false ≡ true = sym (ap (λ (o : Option ℕ). is_some o) nobody) ∙ found in
     absurd (cc)
 
-stream_at : (ss : List StreamState) (place : ℕ) (s d : StreamState) → slice_get ss place ≡ Some s → get_or ss place d ≡ s
+pub stream_at : (ss : List StreamState) (place : ℕ) (s d : StreamState) → slice_get ss place ≡ Some s → get_or ss place d ≡ s
 stream_at [] place s d there = absurd (cc)
 stream_at (x ∷ xs) zero s d there = cc
 stream_at (x ∷ xs) (suc i) s d there = stream_at xs i s d there
@@ -314,7 +314,7 @@ takes_media idle cs now micros datagram settings ssrc f p answer q apart js got 
 -- ---- RTCP
 
 clocks_same : (o : Result (List Packet) RtcpError) (idle : ℕ) (cs : List Call) (now : Ticks) (ss : List StreamState) → AllJustified idle cs ss → AllJustified idle cs (clocks_in now o ss)
-clocks_same (Ok packets) idle cs now ss js = same_justified idle cs (noted now packets) ss (λ s. record { ssrc_is = refl; format = refl; last = refl; stage = refl }) js
+clocks_same (Ok packets) idle cs now ss js = same_justified idle cs (noted now packets) ss (λ s. record { ssrc_is = refl; format = refl; last = refl; stage = refl; accepted = refl }) js
 clocks_same (Err e) idle cs now ss js = js
 
 takes_rtcp : (idle : ℕ) (cs : List Call) (now : Ticks) (micros : Option ℕ) (datagram : Vec ℕ) (at : ℕ) (p : Port) (answer : Result Arrival AllocError) (q : Port) → AllJustified idle cs p.streams → answer ≡ Ok arrivals.Rtcp
@@ -352,8 +352,8 @@ receives idle cs now micros datagram s answer t apart js (inr got) =
 
 -- ---- pairs
 
-paired_same : (b : Bool) (named : List SsrcPair) (s : StreamState) → Same s (paired_when b named s)
-paired_same true named s = record { ssrc_is = refl; format = refl; last = refl; stage = refl }
+pub paired_same : (b : Bool) (named : List SsrcPair) (s : StreamState) → Same s (paired_when b named s)
+paired_same true named s = record { ssrc_is = refl; format = refl; last = refl; stage = refl; accepted = refl }
 paired_same false named s = itself s
 
 absent_paired : (ssrc : ℕ) (named : List SsrcPair) (a b : ℕ) (ss : List StreamState) → IsAbsent a b ss → IsAbsent a b (paired_where ssrc named ss)
@@ -362,7 +362,7 @@ absent_paired ssrc named a b (s ∷ ss) absent =
     let same : Same s (paired_when (s.ssrc == ssrc) named s) = paired_same (s.ssrc == ssrc) named s in
     (ap₂ (λ (n : ℕ) (f : Format). (n == a) && (f.payload_type == b)) same.ssrc_is same.format ∙ absent.0, absent_paired ssrc named a b ss absent.1)
 
-apart_paired : (ssrc : ℕ) (named : List SsrcPair) (ss : List StreamState) → AreApart ss → AreApart (paired_where ssrc named ss)
+pub apart_paired : (ssrc : ℕ) (named : List SsrcPair) (ss : List StreamState) → AreApart ss → AreApart (paired_where ssrc named ss)
 apart_paired ssrc named [] apart = tt
 apart_paired ssrc named (s ∷ ss) apart =
     let same : Same s (paired_when (s.ssrc == ssrc) named s) = paired_same (s.ssrc == ssrc) named s in (
@@ -434,9 +434,9 @@ takes_turn (Some e) idle cs now event p q js got =
     (kept_justified idle (cs ++ c ∷ []) got.stream.told got.stepped.told got.stream.ssrc got.stream.format.payload_type (event_of got.stepped got.step) (λ (zs : List StreamState). kept_after got.step got.stepped zs) got.stepped got.rest
     (steps_stepped now idle got.stream got.step got.stepped got.steps).kind one rest))
 
-reported_same : (b is_new : Bool) (s : StreamState) → Same s (reported_if b is_new s)
-reported_same true is_new s = record { ssrc_is = refl; format = refl; last = refl; stage = refl }
-reported_same false is_new s = record { ssrc_is = refl; format = refl; last = refl; stage = refl }
+pub reported_same : (b is_new : Bool) (s : StreamState) → Same s (reported_if b is_new s)
+reported_same true is_new s = record { ssrc_is = refl; format = refl; last = refl; stage = refl; accepted = refl }
+reported_same false is_new s = record { ssrc_is = refl; format = refl; last = refl; stage = refl; accepted = refl }
 
 all_reported_justified : (idle : ℕ) (cs : List Call) (is_new : Bool) (room : ℕ) (ss : List StreamState) → AllJustified idle cs ss → AllJustified idle cs (all_reported is_new room ss)
 all_reported_justified idle cs is_new room [] js = tt
@@ -535,8 +535,8 @@ left_all : (who : ℕ → Bool) (at idle : ℕ) (cs : List Call) (c : Call) (ss 
 left_all who at idle cs c ss none cause js =
     all_left (λ (s : StreamState). who s.ssrc) endings.Told at idle (cs ++ c ∷ []) ss (λ s is. (cs, c, [], refl, cause s is)) (all_more idle cs c ss ss js (all_silent idle cs c ss none))
 
-waited_same : (b : Bool) (limits : WaitLimits) (s : StreamState) → Same s (waiting_when b limits s)
-waited_same true limits s = record { ssrc_is = refl; format = refl; last = refl; stage = refl }
+pub waited_same : (b : Bool) (limits : WaitLimits) (s : StreamState) → Same s (waiting_when b limits s)
+waited_same true limits s = record { ssrc_is = refl; format = refl; last = refl; stage = refl; accepted = refl }
 waited_same false limits s = itself s
 
 set_same : (idle : ℕ) (cs : List Call) (ss : List StreamState) (place : ℕ) (x y : StreamState) → slice_get ss place ≡ Some x → Same x y → AllJustified idle cs ss → AllJustified idle cs (slice_set ss place y)
@@ -562,7 +562,7 @@ reports_justify : (o : Option ℕ) (idle : ℕ) (cs : List Call) (c : Call) (tic
 reports_justify None idle cs c tick_rate now p block q none js got = stays idle cs c p q none js got.1
 reports_justify (Some place) idle cs c tick_rate now p block q none js got =
     subst (λ (o : Port). AllJustified idle (cs ++ c ∷ []) o.streams) (sym got.left)
-    (set_same idle (cs ++ c ∷ []) p.streams place got.stream (reported_by got.stream) got.there (record { ssrc_is = refl; format = refl; last = refl; stage = refl })
+    (set_same idle (cs ++ c ∷ []) p.streams place got.stream (reported_by got.stream) got.there (record { ssrc_is = refl; format = refl; last = refl; stage = refl; accepted = refl })
     (all_more idle cs c p.streams p.streams js (all_silent idle cs c p.streams none)))
 
 justifies : (step : SessionStep) (answer : StepAnswer) (idle : ℕ) (cs : List Call) (s t : Session) → s.settings.idle_timeout ≡ idle → AreApart s.port.streams → AllJustified idle cs s.port.streams → Does step s answer t

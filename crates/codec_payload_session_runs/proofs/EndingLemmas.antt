@@ -73,15 +73,17 @@ record Stays (s t : StreamState) : Type 0 where
   ssrc_is : t.ssrc ≡ s.ssrc
   format : t.format ≡ s.format
   last : t.last ≡ s.last
+  accepted : t.accepted ≡ s.accepted
 
 record Drained (now idle : ℕ) (s t : StreamState) : Type 0 where
   stays : Stays s t
   ends : (why : Ending) → ending_of t.stage ≡ Some why → Reason now idle s why
+  started : is_probation s.stage ≡ false → is_probation t.stage ≡ false
 
 drained : (o : Option Ending) (now idle : ℕ) (s t : StreamState) → end_of now idle s ≡ o → Drains o s t → Drained now idle s t
-drained None now idle s t is got = subst (λ (z : StreamState). Drained now idle s z) (sym got) (record { stays = record { ssrc_is = refl; format = refl; last = refl }; ends = λ why same. inl same })
+drained None now idle s t is got = subst (λ (z : StreamState). Drained now idle s z) (sym got) (record { stays = record { ssrc_is = refl; format = refl; last = refl; accepted = refl }; ends = λ why same. inl same; started = λ is. is })
 drained (Some own) now idle s t is got = subst (λ (z : StreamState). Drained now idle s z) (sym got.2)
-    (record { stays = record { ssrc_is = refl; format = refl; last = refl }; ends = λ why same. end_reason s.stage now idle s why refl (is ∙ same) })
+    (record { stays = record { ssrc_is = refl; format = refl; last = refl; accepted = refl }; ends = λ why same. end_reason s.stage now idle s why refl (is ∙ same); started = λ was. refl })
 
 record Followed (m : StreamState) (answer : Step) (t : StreamState) : Type 0 where
   stays : Stays m t
@@ -94,7 +96,7 @@ followed m answer own t u is same stays stage ended =
     subst₂ (λ (a : Step) (z : StreamState). Followed m a z) (sym is) (sym same) (record { stays = stays; stage = stage; ended = ended })
 
 here : (m : StreamState) → Stays m m
-here m = record { ssrc_is = refl; format = refl; last = refl }
+here m = record { ssrc_is = refl; format = refl; last = refl; accepted = refl }
 
 asked_ends : (told : Result (Option (Vec ℕ)) AllocError) (m : StreamState) (why : Ending) → Says (step_of told) why → ending_of m.stage ≡ Some why
 asked_ends (Ok None) m why is = not_end _ is.1 is.2 why refl is.3
@@ -113,7 +115,7 @@ same_why a b own n p why is = cc
 requests_follow : (o : Option Asking) (now : ℕ) (m : StreamState) (answer : Step) (t : StreamState) → RequestsBy o now m answer t → Followed m answer t
 requests_follow None now m answer t got = followed m answer _ t m got.0 got.1 (here m) refl (λ why is. not_end _ is.1 is.2 why refl is.3)
 requests_follow (Some a) now m answer t got =
-    followed m answer (step_of got.told) t (record m { feedback = Some got.asking }) got.answers got.after (record { ssrc_is = refl; format = refl; last = refl }) refl (λ why is. asked_ends got.told m why is)
+    followed m answer (step_of got.told) t (record m { feedback = Some got.asking }) got.answers got.after (record { ssrc_is = refl; format = refl; last = refl; accepted = refl }) refl (λ why is. asked_ends got.told m why is)
 
 rests_follow : (stage : Stage) (now : ℕ) (m : StreamState) (answer : Step) (t : StreamState) → m.stage ≡ stage → RestsBy stage now m answer t → Followed m answer t
 rests_follow stages.Probation now m answer t at got = followed m answer _ t m got.0 got.1 (here m) refl (λ why is. not_end _ is.1 is.2 why refl is.3)
@@ -133,6 +135,8 @@ pub record Asked (now idle : ℕ) (s : StreamState) (answer : Step) (t : StreamS
   pub last : t.last ≡ s.last
   pub ends : (why : Ending) → ending_of t.stage ≡ Some why → Reason now idle s why
   pub ended : (why : Ending) → Says answer why → Reason now idle s why
+  pub accepted : t.accepted ≡ s.accepted
+  pub started : is_probation s.stage ≡ false → is_probation t.stage ≡ false
 
 plays_asked : (now : Ticks) (idle : ℕ) (s : StreamState) (answer : Step) (t : StreamState) → Plays now idle s answer t → Asked now.0 idle s answer t
 plays_asked now idle s answer t got =
@@ -145,6 +149,8 @@ plays_asked now idle s answer t got =
       last = f.stays.last ∙ d.stays.last;
       ends = λ why is. d.ends why (ap (λ (st : Stage). ending_of st) (sym f.stage) ∙ is);
       ended = λ why is. d.ends why (f.ended why is);
+      accepted = f.stays.accepted ∙ d.stays.accepted;
+      started = λ is. ap (λ (st : Stage). is_probation st) f.stage ∙ d.started is;
     }
 
 still_asked : (now idle : ℕ) (s : StreamState) (answer own : Step) (t u : StreamState) → answer ≡ own → t ≡ u → Stays s u → u.stage ≡ s.stage → ((why : Ending) → Says own why → Reason now idle s why)
@@ -157,12 +163,14 @@ still_asked now idle s answer own t u is same stays stage ended =
       last = stays.last;
       ends = λ why ending. inl (ap (λ (st : Stage). ending_of st) (sym stage) ∙ ending);
       ended = ended;
+      accepted = stays.accepted;
+      started = λ was. ap (λ (st : Stage). is_probation st) stage ∙ was;
     })
 
 by_asked : (b told : Bool) (now : Ticks) (idle : ℕ) (s : StreamState) (answer : Step) (t : StreamState) → StepsBy b told now idle s answer t → Asked now.0 idle s answer t
 by_asked true told now idle s answer t got = still_asked now.0 idle s answer _ t s got.0 got.1 (here s) refl (λ why is. not_end _ is.1 is.2 why refl is.3)
 by_asked false false now idle s answer t got =
-    still_asked now.0 idle s answer _ t (record s { told = true }) got.0 got.1 (record { ssrc_is = refl; format = refl; last = refl }) refl (λ why is. not_end _ is.1 is.2 why refl is.3)
+    still_asked now.0 idle s answer _ t (record s { told = true }) got.0 got.1 (record { ssrc_is = refl; format = refl; last = refl; accepted = refl }) refl (λ why is. not_end _ is.1 is.2 why refl is.3)
 by_asked false true now idle s answer t got = plays_asked now idle s answer t got
 
 pub steps_asked : (now : Ticks) (idle : ℕ) (s : StreamState) (answer : Step) (t : StreamState) → Steps now idle s answer t → Asked now.0 idle s answer t
@@ -184,6 +192,7 @@ pub record Same (s t : StreamState) : Type 0 where
   pub format : t.format ≡ s.format
   pub last : t.last ≡ s.last
   pub stage : t.stage ≡ s.stage
+  pub accepted : t.accepted ≡ s.accepted
 
 pub last_append : (ssrc payload_type : ℕ) (cs : List Call) (c : Call) (before : Option ℕ)
     → last_given ssrc payload_type before (cs ++ c ∷ []) ≡ or_before (time_given ssrc payload_type c) (last_given ssrc payload_type before cs)
@@ -228,7 +237,7 @@ moved_same idle cs c s t none same = record {
 }
 
 pub itself : (s : StreamState) → Same s s
-itself s = record { ssrc_is = refl; format = refl; last = refl; stage = refl }
+itself s = record { ssrc_is = refl; format = refl; last = refl; stage = refl; accepted = refl }
 
 left_ending : (own : Ending) (at : ℕ) (stage : Stage) (why : Ending) → ending_of (stage_left own at stage) ≡ Some why → (ending_of stage ≡ Some why) ⊎ (why ≡ own)
 left_ending own at stages.Probation why is = inr (cc)

@@ -1,5 +1,6 @@
 pub mod AloneLemmas
 pub mod AssociationLemmas
+pub mod BeginningLemmas
 pub mod CallLemmas
 pub mod CountLemmas
 pub mod EndingCallLemmas

@@ -1,5 +1,5 @@
 -- Why the streams of a session end.
-use Rattle.std.specs.Prelude.{◌≡◌, ◌⊎◌, ℕ, ◌-◌, ◌==◌, ◌&&◌, not, nat_le, if◌then◌else◌, Bool, true, false, List, [], ◌∷◌, ◌++◌, Option, Some, None, Result, Ok, Err}
+use Rattle.std.specs.Prelude.{◌≡◌, ◌≤◌, ◌⊎◌, ℕ, ◌-◌, ◌==◌, ◌&&◌, not, nat_le, nat_lt, length, if◌then◌else◌, Bool, true, false, List, [], ◌∷◌, ◌++◌, Option, Some, None, Result, Ok, Err}
 use Rattle.std.specs.Global.{Vec}
 use Rattle.std.specs.declared.alloc.AllocError.{AllocError}
 use Rattle.codec_payload_base.specs.declared.wire.Ticks.{Ticks}
@@ -7,12 +7,16 @@ use Rattle.codec_payload_session.specs.Arrivals.{goodbye_at}
 use Rattle.codec_payload_session.specs.Ports.{new_session}
 use Rattle.codec_payload_session.specs.declared.formats.SessionSettings.{SessionSettings}
 use Rattle.codec_payload_session.specs.Ports.{Session}
+use Rattle.codec_payload_session.specs.Streams.{is_accepted, is_of, is_probation}
+use Rattle.codec_payload_session.specs.Units.{Event}
 use Rattle.codec_payload_session.specs.declared.session.Arrival.{Arrival}
 use Rattle.codec_payload_session.specs.declared.session.Arrival.TheVariants as arrivals
+use Rattle.codec_payload_session.specs.declared.session.Event.TheVariants as events
 use Rattle.codec_payload_session.specs.declared.stream.Ending.{Ending}
 use Rattle.codec_payload_session.specs.declared.stream.Ending.TheVariants as endings
 use Rattle.codec_payload_session_runs.specs.Lives.{EachIsAlone, ending_poll, is_same}
-use Rattle.codec_payload_session_runs.specs.SessionRuns.{Call, Runs}
+use Rattle.codec_payload_session.specs.declared.stream.StreamState.{StreamState}
+use Rattle.codec_payload_session_runs.specs.SessionRuns.{Call, Does, Runs}
 use Rattle.codec_payload_session_runs.specs.declared.run.SessionStep.{SessionStep}
 use Rattle.codec_payload_session_runs.specs.declared.run.SessionStep.TheVariants as steps
 use Rattle.codec_payload_session_runs.specs.declared.run.StepAnswer.{StepAnswer}
@@ -115,3 +119,70 @@ EndsHaveCauses =
 -- event
 abbrev pub StreamsAreAlone : Type 0
 StreamsAreAlone = (settings : SessionSettings) (calls : List Call) (s : Session) → Runs calls (new_session settings) s → EachIsAlone settings calls s.port.streams
+
+-- ---- two datagrams
+
+abbrev pub accepted_as : (ssrc payload_type : ℕ) → Result Arrival AllocError → Bool
+accepted_as ssrc payload_type (Ok (arrivals.Stream s p outcome)) = is_same ssrc payload_type s p && is_accepted (Ok outcome)
+accepted_as ssrc payload_type (Ok (arrivals.Faulty s p fault)) = false
+accepted_as ssrc payload_type (Ok arrivals.Rtcp) = false
+accepted_as ssrc payload_type (Ok arrivals.Malformed) = false
+accepted_as ssrc payload_type (Ok arrivals.Unknown) = false
+accepted_as ssrc payload_type (Ok arrivals.Refused) = false
+accepted_as ssrc payload_type (Ok arrivals.Unassociated) = false
+accepted_as ssrc payload_type (Err e) = false
+
+-- the stream accepted the datagram of the call
+abbrev pub is_accepted_by : (ssrc payload_type : ℕ) → StepAnswer → Bool
+is_accepted_by ssrc payload_type (answers.Received arrival) = accepted_as ssrc payload_type arrival
+is_accepted_by ssrc payload_type (answers.Polled event) = false
+is_accepted_by ssrc payload_type (answers.Reported block) = false
+is_accepted_by ssrc payload_type (answers.PairAdded added) = false
+is_accepted_by ssrc payload_type answers.Done = false
+
+-- a place is free
+abbrev pub HasRoom : Session → Type 0
+HasRoom s = nat_lt (length s.port.streams) s.settings.max_streams ≡ true
+
+-- the calls in order, each of a session with a free place
+abbrev pub RunsWithRoom : List Call → Session → Session → Type 0
+RunsWithRoom [] s t = t ≡ s
+RunsWithRoom (c ∷ cs) s t = HasRoom s × ((mid : Session) × Does c.step s c.answer mid × RunsWithRoom cs mid t)
+
+abbrev pub ends_it : (ssrc payload_type : ℕ) → Option Event → Bool
+ends_it ssrc payload_type None = false
+ends_it ssrc payload_type (Some (events.Ended s p why)) = is_same ssrc payload_type s p
+ends_it ssrc payload_type (Some (events.Begun s p)) = false
+ends_it ssrc payload_type (Some (events.Unit s p time decodable keyframe unit)) = false
+ends_it ssrc payload_type (Some (events.TooLarge s p unit)) = false
+ends_it ssrc payload_type (Some (events.Refused s p fault)) = false
+ends_it ssrc payload_type (Some (events.Feedback s p packet)) = false
+ends_it ssrc payload_type (Some (events.Telephone s p time marker payload)) = false
+ends_it ssrc payload_type (Some (events.Report packet)) = false
+ends_it ssrc payload_type (Some (events.TransportFeedback packet)) = false
+
+abbrev pub is_end_of : (ssrc payload_type : ℕ) → StepAnswer → Bool
+is_end_of ssrc payload_type (answers.Polled event) = ends_it ssrc payload_type event
+is_end_of ssrc payload_type (answers.Received arrival) = false
+is_end_of ssrc payload_type (answers.Reported block) = false
+is_end_of ssrc payload_type (answers.PairAdded added) = false
+is_end_of ssrc payload_type answers.Done = false
+
+-- no event says that the stream ended
+abbrev pub NoEnd : (ssrc payload_type : ℕ) → List Call → Type 0
+NoEnd ssrc payload_type [] = Unit {0}
+NoEnd ssrc payload_type (c ∷ cs) = (is_end_of ssrc payload_type c.answer ≡ false) × NoEnd ssrc payload_type cs
+
+-- one of the streams has this SSRC and payload type, and left probation: the next poll that asks it announces it, if it is not yet
+abbrev pub HasBegun : (ssrc payload_type : ℕ) → List StreamState → Type 0
+HasBegun ssrc payload_type [] = ⊥
+HasBegun ssrc payload_type (s ∷ ss) = ((is_of ssrc payload_type s ≡ true) × (is_probation s.stage ≡ false)) ⊎ HasBegun ssrc payload_type ss
+
+-- A stream accepts two datagrams. Between them come any calls, so datagrams of any other SSRCs; a place is free before each of these
+-- calls, and no event ends the stream. Then it has left probation
+abbrev pub TwoDatagramsBegin : Type 0
+TwoDatagramsBegin =
+    (settings : SessionSettings) (before between : List Call) (first second : Call) (ssrc payload_type : ℕ) (s t u v : Session)
+    → settings.probation ≤ 2 → Runs before (new_session settings) s → HasRoom s → Does first.step s first.answer t → is_accepted_by ssrc payload_type first.answer ≡ true
+    → RunsWithRoom between t u → NoEnd ssrc payload_type between → HasRoom u → Does second.step u second.answer v → is_accepted_by ssrc payload_type second.answer ≡ true
+    → HasBegun ssrc payload_type v.port.streams

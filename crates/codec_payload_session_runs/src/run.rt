@@ -6,7 +6,7 @@ ghost use Rattle.codec_payload_session.specs.Checks.{fault_of};
 ghost use Rattle.codec_payload_session.specs.Ports.{new_session, taken_in, told_counts};
 ghost use Rattle.codec_payload_session.specs.declared.formats.SessionSettings.{SessionSettings as Settings};
 ghost use Rattle.codec_payload_session_runs.specs.Counting.{Counts};
-ghost use Rattle.codec_payload_session_runs.specs.Endings.{EndsHaveCauses, StreamsAreAlone};
+ghost use Rattle.codec_payload_session_runs.specs.Endings.{EndsHaveCauses, StreamsAreAlone, TwoDatagramsBegin};
 ghost use Rattle.codec_payload_session_runs.specs.Lives.{EachEndedAlone, EachIsAlone, TellsInOrder};
 ghost use Rattle.codec_payload_session_runs.specs.SessionRuns.{Does, Runs, calls_of, refusal_of};
 
@@ -133,6 +133,11 @@ pub fn ends_have_causes()
 /// At each moment of a run each stream is a receiver alone, also one that a new SSRC replaces before it is announced.
 pub fn streams_are_alone()
     ensures { StreamsAreAlone }
+{}
+
+/// A sender whose stream accepts two datagrams is announced if a place is free throughout, whatever other SSRCs send in between.
+pub fn two_datagrams_begin()
+    ensures { TwoDatagramsBegin }
 {}
 
 /// A session and the run that it made.
