@@ -1376,8 +1376,9 @@ typedef enum {
                                  6.4.2). `ssrc` and `payload_type` are 0 */
     CPAY_EVENT_TELEPHONE = 6, /**< a packet of telephone events beside audio (RFC 4733): its payload is in the output buffer, with 4
                                  bytes for each event (cpay_tele_read). All packets of an event have the same `unit.rtp_time`,
-                                 its last one comes three times, and a network can repeat any of them, so go by that time. It is
-                                 also reported for a stream that is not announced yet */
+                                 its last one comes three times, and a network can repeat any of them, so go by that time. An
+                                 event of more than 65535 ticks has segments with a time each (section 2.5.1.3). It is also
+                                 reported for a stream that is not announced yet */
     CPAY_EVENT_TRANSPORT_FEEDBACK = 7 /**< a packet of RTCP for the peer is in the output buffer: send it. It says when each packet of
                                  the transport arrived since the last one, or that it is missing. It comes each `interval` of
                                  cpay_session_transport while packets arrive. `ssrc` and `payload_type` are 0 */

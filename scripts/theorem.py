@@ -272,7 +272,7 @@ class Theorem:
     def order(self):
         """The definitions in the order of reading."""
         root, done, out, self.fields, self.words = self.way[0], set(), [], set(), set()
-        types = {k for k, d in self.defs.items() if d is not root and self.is_type(d)}
+        types = {k for k, d in self.defs.items() if d not in self.way and self.is_type(d)}  # a statement without arguments looks like a type
         rest = {k: [u for u in self.used(d) if u.key not in types] for k, d in self.defs.items() if k not in types}
         reach = {}
         for k in rest:

@@ -9,7 +9,7 @@
 //!
 //! - OFFER is a file with the session description (SDP); ADDRESS receives the feedback. Without them the program says so.
 //! - INTERVAL is the number of milliseconds between two reports of arrivals.
-//! - The first line is the port. An empty datagram ends the program.
+//! - The first line is `port` and its number. An empty datagram ends the program.
 //! - The SSRCs of retransmissions are those of the offer (`sdp::session_settings`). For a sender that joins later, a program with
 //!   signalling passes `sdp::pairs` of the new offer to `Session::add_pair`; this one has none.
 
