@@ -107,8 +107,8 @@ HasCause idle why ssrc payload_type calls =
 
 -- ---- whole runs
 
--- each event that says why a stream ended has its cause: a BYE of its SSRC, its idle timeout, a call of the caller, or another format of
--- its SSRC. Nothing else ends an announced stream
+-- each event that says why a stream ended has its cause in the run: a BYE of its SSRC, its idle timeout, a call of the caller, or another
+-- format of its SSRC. The cause may be older than the stream, if its SSRC had a stream before
 abbrev pub EndsHaveCauses : Type 0
 EndsHaveCauses =
     (settings : SessionSettings) (before after : List Call) (now : Ticks) (ssrc payload_type : ℕ) (why : Ending) (s : Session)
@@ -173,7 +173,7 @@ abbrev pub NoEnd : (ssrc payload_type : ℕ) → List Call → Type 0
 NoEnd ssrc payload_type [] = Unit {0}
 NoEnd ssrc payload_type (c ∷ cs) = (is_end_of ssrc payload_type c.answer ≡ false) × NoEnd ssrc payload_type cs
 
--- one of the streams has this SSRC and payload type, and left probation: the next poll that asks it announces it, if it is not yet
+-- one of the streams has this SSRC and payload type, and left probation: it is announced, or a poll that asks it announces it
 abbrev pub HasBegun : (ssrc payload_type : ℕ) → List StreamState → Type 0
 HasBegun ssrc payload_type [] = ⊥
 HasBegun ssrc payload_type (s ∷ ss) = ((is_of ssrc payload_type s ≡ true) × (is_probation s.stage ≡ false)) ⊎ HasBegun ssrc payload_type ss
