@@ -10,6 +10,7 @@ use Rattle.codec_payload_receiver.specs.declared.pops.Popped.TheVariants as popp
 use Rattle.codec_payload_session.specs.Requests.{Asking}
 use Rattle.codec_payload_session.specs.Streams.{Drains, Follows, Plays, RequestsBy, RestsBy, Steps, StepsBy, end_by, end_of, is_probation, left_when, stage_left, step_of, step_with}
 use Rattle.codec_payload_session.specs.declared.formats.Format.{Format}
+use Rattle.codec_payload_session.specs.declared.formats.SessionSettings.{SessionSettings}
 use Rattle.codec_payload_session.specs.declared.stream.Ending.{Ending}
 use Rattle.codec_payload_session.specs.declared.stream.Ending.TheVariants as endings
 use Rattle.codec_payload_session.specs.declared.stream.Stage.{Stage}
@@ -19,8 +20,9 @@ use Rattle.codec_payload_session.specs.Turns.{event_of}
 use Rattle.codec_payload_session.specs.Units.{Event, Step}
 use Rattle.codec_payload_session.specs.declared.session.Event.TheVariants as events
 use Rattle.codec_payload_session_runs.proofs.FateLemmas.{AreApart, absent_at, same_sym}
-use Rattle.codec_payload_session_runs.specs.Endings.{HasCause, IsCause, last_given, or_before, time_given}
-use Rattle.codec_payload_session_runs.specs.Lives.{IsAbsent, is_same}
+use Rattle.codec_payload_session_runs.proofs.ReachedLemmas.{starts_more}
+use Rattle.codec_payload_session_runs.specs.Endings.{BeganWith, HasCause, IsCause, last_given, or_before, time_given}
+use Rattle.codec_payload_session_runs.specs.Lives.{IsAbsent, StartsWithDatagram, is_same}
 use Rattle.codec_payload_session_runs.specs.SessionRuns.{Call}
 
 -- how a stream that leaves or drains ends
@@ -178,13 +180,15 @@ steps_asked now idle s answer t got = by_asked (is_probation s.stage) s.told now
 
 -- ---- streams whose end has a cause
 
-pub record Justified (idle : ℕ) (cs : List Call) (s : StreamState) : Type 0 where
-  pub last : last_given s.ssrc s.format.payload_type None cs ≡ Some s.last
-  pub cause : (why : Ending) → ending_of s.stage ≡ Some why → HasCause idle why s.ssrc s.format.payload_type cs
+pub record Justified (g : SessionSettings) (cs : List Call) (s : StreamState) : Type 0 where
+  pub since : List Call
+  pub began : BeganWith g cs s.ssrc s.format.payload_type since
+  pub last : last_given s.ssrc s.format.payload_type None since ≡ Some s.last
+  pub cause : (why : Ending) → ending_of s.stage ≡ Some why → HasCause g.idle_timeout why s.ssrc s.format.payload_type since
 
-abbrev pub AllJustified : ℕ → List Call → List StreamState → Type 0
-AllJustified idle cs [] = Unit {0}
-AllJustified idle cs (s ∷ ss) = Justified idle cs s × AllJustified idle cs ss
+abbrev pub AllJustified : SessionSettings → List Call → List StreamState → Type 0
+AllJustified g cs [] = Unit {0}
+AllJustified g cs (s ∷ ss) = Justified g cs s × AllJustified g cs ss
 
 -- the same stream, with nothing changed that matters here
 pub record Same (s t : StreamState) : Type 0 where
@@ -203,37 +207,51 @@ pub cause_more : (idle : ℕ) (why : Ending) (ssrc payload_type : ℕ) (cs : Lis
 cause_more idle why ssrc payload_type cs c got =
     (got.0, got.1, got.2 ++ c ∷ [], ap (λ (zs : List Call). zs ++ c ∷ []) got.3 ∙ append_assoc got.0 (got.1 ∷ got.2) (c ∷ []), got.4)
 
+pub began_more : (g : SessionSettings) (cs : List Call) (c : Call) (ssrc payload_type : ℕ) (since : List Call) → BeganWith g cs ssrc payload_type since → BeganWith g (cs ++ c ∷ []) ssrc payload_type (since ++ c ∷ [])
+began_more g cs c ssrc payload_type since got = record {
+  earlier = got.earlier;
+  whole = ap (λ (zs : List Call). zs ++ c ∷ []) got.whole ∙ append_assoc got.earlier since (c ∷ []);
+  starts = starts_more ssrc payload_type since (c ∷ []) got.starts;
+  reached = got.reached;
+  reaches = got.reaches;
+  absent = got.absent;
+}
+
 -- what one call makes of a stream
-pub record Moved (idle : ℕ) (cs : List Call) (c : Call) (s t : StreamState) : Type 0 where
+pub record Moved (g : SessionSettings) (c : Call) (s t : StreamState) : Type 0 where
   pub ssrc_is : t.ssrc ≡ s.ssrc
   pub format : t.format ≡ s.format
   pub last : or_before (time_given s.ssrc s.format.payload_type c) (Some s.last) ≡ Some t.last
-  pub ends : last_given s.ssrc s.format.payload_type None cs ≡ Some s.last → (why : Ending) → ending_of t.stage ≡ Some why
-      → (ending_of s.stage ≡ Some why) ⊎ IsCause idle why s.ssrc s.format.payload_type cs c
+  pub ends : (since : List Call) → last_given s.ssrc s.format.payload_type None since ≡ Some s.last → (why : Ending) → ending_of t.stage ≡ Some why
+      → (ending_of s.stage ≡ Some why) ⊎ IsCause g.idle_timeout why s.ssrc s.format.payload_type since c
 
-pub justified_more : (idle : ℕ) (cs : List Call) (c : Call) (s t : StreamState) → Justified idle cs s → Moved idle cs c s t → Justified idle (cs ++ c ∷ []) t
-justified_more idle cs c s t j m = record {
-  last = ap₂ (λ (n : ℕ) (f : Format). last_given n f.payload_type None (cs ++ c ∷ [])) m.ssrc_is m.format ∙ last_append s.ssrc s.format.payload_type cs c None
+pub justified_more : (g : SessionSettings) (cs : List Call) (c : Call) (s t : StreamState) → Justified g cs s → Moved g c s t → Justified g (cs ++ c ∷ []) t
+justified_more g cs c s t j m = record {
+  since = j.since ++ c ∷ [];
+  began = subst₂ (λ (n : ℕ) (f : Format). BeganWith g (cs ++ c ∷ []) n f.payload_type (j.since ++ c ∷ [])) (sym m.ssrc_is) (sym m.format) (began_more g cs c s.ssrc s.format.payload_type j.since j.began);
+  last = ap₂ (λ (n : ℕ) (f : Format). last_given n f.payload_type None (j.since ++ c ∷ [])) m.ssrc_is m.format ∙ last_append s.ssrc s.format.payload_type j.since c None
       ∙ ap (λ (o : Option ℕ). or_before (time_given s.ssrc s.format.payload_type c) o) j.last ∙ m.last;
-  cause = λ why is. subst₂ (λ (n : ℕ) (f : Format). HasCause idle why n f.payload_type (cs ++ c ∷ [])) (sym m.ssrc_is) (sym m.format) (by_either why (m.ends j.last why is));
+  cause = λ why is. subst₂ (λ (n : ℕ) (f : Format). HasCause g.idle_timeout why n f.payload_type (j.since ++ c ∷ [])) (sym m.ssrc_is) (sym m.format) (by_either why (m.ends j.since j.last why is));
 }
   where
-    by_either : (why : Ending) → (ending_of s.stage ≡ Some why) ⊎ IsCause idle why s.ssrc s.format.payload_type cs c → HasCause idle why s.ssrc s.format.payload_type (cs ++ c ∷ [])
-    by_either why (inl before) = cause_more idle why s.ssrc s.format.payload_type cs c (j.cause why before)
-    by_either why (inr now) = (cs, c, [], refl, now)
+    by_either : (why : Ending) → (ending_of s.stage ≡ Some why) ⊎ IsCause g.idle_timeout why s.ssrc s.format.payload_type j.since c → HasCause g.idle_timeout why s.ssrc s.format.payload_type (j.since ++ c ∷ [])
+    by_either why (inl before) = cause_more g.idle_timeout why s.ssrc s.format.payload_type j.since c (j.cause why before)
+    by_either why (inr now) = (j.since, c, [], refl, now)
 
-pub justified_same : (idle : ℕ) (cs : List Call) (s t : StreamState) → Justified idle cs s → Same s t → Justified idle cs t
-justified_same idle cs s t j m = record {
-  last = ap₂ (λ (n : ℕ) (f : Format). last_given n f.payload_type None cs) m.ssrc_is m.format ∙ j.last ∙ ap (λ (n : ℕ). Some n) (sym m.last);
-  cause = λ why is. subst₂ (λ (n : ℕ) (f : Format). HasCause idle why n f.payload_type cs) (sym m.ssrc_is) (sym m.format) (j.cause why (ap (λ (st : Stage). ending_of st) (sym m.stage) ∙ is));
+pub justified_same : (g : SessionSettings) (cs : List Call) (s t : StreamState) → Justified g cs s → Same s t → Justified g cs t
+justified_same g cs s t j m = record {
+  since = j.since;
+  began = subst₂ (λ (n : ℕ) (f : Format). BeganWith g cs n f.payload_type j.since) (sym m.ssrc_is) (sym m.format) j.began;
+  last = ap₂ (λ (n : ℕ) (f : Format). last_given n f.payload_type None j.since) m.ssrc_is m.format ∙ j.last ∙ ap (λ (n : ℕ). Some n) (sym m.last);
+  cause = λ why is. subst₂ (λ (n : ℕ) (f : Format). HasCause g.idle_timeout why n f.payload_type j.since) (sym m.ssrc_is) (sym m.format) (j.cause why (ap (λ (st : Stage). ending_of st) (sym m.stage) ∙ is));
 }
 
-pub moved_same : (idle : ℕ) (cs : List Call) (c : Call) (s t : StreamState) → time_given s.ssrc s.format.payload_type c ≡ None → Same s t → Moved idle cs c s t
-moved_same idle cs c s t none same = record {
+pub moved_same : (g : SessionSettings) (c : Call) (s t : StreamState) → time_given s.ssrc s.format.payload_type c ≡ None → Same s t → Moved g c s t
+moved_same g c s t none same = record {
   ssrc_is = same.ssrc_is;
   format = same.format;
   last = ap (λ (o : Option ℕ). or_before o (Some s.last)) none ∙ ap (λ (n : ℕ). Some n) (sym same.last);
-  ends = λ given why is. inl (ap (λ (st : Stage). ending_of st) (sym same.stage) ∙ is);
+  ends = λ since given why is. inl (ap (λ (st : Stage). ending_of st) (sym same.stage) ∙ is);
 }
 
 pub itself : (s : StreamState) → Same s s
@@ -245,73 +263,94 @@ left_ending own at stages.Playing why is = inr (cc)
 left_ending own at (stages.Leaving first before) why is = inl is
 left_ending own at (stages.Draining first) why is = inl is
 
--- a stream that leaves has a cause among the calls
-pub justified_left : (b : Bool) (own : Ending) (at idle : ℕ) (cs : List Call) (s : StreamState) → Justified idle cs s → (b ≡ true → HasCause idle own s.ssrc s.format.payload_type cs) → Justified idle cs (left_when b own at s)
-justified_left false own at idle cs s j cause = j
-justified_left true own at idle cs s j cause = record { last = j.last; cause = λ why is. by_either why (left_ending own at s.stage why is) }
+-- what begins in front of the last call ends with it
+ends_with : (earlier since cs : List Call) (c : Call) → cs ++ c ∷ [] ≡ earlier ++ since → (d : Call) (ds : List Call) → since ≡ d ∷ ds → (front : List Call) × (since ≡ front ++ c ∷ [])
+ends_with [] since cs c whole d ds some = (cs, sym whole)
+ends_with (x ∷ xs) since [] c whole d ds some = absurd (too_long xs (subst (λ (zs : List Call). [] ≡ xs ++ zs) some rest))
   where
-    by_either : (why : Ending) → (ending_of s.stage ≡ Some why) ⊎ (why ≡ own) → HasCause idle why s.ssrc s.format.payload_type cs
+    rest : [] ≡ xs ++ since
+    rest = cc
+
+    too_long : (zs : List Call) → [] ≡ zs ++ d ∷ ds → ⊥
+    too_long [] is = absurd (cc)
+    too_long (z ∷ zs) is = absurd (cc)
+ends_with (x ∷ xs) since (y ∷ ys) c whole d ds some = let rest : ys ++ c ∷ [] ≡ xs ++ since = cc in ends_with xs since ys c rest d ds some
+
+begins_some : (ssrc payload_type : ℕ) (earlier since cs : List Call) (c : Call) → StartsWithDatagram ssrc payload_type since → cs ++ c ∷ [] ≡ earlier ++ since → (front : List Call) × (since ≡ front ++ c ∷ [])
+begins_some ssrc payload_type earlier [] cs c starts whole = absurd starts
+begins_some ssrc payload_type earlier (d ∷ ds) cs c starts whole = ends_with earlier (d ∷ ds) cs c whole d ds refl
+
+-- the latest call is a cause for which a stream leaves
+pub justified_left : (b : Bool) (own : Ending) (at : ℕ) (g : SessionSettings) (cs : List Call) (c : Call) (s : StreamState) → Justified g (cs ++ c ∷ []) s
+    → (b ≡ true → (front : List Call) → IsCause g.idle_timeout own s.ssrc s.format.payload_type front c) → Justified g (cs ++ c ∷ []) (left_when b own at s)
+justified_left false own at g cs c s j cause = j
+justified_left true own at g cs c s j cause = record { since = j.since; began = j.began; last = j.last; cause = λ why is. by_either why (left_ending own at s.stage why is) }
+  where
+    by_either : (why : Ending) → (ending_of s.stage ≡ Some why) ⊎ (why ≡ own) → HasCause g.idle_timeout why s.ssrc s.format.payload_type j.since
     by_either why (inl before) = j.cause why before
-    by_either why (inr new) = subst (λ (w : Ending). HasCause idle w s.ssrc s.format.payload_type cs) (sym new) (cause refl)
+    by_either why (inr new) =
+        let parts = begins_some s.ssrc s.format.payload_type j.began.earlier j.since cs c j.began.starts j.began.whole in
+        subst (λ (w : Ending). HasCause g.idle_timeout w s.ssrc s.format.payload_type j.since) (sym new) (parts.0, c, [], parts.1, cause refl parts.0)
 
 -- ---- lists of streams
 
-abbrev pub AllMoved : ℕ → List Call → Call → List StreamState → List StreamState → Type 0
-AllMoved idle cs c [] [] = Unit {0}
-AllMoved idle cs c [] (t ∷ ts) = ⊥
-AllMoved idle cs c (s ∷ ss) [] = ⊥
-AllMoved idle cs c (s ∷ ss) (t ∷ ts) = Moved idle cs c s t × AllMoved idle cs c ss ts
+abbrev pub AllMoved : SessionSettings → Call → List StreamState → List StreamState → Type 0
+AllMoved g c [] [] = Unit {0}
+AllMoved g c [] (t ∷ ts) = ⊥
+AllMoved g c (s ∷ ss) [] = ⊥
+AllMoved g c (s ∷ ss) (t ∷ ts) = Moved g c s t × AllMoved g c ss ts
 
-pub all_more : (idle : ℕ) (cs : List Call) (c : Call) (ss ts : List StreamState) → AllJustified idle cs ss → AllMoved idle cs c ss ts → AllJustified idle (cs ++ c ∷ []) ts
-all_more idle cs c [] [] js ms = tt
-all_more idle cs c [] (t ∷ ts) js ms = absurd ms
-all_more idle cs c (s ∷ ss) [] js ms = absurd ms
-all_more idle cs c (s ∷ ss) (t ∷ ts) js ms = (justified_more idle cs c s t js.0 ms.0, all_more idle cs c ss ts js.1 ms.1)
+pub all_more : (g : SessionSettings) (cs : List Call) (c : Call) (ss ts : List StreamState) → AllJustified g cs ss → AllMoved g c ss ts → AllJustified g (cs ++ c ∷ []) ts
+all_more g cs c [] [] js ms = tt
+all_more g cs c [] (t ∷ ts) js ms = absurd ms
+all_more g cs c (s ∷ ss) [] js ms = absurd ms
+all_more g cs c (s ∷ ss) (t ∷ ts) js ms = (justified_more g cs c s t js.0 ms.0, all_more g cs c ss ts js.1 ms.1)
 
-pub all_mapped : (idle : ℕ) (cs : List Call) (c : Call) (g : StreamState → StreamState) (ss : List StreamState) → ((s : StreamState) → Moved idle cs c s (g s)) → AllMoved idle cs c ss (map g ss)
-all_mapped idle cs c g [] moves = tt
-all_mapped idle cs c g (s ∷ ss) moves = (moves s, all_mapped idle cs c g ss moves)
+pub all_mapped : (g : SessionSettings) (c : Call) (f : StreamState → StreamState) (ss : List StreamState) → ((s : StreamState) → Moved g c s (f s)) → AllMoved g c ss (map f ss)
+all_mapped g c f [] moves = tt
+all_mapped g c f (s ∷ ss) moves = (moves s, all_mapped g c f ss moves)
 
-pub all_silent : (idle : ℕ) (cs : List Call) (c : Call) (ss : List StreamState) → ((ssrc payload_type : ℕ) → time_given ssrc payload_type c ≡ None) → AllMoved idle cs c ss ss
-all_silent idle cs c [] none = tt
-all_silent idle cs c (s ∷ ss) none = (moved_same idle cs c s s (none s.ssrc s.format.payload_type) (itself s), all_silent idle cs c ss none)
+pub all_silent : (g : SessionSettings) (c : Call) (ss : List StreamState) → ((ssrc payload_type : ℕ) → time_given ssrc payload_type c ≡ None) → AllMoved g c ss ss
+all_silent g c [] none = tt
+all_silent g c (s ∷ ss) none = (moved_same g c s s (none s.ssrc s.format.payload_type) (itself s), all_silent g c ss none)
 
 -- a change of streams without a call between
-pub same_justified : (idle : ℕ) (cs : List Call) (g : StreamState → StreamState) (ss : List StreamState) → ((s : StreamState) → Same s (g s)) → AllJustified idle cs ss → AllJustified idle cs (map g ss)
-same_justified idle cs g [] same js = tt
-same_justified idle cs g (s ∷ ss) same js = (justified_same idle cs s (g s) js.0 (same s), same_justified idle cs g ss same js.1)
+pub same_justified : (g : SessionSettings) (cs : List Call) (f : StreamState → StreamState) (ss : List StreamState) → ((s : StreamState) → Same s (f s)) → AllJustified g cs ss → AllJustified g cs (map f ss)
+same_justified g cs f [] same js = tt
+same_justified g cs f (s ∷ ss) same js = (justified_same g cs s (f s) js.0 (same s), same_justified g cs f ss same js.1)
 
-pub all_left : (who : StreamState → Bool) (own : Ending) (at idle : ℕ) (cs : List Call) (ss : List StreamState) → ((s : StreamState) → who s ≡ true → HasCause idle own s.ssrc s.format.payload_type cs)
-    → AllJustified idle cs ss → AllJustified idle cs (map (λ (s : StreamState). left_when (who s) own at s) ss)
-all_left who own at idle cs [] cause js = tt
-all_left who own at idle cs (s ∷ ss) cause js = (justified_left (who s) own at idle cs s js.0 (cause s), all_left who own at idle cs ss cause js.1)
+pub all_left : (who : StreamState → Bool) (own : Ending) (at : ℕ) (g : SessionSettings) (cs : List Call) (c : Call) (ss : List StreamState)
+    → ((s : StreamState) → who s ≡ true → (front : List Call) → IsCause g.idle_timeout own s.ssrc s.format.payload_type front c) → AllJustified g (cs ++ c ∷ []) ss
+    → AllJustified g (cs ++ c ∷ []) (map (λ (s : StreamState). left_when (who s) own at s) ss)
+all_left who own at g cs c [] cause js = tt
+all_left who own at g cs c (s ∷ ss) cause js = (justified_left (who s) own at g cs c s js.0 (cause s), all_left who own at g cs c ss cause js.1)
 
-pub justified_append : (idle : ℕ) (cs : List Call) (ss ts : List StreamState) → AllJustified idle cs ss → AllJustified idle cs ts → AllJustified idle cs (ss ++ ts)
-justified_append idle cs [] ts a b = b
-justified_append idle cs (s ∷ ss) ts a b = (a.0, justified_append idle cs ss ts a.1 b)
+pub justified_append : (g : SessionSettings) (cs : List Call) (ss ts : List StreamState) → AllJustified g cs ss → AllJustified g cs ts → AllJustified g cs (ss ++ ts)
+justified_append g cs [] ts a b = b
+justified_append g cs (s ∷ ss) ts a b = (a.0, justified_append g cs ss ts a.1 b)
 
-pub justified_parts : (idle : ℕ) (cs : List Call) (ss ts : List StreamState) → AllJustified idle cs (ss ++ ts) → AllJustified idle cs ss × AllJustified idle cs ts
-justified_parts idle cs [] ts js = (tt, js)
-justified_parts idle cs (s ∷ ss) ts js = let parts = justified_parts idle cs ss ts js.1 in ((js.0, parts.0), parts.1)
+pub justified_parts : (g : SessionSettings) (cs : List Call) (ss ts : List StreamState) → AllJustified g cs (ss ++ ts) → AllJustified g cs ss × AllJustified g cs ts
+justified_parts g cs [] ts js = (tt, js)
+justified_parts g cs (s ∷ ss) ts js = let parts = justified_parts g cs ss ts js.1 in ((js.0, parts.0), parts.1)
 
-pub justified_remove : (idle : ℕ) (cs : List Call) (ss : List StreamState) (i : ℕ) → AllJustified idle cs ss → AllJustified idle cs (remove ss i)
-justified_remove idle cs [] zero js = tt
-justified_remove idle cs [] (suc i) js = tt
-justified_remove idle cs (s ∷ ss) zero js = js.1
-justified_remove idle cs (s ∷ ss) (suc i) js = (js.0, justified_remove idle cs ss i js.1)
+pub justified_remove : (g : SessionSettings) (cs : List Call) (ss : List StreamState) (i : ℕ) → AllJustified g cs ss → AllJustified g cs (remove ss i)
+justified_remove g cs [] zero js = tt
+justified_remove g cs [] (suc i) js = tt
+justified_remove g cs (s ∷ ss) zero js = js.1
+justified_remove g cs (s ∷ ss) (suc i) js = (js.0, justified_remove g cs ss i js.1)
 
-pub others_moved : (idle : ℕ) (cs : List Call) (c : Call) (a b : ℕ) (ss : List StreamState) → IsAbsent a b ss → ((z : StreamState) → is_same z.ssrc z.format.payload_type a b ≡ false → Moved idle cs c z z)
-    → AllMoved idle cs c ss ss
-others_moved idle cs c a b [] absent others = tt
-others_moved idle cs c a b (s ∷ ss) absent others = (others s (same_sym s.ssrc s.format.payload_type a b ∙ absent.0), others_moved idle cs c a b ss absent.1 others)
+pub others_moved : (g : SessionSettings) (c : Call) (a b : ℕ) (ss : List StreamState) → IsAbsent a b ss → ((z : StreamState) → is_same z.ssrc z.format.payload_type a b ≡ false → Moved g c z z)
+    → AllMoved g c ss ss
+others_moved g c a b [] absent others = tt
+others_moved g c a b (s ∷ ss) absent others = (others s (same_sym s.ssrc s.format.payload_type a b ∙ absent.0), others_moved g c a b ss absent.1 others)
 
-pub one_moved : (idle : ℕ) (cs : List Call) (c : Call) (ss : List StreamState) (place : ℕ) (x y : StreamState) → slice_get ss place ≡ Some x → AreApart ss → Moved idle cs c x y
-    → ((z : StreamState) → is_same z.ssrc z.format.payload_type x.ssrc x.format.payload_type ≡ false → Moved idle cs c z z) → AllMoved idle cs c ss (slice_set ss place y)
-one_moved idle cs c [] place x y there apart moved others = absurd (cc)
-one_moved idle cs c (z ∷ zs) zero x y there apart moved others =
+pub one_moved : (g : SessionSettings) (c : Call) (ss : List StreamState) (place : ℕ) (x y : StreamState) → slice_get ss place ≡ Some x → AreApart ss → Moved g c x y
+    → ((z : StreamState) → is_same z.ssrc z.format.payload_type x.ssrc x.format.payload_type ≡ false → Moved g c z z) → AllMoved g c ss (slice_set ss place y)
+one_moved g c [] place x y there apart moved others = absurd (cc)
+one_moved g c (z ∷ zs) zero x y there apart moved others =
     let e : z ≡ x = cc in (
-      subst (λ (w : StreamState). Moved idle cs c w y) (sym e) moved,
-      others_moved idle cs c x.ssrc x.format.payload_type zs (subst (λ (w : StreamState). IsAbsent w.ssrc w.format.payload_type zs) e apart.0) others,
+      subst (λ (w : StreamState). Moved g c w y) (sym e) moved,
+      others_moved g c x.ssrc x.format.payload_type zs (subst (λ (w : StreamState). IsAbsent w.ssrc w.format.payload_type zs) e apart.0) others,
     )
-one_moved idle cs c (z ∷ zs) (suc i) x y there apart moved others =
-    (others z (absent_at z.ssrc z.format.payload_type zs i x apart.0 there), one_moved idle cs c zs i x y there apart.1 moved others)
+one_moved g c (z ∷ zs) (suc i) x y there apart moved others =
+    (others z (absent_at z.ssrc z.format.payload_type zs i x apart.0 there), one_moved g c zs i x y there apart.1 moved others)

@@ -233,7 +233,7 @@ moves (calls.RemovePair ssrc) answer s t apart known got =
 
 -- ---- streams alone
 
-starts_more : (ssrc payload_type : ℕ) (cs ds : List Call) → StartsWithDatagram ssrc payload_type cs → StartsWithDatagram ssrc payload_type (cs ++ ds)
+pub starts_more : (ssrc payload_type : ℕ) (cs ds : List Call) → StartsWithDatagram ssrc payload_type cs → StartsWithDatagram ssrc payload_type (cs ++ ds)
 starts_more ssrc payload_type [] ds starts = absurd starts
 starts_more ssrc payload_type (c ∷ cs) ds starts = starts
 

@@ -14,7 +14,7 @@ use Rattle.codec_payload_session.specs.declared.session.Arrival.TheVariants as a
 use Rattle.codec_payload_session.specs.declared.session.Event.TheVariants as events
 use Rattle.codec_payload_session.specs.declared.stream.Ending.{Ending}
 use Rattle.codec_payload_session.specs.declared.stream.Ending.TheVariants as endings
-use Rattle.codec_payload_session_runs.specs.Lives.{EachIsAlone, ending_poll, is_same}
+use Rattle.codec_payload_session_runs.specs.Lives.{EachIsAlone, IsAbsent, StartsWithDatagram, ending_poll, is_same}
 use Rattle.codec_payload_session.specs.declared.stream.StreamState.{StreamState}
 use Rattle.codec_payload_session_runs.specs.SessionRuns.{Call, Does, Runs}
 use Rattle.codec_payload_session_runs.specs.declared.run.SessionStep.{SessionStep}
@@ -107,13 +107,24 @@ HasCause idle why ssrc payload_type calls =
 
 -- ---- whole runs
 
--- each event that says why a stream ended has its cause in the run: a BYE of its SSRC, its idle timeout, a call of the caller, or another
--- format of its SSRC. The cause may be older than the stream, if its SSRC had a stream before
+-- the calls since the stream began: the first one gave it a datagram, and in front of it the session had no stream with this SSRC and
+-- payload type
+pub record BeganWith (settings : SessionSettings) (calls : List Call) (ssrc payload_type : ℕ) (since : List Call) : Type 0 where
+  pub earlier : List Call
+  pub whole : calls ≡ earlier ++ since
+  pub starts : StartsWithDatagram ssrc payload_type since
+  pub reached : Session
+  pub reaches : Runs earlier (new_session settings) reached
+  pub absent : IsAbsent ssrc payload_type reached.port.streams
+
+-- each event that says why a stream ended has its cause in the stream's own time: a BYE of its SSRC, its idle timeout, a call of the
+-- caller, or another format of its SSRC
 abbrev pub EndsHaveCauses : Type 0
 EndsHaveCauses =
     (settings : SessionSettings) (before after : List Call) (now : Ticks) (ssrc payload_type : ℕ) (why : Ending) (s : Session)
     → Runs (before ++ ending_poll now ssrc payload_type why ∷ after) (new_session settings) s
-    → HasCause settings.idle_timeout why ssrc payload_type (before ++ ending_poll now ssrc payload_type why ∷ [])
+    → (since : List Call) × BeganWith settings (before ++ ending_poll now ssrc payload_type why ∷ []) ssrc payload_type since
+    × HasCause settings.idle_timeout why ssrc payload_type since
 
 -- at each moment of a run each stream is a receiver alone. So was a stream in probation until a new SSRC took its place, without an
 -- event
