@@ -461,7 +461,7 @@ pairs_evolve given c ssrc named ss about silent nothing =
     evolves_all given c ss (map (paired_if ssrc named) ss) silent (mapped_all c (paired_if ssrc named) ss (λ (s : StreamState). paired_goes c ssrc named (s.ssrc == ssrc) s refl about (silent s.ssrc s.format.payload_type) (nothing s.ssrc s.format.payload_type)))
 
 -- the stream at a place
-at_place : (ss : List StreamState) (place : ℕ) (s d : StreamState) → slice_get ss place ≡ Some s → get_or ss place d ≡ s
+pub at_place : (ss : List StreamState) (place : ℕ) (s d : StreamState) → slice_get ss place ≡ Some s → get_or ss place d ≡ s
 at_place [] place s d there = absurd (cc)
 at_place (x ∷ xs) zero s d there = cc
 at_place (x ∷ xs) (suc i) s d there = at_place xs i s d there

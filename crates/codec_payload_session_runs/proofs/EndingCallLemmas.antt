@@ -1,11 +1,10 @@
 -- Each call of a session, and why its streams end.
-use Rattle.std.proofs.Common.{◌≡◌, ◌∙◌, ◌⊎◌, inl, inr, refl, sym, ap, ap₂, subst, subst₂, ℕ, zero, suc, ◌+◌, ◌-◌, ◌^◌, ◌==◌, ◌&&◌, not, cond, min, Bool, true, false, List, [], ◌∷◌, ◌++◌, get_or, Option, Some, None, is_some, Result, Ok, Err, append_assoc, append-nil, slice_get, slice_set, arith, eqb-true}
+use Rattle.std.proofs.Common.{◌≡◌, ◌∙◌, ◌⊎◌, inl, inr, refl, sym, ap, ap₂, subst, subst₂, ℕ, zero, suc, ◌+◌, ◌-◌, ◌^◌, ◌==◌, ◌&&◌, not, cond, min, Bool, true, false, List, [], ◌∷◌, ◌++◌, Option, Some, None, is_some, Result, Ok, Err, append_assoc, append-nil, slice_get, slice_set, eqb-true}
 use Rattle.std.specs.Global.{Vec}
 use Rattle.std.specs.List.{position, position_from}
 use Rattle.std.specs.Prelude.{IsErr, is_ok, nat_le}
 use Rattle.std.specs.declared.alloc.AllocError.{AllocError}
 use Rattle.std.proofs.lemmas.Bool.{and_parts}
-use Rattle.std.proofs.lemmas.Bool.Decides.{nat_tests}
 use Rattle.std.proofs.lemmas.Iterator.Adapters.{position_from-zero}
 use Rattle.std.proofs.lemmas.List.Quantifiers.{position-Some}
 use Rattle.codec_payload_base.specs.declared.wire.Ticks.{Ticks}
@@ -47,7 +46,8 @@ use Rattle.codec_payload_session.specs.declared.stream.Stage.TheVariants as stag
 use Rattle.codec_payload_session.specs.declared.stream.StreamState.{StreamState}
 use Rattle.codec_payload_session_runs.proofs.AloneLemmas.{poll_of}
 use Rattle.codec_payload_session_runs.proofs.EndingLemmas.{began_more, AllJustified, AllMoved, Asked, Justified, Moved, Reason, Same, all_left, all_more, all_silent, cause_more, ending_of, itself, justified_append, justified_more, justified_parts, justified_remove, justified_same, moved_same, one_moved, others_moved, same_justified, steps_asked}
-use Rattle.codec_payload_session_runs.proofs.FateLemmas.{AreApart, found_none, of_is}
+use Rattle.codec_payload_session_runs.proofs.CallLemmas.{at_place}
+use Rattle.codec_payload_session_runs.proofs.FateLemmas.{AreApart, found_none, of_is, number_sym}
 use Rattle.codec_payload_session_runs.proofs.ReachedLemmas.{Reached, by_streams, reached, reached_more, reached_new, runs_split}
 use Rattle.codec_payload_session_runs.proofs.ReachedLemmas.{Same as SameOrReported}
 use Rattle.codec_payload_session_runs.proofs.StreamLemmas.{IsOwn, Kind, call_of, given_is, same_is, steps_stepped}
@@ -240,11 +240,6 @@ nobody_continues ssrc f ss none goes =
     let no : false ≡ true = sym (ap (λ (o : Option ℕ). is_some o) nobody) ∙ found in
     absurd (cc)
 
-pub stream_at : (ss : List StreamState) (place : ℕ) (s d : StreamState) → slice_get ss place ≡ Some s → get_or ss place d ≡ s
-stream_at [] place s d there = absurd (cc)
-stream_at (x ∷ xs) zero s d there = cc
-stream_at (x ∷ xs) (suc i) s d there = stream_at xs i s d there
-
 -- the answer names the stream
 abbrev Names : ℕ → ℕ → Result Arrival AllocError → Type 0
 Names ssrc payload_type answer = (told : Result Outcome ReceiveError) × (answer ≡ Ok (arrival_of ssrc payload_type told))
@@ -270,12 +265,9 @@ takes_names : (o : Option ℕ) (settings : SessionSettings) (ssrc : ℕ) (f : Fo
 takes_names None settings ssrc f now bytes p answer q there got ok goes = begun_names (has_place settings.max_streams p) settings ssrc f now bytes p answer q there got ok goes
 takes_names (Some place) settings ssrc f now bytes p answer q there got ok goes =
     let here = position-Some (is_of ssrc f.payload_type) p.streams place got.stream there in
-    let is : is_of ssrc f.payload_type got.stream ≡ true = subst (λ (s : StreamState). is_of ssrc f.payload_type s ≡ true) (stream_at p.streams place got.stream got.stream got.there) here.1 in
+    let is : is_of ssrc f.payload_type got.stream ≡ true = subst (λ (s : StreamState). is_of ssrc f.payload_type s ≡ true) (at_place p.streams place got.stream got.stream got.there) here.1 in
     let own = of_is ssrc f.payload_type got.stream is in
     subst₂ (λ (s t : ℕ). Names s t answer) own.0 own.1 (arrives_names (is_no_memory got.told) got.stream.ssrc got.stream.format.payload_type got.told answer got.arrives ok)
-
-number_sym : (a b : ℕ) → (a == b) ≡ (b == a)
-number_sym a b = grind (arith, nat_tests)
 
 -- the stream that was left has the same SSRC and another payload type
 names_left : (ssrc payload_type s p : ℕ) (told : Result Outcome ReceiveError) → (s == ssrc) ≡ true → not (p == payload_type) ≡ true → names_other s p (arrival_of ssrc payload_type told) ≡ true

@@ -25,7 +25,7 @@ abbrev pub AreKnown : List StreamState → Type 0
 AreKnown [] = Unit {0}
 AreKnown (s ∷ ss) = IsKnown s × AreKnown ss
 
-number_sym : (a b : ℕ) → (a == b) ≡ (b == a)
+pub number_sym : (a b : ℕ) → (a == b) ≡ (b == a)
 number_sym a b = grind (arith, nat_tests)
 
 pub same_sym : (a b c d : ℕ) → is_same a b c d ≡ is_same c d a b
