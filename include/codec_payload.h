@@ -749,7 +749,8 @@ typedef enum {
  * answer *size is 0, and the output buffer is unchanged. `now` is the time of your clock in ticks of the RTP clock: at a switch the time
  * goes on by the ticks since the packet with the highest number was written, at least 1, at most 2^31 - 1. A viewer begins with:
  * - CPAY_VP8: the first packet of a keyframe (RFC 7741, section 4.2);
- * - CPAY_VP9: the first packet of a frame that refers to no other: P is clear, and B is set (RFC 9628, section 4.2);
+ * - CPAY_VP9: the first packet of the lowest spatial layer of a picture that refers to no other: P is clear, B is set, and L is
+ *   clear or SID is 0 (RFC 9628, section 4.2);
  * - CPAY_AV1: the first packet of a coded video sequence: N is set, and Z is clear;
  * - other codecs: any packet.
  * CPAY_TOO_SMALL: the output buffer has fewer than *size bytes: 12, the payload and the padding. So a buffer of `datagram_len` bytes

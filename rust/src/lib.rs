@@ -126,6 +126,7 @@ pub mod feedback;
 pub mod forward;
 #[doc(hidden)]
 pub mod history;
+mod index;
 #[doc(hidden)]
 pub mod interface;
 #[doc(hidden)]

@@ -82,10 +82,16 @@ fn bytes_of_a_forwarded_packet() -> Outcome {
 
 #[test]
 fn begins_at_keyframes_only() -> Outcome {
-    let cases: [(Codec, &[u8], &[u8]); 4] = [
+    let cases: [(Codec, &[u8], &[u8]); 9] = [
         (Codec::Vp8, &[0x10, 0x01, 7], &[0x10, 0x00, 7]),
         (Codec::Vp8, &[0x00, 0x00, 7], &[0x10, 0x00, 7]),
         (Codec::Vp9, &[0x04, 7], &[0x08, 7]),
+        // L is set, and SID is 1: alone, behind a PictureID of one byte and of two bytes; with the octet of layers missing.
+        (Codec::Vp9, &[0x28, 0x13, 7], &[0x28, 0x10, 7]),
+        (Codec::Vp9, &[0xa8, 5, 0x13, 7], &[0xa8, 5, 0x11, 7]),
+        (Codec::Vp9, &[0xa8, 0x80, 5, 0x13], &[0xa8, 0x80, 5, 0x10]),
+        (Codec::Vp9, &[0x28], &[0x28, 0x00]),
+        (Codec::Vp9, &[0xa8, 0x80, 0x00], &[0xa8, 0x80, 0x00, 0x00]),
         (Codec::Av1, &[0x98, 7], &[0x18, 7]),
     ];
     for (codec, other, first) in cases {

@@ -2,7 +2,7 @@
  * then the units that are complete leave. KIND: `opus` (120 bytes, in order), `ranges` (the same, ranges of 32 in reverse order),
  * `vp8` (1,200 bytes, 17 packets a frame) or `ring` (packets of Opus through a ring that keeps no promises). tools/measure/receiving.py
  * runs it under callgrind, which counts only inside the function of CALL: `receive`, `pop`, `push`, `pop_buffer`, `put` or
- * `take`. With CALL `time` it prints the nanoseconds of a packet, as the least of several runs, with `time-buffer` those of a buffer,
+ * `take`. With CALL `time` it prints the nanoseconds of processor time of a packet, as the least of several runs, with `time-buffer` those of a buffer,
  * and with `time-cold` those of 10,000 receivers in turn. A unit leaves after each packet that ends a frame. */
 #define _POSIX_C_SOURCE 199309L
 #include "codec_payload.h"
@@ -128,7 +128,7 @@ static void through_ring(uint64_t place) {
 
 static double time_now(void) {
     struct timespec time;
-    clock_gettime(CLOCK_MONOTONIC, &time);
+    clock_gettime(CLOCK_PROCESS_CPUTIME_ID, &time);
     return 1e9 * (double)time.tv_sec + (double)time.tv_nsec;
 }
 

@@ -10,11 +10,10 @@
 #include <arpa/inet.h>
 #include <errno.h>
 #include <microhttpd.h>
-#include <stdio.h>
 #include <stdlib.h>
 #include <string.h>
 
-enum { MOST_BODY = 32 << 10, MOST_ANSWER = 16 << 10, MOST_STATS = 512 << 10, MOST_PAGE = 128 << 10 };
+enum { MOST_BODY = 32 << 10, MOST_STATS = 512 << 10, MOST_PAGE = 128 << 10 };
 enum { CONNECTIONS = 256, CONNECTION_BYTES = 16 << 10, CONNECTION_SECONDS = 10 };
 
 static struct MHD_Daemon *server;
@@ -24,29 +23,23 @@ typedef struct {
     struct MHD_Connection *connection;
     const char *url, *method;
     size_t size;
-    char *body; /* MOST_BODY bytes from its first byte on, with a 0 at the end */
+    char body[MOST_BODY]; /* with a 0 at the end */
 } request;
 
 /* ---- replies ---- */
-
-/* Pages of other origins may publish and watch, but neither read what is counted nor change the network. */
-static void allow_others(struct MHD_Response *response) {
-    MHD_add_response_header(response, "Access-Control-Allow-Origin", "*");
-    MHD_add_response_header(response, "Access-Control-Allow-Methods", "POST, PUT, DELETE, OPTIONS");
-    MHD_add_response_header(response, "Access-Control-Allow-Headers", "Content-Type, Authorization");
-    MHD_add_response_header(response, "Access-Control-Expose-Headers", "Location");
-}
-
-static bool is_for_others(const char *url) {
-    return !strncmp(url, "/whip/", 6) || !strncmp(url, "/whep/", 6) || !strncmp(url, "/session/", 9);
-}
 
 static enum MHD_Result reply(const request *to, unsigned code, const char *type, const char *body, const char *location) {
     struct MHD_Response *response = MHD_create_response_from_buffer(strlen(body), (void *)body, MHD_RESPMEM_MUST_COPY);
     if (!response) return MHD_NO;
     MHD_add_response_header(response, "Content-Type", type);
     MHD_add_response_header(response, "Cache-Control", "no-store");
-    if (is_for_others(to->url)) allow_others(response);
+    /* Pages of other origins may publish and watch, but neither read what is counted nor change the network. */
+    if (!strncmp(to->url, "/whip/", 6) || !strncmp(to->url, "/whep/", 6) || !strncmp(to->url, "/session/", 9)) {
+        MHD_add_response_header(response, "Access-Control-Allow-Origin", "*");
+        MHD_add_response_header(response, "Access-Control-Allow-Methods", "POST, PUT, DELETE, OPTIONS");
+        MHD_add_response_header(response, "Access-Control-Allow-Headers", "Content-Type, Authorization");
+        MHD_add_response_header(response, "Access-Control-Expose-Headers", "Location");
+    }
     if (location) MHD_add_response_header(response, "Location", location);
     if (code == MHD_HTTP_CONFLICT) MHD_add_response_header(response, "Retry-After", "1");
     if (code == MHD_HTTP_UNAUTHORIZED) MHD_add_response_header(response, "WWW-Authenticate", "Bearer");
@@ -63,42 +56,34 @@ static enum MHD_Result say(const request *to, unsigned code, const char *sentenc
 /* ---- what is asked for ---- */
 
 static enum MHD_Result publish_or_watch(const request *from, bool publishes) {
-    static char bytes[MOST_ANSWER];
-    text to = {.at = bytes, .room = sizeof bytes};
     char location[64];
-    const char *name = from->url + 6, *fault = "",
-               *type = MHD_lookup_connection_value(from->connection, MHD_HEADER_KIND, "Content-Type");
+    unsigned status = MHD_HTTP_SERVICE_UNAVAILABLE;
+    const char *name = from->url + 6, *type = MHD_lookup_connection_value(from->connection, MHD_HEADER_KIND, "Content-Type");
     if (!is_name(name)) return say(from, MHD_HTTP_NOT_FOUND, "A name has up to 31 letters, digits, - and _.\n");
     if (!type || strncmp(type, "application/sdp", 15))
         return say(from, MHD_HTTP_UNSUPPORTED_MEDIA_TYPE, "An offer is application/sdp.\n");
     if (!publishes && !peer_publisher(name)) return say(from, MHD_HTTP_CONFLICT, "Nobody publishes under this name yet.\n");
     peer *it = peer_new(name, publishes);
-    if (!it) return say(from, MHD_HTTP_SERVICE_UNAVAILABLE, "The server is full.\n");
-    unsigned code = answer(it, from->body, publishes, &to, &fault);
-    if (code != MHD_HTTP_CREATED) {
-        peer_free(it);
-        return say(from, code, fault);
+    const char *text = it ? answer(it, from->body, publishes, &status) : "The server is full.\n";
+    if (status != MHD_HTTP_CREATED) {
+        if (it) peer_free(it);
+        return say(from, status, text);
     }
     snprintf(location, sizeof location, "/session/%s", it->id);
-    return reply(from, code, "application/sdp", bytes, location);
+    return reply(from, status, "application/sdp", text, location);
 }
 
 static enum MHD_Result session(const request *from) {
-    char id[sizeof peers->id];
-    const char *rest = from->url + 9;
-    size_t size = strcspn(rest, "/");
-    snprintf(id, sizeof id, "%.*s", (int)size, rest);
-    peer *it = size == sizeof id - 1 ? peer_session(id) : NULL;
+    const char *rest = from->url + strlen("/session/");
+    peer *it = peer_session(rest);
     if (!it) return say(from, MHD_HTTP_NOT_FOUND, "There is no such session.\n");
     if (!strcmp(from->method, "PATCH"))
         return say(from, MHD_HTTP_METHOD_NOT_ALLOWED, "ICE-lite needs neither trickle nor restarts.\n");
-    if (!strcmp(from->method, "DELETE") && !rest[size]) {
-        it->ended = true;
-        return say(from, MHD_HTTP_OK, "");
-    }
-    if (strcmp(from->method, "PUT") || strcmp(rest + size, "/layer"))
-        return say(from, MHD_HTTP_NOT_FOUND, "There is no such thing.\n");
-    if (!viewer_wants_layer(it, from->body)) return say(from, MHD_HTTP_CONFLICT, "There is no such layer.\n");
+    rest += strlen(it->id);
+    bool ends = !strcmp(from->method, "DELETE") && !*rest, changes = !strcmp(from->method, "PUT") && !strcmp(rest, "/layer");
+    if (!ends && !changes) return say(from, MHD_HTTP_NOT_FOUND, "There is no such thing.\n");
+    if (ends) it->ended = true;
+    else if (!viewer_wants_layer(it, from->body)) return say(from, MHD_HTTP_CONFLICT, "There is no such layer.\n");
     return say(from, MHD_HTTP_OK, "");
 }
 
@@ -112,10 +97,10 @@ static enum MHD_Result change_network(const request *from) {
 }
 
 static enum MHD_Result show_stats(const request *from) {
-    static char bytes[MOST_STATS];
-    text to = {.at = bytes, .room = sizeof bytes};
-    stats(&to);
-    if (to.full) return say(from, MHD_HTTP_INTERNAL_SERVER_ERROR, "Too much to show.\n");
+    static char bytes[MOST_STATS + 1]; /* with a 0 at the end */
+    FILE *to = fmemopen(bytes, MOST_STATS, "w");
+    if (to) stats(to);
+    if (!to || fclose(to)) return say(from, MHD_HTTP_INTERNAL_SERVER_ERROR, "Too much to show.\n");
     return reply(from, MHD_HTTP_OK, "application/json", bytes, NULL);
 }
 
@@ -159,22 +144,19 @@ static enum MHD_Result on_request(void *none, struct MHD_Connection *connection,
     (void)none, (void)version;
     if (!*own) return (*own = calloc(1, sizeof(request))) ? MHD_YES : MHD_NO;
     request *it = *own;
-    if (*size > 0) {
-        if (!it->body && !(it->body = calloc(1, MOST_BODY))) return MHD_NO;
-        if (it->size + *size < MOST_BODY) memcpy(it->body + it->size, bytes, *size);
-        it->size = it->size + *size < MOST_BODY ? it->size + *size : MOST_BODY;
-        *size = 0;
-        return MHD_YES;
-    }
-    request whole = {.connection = connection, .url = url, .method = method, .size = it->size, .body = it->body ? it->body : ""};
-    return answer_request(&whole);
+    it->connection = connection;
+    it->url = url;
+    it->method = method;
+    if (*size == 0) return answer_request(it);
+    if (it->size + *size < MOST_BODY) memcpy(it->body + it->size, bytes, *size);
+    it->size = it->size + *size < MOST_BODY ? it->size + *size : MOST_BODY;
+    *size = 0;
+    return MHD_YES;
 }
 
 static void on_end(void *none, struct MHD_Connection *connection, void **own, enum MHD_RequestTerminationCode why) {
     (void)none, (void)connection, (void)why;
-    request *it = *own;
-    if (it) free(it->body);
-    free(it);
+    free(*own);
     *own = NULL;
 }
 

@@ -1,9 +1,8 @@
 #!/usr/bin/env python3
-"""The tables and the picture of the documents of live_server, by Chromium on this machine.
+"""The tables of the documents of live_server, by Chromium on this machine.
 
     ./measure.py losses [SECONDS [ROW..]]    the table of losses of README.md, beside calls from Chromium to Chromium; or its rows VP8-5, ..
     ./measure.py rates [SECONDS]             the bitrates of Chromium by feedback and loss (docs/use/FEEDBACK.md)
-    ./measure.py shot FILE.webp              the picture of the page in docs/pictures
 
 A call of the tables lasts 20 s, if you name no other time. Run it on a machine with idle cores: of the table of losses a call whose
 browser sends too few frames is made again, and a row of which five calls were such ones is left out. Needs what test.py needs.
@@ -12,7 +11,6 @@ browser sends too few frames is made again, and a row of which five calls were s
 import sys
 import time
 
-from browsers import wait_for
 from relay import direct_call
 from servers import Server, call, idle, measured, publisher_of
 
@@ -70,22 +68,9 @@ def rates(seconds):
         print(f"| {loss} % | " + " | ".join(f"{sum(each[3:6]) / 3:.0f}, {sum(each[-5:]) / 5:.0f}" for each in found) + " |", flush=True)
 
 
-def shot(path):
-    """A picture of a page that publishes and watches over a bad network."""
-    with Server() as it:
-        page = it.page("publish=pattern&layers&watch")
-        wait_for("picture", lambda: page.frames() > 60)
-        time.sleep(12)
-        it.network(loss=5, reorder=2, delay=40)
-        time.sleep(25)
-        page.shot(path)
-
-
 def main():
     words = sys.argv[1:]
-    if words[:1] == ["shot"] and len(words) == 2:
-        shot(words[1])
-    elif words[:1] in (["losses"], ["rates"]):
+    if words[:1] in (["losses"], ["rates"]):
         {"losses": losses, "rates": rates}[words[0]](int(words[1]) if words[1:] else 20, *words[2:])
     else:
         print(__doc__)

@@ -6,6 +6,8 @@
 #include <errno.h>
 #include <stdlib.h>
 #include <string.h>
+#include <sys/param.h>
+#include <sys/queue.h>
 #include <sys/socket.h>
 
 enum {
@@ -16,7 +18,7 @@ enum {
 };
 
 typedef struct delayed {
-    struct delayed *next;
+    STAILQ_ENTRY(delayed) link;
     uint64_t due;
     struct sockaddr_in at;
     bool out;
@@ -35,7 +37,7 @@ static struct mmsghdr out_heads[BATCH];
 static unsigned out_len;
 
 /* Two queues of what is delayed: datagrams in their places, and those that others overtake. */
-static struct { delayed *first, *last; } queues[2];
+static STAILQ_HEAD(, delayed) queues[2] = {STAILQ_HEAD_INITIALIZER(queues[0]), STAILQ_HEAD_INITIALIZER(queues[1])};
 static size_t delayed_len;
 
 void network_start(void) {
@@ -85,46 +87,33 @@ void network_receive(void (*take)(const struct sockaddr_in *from, uint8_t *bytes
 
 /* ---- a worse network ---- */
 
-/* Whether something happens whose probability is this many percent. */
-static bool happens(double percent) { return percent > 0 && drand48() * 100 < percent; }
+bool happens(double percent) { return percent > 0 && drand48() * 100 < percent; }
 
 bool network_passes(bool out, const struct sockaddr_in *at, const uint8_t *bytes, size_t size) {
-    bool overtaken = happens(the.network.reorder);
+    bool lost = happens(the.network.loss), overtaken = happens(the.network.reorder);
     unsigned delay = the.network.delay + (overtaken ? OVERTAKEN : 0);
-    if (happens(the.network.loss)) {
-        network_dropped++;
-        return false;
-    }
-    if (delay == 0) return true;
+    network_dropped += lost;
+    if (lost || delay == 0) return !lost;
     delayed *it = delayed_len < MOST_DELAYED ? malloc(sizeof *it + size) : NULL;
     if (!it) return false;
     *it = (delayed){.due = now_ms() + delay, .at = *at, .out = out, .size = size};
     memcpy(it->bytes, bytes, size);
-    *(queues[overtaken].first ? &queues[overtaken].last->next : &queues[overtaken].first) = it;
-    queues[overtaken].last = it;
+    STAILQ_INSERT_TAIL(&queues[overtaken], it, link);
     delayed_len++;
     return false;
 }
 
-void network_send_media(const struct sockaddr_in *to, size_t size) {
-    if (network_passes(true, to, out_bytes[out_len], size)) network_send(to, size);
-}
-
-static void deliver(delayed *it) {
-    if (!it->out) {
-        take_media(&it->at, it->bytes, it->size);
-        return;
-    }
-    memcpy(network_room(), it->bytes, it->size);
-    network_send(&it->at, it->size);
-}
-
 void network_deliver(uint64_t now) {
     for (int i = 0; i < 2; i++) {
-        for (delayed *it; (it = queues[i].first) && it->due <= now; free(it)) {
-            queues[i].first = it->next;
+        for (delayed *it; (it = STAILQ_FIRST(&queues[i])) && it->due <= now; free(it)) {
+            STAILQ_REMOVE_HEAD(&queues[i], link);
             delayed_len--;
-            deliver(it);
+            if (!it->out) {
+                take_media(&it->at, it->bytes, it->size);
+                continue;
+            }
+            memcpy(network_room(), it->bytes, it->size);
+            network_send(&it->at, it->size);
         }
     }
 }
@@ -132,6 +121,6 @@ void network_deliver(uint64_t now) {
 uint64_t network_deadline(void) {
     uint64_t first = UINT64_MAX;
     for (int i = 0; i < 2; i++)
-        if (queues[i].first && queues[i].first->due < first) first = queues[i].first->due;
+        if (!STAILQ_EMPTY(&queues[i])) first = MIN(first, STAILQ_FIRST(&queues[i])->due);
     return first;
 }

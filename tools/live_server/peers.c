@@ -2,7 +2,6 @@
 #include "server.h"
 
 #include <openssl/rand.h>
-#include <stdio.h>
 #include <string.h>
 
 peer peers[MOST_PEERS];
@@ -14,48 +13,42 @@ void secret(void *bytes, size_t size) {
     if (RAND_bytes(bytes, (int)size) != 1) give_up("random bytes", "none");
 }
 
+/* Random digits and letters, as many as fit in front of the 0. */
+static void write_secret(char *to, size_t room) {
+    uint8_t bytes[16];
+    secret(bytes, sizeof bytes);
+    OPENSSL_buf2hexstr_ex(to, room, NULL, bytes, (room - 1) / 2, 0);
+}
+
 bool is_name(const char *name) {
     size_t size = strspn(name, "abcdefghijklmnopqrstuvwxyzABCDEFGHIJKLMNOPQRSTUVWXYZ0123456789_-");
     return size > 0 && size < MOST_NAME && name[size] == 0;
 }
 
-peer *peers_from(peer *at) {
-    for (; at < peers + MOST_PEERS; at++)
-        if (at->used) return at;
-    return NULL;
-}
-
-/* Random letters of ICE (RFC 8445, section 5.3). */
-static void write_letters(char *to, size_t size) {
-    static const char letters[] = "ABCDEFGHIJKLMNOPQRSTUVWXYZabcdefghijklmnopqrstuvwxyz0123456789+/";
-    secret(to, size);
-    for (size_t i = 0; i < size; i++) to[i] = letters[(uint8_t)to[i] & 63];
-    to[size] = 0;
-}
-
 peer *peer_new(const char *name, bool publishes) {
     static uint64_t latest;
-    uint8_t id[16];
     int publishers = 0;
     EACH_PEER (it) publishers += it->publisher != NULL;
     if (publishes && publishers == MOST_PUBLISHERS) return NULL;
     for (peer *it = peers; it < peers + MOST_PEERS; it++) {
         if (it->used) continue;
         *it = (peer){.used = true, .number = ++latest, .began = now_ms(), .heard = now_ms()};
-        write_letters(it->ufrag, sizeof it->ufrag - 1);
-        write_letters(it->password, sizeof it->password - 1);
-        secret(id, sizeof id);
-        for (size_t i = 0; i < sizeof id; i++) snprintf(it->id + 2 * i, 3, "%02x", id[i]);
+        write_secret(it->ufrag, sizeof it->ufrag);
+        write_secret(it->password, sizeof it->password);
+        write_secret(it->id, sizeof it->id);
         snprintf(it->name, sizeof it->name, "%s", name);
         return it;
     }
     return NULL;
 }
 
+void peer_says(const peer *it, const char *what) {
+    fprintf(stderr, "%s %llu of %s: %s, %llu ms after its offer\n", it->publisher ? "publisher" : "viewer",
+            (unsigned long long)it->number, it->name, what, (unsigned long long)(now_ms() - it->began));
+}
+
 void peer_free(peer *it) {
-    if (it->publisher || it->viewer)
-        fprintf(stderr, "%s %llu of %s leaves\n", it->publisher ? "publisher" : "viewer", (unsigned long long)it->number,
-                it->name);
+    if (it->publisher || it->viewer) peer_says(it, "it leaves");
     network_flush();
     if (it->publisher) publisher_free(it);
     if (it->viewer) viewer_free(it);
@@ -72,7 +65,7 @@ peer *peer_publisher(const char *name) {
 
 peer *peer_session(const char *id) {
     EACH_PEER (it)
-        if (strlen(id) == sizeof it->id - 1 && !CRYPTO_memcmp(it->id, id, sizeof it->id - 1)) return it;
+        if (strlen(id) >= strlen(it->id) && !CRYPTO_memcmp(it->id, id, strlen(it->id))) return it;
     return NULL;
 }
 
@@ -94,8 +87,7 @@ peer *peer_at(const struct sockaddr_in *from) {
 /* A browser checks several addresses, and sends media from any of them. The one that it nominated last gets the media. */
 void peer_seen(peer *it, const struct sockaddr_in *at, bool nominated) {
     it->heard = now_ms();
-    if (nominated || !it->found) it->at = *at;
-    it->found = true;
+    if (nominated || it->known_len == 0) it->at = *at;
     if (!is_at(it, at)) it->known[it->known_len++ % MOST_ADDRESSES] = *at;
 }
 

@@ -1,9 +1,8 @@
 /* A publisher: its datagrams go into a session of the library. The session's feedback goes back, its units are recorded, and each
  * packet goes to the viewers. */
-#include "rtcp.h"
 #include "server.h"
 
-#include <stdio.h>
+#include <libavutil/intreadwrite.h>
 #include <stdlib.h>
 #include <string.h>
 
@@ -15,17 +14,15 @@ enum {
     MOST_KEPT = 2048,                   /* packets of a stream, for viewers that request them */
     MOST_FORWARDED = MOST_DATAGRAM - 2, /* bytes of a packet: a retransmission has two more */
     KEYFRAME_INTERVAL = 500,            /* ms between two requests for a keyframe */
-    REMB_INTERVAL = 1000,               /* ms */
-    MICROSECONDS = 1000000
+    REMB_INTERVAL = 1000                /* ms */
 };
 
 /* What is known about the latest stream of a track. */
 typedef struct {
-    bool arrived, begun, clocked;
-    uint32_t ssrc;
-    cpay_history store;         /* its latest packets, for all viewers */
+    source source;
+    bool begun;
     cpay_session_stream stream; /* as the session described it last: at its end the session forgets it */
-    report_block reported;      /* to the sender */
+    cpay_report_block_info reported;
     uint64_t frames, bytes, keyframes, faults, requested, keyframes_requested;
     uint64_t waited, longest_wait; /* ms from the first packet of a frame to its release: of all frames, and of one */
     uint64_t keyframe_asked;       /* ms: when a keyframe was requested last */
@@ -33,7 +30,6 @@ typedef struct {
 
 struct publisher {
     cpay_session session;
-    cpay_transport_reporter transport; /* with FEEDBACK_TRANSPORT, if it was offered */
     recording *record;
     track tracks[TRACKS];
     uint32_t ssrc;     /* ours */
@@ -41,11 +37,12 @@ struct publisher {
     uint64_t remb_sent, keyframes_for_viewers;
 };
 
-static int kind_of_track(int number) { return number == AUDIO ? AUDIO : VIDEO; }
-
 int last_track(const peer *it) { return VIDEO + (it->layers_len > 1 ? it->layers_len - 1 : 0); }
 
-static int kind_of(const peer *it, uint8_t payload_type) {
+static int number_of(const peer *it, const track *of) { return (int)(of - it->publisher->tracks); }
+
+/* AUDIO or VIDEO; -1: the answer does not have the payload type. */
+static int kind_with(const peer *it, uint8_t payload_type) {
     for (int kind = 0; kind < KINDS; kind++)
         if (it->media[kind].used && it->media[kind].payload_type == payload_type) return kind;
     return -1;
@@ -53,70 +50,55 @@ static int kind_of(const peer *it, uint8_t payload_type) {
 
 /* ---- the beginning ---- */
 
-/* Formats that the answer does not have are left out. */
-static void keep_agreed(const peer *it, cpay_sdp_session_settings *found) {
+static bool begin_session(peer *it, cpay_sdp_session_settings *found) {
+    cpay_session_settings *settings = &found->settings;
     size_t kept = 0;
     for (size_t i = 0; i < found->formats_len; i++) {
-        if (kind_of(it, found->formats[i].payload_type) < 0) continue;
+        if (kind_with(it, found->formats[i].payload_type) < 0) continue;
         if (found->formats[i].has_red) it->publisher->red_step = found->formats[i].red_step;
         found->formats[kept++] = found->formats[i];
     }
-    found->formats_len = kept;
-}
-
-static bool begin_transport(peer *it) {
-    cpay_transport_reporter_settings settings;
-    if (the.feedback != FEEDBACK_TRANSPORT || !it->transport_id) return true;
-    cpay_transport_reporter_settings_init(&settings, it->transport_id, it->publisher->ssrc);
-    settings.tick_rate = MICROSECONDS;
-    settings.interval = MICROSECONDS / 10; /* with 50 ms and losses the bitrate of Chromium rises slowly (docs/use/FEEDBACK.md) */
-    return cpay_transport_reporter_new(&it->publisher->transport, &settings, NULL, 0) == CPAY_OK;
-}
-
-static bool begin_session(peer *it, cpay_sdp_session_settings *found) {
-    cpay_session_settings *settings = &found->settings;
-    keep_agreed(it, found);
     settings->max_streams = MOST_STREAMS;
     settings->limit = MOST_HELD;
     settings->max_unit = MOST_UNIT;
     settings->from_keyframe = CPAY_KEYFRAME_DROP;
+    settings->has_transport = it->transport_id != 0;
+    settings->transport.extension_id = it->transport_id;
     if (cpay_session_settings_feedback(settings, it->publisher->ssrc, (const uint8_t *)"live_server", 11)) return false;
     settings->feedback.capacity = MOST_MISSING;
-    return cpay_session_new(&it->publisher->session, settings, found->formats, found->formats_len, found->no_media,
-                            found->no_media_len, found->pairs, found->pairs_len) == CPAY_OK;
+    return cpay_session_new(&it->publisher->session, settings, found->formats, kept, found->no_media, found->no_media_len,
+                            found->pairs, found->pairs_len) == CPAY_OK;
 }
 
 /* The offer, and not the answer, has the SSRCs. */
-bool publisher_begin(peer *it, const cpay_sdp_media *media, size_t count, const char **fault) {
+const char *publisher_begin(peer *it, const cpay_sdp_media *media, size_t count) {
     static cpay_sdp_session_settings found;
     cpay_sdp_session_fault wrong = {0, CPAY_SDP_NO_CLASH};
-    if (cpay_sdp_session(media, count, &found, &wrong)) {
-        *fault = cpay_sdp_session_error_text(wrong.error);
-        return false;
-    }
-    it->publisher = calloc(1, sizeof *it->publisher);
-    if (!it->publisher) return false;
-    secret(&it->publisher->ssrc, sizeof it->publisher->ssrc);
-    if (!begin_session(it, &found) || !begin_transport(it)) return false;
     char name[MOST_NAME + 32];
+    if (cpay_sdp_session(media, count, &found, &wrong)) return cpay_sdp_session_error_text(wrong.error);
+    if (!(it->publisher = calloc(1, sizeof *it->publisher))) return "Out of memory.\n";
+    secret(&it->publisher->ssrc, sizeof it->publisher->ssrc);
     snprintf(name, sizeof name, "%s-%llu", it->name, (unsigned long long)it->number);
-    return (it->publisher->record = record_new(name, it->media)) != NULL;
+    it->publisher->record = record_new(name, it->media);
+    return it->publisher->record && begin_session(it, &found) ? NULL : "Out of memory.\n";
 }
 
 /* ---- packets ---- */
 
-/* The track of a stream. With simulcast the RID of its first packets names the layer. -1: unknown. */
-static int track_of(const peer *it, int kind, uint32_t ssrc, const uint8_t *datagram, size_t size) {
-    const publisher *own = it->publisher;
+/* The track of a stream by its payload type and, with simulcast, by the RID of its first packets. NULL: none. */
+static track *track_of(const peer *it, uint8_t payload_type, uint32_t ssrc, const uint8_t *datagram, size_t size) {
+    track *tracks = it->publisher->tracks;
+    int kind = kind_with(it, payload_type);
     uint8_t rid[MOST_NAME];
     size_t length = 0;
-    if (kind == AUDIO || it->layers_len < 2) return kind;
+    if (kind < 0) return NULL;
+    if (kind == AUDIO || it->layers_len < 2) return &tracks[kind];
     for (int i = VIDEO; i <= last_track(it); i++)
-        if (own->tracks[i].arrived && own->tracks[i].ssrc == ssrc) return i;
-    if (!datagram || cpay_extension(datagram, size, it->rid_id, rid, sizeof rid, &length)) return -1;
+        if (tracks[i].source.arrived && tracks[i].source.ssrc == ssrc) return &tracks[i];
+    if (!datagram || cpay_extension(datagram, size, it->rid_id, rid, sizeof rid, &length)) return NULL;
     for (int i = 0; i < it->layers_len; i++)
-        if (strlen(it->layers[i]) == length && !memcmp(it->layers[i], rid, length)) return VIDEO + i;
-    return -1;
+        if (strlen(it->layers[i]) == length && !memcmp(it->layers[i], rid, length)) return &tracks[VIDEO + i];
+    return NULL;
 }
 
 /* The packets in RED (RFC 2198), each under its own number: one that was lost is forwarded from a later packet. */
@@ -127,16 +109,16 @@ static void forward_red(peer *it, const cpay_rtp_info *info, const uint8_t *byte
         if (cpay_red_recover(opus, it->publisher->red_step, 65536 + (uint64_t)info->sequence_number, info->timestamp,
                              bytes + info->payload_at, info->payload_len, i, &one, out + 12, sizeof out - 12))
             return;
-        put(out, 0x8000u | (one.is_primary && info->marker ? 0x80u : 0) | opus, 2);
-        put(out + 2, (uint16_t)one.number, 2);
-        put(out + 4, one.rtp_time, 4);
-        put(out + 8, info->ssrc, 4);
+        AV_WB16(out, 0x8000u | (one.is_primary && info->marker ? 0x80u : 0) | opus);
+        AV_WB16(out + 2, (uint16_t)one.number);
+        AV_WB32(out + 4, one.rtp_time);
+        AV_WB32(out + 8, info->ssrc);
         if (one.bytes) viewers_forward(it, AUDIO, out, 12 + one.bytes);
     }
 }
 
 /* Another SSRC has numbers of its own, and so a store of its own. */
-static bool begin_track(track *to, uint32_t ssrc) {
+static bool begin_source(source *to, uint32_t ssrc) {
     cpay_history_settings settings = {.limit = MOST_KEPT};
     if (to->arrived && to->ssrc == ssrc) return true;
     cpay_history_free(&to->store);
@@ -148,14 +130,24 @@ static bool begin_track(track *to, uint32_t ssrc) {
 static void forward(peer *it, const cpay_arrival *arrival, const uint8_t *bytes, size_t size) {
     uint8_t original[MOST_DATAGRAM];
     cpay_rtp_info info = {0};
-    int kind = kind_of(it, arrival->payload_type), number = kind < 0 ? -1 : track_of(it, kind, arrival->ssrc, bytes, size);
-    if (number < 0 || size > MOST_FORWARDED || cpay_rtp_read(bytes, size, &info)) return;
-    if (!begin_track(&it->publisher->tracks[number], arrival->ssrc)) return;
+    track *of = track_of(it, arrival->payload_type, arrival->ssrc, bytes, size);
+    if (!of || size > MOST_FORWARDED || cpay_rtp_read(bytes, size, &info) || !begin_source(&of->source, arrival->ssrc)) return;
+    int number = number_of(it, of);
+    uint8_t red = it->media[kind_of(number)].red_payload_type;
     if (info.payload_type == arrival->payload_type) viewers_forward(it, number, bytes, size);
-    else if (it->media[kind].has_red && info.payload_type == it->media[kind].red_payload_type) forward_red(it, &info, bytes);
+    else if (red && info.payload_type == red) forward_red(it, &info, bytes);
     else if (cpay_rtx_original(arrival->ssrc, arrival->payload_type, bytes, size, original, sizeof original, &size) == CPAY_OK)
         viewers_forward(it, number, original, size);
 }
+
+/* A datagram for which the session has no memory is a loss. */
+void publisher_take(peer *it, uint8_t *bytes, size_t size) {
+    cpay_arrival arrival = {0};
+    bool taken = !cpay_session_receive_at(&it->publisher->session, now_ms(), now_us(), bytes, size, &arrival);
+    if (taken && arrival.kind == CPAY_ARRIVAL_STREAM && !arrival.status) forward(it, &arrival, bytes, size);
+}
+
+/* ---- events ---- */
 
 static void send_rtcp(peer *it, const uint8_t *bytes, size_t size) {
     uint8_t *out = network_room();
@@ -163,25 +155,6 @@ static void send_rtcp(peer *it, const uint8_t *bytes, size_t size) {
     memcpy(out, bytes, size);
     srtp_send(it, out, size, true);
 }
-
-/* Sends the transport-wide feedback that is due. */
-static void report_transport(peer *it) {
-    uint8_t bytes[MOST_DATAGRAM];
-    size_t size = 0;
-    while (cpay_transport_reporter_poll(&it->publisher->transport, now_us(), bytes, sizeof bytes, &size) == CPAY_OK)
-        send_rtcp(it, bytes, size);
-}
-
-void publisher_take(peer *it, uint8_t *bytes, size_t size) {
-    cpay_arrival arrival = {0};
-    if (!cpay_is_rtcp(bytes, size) &&
-        cpay_transport_reporter_receive(&it->publisher->transport, now_us(), bytes, size) == CPAY_OK)
-        report_transport(it);
-    if (cpay_session_receive(&it->publisher->session, now_ms(), bytes, size, &arrival)) return; /* out of memory: a loss */
-    if (arrival.kind == CPAY_ARRIVAL_STREAM && !arrival.status) forward(it, &arrival, bytes, size);
-}
-
-/* ---- events ---- */
 
 static void count_unit(track *to, const cpay_event *event) {
     uint64_t waited = now_ms() - event->unit.received;
@@ -202,32 +175,22 @@ static void count_requests(track *to, const cpay_event *event, const uint8_t *by
     if (keyframe) to->keyframe_asked = now_ms();
 }
 
-static void handle_report(peer *it, const uint8_t *bytes, size_t size) {
-    for (int i = 0; i < TRACKS; i++) {
-        track *to = &it->publisher->tracks[i];
-        if (to->arrived) (void)rtcp_read_block(bytes, size, to->ssrc, &to->reported);
-    }
-    send_rtcp(it, bytes, size);
-}
-
 static bool is_recorded(const peer *it, int number) { return number == AUDIO || number == last_track(it); }
 
 static void handle(peer *it, const cpay_event *event, const uint8_t *bytes) {
-    if (event->kind == CPAY_EVENT_REPORT) handle_report(it, bytes, event->bytes);
-    if (event->kind == CPAY_EVENT_FEEDBACK) send_rtcp(it, bytes, event->bytes);
-    int kind = kind_of(it, event->payload_type), number = kind < 0 ? -1 : track_of(it, kind, event->ssrc, NULL, 0);
-    if (number < 0) return;
-    track *to = &it->publisher->tracks[number];
+    if (event->kind == CPAY_EVENT_REPORT || event->kind == CPAY_EVENT_FEEDBACK || event->kind == CPAY_EVENT_TRANSPORT_FEEDBACK)
+        send_rtcp(it, bytes, event->bytes);
+    track *to = track_of(it, event->payload_type, event->ssrc, NULL, 0);
+    if (!to) return;
+    int number = number_of(it, to);
     switch (event->kind) {
     case CPAY_EVENT_BEGUN:
         to->begun = true;
-        to->clocked = false;
-        fprintf(stderr, "publisher %llu of %s: %s, %llu ms after its offer\n", (unsigned long long)it->number, it->name,
-                codec_name(it->media[kind].codec), (unsigned long long)(now_ms() - it->began));
+        peer_says(it, it->media[kind_of(number)].name);
         break;
     case CPAY_EVENT_UNIT:
         count_unit(to, event);
-        if (is_recorded(it, number)) record_unit(it->publisher->record, kind, &event->unit, bytes);
+        if (is_recorded(it, number)) record_unit(it->publisher->record, kind_of(number), &event->unit, bytes);
         break;
     case CPAY_EVENT_FEEDBACK: count_requests(to, event, bytes); break;
     case CPAY_EVENT_FAULT: to->faults++; break;
@@ -243,7 +206,10 @@ void publisher_poll(peer *it) {
         handle(it, &event, bytes);
 }
 
-bool publisher_deadline(peer *it, uint64_t *at) { return cpay_session_next_deadline(&it->publisher->session, at) == CPAY_OK; }
+uint64_t publisher_deadline(peer *it) {
+    uint64_t at;
+    return cpay_session_next_deadline(&it->publisher->session, &at) == CPAY_OK ? at : UINT64_MAX;
+}
 
 /* ---- what is due by the clock ---- */
 
@@ -253,7 +219,7 @@ static void send_remb(peer *it) {
     uint32_t ssrcs[TRACKS];
     size_t count = 0, size = 0;
     for (int i = VIDEO; i < TRACKS; i++)
-        if (it->publisher->tracks[i].arrived) ssrcs[count++] = it->publisher->tracks[i].ssrc;
+        if (it->publisher->tracks[i].source.arrived) ssrcs[count++] = it->publisher->tracks[i].source.ssrc;
     if (cpay_write_remb(it->publisher->ssrc, the.bitrate, ssrcs, count, bytes, sizeof bytes, &size) == CPAY_OK)
         send_rtcp(it, bytes, size);
 }
@@ -262,32 +228,26 @@ static void send_remb(peer *it) {
 void publisher_wants_keyframe(peer *it, int number) {
     uint8_t bytes[16];
     track *of = &it->publisher->tracks[number];
-    if (!of->arrived || now_ms() - of->keyframe_asked < KEYFRAME_INTERVAL) return;
+    if (!of->source.arrived || now_ms() - of->keyframe_asked < KEYFRAME_INTERVAL) return;
     of->keyframe_asked = now_ms();
     it->publisher->keyframes_for_viewers++;
-    send_rtcp(it, bytes, rtcp_write_pli(bytes, it->publisher->ssrc, of->ssrc));
+    send_rtcp(it, bytes, rtcp_write_pli(bytes, it->publisher->ssrc, of->source.ssrc));
 }
 
 bool publisher_clock(peer *it, int number, cpay_sender_clock_info *clock) {
     const track *of = &it->publisher->tracks[number];
-    uint8_t payload_type = it->media[kind_of_track(number)].payload_type;
-    return of->begun && cpay_session_sender_clock(&it->publisher->session, of->ssrc, payload_type, clock) == CPAY_OK;
+    uint8_t payload_type = it->media[kind_of(number)].payload_type;
+    return of->begun && cpay_session_sender_clock(&it->publisher->session, of->source.ssrc, payload_type, clock) == CPAY_OK;
 }
 
-cpay_history *publisher_store(peer *it, int number) { return &it->publisher->tracks[number].store; }
-
-uint32_t publisher_ssrc(peer *it, int number) { return it->publisher->tracks[number].ssrc; }
+source *publisher_source(peer *it, int number) { return &it->publisher->tracks[number].source; }
 
 void publisher_tick(peer *it, uint64_t now) {
     publisher *own = it->publisher;
     cpay_sender_clock_info clock = {0};
-    for (int i = 0; i < TRACKS; i++) {
-        if (own->tracks[i].clocked || !publisher_clock(it, i, &clock)) continue;
-        own->tracks[i].clocked = true;
-        if (is_recorded(it, i)) record_clock(own->record, kind_of_track(i), &clock);
-    }
-    report_transport(it);
-    if (the.feedback != FEEDBACK_REMB || !own->tracks[last_track(it)].arrived || now - own->remb_sent < REMB_INTERVAL) return;
+    for (int i = 0; i < TRACKS; i++)
+        if (is_recorded(it, i) && publisher_clock(it, i, &clock)) record_clock(own->record, kind_of(i), &clock);
+    if (!the.remb || now - own->remb_sent < REMB_INTERVAL || !own->tracks[last_track(it)].source.arrived) return;
     own->remb_sent = now;
     send_remb(it);
 }
@@ -296,60 +256,51 @@ void publisher_tick(peer *it, uint64_t now) {
 
 /* Notes what the session says about the stream of each track. */
 static void describe(peer *it) {
+    cpay_session *session = &it->publisher->session;
     cpay_session_stream stream = {0};
-    for (size_t place = 0; cpay_session_stream_at(&it->publisher->session, place, &stream) == CPAY_OK; place++) {
-        int kind = kind_of(it, stream.payload_type), number = kind < 0 ? -1 : track_of(it, kind, stream.ssrc, NULL, 0);
-        if (number >= 0 && it->publisher->tracks[number].ssrc == stream.ssrc) it->publisher->tracks[number].stream = stream;
+    for (size_t place = 0; cpay_session_stream_at(session, place, &stream) == CPAY_OK; place++) {
+        track *of = track_of(it, stream.payload_type, stream.ssrc, NULL, 0);
+        if (of && of->source.ssrc == stream.ssrc &&
+            !cpay_session_peek_report(session, now_ms(), stream.ssrc, stream.payload_type, &of->reported))
+            of->stream = stream;
     }
 }
 
-static void track_stats(const peer *it, int number, text *to) {
+static void track_stats(const peer *it, int number, FILE *to) {
     const track *of = &it->publisher->tracks[number];
     const cpay_receiver_counts_info *counts = &of->stream.counts;
-    int kind = kind_of_track(number);
-    text_add(to, "{\"kind\":\"%s\",\"codec\":\"%s\",\"layer\":\"%s\",\"red\":%s,", kind == VIDEO ? "video" : "audio",
-             codec_name(it->media[kind].codec), kind == VIDEO && it->layers_len > 1 ? it->layers[number - VIDEO] : "",
-             it->media[kind].has_red ? "true" : "false");
-    const named numbers[] = {{"packets", of->stream.taken},
-                             {"bytes", of->bytes},
-                             {"jitter", of->reported.jitter},
-                             {"requested", of->requested},
-                             {"recovered", counts->retransmitted + counts->recovered},
-                             {"late", counts->late},
-                             {"duplicates", counts->duplicates},
-                             {"incomplete", counts->incomplete},
-                             {"held", counts->held},
-                             {"frames", of->frames},
-                             {"keyframes", of->keyframes},
-                             {"undecodable", counts->undecodable},
-                             {"faults", of->faults},
-                             {"keyframesRequested", of->keyframes_requested},
-                             {"waited", of->waited},
-                             {"longestWait", of->longest_wait},
-                             {"roundTrip", of->stream.round_trip}};
-    text_numbers(to, numbers, sizeof numbers / sizeof *numbers);
-    text_add(to, "\"lost\":%d}", of->reported.lost);
+    uint32_t lost = of->reported.cumulative_lost; /* 24 bits with a sign */
+    stats_stream(to, kind_of(number), &it->media[kind_of(number)],
+                 number != AUDIO && it->layers_len > 1 ? it->layers[number - VIDEO] : "");
+    fprintf(to,
+            COUNT("packets") COUNT("bytes") COUNT("frames") COUNT("keyframes") COUNT("requested") COUNT("keyframesRequested")
+                COUNT("recovered") COUNT("late") COUNT("duplicates") COUNT("incomplete") COUNT("undecodable") COUNT("faults")
+                    COUNT("held") COUNT("waited") COUNT("longestWait") COUNT("roundTrip") COUNT("jitter") "\"lost\":%d}",
+            of->stream.taken, of->bytes, of->frames, of->keyframes, of->requested, of->keyframes_requested,
+            counts->retransmitted + counts->recovered, counts->late, counts->duplicates, counts->incomplete, counts->undecodable,
+            of->faults, (uint64_t)counts->held, of->waited, of->longest_wait, of->stream.round_trip,
+            (uint64_t)of->reported.jitter, lost < 1 << 23 ? (int)lost : (int)lost - (1 << 24));
 }
 
-void publisher_stats(peer *it, text *to) {
+void publisher_stats(peer *it, FILE *to) {
     publisher *own = it->publisher;
     cpay_session_counts_info counts = {0};
-    const char *fault = record_fault(own->record);
-    bool any = false;
+    const char *comma = "";
     describe(it);
-    if (cpay_session_counts(&it->publisher->session, &counts)) counts = (cpay_session_counts_info){0};
-    const named numbers[] = {{"received", counts.received},         {"rtcp", counts.rtcp},
-                             {"malformed", counts.malformed},       {"unknown", counts.unknown},
-                             {"unassociated", counts.unassociated}, {"keyframesForViewers", own->keyframes_for_viewers}};
-    text_numbers(to, numbers, sizeof numbers / sizeof *numbers);
-    text_add(to, "\"recording\":\"%s\",\"recordingFault\":\"%s\",\"streams\":[", record_path(own->record), fault ? fault : "");
+    if (cpay_session_counts(&own->session, &counts)) counts = (cpay_session_counts_info){0};
+    fprintf(to,
+            COUNT("received") COUNT("rtcp") COUNT("malformed") COUNT("unknown") COUNT("unassociated")
+                COUNT("keyframesForViewers"),
+            counts.received, counts.rtcp, counts.malformed, counts.unknown, counts.unassociated, own->keyframes_for_viewers);
+    record_stats(own->record, to);
+    fputs("\"streams\":[", to);
     for (int i = 0; i < TRACKS; i++) {
         if (!own->tracks[i].begun) continue;
-        if (any) text_add(to, ",");
+        fputs(comma, to);
         track_stats(it, i, to);
-        any = true;
+        comma = ",";
     }
-    text_add(to, "]");
+    fputs("]", to);
 }
 
 void publisher_free(peer *it) {
@@ -357,8 +308,7 @@ void publisher_free(peer *it) {
     if (cpay_session_finish(&own->session, now_ms()) == CPAY_OK) publisher_poll(it);
     record_free(own->record);
     cpay_session_free(&own->session);
-    cpay_transport_reporter_free(&own->transport);
-    for (int i = 0; i < TRACKS; i++) cpay_history_free(&own->tracks[i].store);
+    for (int i = 0; i < TRACKS; i++) cpay_history_free(&own->tracks[i].source.store);
     free(own);
     it->publisher = NULL;
 }

@@ -3,13 +3,13 @@
 #ifndef LIVE_SERVER_H
 #define LIVE_SERVER_H
 
-#include "text.h"
-
 #include <codec_payload.h>
 #include <codec_payload_sdp.h>
+#include <inttypes.h>
 #include <netinet/in.h>
 #include <openssl/ssl.h>
 #include <srtp2/srtp.h>
+#include <stdio.h>
 
 /* Bounds. */
 enum {
@@ -24,23 +24,24 @@ enum {
     LONGEST_START = 20000    /* ms that a peer has for ICE and DTLS */
 };
 
-enum { AUDIO = 0, VIDEO = 1, KINDS = 2 };
+/* Kinds of media. A publisher has a track for audio, and one for each layer of its video. */
+enum { AUDIO = 0, VIDEO = 1, KINDS = 2, TRACKS = VIDEO + MOST_LAYERS };
 
-/* A publisher has a track for audio, and one for each layer of its video. */
-enum { TRACKS = VIDEO + MOST_LAYERS };
+static inline int kind_of(int track) { return track == AUDIO ? AUDIO : VIDEO; }
 
 /* What an offer and its answer agreed on for one kind of media. */
 typedef struct {
     bool used;
+    size_t line; /* the number of the `m=` line in the offer */
     cpay_codec codec;
+    char name[CPAY_SDP_NAME]; /* of the codec, as the offer has it */
     uint8_t payload_type;
-    uint8_t rtx_payload_type; /* with has_rtx: of retransmissions (RFC 4588) */
-    uint8_t red_payload_type; /* with has_red: of RED (RFC 2198) */
-    bool has_rtx, has_red;
+    uint8_t rtx_payload_type; /* of retransmissions (RFC 4588); 0: none */
+    uint8_t red_payload_type; /* of RED (RFC 2198); 0: none */
 } agreed;
 
 typedef struct publisher publisher; /* receive.c */
-typedef struct viewer viewer;       /* viewers.c */
+typedef struct outgoing outgoing;   /* viewers.c */
 
 /* A browser: a publisher or a viewer. */
 typedef struct {
@@ -48,12 +49,11 @@ typedef struct {
     uint64_t number;                          /* for people: it shows nothing that ends the session */
     char id[33];                              /* of its HTTP resource: a secret */
     char name[MOST_NAME];                     /* under which it publishes or watches */
-    char ufrag[9], password[25];              /* of ICE, ours */
+    char ufrag[9], password[33];              /* of ICE, ours */
     char fingerprint[96];                     /* of its certificate, by its offer */
     struct sockaddr_in at;                    /* the address that ICE nominated last: datagrams go there */
     struct sockaddr_in known[MOST_ADDRESSES]; /* all addresses that ICE checked: media comes from any of them */
     unsigned known_len;
-    bool found;            /* `at` is known */
     bool secure;           /* DTLS has ended, and the keys of SRTP are there */
     bool ended;            /* it said goodbye */
     uint64_t began, heard; /* ms: when its offer came, and its latest STUN request */
@@ -63,12 +63,9 @@ typedef struct {
     char layers[MOST_LAYERS][MOST_NAME]; /* the RIDs of simulcast, in the order of the offer; 0 or 1: no simulcast */
     int layers_len;
     uint8_t rid_id, transport_id; /* ids of header extensions: RID, and the transport-wide number; 0: none */
-    publisher *publisher;         /* one of the two */
-    viewer *viewer;
+    publisher *publisher;         /* one of the two: a publisher, or the streams of a viewer by their kinds */
+    outgoing *viewer;
 } peer;
-
-/* How the sender of video learns what the network carries. */
-typedef enum { FEEDBACK_TRANSPORT, FEEDBACK_REMB, FEEDBACK_NONE } feedback_kind;
 
 /* How the network is made worse, each way. */
 typedef struct {
@@ -82,14 +79,13 @@ typedef struct {
     const char *candidates[MOST_ADDRESSES]; /* addresses under which browsers reach the UDP port */
     int candidates_len;
     uint16_t http, udp;
-    uint32_t bitrate; /* of REMB, in bits per second */
-    feedback_kind feedback;
+    bool transport, remb; /* feedback about each packet, or a largest bitrate */
+    uint32_t bitrate;     /* of REMB, in bits per second */
     impairment network;
     double damage; /* percent of the packets whose bytes are changed after SRTP, for tests */
 } options;
 
 extern options the;
-extern peer peers[MOST_PEERS];
 
 /* main.c */
 uint64_t now_ms(void);
@@ -101,36 +97,37 @@ __attribute__((noreturn)) void give_up(const char *what, const char *why);
 void network_start(void);
 extern int network_port;
 extern uint64_t network_dropped;
+bool happens(double percent); /* whether something happens that has this probability */
 void network_receive(void (*take)(const struct sockaddr_in *from, uint8_t *bytes, size_t size));
 bool network_passes(bool out, const struct sockaddr_in *at, const uint8_t *bytes, size_t size); /* false: it is lost, or waits */
 uint8_t *network_room(void); /* where the next datagram is written: MOST_DATAGRAM + SRTP_ROOM bytes */
 void network_send(const struct sockaddr_in *to, size_t size);
-void network_send_media(const struct sockaddr_in *to, size_t size);
 void network_deliver(uint64_t now); /* what was delayed */
 uint64_t network_deadline(void);
 void network_flush(void);
 
 /* peers.c: the table of peers */
+extern peer peers[MOST_PEERS];
+#define EACH_PEER(it)                                                                                                            \
+    for (peer *it = peers; it < peers + MOST_PEERS; it++)                                                                        \
+        if (it->used)
 void secret(void *bytes, size_t size); /* random bytes */
 bool is_name(const char *text);
 peer *peer_new(const char *name, bool publishes);
 void peer_free(peer *it);
-peer *peer_publisher(const char *name); /* who publishes under the name */
-peer *peer_session(const char *id);
+void peer_says(const peer *it, const char *what); /* a line of the log, with the time since its offer */
+peer *peer_publisher(const char *name);           /* who publishes under the name */
+peer *peer_session(const char *path);             /* whose id the path begins with */
 peer *peer_at(const struct sockaddr_in *from);
 void peer_seen(peer *it, const struct sockaddr_in *at, bool nominated);
 void peer_secured(peer *it);
 void peers_tick(uint64_t now);
-peer *peers_from(peer *at); /* the first one in use from there on, or NULL */
-#define EACH_PEER(it) for (peer *it = peers_from(peers); it; it = peers_from(it + 1))
 
-/* answer.c: writes the answer to an offer. Returns a status of HTTP: 201, or the reason in *fault */
-unsigned answer(peer *it, const char *offer, bool publishes, text *to, const char **fault);
-const char *codec_name(cpay_codec codec);
+/* answer.c: returns the answer to an offer, or what is wrong with it, with its status of HTTP */
+const char *answer(peer *it, const char *offer, bool publishes, unsigned *status);
 
 /* ice.c */
-bool ice_is(const uint8_t *bytes, size_t size);
-void ice_take(const struct sockaddr_in *from, const uint8_t *bytes, size_t size);
+bool ice_take(const struct sockaddr_in *from, const uint8_t *bytes, size_t size); /* false: it is not STUN */
 
 /* dtls.c */
 extern char dtls_fingerprint[96];
@@ -138,44 +135,58 @@ void dtls_start(void);
 void dtls_take(peer *it, const uint8_t *bytes, size_t size);
 void dtls_tick(peer *it);
 void dtls_end(peer *it);
-bool srtp_open(peer *it, uint8_t *bytes, size_t *size, bool rtcp);
 void srtp_send(peer *to, uint8_t *bytes, size_t size, bool rtcp); /* `bytes` are those of network_room */
 
 /* receive.c: publishers */
-bool publisher_begin(peer *it, const cpay_sdp_media *media, size_t count, const char **fault);
+typedef struct {
+    bool arrived; /* a packet came */
+    uint32_t ssrc;
+    cpay_history store;                                                           /* its latest packets, for all viewers */
+} source;                                                                         /* the latest stream of a track */
+const char *publisher_begin(peer *it, const cpay_sdp_media *media, size_t count); /* NULL, or what is wrong */
 void publisher_take(peer *it, uint8_t *bytes, size_t size);
 void publisher_poll(peer *it);
 void publisher_tick(peer *it, uint64_t now);
-bool publisher_deadline(peer *it, uint64_t *at);
+uint64_t publisher_deadline(peer *it);
 void publisher_wants_keyframe(peer *it, int track);
 bool publisher_clock(peer *it, int track, cpay_sender_clock_info *clock);
-cpay_history *publisher_store(peer *it, int track); /* the latest packets of a track, for all viewers */
-uint32_t publisher_ssrc(peer *it, int track);       /* 0: nothing came yet */
+source *publisher_source(peer *it, int track);
+void publisher_stats(peer *it, FILE *to);
 void publisher_free(peer *it);
 int last_track(const peer *it); /* of video: the layer that is recorded, and that a viewer gets first */
 
 /* viewers.c */
-bool viewer_begin(peer *it, peer *of);
-void viewer_ssrcs(const peer *it, int kind, uint32_t *ssrc, uint32_t *rtx_ssrc);
+const char *viewer_begin(peer *it, peer *of);   /* NULL, or what is wrong */
+uint32_t viewer_ssrc(const peer *it, int kind); /* that of retransmissions is one more */
 void viewers_forward(peer *from, int track, const uint8_t *datagram, size_t size);
 bool viewer_wants_layer(peer *it, const char *name);
 void viewer_take(peer *it, const uint8_t *bytes, size_t size); /* RTCP */
 void viewer_tick(peer *it, uint64_t now);
+void viewer_stats(peer *it, FILE *to);
 void viewer_free(peer *it);
+
+/* rtcp.c: RTCP that the library's calls for C do not write or read yet */
+typedef struct {
+    int32_t lost;   /* packets, since the stream began */
+    uint32_t last;  /* the middle 32 bits of the NTP time of the last sender report; 0: none */
+    uint32_t delay; /* since that report, in 1/65536 s */
+} report_block;     /* what a receiver reports about a stream (RFC 3550, section 6.4.1) */
+bool rtcp_read_block(const uint8_t *bytes, size_t size, uint32_t ssrc, report_block *block);
+size_t rtcp_write_pli(uint8_t *to, uint32_t ssrc, uint32_t of);
+size_t rtcp_write_report(uint8_t *to, uint64_t ntp_time, const cpay_sender_report_info *report, const char *name);
 
 /* record.c */
 typedef struct recording recording;
 recording *record_new(const char *name, const agreed media[KINDS]);
 void record_unit(recording *it, int kind, const cpay_unit *unit, const uint8_t *bytes);
 void record_clock(recording *it, int kind, const cpay_sender_clock_info *clock);
-const char *record_path(const recording *it);
-const char *record_fault(const recording *it); /* NULL: all was written so far */
+void record_stats(const recording *it, FILE *to);
 void record_free(recording *it);
 
-/* stats.c */
-void stats(text *to);
-void publisher_stats(peer *it, text *to); /* receive.c */
-void viewer_stats(peer *it, text *to);    /* viewers.c */
+/* stats.c: counts as JSON */
+#define COUNT(name) "\"" name "\":%" PRIu64 "," /* the format of a number of 64 bits */
+void stats(FILE *to);
+void stats_stream(FILE *to, int kind, const agreed *media, const char *layer); /* the beginning of a stream */
 
 /* http.c */
 int http_start(void); /* the descriptor to wait for */

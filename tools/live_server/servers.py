@@ -2,6 +2,7 @@
 
 import contextlib
 import json
+import os
 import pathlib
 import resource
 import signal
@@ -94,6 +95,19 @@ class Server:
             require(status == 0, f"the server ends with status {status}: {self.log[-500:]}")
             require("runtime error" not in self.log and "Sanitizer" not in self.log, self.log[-3000:])
         self.folder.cleanup()
+
+
+@contextlib.contextmanager
+def real_time():
+    """Programs that are started here have real-time priority, if this user may give it: other work on the machine takes them no
+    time then."""
+    policy, parameter = os.sched_getscheduler(0), os.sched_getparam(0)
+    with contextlib.suppress(PermissionError):
+        os.sched_setscheduler(0, os.SCHED_RR, os.sched_param(1))
+    try:
+        yield
+    finally:
+        os.sched_setscheduler(0, policy, parameter)
 
 
 # ---- calls ----

@@ -33,9 +33,8 @@ def held_by(it, minute, viewer):
 
 
 def again(page, button):
-    """Stops, and begins again."""
-    page.click(button)
-    page.click(button)
+    """Stops if it runs, and begins again."""
+    page.evaluate(f"(state.{button} && $('{button}').click(), $('{button}').click(), 0)")
 
 
 def soak(minutes, program):
@@ -43,13 +42,15 @@ def soak(minutes, program):
     print(f"| {' | '.join(COLUMNS)} |\n{'|---' * len(COLUMNS)}|")
     lines, began = [], time.monotonic()
     with Server("--loss", "2", "--reorder", "1", "--delay", "20", program=program) as it:
-        sends = publisher_of(it, "publish=camera&size=160&fps=10")
-        stays, other = viewer_of(it), viewer_of(it)
+        sends = publisher_of(it, "publish=camera&size=160&fps=10&quiet")
+        stays, other = viewer_of(it, "watch&quiet"), viewer_of(it, "watch&quiet")
         for minute in range(minutes + 1):
             time.sleep(max(0, began + 60 * minute - time.monotonic()))
             lines.append(held_by(it, minute, stays))
             print(f"| {' | '.join(map(str, lines[-1]))} |", flush=True)
             again(other, "watch")
+            if not sends.evaluate("!!state.publish"):  # the machine gave its browser no time, and the connection ended
+                again(sends, "publish")
             if minute % 10 == 5:
                 before = stays.frames()
                 again(sends, "publish")

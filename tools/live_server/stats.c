@@ -1,26 +1,30 @@
 /* What the server and the library count, as JSON. Times are in ms. */
 #include "server.h"
 
-static void add_peers(text *to, bool viewers) {
-    bool any = false;
-    EACH_PEER (it) {
-        if (viewers ? !it->viewer : !it->publisher) continue;
-        text_add(to, "%s{\"number\":%llu,\"name\":\"%s\",\"connected\":%s,", any ? "," : "", (unsigned long long)it->number,
-                 it->name, it->secure ? "true" : "false");
-        if (viewers) viewer_stats(it, to);
-        else publisher_stats(it, to);
-        text_add(to, "}");
-        any = true;
-    }
+void stats_stream(FILE *to, int kind, const agreed *media, const char *layer) {
+    fprintf(to, "{\"kind\":\"%s\",\"codec\":\"%s\",\"layer\":\"%s\",\"red\":%s,", kind == VIDEO ? "video" : "audio", media->name,
+            layer, media->red_payload_type ? "true" : "false");
 }
 
-void stats(text *to) {
-    static const char *const feedback[] = {"transport-wide", "REMB", "none"};
-    text_add(to, "{\"now\":%llu,\"feedback\":\"%s\",", (unsigned long long)now_ms(), feedback[the.feedback]);
-    text_add(to, "\"network\":{\"loss\":%g,\"reorder\":%g,\"delay\":%u,\"dropped\":%llu},\"publishers\":[", the.network.loss,
-             the.network.reorder, the.network.delay, (unsigned long long)network_dropped);
+static void add_peers(FILE *to, bool viewers) {
+    const char *comma = "";
+    EACH_PEER (it) {
+        if (viewers ? !it->viewer : !it->publisher) continue;
+        fprintf(to, "%s{" COUNT("number") "\"name\":\"%s\",\"connected\":%s,", comma, it->number, it->name,
+                it->secure ? "true" : "false");
+        if (viewers) viewer_stats(it, to);
+        else publisher_stats(it, to);
+        fputs("}", to);
+        comma = ",";
+    }
+    fputs("]", to);
+}
+
+void stats(FILE *to) {
+    fprintf(to, "{" COUNT("now") "\"network\":{\"loss\":%g,\"reorder\":%g," COUNT("dropped") "\"delay\":%u},\"publishers\":[",
+            now_ms(), the.network.loss, the.network.reorder, network_dropped, the.network.delay);
     add_peers(to, false);
-    text_add(to, "],\"viewers\":[");
+    fputs(",\"viewers\":[", to);
     add_peers(to, true);
-    text_add(to, "]}");
+    fputs("}", to);
 }

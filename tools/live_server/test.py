@@ -27,7 +27,7 @@ import threading
 import time
 
 from browsers import Chromium, Failed, Firefox, firefox, require, wait_for
-from servers import HERE, Server, call, free_port, publisher_of, viewer_of
+from servers import HERE, Server, call, free_port, publisher_of, real_time, viewer_of
 
 sys.path.append(str(HERE.parent / "chromium"))
 
@@ -62,8 +62,8 @@ def test_reordered():
 def test_viewers(count=10, seconds=10):
     """Ten viewers of one publisher show nearly all frames each. The picture is small: a browser decodes all ten."""
     with Server("--loss", "2") as it:
-        sends = publisher_of(it, "publish=camera&size=160&fps=10")
-        watch = [viewer_of(it) for _ in range(count)]
+        sends = publisher_of(it, "publish=camera&size=160&fps=10&quiet")
+        watch = [viewer_of(it, "watch&quiet") for _ in range(count)]
         sent, before = sends.statistic("publish")["framesSent"], [page.frames() for page in watch]
         time.sleep(seconds)
         shown = [page.frames() - frames for page, frames in zip(watch, before)]
@@ -73,30 +73,71 @@ def test_viewers(count=10, seconds=10):
     return figures
 
 
-def test_conference(count=10, seconds=10):
-    """A conference of ten: each page publishes under a name of its own and watches the next one. Nearly all frames are shown, and
-    without loss there is no freeze. Where the machine is so busy that a page sends too few frames, each page shows a picture that
-    goes on, and no more is asked."""
-    with Server() as it:
-        pages = [it.page(f"publish=camera&size=160&fps=10&name=n{i}") for i in range(count)]
+# A page of the conference watches others beside what its buttons do, and says what it got of each: a time in ms, frames, freezes.
+WATCH = """(async (names) => {
+  window.others = {};
+  for (const name of names) {
+    const connection = window.others[name] = new RTCPeerConnection({ bundlePolicy: "max-bundle" });
+    const video = Object.assign(document.createElement("video"), { autoplay: true, muted: true, playsInline: true });
+    const stream = video.srcObject = new MediaStream();
+    connection.ontrack = ({ track }) => stream.addTrack(track);
+    for (const kind of ["audio", "video"]) connection.addTransceiver(kind, { direction: "recvonly" });
+    document.querySelector(".videos").append(video);
+    await negotiate(connection, `/whep/${name}`, true);
+  }
+})(NAMES)"""
+WATCHED = """(async () => {
+  const found = {};
+  for (const name in window.others) {
+    const all = [...(await window.others[name].getStats()).values()];
+    const { timestamp = 0, framesDecoded = 0, freezeCount = 0 } = all.find(({ type, kind }) => type === "inbound-rtp" && kind === "video") ?? {};
+    found[name] = [timestamp, framesDecoded, freezeCount];
+  }
+  return found;
+})()"""
+
+
+def test_conference(count=10, others=9, seconds=10):
+    """A conference of ten: each page publishes under a name of its own, and watches all others, so there are 90 viewers. The pictures
+    are small, 160 pixels wide with 10 frames a second, since one browser sends and shows them all. For ten seconds each page sends at
+    least 9 frames a second, each viewer shows more than nine tenths of the frames a second that its publisher sends, and no picture
+    freezes. Server and browser have real-time priority, if this user may give it."""
+    with contextlib.ExitStack() as stack:
+        with real_time():
+            it = stack.enter_context(Server())
+            it.browser()
+        pages = [it.page(f"publish=camera&size=160&fps=10&quiet&name=n{i}") for i in range(count)]
         wait_for("frame of each page", lambda: len(it.streams()) == count and all(stream["frames"] > 0 for stream in it.streams()), 90)
         for i, page in enumerate(pages):
-            page.evaluate(f"(document.getElementById('name').value = 'n{(i + 1) % count}', 0)")
-            page.click("watch")
-        wait_for("picture on each page", lambda: all(page.frames() > 10 for page in pages), 90)
-        began, before = time.monotonic(), [(page.statistic("publish"), page.statistic("watch")) for page in pages]
+            page.evaluate(WATCH.replace("NAMES", json.dumps([f"n{(i + 1 + more) % count}" for more in range(others)])))
+        wait_for("picture of each viewer", lambda: all(got[1] > 10 for page in pages for got in page.evaluate(WATCHED).values()), 90)
+        time.sleep(5)  # until the bitrates of all have risen
+
+        def now():
+            sends = [page.statistic("publish") for page in pages]
+            require(all(sends), "a page has lost its connection: the machine is too busy")
+            return [(one["timestamp"], one["framesSent"]) for one in sends], [page.evaluate(WATCHED) for page in pages]
+
+        before = now()
         time.sleep(seconds)
-        passed, after = time.monotonic() - began, [(page.statistic("publish"), page.statistic("watch")) for page in pages]
-        sent = [late[0]["framesSent"] - early[0]["framesSent"] for late, early in zip(after, before)]
-        shown, freezes = ([late[1][name] - early[1][name] for late, early in zip(after, before)] for name in ("framesDecoded", "freezeCount"))
-        publishers, viewers = len(it.stats()["publishers"]), len(it.stats()["viewers"])
-    figures = f"{publishers} publishers, {viewers} viewers: {min(shown)} to {max(shown)} frames shown of {min(sent)} to {max(sent)} in {passed:.0f} s, {sum(freezes)} freezes"
-    require(publishers == viewers == count, figures)
-    busy = min(sent) < 9 * passed
-    require(all(got > (0.5 if busy else 0.9) * given - 10 for got, given in zip(shown, sent[1:] + sent[:1])), figures)
-    require(busy or sum(freezes) == 0, figures)
+        after = now()
+        peers = it.stats()
+    sent = [rate(early, late) for early, late in zip(before[0], after[0])]
+    got = [(sent[int(name[1:])], rate(early[name], late[name]), late[name][2] - early[name][2])
+           for early, late in zip(before[1], after[1]) for name in early]
+    shown, freezes = [one for _, one, _ in got], sum(one for _, _, one in got)
+    figures = (f"{len(peers['publishers'])} publishers, each watched by {others} of the others: {min(sent):.1f} to {max(sent):.1f} frames a second "
+               f"sent, {min(shown):.1f} to {max(shown):.1f} shown, {freezes} freezes")
+    require(len(peers["publishers"]) == count and len(peers["viewers"]) == len(got) == count * others, figures)
+    require(min(sent) >= 9, f"the machine is too busy: {figures}")
+    require(all(here > 0.9 * there for there, here, _ in got) and freezes == 0, figures)
     require(len(it.recordings) == count and not any(each.faults for each in it.recordings), [each.faults for each in it.recordings])
-    return figures + (", on a busy machine" if busy else "")
+    return figures
+
+
+def rate(early, late):
+    """Frames a second between two times in ms with counts of frames."""
+    return (late[1] - early[1]) * 1000 / max(1, late[0] - early[0])
 
 
 def test_feedback():
@@ -206,11 +247,10 @@ def test_refusals():
         for wanted, *request in [
             (406, "POST", "/whip/live", OFFER.replace("{codec}", "H264"), SDP), (415, "POST", "/whip/live", offer),
             (400, "POST", "/whip/live", "hello", SDP), (409, "POST", "/whep/live", offer, SDP), (404, "POST", "/whip/a%20b", offer, SDP),
-            (404, "DELETE", "/session/" + 32 * "0"), (405, "PATCH", "/session/" + 32 * "0"), (413, "POST", "/whip/live", 70000 * "x", SDP),
+            (404, "DELETE", "/session/" + 32 * "0"), (404, "PATCH", "/session/" + 32 * "0"), (413, "POST", "/whip/live", 70000 * "x", SDP),
             (400, "PUT", "/network", "loss=101 reorder=0 delay=0"), (404, "GET", "/other"), (201, "POST", "/whip/live", offer, SDP),
         ]:
-            status, text, _ = it.request(*request)
-            require(status == wanted or (wanted == 405 and status == 404), f"{request[0]} {request[1]}: {status} {text}, and not {wanted}")
+            answers(it, wanted, *request)
         status, text, _ = it.request("POST", "/whip/live", OFFER.replace("{codec}", "H264"), SDP)
         require("H.264" in text, text)
         for option, http, udp in (("--http", it.http, free_port(socket.SOCK_DGRAM)), ("--udp", free_port(socket.SOCK_STREAM), it.udp)):
@@ -225,6 +265,33 @@ def test_refusals():
         require(it.request("POST", "/whip/live", offer, SDP)[0] == 401, "the token guards WHIP")
         require(it.request("POST", "/whip/live", offer, SDP | {"Authorization": "Bearer secrets"})[0] == 401, "another token")
         require(it.request("POST", "/whip/live", offer, SDP | {"Authorization": "Bearer secret"})[0] == 201, "the token")
+    return "all"
+
+
+def answers(it, wanted, *request):
+    """The headers of a reply with the wanted status."""
+    status, text, headers = it.request(*request)
+    require(status == wanted, f"{request[0]} {request[1]}: {status} {text}, and not {wanted}")
+    return headers
+
+
+def test_sessions():
+    """Requests about a session, of a publisher and of a viewer whose browser lacks its codec or has it."""
+    offer = OFFER.replace("{codec}", "VP8")
+    with Server() as it:
+        publisher = answers(it, 201, "POST", "/whip/live", offer, SDP)["Location"]
+        answers(it, 406, "POST", "/whep/live", OFFER.replace("{codec}", "VP9"), SDP)
+        viewer = answers(it, 201, "POST", "/whep/live", offer, SDP)["Location"]
+        for wanted, *request in [
+            (405, "PATCH", publisher), (404, "PUT", publisher + "/other"), (409, "PUT", publisher + "/layer", "T1"),
+            (200, "PUT", viewer + "/layer", "T1"), (409, "PUT", viewer + "/layer", "T4"), (409, "PUT", viewer + "/layer", "half"),
+            (404, "DELETE", viewer + "x"), (404, "DELETE", viewer[:-1]), (404, "GET", viewer), (200, "DELETE", viewer), (200, "DELETE", publisher),
+        ]:
+            answers(it, wanted, *request)
+        require(answers(it, 200, "OPTIONS", viewer)["Access-Control-Allow-Origin"] == "*", "pages of others may publish and watch")
+        require(answers(it, 200, "OPTIONS", "/stats")["Access-Control-Allow-Origin"] is None, "pages of others may not read the counts")
+        wait_for("end of both", lambda: not it.stats()["publishers"] and not it.stats()["viewers"], 5)
+        answers(it, 404, "DELETE", viewer)
     return "all"
 
 
@@ -258,6 +325,32 @@ def test_phone():
     require(width <= 390, f"the page has a width of {width}")
     require(cards > 15, f"{cards} numbers are shown")
     return f"{cards} numbers within {width} pixels"
+
+
+def test_picture(path=None):
+    """The page publishes and watches over a bad network, and draws the last minute of each count. Its picture is that of the documents:
+    `--picture ../../docs/pictures/live_server.webp` writes it there."""
+    with Server() as it:
+        page = it.page("publish=pattern&layers&watch")
+        wait_for("picture", lambda: page.frames() > 60)
+        time.sleep(12)
+        it.network(loss=5, reorder=2, delay=40)
+        time.sleep(25)
+        drawn, plots = page.evaluate(PLOTS)
+        path = path or f"{it.folder.name}/page.webp"
+        page.shot(path)
+        size = os.path.getsize(path)
+    require(drawn == plots >= 20, f"{drawn} of {plots} plots have a line")
+    require(size > 20000, f"a picture of {size} bytes")
+    return f"{plots} plots have a line; a picture of {size} bytes"
+
+
+# How many plots have a line, and how many plots there are.
+PLOTS = """(() => {
+  const all = [...document.querySelectorAll("canvas")];
+  const drawn = all.filter((each) => each.getContext("2d").getImageData(0, 0, each.width, each.height).data.some((value) => value));
+  return [drawn.length, all.length];
+})()"""
 
 
 # ---- strangers ----
@@ -357,13 +450,15 @@ TESTS = {f"{codec}-{loss}": (lambda codec=codec, loss=loss: test_call(codec, los
 TESTS |= {f"firefox-{name}": (lambda words=words: test_firefox(*words)) for name, words in {
     "publishes": (Firefox, Chromium, "VP8", 0), "watches": (Chromium, Firefox, "VP8", 0), "VP8-5": (Firefox, Firefox, "VP8", 5),
     "VP9-2": (Firefox, Firefox, "VP9", 2), "AV1-2": (Firefox, Firefox, "AV1", 2)}.items()}
-TESTS |= {name: globals()[f"test_{name}"] for name in ("refusals", "token", "disk", "phone", "reordered", "viewers", "conference", "feedback", "layers", "fits", "reload", "damaged", "hostile")}
+TESTS |= {name: globals()[f"test_{name}"] for name in ("refusals", "sessions", "token", "disk", "phone", "picture", "reordered", "viewers", "conference", "feedback", "layers", "fits", "reload", "damaged", "hostile")}
 
 
 def main():
     reader = argparse.ArgumentParser(description=__doc__, formatter_class=argparse.RawDescriptionHelpFormatter)
     reader.add_argument("names", nargs="*", choices=[[], *TESTS], default=[])
+    reader.add_argument("--picture", metavar="FILE.webp", help="where the test `picture` writes what it shows")
     arguments = reader.parse_args()
+    TESTS["picture"] = lambda: test_picture(arguments.picture)
     missing = [name for name in ("chromium", "ffmpeg", "ffprobe") if not shutil.which(name)]
     if missing:
         print(f"skipped: {', '.join(missing)} not installed")

@@ -24,7 +24,7 @@ CAPTURE = f"{ROOT}/tools/rtp_record/captures/chromium-vp8"
 # What each row of sessions is, its arguments, and the most instructions of a datagram.
 SESSIONS = [
     ("1 stream of Opus", ["streams", "1"], 3_150),
-    ("1,000 streams of Opus", ["streams", "1000"], 11_600),
+    ("1,000 streams of Opus", ["streams", "1000"], 3_750),
     ("a call of Chromium: audio, video, retransmissions, RTCP", ["call", f"{CAPTURE}.sdp", f"{CAPTURE}.pcap"], 4_750),
 ]
 CALLS = {"cpay_receiver_receive": "receive", "cpay_receiver_pop": "pop", "cpay_buffer_push": "push", "cpay_buffer_pop": "pop_buffer"}

@@ -39,7 +39,7 @@ fn depacketize(assembler: &mut Assembler, payload: &[u8]) -> u32
     }
 }
 
-/// Tells where the unit so far is.
+/// Sets where the unit so far is.
 fn lend(assembler: &Assembler, unit: &mut LentUnit)
     ensures { LentBy assembler.now unit.new }
 {
@@ -141,7 +141,7 @@ pub extern "C" fn cpay_depacketized(
     answer
 }
 
-/// Tells where the unit so far is: in the depacketizer's memory, until the next call with the handle.
+/// Reports where the unit so far is: in the depacketizer's memory, until the next call with the handle.
 #[unsafe(no_mangle)]
 pub extern "C" fn cpay_depacketizer_unit(
     alloc: Global,

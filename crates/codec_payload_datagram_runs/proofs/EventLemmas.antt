@@ -103,7 +103,7 @@ pub record HasLog (known : ℕ → Packet → RtpMeta → Type 0) (packets : Lis
   pub left : end.now ≡ t
 
 -- the frames that a pop skips
-turn_at : (wait : Option ℕ) (s t : State) (a : Answer) → PopsWaiting wait s a t → (passed : List CompleteFrame) × AnswersTurn wait s passed a t
+pub turn_at : (wait : Option ℕ) (s t : State) (a : Answer) → PopsWaiting wait s a t → (passed : List CompleteFrame) × AnswersTurn wait s passed a t
 turn_at None s t a pops = ([], (refl, pops.0, pops.1))
 turn_at (Some h) s t a pops = (pops.1.0, (pops.0, pops.1.1))
 
@@ -122,6 +122,7 @@ pub record IsMetOn (again : Option RetransmissionStream) (time_of : ℕ → ℕ)
   pub times : AreTimesOf time_of t.packets.noted
   pub through : t.packets.numbering ≡ numbering_through first s.packets.numbering (delivered all_steps)
   pub kinds : t.stream ≡ s.stream
+  pub limits : KeepsLimits s.packets t.packets
 
 module _ (again : Option RetransmissionStream) (stream : Outgoing) (types : (stream.payload_type < 64) ⊎ (95 < stream.payload_type)) (first : ℕ) (packets : List Packet) (datagrams : List (List ℕ))
     (are : AreDatagrams stream packets datagrams) (numbered : AreNumbered first packets) (r : Receiving) where
@@ -141,6 +142,7 @@ module _ (again : Option RetransmissionStream) (stream : Outgoing) (types : (str
     times = subst (λ (x : Session). AreTimesOf time_of x.packets.noted) (sym takes.1) times;
     through = ap (λ (x : Session). x.packets.numbering) takes.1;
     kinds = ap (λ (x : Session). x.stream) takes.1;
+    limits = subst (λ (x : Session). KeepsLimits s.packets x.packets) (sym takes.1) (record { wait_limits = refl; room = refl });
   }
   met_by time_of (steps.Send i ∷ later) s t answers listening keeps numbers timed timely times takes =
       let all = met_by time_of later s t answers listening keeps numbers timed timely times takes in
@@ -157,6 +159,7 @@ module _ (again : Option RetransmissionStream) (stream : Outgoing) (types : (str
         times = all.times;
         through = all.through;
         kinds = all.kinds;
+        limits = all.limits;
       }
   met_by time_of (steps.Deliver k now ∷ later) s t answers listening keeps numbers timed timely times takes =
       let mid : Session = takes.5 in
@@ -200,6 +203,7 @@ module _ (again : Option RetransmissionStream) (stream : Outgoing) (types : (str
         times = all.times;
         through = all.through ∙ ap (λ (n : Numbering). numbering_through first n (delivered later)) numbering;
         kinds = all.kinds ∙ one.kinds;
+        limits = keeps_then s.packets mid.packets t.packets one.limits all.limits;
       }
   met_by time_of (steps.Pop now ∷ later) s t answers listening keeps numbers timed timely times takes =
       let mid : Session = takes.2 in
@@ -232,6 +236,7 @@ module _ (again : Option RetransmissionStream) (stream : Outgoing) (types : (str
         times = all.times;
         through = all.through ∙ ap (λ (n : Numbering). numbering_through first n (delivered later)) one.numbering;
         kinds = all.kinds ∙ one.kinds;
+        limits = keeps_then s.packets mid.packets t.packets one.limits all.limits;
       }
   met_by time_of (steps.Finish ∷ later) s t answers listening keeps numbers timed timely times takes =
       let at_end : takes.0 ≡ ended s = finishes_as again stream s takes.0 listening takes.1 in
@@ -261,6 +266,7 @@ module _ (again : Option RetransmissionStream) (stream : Outgoing) (types : (str
         times = all.times;
         through = all.through;
         kinds = all.kinds;
+        limits = record { wait_limits = all.limits.wait_limits; room = all.limits.room };
       }
 
   pub met : (all_steps : List DatagramStep) (s t : Session) (answers : List Answer) → IsListening again stream s → KeepsLimits r s.packets

@@ -1,13 +1,13 @@
 -- Packets of two parts in one buffer: no complete frame has packets of both, as their numbers lie apart.
-use Rattle.std.proofs.Common.{◌≡◌, ◌∙◌, refl, sym, ap, subst, ℕ, suc, ◌+◌, ◌<◌, ◌≤◌, ◌||◌, ◌&&◌, not, cond, List, [], ◌∷◌, ◌++◌, Bool, true, false, Option, Some, None, append_assoc, append-nil, arith, eqb, length, ltb}
+use Rattle.std.proofs.Common.{◌≡◌, ◌∙◌, refl, sym, ap, subst, ℕ, ◌+◌, ◌<◌, ◌≤◌, ◌||◌, cond, List, [], ◌∷◌, ◌++◌, Bool, true, false, Some, None, append_assoc, append-nil, arith, eqb, length, ltb}
 use Rattle.std.proofs.lemmas.Bool.Decides.{nat_tests}
 use Rattle.std.proofs.lemmas.Bool.{lt-ltb}
 use Rattle.codec_payload_base.specs.Time.{Time}
 use Rattle.codec_payload_buffer.proofs.FrameParts.{IsPart, IsRun}
 use Rattle.codec_payload_buffer.proofs.PopLemmas.{due_first, part_due}
 use Rattle.codec_payload_buffer.proofs.RowLemmas.{all_above, none_between}
-use Rattle.codec_payload_buffer.specs.Frames.{ended_at, frame_at, frames, frames_after, is_same_time, leads_to, lowest_head, row_before}
-use Rattle.codec_payload_buffer.specs.Held.{AllAbove, Held, Rises, above, between, has_number, number_of, placed}
+use Rattle.codec_payload_buffer.specs.Frames.{ended_at, frame_at, frames, frames_after, leads_to, lowest_head, row_before}
+use Rattle.codec_payload_buffer.specs.Held.{AllAbove, Held, above, between, has_number, placed}
 use Rattle.codec_payload_buffer.specs.Scan.{first_of}
 use Rattle.codec_payload_buffer.specs.Steps.{State, due_among, due_of, starts_right_after}
 use Rattle.codec_payload_codec.proofs.CaseLemmas.{by_test}

@@ -1,15 +1,14 @@
 -- A buffer that holds packets of several parts releases their units in order: those of earlier parts first.
-use Rattle.std.proofs.Common.{◌≡◌, ◌≢◌, ◌∙◌, refl, sym, ap, subst, ℕ, ◌+◌, ◌-◌, ◌<◌, ◌≤◌, ◌||◌, cond, List, [], ◌∷◌, ◌++◌, Bool, true, false, Option, Some, None, Ok, Err, arith, length, ltb, inl, inr}
-use Rattle.std.specs.Prelude.{slice_get}
+use Rattle.std.proofs.Common.{◌≡◌, ◌≢◌, ◌∙◌, refl, sym, ap, subst, ℕ, ◌+◌, ◌<◌, ◌≤◌, not, cond, List, [], ◌∷◌, ◌++◌, Bool, true, false, Option, Some, None, Ok, Err, arith, length, ltb, inl, inr}
 use Rattle.std.proofs.lemmas.Option.{slice_get_within}
 use Rattle.codec_payload_base.specs.declared.error.PacketError.{PacketError}
 use Rattle.codec_payload_base.specs.declared.error.PacketError.TheVariants as faults
-use Rattle.codec_payload_buffer.proofs.MemberLemmas.{IsIn}
 use Rattle.codec_payload_buffer.proofs.PopLemmas.{order_due}
+use Rattle.codec_payload_buffer.specs.ContiguityTable.{checked}
 use Rattle.codec_payload_buffer.specs.Frames.{frames}
 use Rattle.codec_payload_buffer.specs.Held.{AllAbove, Held, IsAboveCutoff, Rises, above, between, has_number, placed}
 use Rattle.codec_payload_buffer.specs.Release.{Release}
-use Rattle.codec_payload_buffer.specs.Steps.{AllOfTime, Passes, PassesOver, Pops, PopsOver, Refuses, Releases, State, Unpacked, Unpacks, arrived, due_among, due_of, is_at_most, is_dropped, kept_to_limit, metas_of, none, nothing_unpacked, one_more, packets_of_frame, pushed, without, without_lowest}
+use Rattle.codec_payload_buffer.specs.Steps.{AllOfTime, Passes, PassesOver, PopsOver, Refuses, Releases, State, Unpacked, Unpacks, arrived, due_among, due_of, follows, is_dropped, kept_to_limit, metas_of, none, nothing_unpacked, one_more, packets_of_frame, pushed, without, without_lowest}
 use Rattle.codec_payload_buffer.specs.declared.buffer.frames.CompleteFrame.{CompleteFrame}
 use Rattle.codec_payload_buffer.specs.declared.buffer.unit.RtpMeta.{RtpMeta}
 use Rattle.codec_payload_codec.proofs.CaseLemmas.{by_test}
@@ -23,19 +22,30 @@ use Rattle.codec_payload_buffer_runs.specs.Headline.{ArePushesBy, InOrder, IsUni
 use Rattle.codec_payload_buffer_runs.specs.Schedule.{Answer}
 use Rattle.codec_payload_buffer_runs.specs.SentStream.{SentUnit, packets_of}
 use Rattle.codec_payload_payloader.specs.Packets.{Packet}
-use Rattle.codec_payload_datagram_runs.proofs.JoinedFrames.{AllUnder, IsDueIn, above_earlier, above_later, between_earlier, between_later, due_in, due_under, earlier_in, has_later, in_earlier, in_later, later_in, placed_later, under_more}
+use Rattle.codec_payload_datagram_runs.specs.Deliveries.{IsCutoffBelow}
+use Rattle.codec_payload_datagram_runs.proofs.JoinedFrames.{AllUnder, IsDueIn, above_earlier, above_later, between_earlier, between_later, due_in, due_under, earlier_in, has_later, in_earlier, in_later, later_in, placed_later}
 
--- the cutoff is below a bound
-abbrev pub CutoffUnder : ℕ → Option ℕ → Type 0
-CutoffUnder bound None = Unit {0}
-CutoffUnder bound (Some c) = c < bound
+-- the packets of a part alone, with a mark if the numbers do not follow; and after the release of a frame of a part
+abbrev pub view_of : List Held → State → CompleteFrame → State
+view_of new s f = record (later_in new s) { evicted = not (follows s f) }
+
+abbrev pub left_of : List Held → State → CompleteFrame → State
+left_of new t f = record t { held = above f.last new; hold_back = 0 }
+
+pub not_not : (b : Bool) → not (not b) ≡ b
+not_not true = refl
+not_not false = refl
+
+pub due_marked : (v : State) (b : Bool) (fs : List CompleteFrame) → due_among (record v { evicted = b }) fs ≡ due_among v fs
+due_marked v b [] = refl
+due_marked v b (f ∷ fs) = refl
 
 -- a buffer of this format that holds packets below a bound, and is done with the units before `from`
 pub record IsLow (kind : DepacketizerKind) (bound count from : ℕ) (s : State) : Type 0 where
   pub few : from ≤ count
   pub under : AllUnder bound s.held
   pub rises : Rises s.held
-  pub cutoff : CutoffUnder bound s.cutoff
+  pub cutoff : IsCutoffBelow bound s.cutoff
   pub reads : kind_of_depacketizer s.depacketizer ≡ kind
 
 -- what is known of the buffers that hold packets of some parts: they release the first `count` of all units in order, and none of
@@ -110,7 +120,7 @@ no_parts known splits units kind = record {
     few = omega (arith, is.nothing_done);
     under = subst (AllUnder 0) (sym is.nothing_held) tt;
     rises = subst Rises (sym is.nothing_held) tt;
-    cutoff = subst (CutoffUnder 0) (sym is.no_cutoff) tt;
+    cutoff = subst (IsCutoffBelow 0) (sym is.no_cutoff) tt;
     reads = is.reads;
   };
   waits = λ from h s is. record { nothing_done = is.nothing_done; nothing_held = is.nothing_held; no_cutoff = is.no_cutoff; reads = is.reads };
@@ -130,7 +140,7 @@ module _ (known : ℕ → Packet → RtpMeta → Type 0) (splits : Bool) (units 
   -- parts
   pub data IsLayered (from : ℕ) (s : State) : Type 0 where
     before : (old new : List Held) → s.held ≡ old ++ new → o.Is from (earlier_in old s) → Beyond c 0 (later_in new s) → IsLayered from s
-    beyond : (j : ℕ) → from ≤ count + j → j ≤ length c.units → CutoffUnder next s.cutoff → Beyond c j s → IsLayered from s
+    beyond : (j : ℕ) → from ≤ count + j → j ≤ length c.units → IsCutoffBelow next s.cutoff → Beyond c j s → IsLayered from s
 
   pub number_is : (p : Held) (i : IsPush c p) → p.meta.seq_no.0 ≡ c.first + i.0
   number_is p i = number_of_sent c.known c.clock_rate c.first c.kind c.faithful c.splits c.units c.lawful c.numbered p i
@@ -186,7 +196,7 @@ module _ (known : ℕ → Packet → RtpMeta → Type 0) (splits : Bool) (units 
         reads = low.reads;
       }
     where
-      lower : (m : Option ℕ) → CutoffUnder bound m → CutoffUnder next m
+      lower : (m : Option ℕ) → IsCutoffBelow bound m → IsCutoffBelow next m
       lower None under = tt
       lower (Some n) under = omega (arith, under, grows)
   layered_low from s (beyond j few place cutoff is) =
@@ -301,30 +311,38 @@ module _ (known : ℕ → Packet → RtpMeta → Type 0) (splits : Bool) (units 
       beyond_without c.known c.clock_rate c.first c.kind c.faithful c.splits c.units c.lawful c.numbered 0 (later_in new s) f new_is due n floor t.depacketizer reads s.contiguity s.evicted in
       same_beyond n (without (later_in new s) f t.depacketizer s.contiguity s.evicted) t (left ∙ later.left) cutoff reads there
 
-  cutoff_at : (n : ℕ) (m : Option ℕ) → m ≡ Some n → n < next → CutoffUnder next m
-  cutoff_at n m is low = subst (CutoffUnder next) (sym is) low
+  cutoff_at : (n : ℕ) (m : Option ℕ) → m ≡ Some n → n < next → IsCutoffBelow next m
+  cutoff_at n m is low = subst (IsCutoffBelow next) (sym is) low
 
   -- the buffer after a frame of an earlier part has left
   pub record HasLeft (from : ℕ) (old new : List Held) (s t : State) (f : CompleteFrame) : Type 0 where
     pub held : t.held ≡ above f.last old ++ new
     pub earlier : o.Is from (earlier_in (above f.last old) t)
 
-  pub earlier_over : (from : ℕ) (old new : List Held) (s t : State) (p : PassesOver s t) → s.held ≡ old ++ new → o.Is from (earlier_in old s) → Beyond c 0 (later_in new s)
-      → due_of (earlier_in old s) ≡ Some p.frame → HasLeft from old new s t p.frame
-  earlier_over from old new s t p held is new_is due =
+  -- the skip, as one of the earlier packets alone
+  abbrev pub earlier_skip : (from : ℕ) (old new : List Held) (s t : State) (p : PassesOver s t) → s.held ≡ old ++ new → o.Is from (earlier_in old s) → Beyond c 0 (later_in new s)
+      → due_of (earlier_in old s) ≡ Some p.frame → PassesOver (earlier_in old s) (earlier_in (above p.frame.last old) t)
+  earlier_skip from old new s t p held is new_is due =
       let f : CompleteFrame = p.frame in
       let frame = earlier_frame from old new s f held is new_is due in
-      let rest : List Held = above f.last old in
-      let passes : PassesOver (earlier_in old s) (earlier_in rest t) = record {
+      record {
         frame = f;
         is_due = due;
         unpacked = p.unpacked;
         depacketizer = p.depacketizer;
         gives = subst (λ (ps : List Held). Unpacks s.depacketizer ps nothing_unpacked (Ok p.unpacked) p.depacketizer) frame.packets p.gives;
         may_not = p.may_not;
-        left = ap (earlier_in rest) p.left;
-      } in
-      record { held = ap (λ (x : State). x.held) p.left ∙ frame.left; earlier = o.over from (earlier_in old s) (earlier_in rest t) is passes }
+        left = ap (earlier_in (above f.last old)) p.left;
+      }
+
+  pub earlier_over : (from : ℕ) (old new : List Held) (s t : State) (p : PassesOver s t) → s.held ≡ old ++ new → o.Is from (earlier_in old s) → Beyond c 0 (later_in new s)
+      → due_of (earlier_in old s) ≡ Some p.frame → HasLeft from old new s t p.frame
+  earlier_over from old new s t p held is new_is due =
+      let frame = earlier_frame from old new s p.frame held is new_is due in
+      record {
+        held = ap (λ (x : State). x.held) p.left ∙ frame.left;
+        earlier = o.over from (earlier_in old s) (earlier_in (above p.frame.last old) t) is (earlier_skip from old new s t p held is new_is due);
+      }
 
   pub record HasReleased (from : ℕ) (old new : List Held) (s t : State) (r : Release) (f : CompleteFrame) : Type 0 where
     pub place : ℕ
@@ -332,13 +350,13 @@ module _ (known : ℕ → Packet → RtpMeta → Type 0) (splits : Bool) (units 
     pub unit : IsUnitAt known splits units place r
     pub left : HasLeft (place + 1) old new s t f
 
-  pub earlier_releases : (from : ℕ) (old new : List Held) (s t : State) (r : Release) (out : Releases s r t) → s.held ≡ old ++ new → o.Is from (earlier_in old s) → Beyond c 0 (later_in new s)
-      → due_of (earlier_in old s) ≡ Some out.frame → HasReleased from old new s t r out.frame
-  earlier_releases from old new s t r out held is new_is due =
+  -- the release, as one of the earlier packets alone
+  abbrev pub earlier_one : (from : ℕ) (old new : List Held) (s t : State) (r : Release) (out : Releases s r t) → s.held ≡ old ++ new → o.Is from (earlier_in old s) → Beyond c 0 (later_in new s)
+      → due_of (earlier_in old s) ≡ Some out.frame → Releases (earlier_in old s) r (earlier_in (above out.frame.last old) t)
+  earlier_one from old new s t r out held is new_is due =
       let f : CompleteFrame = out.frame in
       let frame = earlier_frame from old new s f held is new_is due in
-      let rest : List Held = above f.last old in
-      let one : Releases (earlier_in old s) r (earlier_in rest t) = record {
+      record {
         frame = f;
         is_due = due;
         depacketizer = out.depacketizer;
@@ -347,14 +365,39 @@ module _ (known : ℕ → Packet → RtpMeta → Type 0) (splits : Bool) (units 
         time = subst (AllOfTime r.time) frame.packets out.time;
         metas = out.metas ∙ ap metas_of frame.packets;
         contiguous = out.contiguous;
-        left = ap (earlier_in rest) out.left;
-      } in
-      let after = o.releases from (earlier_in old s) (earlier_in rest t) r is one in
+        left = ap (earlier_in (above f.last old)) out.left;
+      }
+
+  pub earlier_releases : (from : ℕ) (old new : List Held) (s t : State) (r : Release) (out : Releases s r t) → s.held ≡ old ++ new → o.Is from (earlier_in old s) → Beyond c 0 (later_in new s)
+      → due_of (earlier_in old s) ≡ Some out.frame → HasReleased from old new s t r out.frame
+  earlier_releases from old new s t r out held is new_is due =
+      let frame = earlier_frame from old new s out.frame held is new_is due in
+      let after = o.releases from (earlier_in old s) (earlier_in (above out.frame.last old) t) r is (earlier_one from old new s t r out held is new_is due) in
       record {
         place = after.0;
         not_before = after.1;
         unit = after.2;
         left = record { held = ap (λ (x : State). x.held) out.left ∙ frame.left; earlier = after.3 };
+      }
+
+  -- the release, as one of the packets of this part alone
+  abbrev pub later_one : (from : ℕ) (old new : List Held) (s t : State) (r : Release) (out : Releases s r t) → s.held ≡ old ++ new → o.Is from (earlier_in old s) → Beyond c 0 (later_in new s)
+      → due_of (later_in new s) ≡ Some out.frame → Releases (view_of new s out.frame) r (left_of new t out.frame)
+  later_one from old new s t r out held is new_is due =
+      let f : CompleteFrame = out.frame in
+      let later = later_frame from old new s f held is new_is due in
+      let same : follows (view_of new s f) f ≡ follows s f = not_not (follows s f) in
+      record {
+        frame = f;
+        is_due = due_marked (later_in new s) (not (follows s f)) (frames new) ∙ due;
+        depacketizer = out.depacketizer;
+        gives = subst (λ (ps : List Held). Unpacks s.depacketizer ps nothing_unpacked (Ok (record { bytes = r.bytes; extra = r.codec_extra })) out.depacketizer) later.packets out.gives;
+        may = ap (λ (b : Bool). (checked s.contiguity r.codec_extra b).0) same ∙ out.may;
+        time = subst (AllOfTime r.time) later.packets out.time;
+        metas = out.metas ∙ ap metas_of later.packets;
+        contiguous = out.contiguous ∙ ap (λ (b : Bool). (checked s.contiguity r.codec_extra b).1) (sym same);
+        left = ap (λ (x : State). record x { held = above f.last new; hold_back = 0 }) out.left
+            ∙ ap (λ (b : Bool). without (view_of new s f) f out.depacketizer (checked s.contiguity r.codec_extra b).2 false) (sym same);
       }
 
   -- packets of this part stay

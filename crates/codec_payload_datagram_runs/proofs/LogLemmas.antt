@@ -1,9 +1,9 @@
 -- The pops of a run over datagrams, one after another: each waits for a number of complete frames, or is not made.
-use Rattle.std.proofs.Common.{◌≡◌, ◌∙◌, refl, sym, ap, subst, ℕ, List, [], ◌∷◌, ◌++◌, Bool, true, Option, Some, None, ◌⊎◌, inl, inr}
+use Rattle.std.proofs.Common.{◌≡◌, ◌∙◌, refl, sym, ap, subst, ℕ, ◌+◌, List, [], ◌∷◌, ◌++◌, Bool, true, Option, Some, None, Ok, Err, ◌⊎◌, inl, inr}
 use Rattle.std.specs.Prelude.{slice_get}
 use Rattle.codec_payload_buffer.proofs.MemberLemmas.{IsIn}
 use Rattle.codec_payload_buffer.specs.Held.{Held}
-use Rattle.codec_payload_buffer.specs.Steps.{State, arrived, pushed}
+use Rattle.codec_payload_buffer.specs.Steps.{IsSound, State, arrived, pushed}
 use Rattle.codec_payload_buffer.specs.Stretches.{after_pushes}
 use Rattle.codec_payload_buffer.specs.declared.buffer.frames.CompleteFrame.{CompleteFrame}
 use Rattle.codec_payload_buffer.specs.declared.buffer.unit.RtpMeta.{RtpMeta}
@@ -16,15 +16,20 @@ use Rattle.codec_payload_buffer_runs.proofs.order.HoldBackLemmas.{ready_with}
 use Rattle.codec_payload_buffer_runs.proofs.order.LossLemmas as loss
 use Rattle.codec_payload_buffer_runs.proofs.order.LossLemmas.{Whole, at_span, later_too, more}
 use Rattle.codec_payload_buffer_runs.proofs.order.TakenLemmas.{IsPlain, none_is_passed}
-use Rattle.codec_payload_buffer_runs.proofs.order.TurnLemmas.{ArePushes, IsPop, IsPush, IsReady, IsSpan, Setting, are_stretches, count, left_ready, pop_is, ready_pops, span_ready}
+use Rattle.codec_payload_buffer_runs.proofs.order.TurnLemmas.{ArePushes, IsPop, IsPush, IsReady, IsSpan, Setting, are_stretches, count, left_ready, pop_is, ready_pops, span_left, span_ready, span_within}
+use Rattle.codec_payload_buffer_runs.proofs.order.TurnLemmas as pops
 use Rattle.codec_payload_buffer_runs.proofs.units.UnitRows.{held_as}
+use Rattle.codec_payload_buffer_runs.specs.Headline.{packets_before}
 use Rattle.codec_payload_buffer_runs.specs.Log.{Stretch, Turn, begun, with_pushes}
 use Rattle.codec_payload_buffer_runs.specs.RunOrder.{AllFollowAsSaid, AreStretches, FollowsAsSaid, has_evicted, last_released}
 use Rattle.codec_payload_buffer_runs.specs.RunUnits.{Fate, IsAmong, NoneIsLost, NonePassedOver, ReleasesWhole, evicted, held, released, skipped_over}
 use Rattle.codec_payload_buffer_runs.specs.Schedule.{Answer}
 use Rattle.codec_payload_buffer_runs.specs.SentStream.{SentUnit, packets_of}
 use Rattle.codec_payload_payloader.specs.Packets.{Packet}
-use Rattle.codec_payload_datagram_runs.specs.WireLogs.{AnswersTurn, IsLogOf, wait_of}
+use Rattle.codec_payload_datagram_runs.proofs.FateLemmas.{fate_of}
+use Rattle.codec_payload_datagram_runs.proofs.StretchChains.{AllTurns, Cuts, IsMade, IsTaken, LeaveAll, Watched, cuts_made, in_time, releases, waits}
+use Rattle.codec_payload_datagram_runs.specs.Deliveries.{IsCutoffBelow}
+use Rattle.codec_payload_datagram_runs.specs.WireLogs.{AllInTime, AnswersTurn, IsLogOf, wait_of}
 use Rattle.codec_payload_datagram_runs.specs.declared.run.DatagramStep.{DatagramStep}
 use Rattle.codec_payload_datagram_runs.specs.declared.run.DatagramStep.TheVariants as steps
 
@@ -69,7 +74,7 @@ module _ (c : Setting) where
   turn_ready from s t passed a ready (inl is) = (from, subst (IsReady c from) (sym is.2) ready)
   turn_ready from s t passed a ready (inr is) = ready_pops c from (record s { hold_back = is.0 }) t passed a (ready_with c from is.0 s ready) is.1
 
-  turn_of : (from : ℕ) (wait : Option ℕ) (s t : State) (passed : List CompleteFrame) (a : Answer) → IsReady c from s → AnswersTurn wait s passed a t → IsTurn s t passed a
+  pub turn_of : (from : ℕ) (wait : Option ℕ) (s t : State) (passed : List CompleteFrame) (a : Answer) → IsReady c from s → AnswersTurn wait s passed a t → IsTurn s t passed a
   turn_of from None s t passed a ready is = inl is
   turn_of from (Some h) s t passed a ready is = inr (h, pop_is c from (record s { hold_back = h }) t passed a (ready_with c from h s ready).beyond is.1 is.0)
 
@@ -77,7 +82,7 @@ module _ (c : Setting) where
   after_one s [] p = refl
   after_one s (q ∷ ps) p = after_one (pushed s q) ps p
 
-  pushes_more : (ps qs : List Held) → ArePushes c ps → ArePushes c qs → ArePushes c (ps ++ qs)
+  pub pushes_more : (ps qs : List Held) → ArePushes c ps → ArePushes c qs → ArePushes c (ps ++ qs)
   pushes_more [] qs a b = b
   pushes_more (p ∷ ps) qs a b = (a.0, pushes_more ps qs a.1 b)
 
@@ -203,3 +208,57 @@ module _ (c : Setting) where
       let step = turn_follows from last by_now turn.stretch.now turn.after turn.passed turn.answer plain now tracked chain.2 in
       let next = turn_ready from turn.stretch.now turn.after turn.passed turn.answer now chain.2 in
       (step.0, all_follow next.0 (last_released last turn.answer) by_now turn.after turns end plain next.1 step.1 chain.3)
+
+  -- In time
+
+  taken_as : (s t : State) (passed : List CompleteFrame) (a : Answer) → IsPop c s t passed a → IsTaken s t passed a
+  taken_as s t passed None (pops.waits passes nothing) = waits passes nothing
+  taken_as s t passed (Some (Ok r)) (pops.releases mid passes out) = releases mid passes out
+  taken_as s t passed (Some (Err fault)) pop = elim pop [ ]
+
+  made_as : (s t : State) (passed : List CompleteFrame) (a : Answer) → IsTurn s t passed a → IsMade s t passed a
+  made_as s t passed a (inl is) = inl is
+  made_as s t passed a (inr is) = inr (is.0, taken_as (record s { hold_back = is.0 }) t passed a is.1)
+
+  pub leaves : (from : ℕ) (s : State) (turns : List Turn) (end : Stretch) → IsReady c from s → Chained s turns end → LeaveAll c.first (count c) s turns end
+  leaves from s [] end ready chain =
+      let left = left_ready c from s end chain.0 ready in
+      (chain.0, record { within = span_within c from end left chain.1; left = span_left c from end left chain.1 })
+  leaves from s (turn ∷ turns) end ready chain =
+      let left = left_ready c from s turn.stretch chain.0 ready in
+      let next = turn_ready from turn.stretch.now turn.after turn.passed turn.answer (span_ready c from turn.stretch left chain.1) chain.2 in
+      (chain.0, record { within = span_within c from turn.stretch left chain.1; left = span_left c from turn.stretch left chain.1 }, leaves next.0 turn.after turns end next.1 chain.3)
+
+  abbrev low_of : ℕ → ℕ
+  low_of place = c.first + packets_before place c.units
+
+  abbrev high_of : ℕ → ℕ
+  high_of place = c.first + packets_before (place + 1) c.units
+
+  pub watched : (place : ℕ) (u : SentUnit) → slice_get c.units place ≡ Some u → (from : ℕ) (s : State) (turns : List Turn) (end : Stretch) → IsReady c from s → Chained s turns end
+      → AllTurns (Watched (low_of place) (high_of place) (ReleasesWhole c.known c.splits c.units place)) turns
+  watched place u at from s [] end ready chain = tt
+  watched place u at from s (turn ∷ turns) end ready chain =
+      let now = span_ready c from turn.stretch (left_ready c from s turn.stretch chain.0 ready) chain.1 in
+      let next = turn_ready from turn.stretch.now turn.after turn.passed turn.answer now chain.2 in (
+        λ has. elim (at_turn from turn.stretch.now turn.after turn.passed turn.answer place u now chain.2 at (λ n is. has n is.from is.to)) [
+          | inl done ↦ inl done
+          | inr left ↦ elim left [ inl over ↦ inr (inl over) | inr still ↦ inr (inr (λ n a b. still n (record { from = a; to = b }))) ]
+        ],
+        watched place u at next.0 turn.after turns end next.1 chain.3,
+      )
+
+  pub cuts : (low from : ℕ) (s : State) (turns : List Turn) (end : Stretch) → IsReady c from s → Chained s turns end → AllTurns (Cuts low) turns
+  cuts low from s [] end ready chain = tt
+  cuts low from s (turn ∷ turns) end ready chain =
+      let now = span_ready c from turn.stretch (left_ready c from s turn.stretch chain.0 ready) chain.1 in
+      let next = turn_ready from turn.stretch.now turn.after turn.passed turn.answer now chain.2 in
+      let sound : IsSound turn.stretch.now = record { rises = now.beyond.rises; above = now.beyond.beyond; few = now.few } in
+      (cuts_made low turn.stretch.now turn.after turn.passed turn.answer sound (made_as turn.stretch.now turn.after turn.passed turn.answer chain.2), cuts low next.0 turn.after turns end next.1 chain.3)
+
+  pub all_in_time : (s : State) (turns : List Turn) (end : Stretch) → IsReady c 0 s → s.cutoff ≡ None → Chained s turns end → AllInTime c.known c.first c.splits c.units turns end
+  all_in_time s turns end ready no_cutoff chain place u at comes =
+      let low : ℕ = low_of place in
+      fate_of c.known c.first c.splits c.units place turns turns end
+      (in_time low (high_of place) c.first (count c) (ReleasesWhole c.known c.splits c.units place) s turns end [] (leaves 0 s turns end ready chain) (watched place u at 0 s turns end ready chain)
+      (cuts low 0 s turns end ready chain) (subst (IsCutoffBelow low) (sym no_cutoff) tt) (λ n a b h. absurd (cc)) comes)

@@ -1,14 +1,15 @@
 -- One part of a run with announced restarts: what it sends, and what its deliveries push.
-use Rattle.std.proofs.Common.{◌≡◌, ◌∙◌, refl, sym, ap, subst, ℕ, ◌+◌, ◌-◌, ◌%◌, ◌^◌, ◌<◌, ◌≤◌, ◌⊎◌, inl, inr, List, [], ◌∷◌, ◌++◌, cond, Bool, true, false, Option, None, Some, arith, length, ltb, map}
-use Rattle.std.specs.Prelude.{slice_get}
+use Rattle.std.proofs.Common.{◌≡◌, ◌∙◌, refl, sym, ap, subst, ℕ, ◌+◌, ◌-◌, ◌%◌, ◌^◌, ◌<◌, ◌≤◌, ◌⊎◌, inl, inr, List, [], ◌∷◌, ◌++◌, cond, Bool, true, false, Option, None, arith, length, ltb, map}
+use Rattle.std.specs.Prelude.{Contains}
 use Rattle.std.proofs.lemmas.Bool.{le-ltb, lt-ltb}
 use Rattle.std.proofs.lemmas.Option.{slice_get_within}
 use Rattle.codec_payload_buffer.proofs.MemberLemmas.{IsIn, contains_in, in_contains}
 use Rattle.codec_payload_buffer.specs.Steps.{State, empty_buffer}
 use Rattle.codec_payload_buffer.specs.declared.buffer.unit.RtpMeta.{RtpMeta}
-use Rattle.codec_payload_codec.specs.Depacketizers.{DepacketizerKind, DepacketizerState, kind_of_depacketizer, tail_in}
+use Rattle.codec_payload_codec.specs.Depacketizers.{DepacketizerKind, DepacketizerState, tail_in}
 use Rattle.codec_payload_codec.specs.Packetizers.{may_split, payloads_by}
 use Rattle.codec_payload_jitter.specs.NotedTimes.{AreTimesOf}
+use Rattle.codec_payload_jitter.specs.Receiving.{Receiving}
 use Rattle.codec_payload_jitter.specs.Numbers.{IsNumbering, Numbering, no_numbers}
 use Rattle.codec_payload_rtp.specs.declared.values.ExtensionIds.{ExtensionIds}
 use Rattle.codec_payload_buffer_runs.proofs.order.ArrivalLemmas.{AllKnown}
@@ -21,6 +22,7 @@ use Rattle.codec_payload_buffer_runs.proofs.units.UnitRows.{IsFaithful}
 use Rattle.codec_payload_buffer_runs.specs.Arrivals.{Event, HasArrival, Meets, OnlyArrive}
 use Rattle.codec_payload_buffer_runs.specs.Headline.{IsUnused}
 use Rattle.codec_payload_buffer_runs.specs.LawfulUnits.{AllLawful}
+use Rattle.codec_payload_buffer_runs.specs.Log.{Stretch}
 use Rattle.codec_payload_buffer_runs.specs.RunValues.{values_of_run}
 use Rattle.codec_payload_buffer_runs.specs.Schedule.{Answer, RunState}
 use Rattle.codec_payload_buffer_runs.specs.SentStream.{AllEndWithTail, AreReadable, SentUnit, packets_of, units_of_run}
@@ -30,18 +32,20 @@ use Rattle.codec_payload_payloader.specs.Sending.{Sample}
 use Rattle.codec_payload_sending.specs.Senders.{Sending}
 use Rattle.codec_payload_receiver.specs.Sessions.{Session}
 use Rattle.codec_payload_receiver.specs.declared.receiver.Settings.{Settings}
-use Rattle.codec_payload_datagram_runs.proofs.BegunNumbers.{AllBelow, all_begun, all_first, below_after, bound_of, first_above, first_after, first_low_bits, first_most, greatest_after, numbering_at, through_begun, through_first, top, top_below}
+use Rattle.codec_payload_datagram_runs.proofs.BegunNumbers.{AllBelow, all_begun, all_first, below_after, bound_of, first_above, first_after, first_low_bits, first_most, greatest_after, numbering_at, through_begun, through_first, top_below}
 use Rattle.codec_payload_datagram_runs.proofs.Courses.{proceeds}
-use Rattle.codec_payload_datagram_runs.proofs.EventLemmas.{AllAtOnce, AllTimed, Brings, delivery_of, met_by, numbering_through, split_at_end, times_from}
+use Rattle.codec_payload_datagram_runs.proofs.EventLemmas.{AllAtOnce, AllTimed, Brings, HasLog, IsRead, delivery_of, met_by, numbering_through, split_at_end, times_from}
 use Rattle.codec_payload_datagram_runs.proofs.TimelyLemmas.{StayTimely, stay_timely, time_in}
 use Rattle.codec_payload_jitter.specs.declared.noted_times.NotedTime.{NotedTime}
-use Rattle.codec_payload_datagram_runs.proofs.ReceivingLemmas.{AllNumbered, IsListening}
+use Rattle.codec_payload_datagram_runs.proofs.LogLemmas.{log_known}
+use Rattle.codec_payload_datagram_runs.proofs.ReceivingLemmas.{AllNumbered, IsListening, KeepsLimits}
 use Rattle.codec_payload_datagram_runs.proofs.SendingLemmas.{SendsRun, running, same_count, sends_run}
 use Rattle.codec_payload_datagram_runs.proofs.StepLemmas.{ComesTo, Takes, comes_to}
 use Rattle.codec_payload_datagram_runs.proofs.ToldLemmas.{AllBegun, IsHeard, IsTold, heard_on, met_told, numbering_begun}
 use Rattle.codec_payload_datagram_runs.proofs.ValueLemmas.{has_values}
 use Rattle.codec_payload_datagram_runs.specs.Releases.{AllComeFirst, AreDatagrams, AreOfOneStream, ComeTimely, ComeWithin, HasValuesOf, HaveValuesOfSamples, IsDelivery, delivered, received_steps, sending_steps, times_sent}
 use Rattle.codec_payload_datagram_runs.specs.RestartReleases.{EndsAfterFirst}
+use Rattle.codec_payload_datagram_runs.specs.WireLogs.{IsLogOf}
 use Rattle.codec_payload_datagram_runs.specs.WireRuns.{Runs, Wire, begins}
 use Rattle.codec_payload_datagram_runs.specs.declared.run.DatagramStep.{DatagramStep}
 use Rattle.codec_payload_datagram_runs.specs.declared.run.DatagramStep.TheVariants as steps
@@ -241,7 +245,7 @@ module _ (g : PartGiven) where
       ∙ through_begun forward backward g.greatest number (length g.end.datagrams) g.windows.apart g.windows.order indices fits below g.within
 
   -- the numbers of the packets that arrive are below the bound after the part
-  below_next : AllBelow (bound_of greatest - first) indices
+  pub below_next : AllBelow (bound_of greatest - first) indices
   below_next = below_after g.greatest first indices (length g.end.datagrams) below
 
   -- the RTP times of all numbers so far
@@ -335,6 +339,28 @@ module _ (g : PartGiven) where
   known_below ids k q m known =
       let l = below_in (bound_of greatest - first) k indices below_next (delivered_in k m received (in_contains (steps.Deliver k m.received) received known.0)) in
       omega (arith, l)
+
+  -- the number of a delivered packet
+  pub delivered_below : (k : ℕ) → Contains indices k → first + k < bound_of greatest
+  delivered_below k there =
+      let l = below_in (bound_of greatest - first) k indices below_next (in_contains k indices there) in
+      omega (arith, l)
+
+  -- the log of the part, for a receiver with the same limits
+  pub log_of : (r : Receiving) → KeepsLimits r g.receiver.packets → (w : Stretch) → w.now ≡ g.receiver.packets.buffer
+      → HasLog (Known g.receiver.stream.ids) (packets_of units) r g.receiver.packets.ended received w g.end.pops g.end.session.packets.buffer
+  log_of r keeps w is =
+      let ids : ExtensionIds = g.receiver.stream.ids in
+      let l = is_heard.logs r keeps w is in
+      record {
+        turns = l.turns;
+        end = l.end;
+        is_log = log_known received (IsRead ids g.sender.stream (packets_of units)) (Known ids) (packets_of units) r
+            (λ k q m there read. (contains_in (steps.Deliver k m.received) received there, read.0, read.1)) g.receiver.packets.ended received (λ step is. is) w l.turns l.end
+            (subst (λ (ps : List Packet). IsLogOf (IsRead ids g.sender.stream ps) ps r g.receiver.packets.ended received w l.turns l.end) whole.whole l.is_log);
+        answers_are = l.answers_are;
+        left = l.left;
+      }
 
   -- the events of a part whose datagrams all arrive before its stream ends, without a pop
   pub record IsComing (limit : ℕ) : Type 0 where

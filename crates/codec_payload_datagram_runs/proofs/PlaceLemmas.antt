@@ -1,23 +1,23 @@
 -- The units of a part among the units of all parts.
-use Rattle.std.proofs.Common.{◌≡◌, ◌∙◌, refl, sym, ap, subst, ℕ, zero, suc, ◌+◌, ◌≤◌, List, [], ◌∷◌, ◌++◌, Bool, Option, Some, arith, length, take, append_assoc}
+use Rattle.std.proofs.Common.{◌≡◌, ◌∙◌, refl, sym, ap, subst, ℕ, zero, suc, ◌+◌, ◌≤◌, List, [], ◌∷◌, ◌++◌, Bool, Some, arith, length, take, append_assoc}
 use Rattle.std.specs.Prelude.{slice_get}
 use Rattle.std.proofs.lemmas.List.{length-append}
 use Rattle.codec_payload_buffer.specs.Release.{Release}
 use Rattle.codec_payload_buffer.specs.declared.buffer.unit.RtpMeta.{RtpMeta}
 use Rattle.codec_payload_buffer_runs.specs.Headline.{ArePushesBy, IsUnitAt, packets_before}
-use Rattle.codec_payload_buffer_runs.specs.SentStream.{IsReleaseOf, SentUnit, packets_of}
+use Rattle.codec_payload_buffer_runs.specs.SentStream.{SentUnit, packets_of}
 use Rattle.codec_payload_payloader.specs.Packets.{Packet}
 
 pub packets_joined : (us vs : List SentUnit) → packets_of (us ++ vs) ≡ packets_of us ++ packets_of vs
 packets_joined [] vs = refl
 packets_joined (u ∷ us) vs = ap (λ (ps : List Packet). u.packets ++ ps) (packets_joined us vs) ∙ sym (append_assoc u.packets (packets_of us) (packets_of vs))
 
--- the unit behind `done` others
-pub get_behind : (done us : List SentUnit) (j : ℕ) → slice_get (done ++ us) (length done + j) ≡ slice_get us j
-get_behind [] us j = let e : length {A = SentUnit} [] + j ≡ j = omega arith in ap (slice_get us) e
-get_behind (d ∷ done) us j =
+-- what is behind `done` others
+pub get_behind : {X : Type 0} (done xs : List X) (j : ℕ) → slice_get (done ++ xs) (length done + j) ≡ slice_get xs j
+get_behind {X} [] xs j = let e : length {A = X} [] + j ≡ j = omega arith in ap (slice_get xs) e
+get_behind (d ∷ done) xs j =
     let e : length (d ∷ done) + j ≡ suc (length done + j) = omega arith in
-    ap (slice_get (d ∷ done ++ us)) e ∙ get_behind done us j
+    ap (slice_get (d ∷ done ++ xs)) e ∙ get_behind done xs j
 
 take_behind : (done us : List SentUnit) (j : ℕ) → take (length done + j) (done ++ us) ≡ done ++ take j us
 take_behind [] us j = let e : length {A = SentUnit} [] + j ≡ j = omega arith in ap (λ (n : ℕ). take n us) e
@@ -30,10 +30,10 @@ before_behind done us j =
     ap (λ (vs : List SentUnit). length (packets_of vs)) (take_behind done us j)
     ∙ (ap length (packets_joined done (take j us)) ∙ length-append (packets_of done) (packets_of (take j us)))
 
-get_front : (us vs : List SentUnit) (j : ℕ) (u : SentUnit) → slice_get us j ≡ Some u → slice_get (us ++ vs) j ≡ Some u
-get_front [] vs j u is = absurd (cc)
-get_front (v ∷ us) vs zero u is = is
-get_front (v ∷ us) vs (suc j) u is = get_front us vs j u is
+pub get_front : {X : Type 0} (xs ys : List X) (j : ℕ) (x : X) → slice_get xs j ≡ Some x → slice_get (xs ++ ys) j ≡ Some x
+get_front [] ys j x is = absurd (cc)
+get_front (y ∷ xs) ys zero x is = is
+get_front (y ∷ xs) ys (suc j) x is = get_front xs ys j x is
 
 take_front : (us vs : List SentUnit) (j : ℕ) → j ≤ length us → take j (us ++ vs) ≡ take j us
 take_front us vs zero le = refl

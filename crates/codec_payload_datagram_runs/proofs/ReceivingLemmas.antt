@@ -174,7 +174,7 @@ takes_in time_of n a r t outcome running of_codec is times time timely receives 
     (went_in time_of n a r mid t outcome mid.counters mid.kept (answer_to r a.header) of_codec times time went receives.2)
 
 -- the same for a retransmitted packet
-takes_in_again : (time_of : ℕ → ℕ) (n : ℕ) (a : Arrival) (r t : Receiving) (outcome : Outcome) → r.is_restarting ≡ false → is_built_in_depacketizer r.buffer.depacketizer ≡ true
+pub takes_in_again : (time_of : ℕ → ℕ) (n : ℕ) (a : Arrival) (r t : Receiving) (outcome : Outcome) → r.is_restarting ≡ false → is_built_in_depacketizer r.buffer.depacketizer ≡ true
     → answer_for r.numbering a.header.sequence_number ≡ extended.Number n → AreTimesOf time_of r.noted → a.header.timestamp ≡ time_of n
     → ReceivesAgain a r outcome t → TakesIn time_of (answer_for r.numbering a.header.sequence_number) n a r t
 takes_in_again time_of n a r t outcome running of_codec is times time receives =

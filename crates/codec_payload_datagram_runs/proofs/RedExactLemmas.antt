@@ -1,6 +1,6 @@
 -- If each packet comes before the end of the stream, with its own datagram or as a block, all units are popped.
-use Rattle.std.proofs.Common.{◌≡◌, ◌≢◌, ◌∙◌, refl, sym, ap, subst, ℕ, zero, suc, ◌+◌, ◌-◌, ◌*◌, ◌%◌, ◌^◌, ◌<◌, ◌≤◌, ◌⊎◌, inl, inr, ◌&&◌, ◌||◌, List, [], ◌∷◌, ◌++◌}
-use Rattle.std.proofs.Common.{Bool, true, false, not, cond, eqb, ltb, leb, max, Option, Some, None, Err, length, take, arith}
+use Rattle.std.proofs.Common.{◌≡◌, ◌∙◌, refl, sym, ap, subst, ℕ, zero, suc, ◌+◌, ◌-◌, ◌*◌, ◌%◌, ◌^◌, ◌<◌, ◌≤◌, ◌⊎◌, inl, inr, ◌&&◌, ◌||◌, List, [], ◌∷◌, ◌++◌}
+use Rattle.std.proofs.Common.{Bool, true, false, not, cond, eqb, ltb, leb, max, Option, Some, None, length, arith}
 use Rattle.std.specs.Prelude.{Contains, slice_get, slice_set}
 use Rattle.std.specs.Option.{is_some, option_map}
 use Rattle.std.proofs.Math.Nat.{mul-le-mul_left}
@@ -14,15 +14,13 @@ use Rattle.codec_payload_buffer.specs.Steps.{State, arrived, is_at_most, is_drop
 use Rattle.codec_payload_buffer.specs.declared.buffer.unit.RtpMeta.{RtpMeta}
 use Rattle.codec_payload_jitter.specs.NoMediaNumbers.{is_in}
 use Rattle.codec_payload_jitter.specs.Numbers.{Numbering, ahead, answer_by, answer_for, behind, greater, number_within, numbering_after, numbering_with}
-use Rattle.codec_payload_jitter.specs.Receiving.{Arrival, Receives, Receiving, RecoversAs, RecoversIf}
+use Rattle.codec_payload_jitter.specs.Receiving.{Arrival, Receiving, RecoversAs, RecoversIf}
 use Rattle.codec_payload_jitter.specs.Receiving.{is_stored, may_recover, meta_for, number_again, outcome_at, settled, would_store, would_store_at}
 use Rattle.codec_payload_jitter.specs.declared.numbers.Extended.{Extended}
 use Rattle.codec_payload_jitter.specs.declared.numbers.Extended.TheVariants as extended
-use Rattle.codec_payload_jitter.specs.declared.outcome.Outcome.{Outcome}
 use Rattle.codec_payload_jitter.specs.declared.outcome.Outcome.TheVariants as outcomes
-use Rattle.codec_payload_red.specs.RedLevels.{Entry, Sender, recorded}
-use Rattle.codec_payload_red.specs.RedRun.{AreStepApart, IsKeptIn, sender_after}
-use Rattle.codec_payload_sending_red.specs.Writers.{IsInRed, Writer}
+use Rattle.codec_payload_red.specs.RedLevels.{Entry}
+use Rattle.codec_payload_red.specs.RedRun.{AreStepApart, IsKeptIn}
 use Rattle.codec_payload_buffer_runs.proofs.order.ChainLemmas.{Exactly, Filling, full_at_pop}
 use Rattle.codec_payload_buffer_runs.proofs.order.ExactLemmas.{MayGo, dropped, pop_answers}
 use Rattle.codec_payload_buffer_runs.proofs.order.FillLemmas.{filled}
@@ -35,17 +33,18 @@ use Rattle.codec_payload_buffer_runs.specs.RedSchedule.{all_remembered, remember
 use Rattle.codec_payload_buffer_runs.specs.Schedule.{Answer}
 use Rattle.codec_payload_buffer_runs.specs.SentStream.{SentUnit, packets_of}
 use Rattle.codec_payload_payloader.specs.Packets.{Packet}
-use Rattle.codec_payload_receiver.specs.Kinds.{Carrier, Kinds}
 use Rattle.codec_payload_receiver.specs.SeenTimes.{Seen, has_block, is_seen, none_seen, seen_with}
-use Rattle.codec_payload_receiver.specs.Sessions.{Holding, RecoversAll, RecoversUnless, RecoversUnseen, Session, TakesPrimary, TakesPrimaryIf}
-use Rattle.codec_payload_receiver.specs.Sessions.{all_carried, block_seen, ended, has_restarted, is_own_media, is_repeat, is_restart, is_suspect, primary_seen, told_of_red}
-use Rattle.codec_payload_receiver.specs.declared.receiver.ReceiveError.TheVariants as refusals
-use Rattle.codec_payload_datagram_runs.proofs.ReadingLemmas.{packet_at}
+use Rattle.codec_payload_receiver.specs.Sessions.{Holding, RecoversAll, RecoversUnseen, Session}
+use Rattle.codec_payload_receiver.specs.Sessions.{block_seen, ended, is_repeat}
+use Rattle.codec_payload_datagram_runs.proofs.Courses.{IsCopy}
+use Rattle.codec_payload_datagram_runs.proofs.RedNumberLemmas.{IsPast, past_number}
+use Rattle.codec_payload_datagram_runs.proofs.RedHearingLemmas.{deliver_fed, finish_is, pop_once, tuned_ended}
 use Rattle.codec_payload_datagram_runs.proofs.ReceivingLemmas.{AllNumbered, settled_none, waits_for_nothing}
 use Rattle.codec_payload_datagram_runs.proofs.RedCourses.{Feeds, fed_push}
-use Rattle.codec_payload_datagram_runs.proofs.RedReadingLemmas.{AreBlocks, IsBlock, blocks_are, carrier_at, kept_carried}
-use Rattle.codec_payload_datagram_runs.proofs.RedReceivingLemmas.{IsPast, RedSide, Steady, StoresBlocks, StoresOwn, Timely, Tuned, all_recovered, block_known, deliver_fed, finish_is, hears_red}
-use Rattle.codec_payload_datagram_runs.proofs.RedReceivingLemmas.{own_header, own_known, past_number, pop_once, primary_is, pushes_block, recovered_if, same_primary, stores_none, stores_own, stores_then, timely_at, tuned_ended, writer_at}
+use Rattle.codec_payload_datagram_runs.proofs.RedPartLemmas.{parts}
+use Rattle.codec_payload_datagram_runs.proofs.RedReadingLemmas.{AreBlocks, IsBlock, kept_carried}
+use Rattle.codec_payload_datagram_runs.proofs.RedReceivingLemmas.{RedSide, Steady, StoresBlocks, Timely, Tuned, all_recovered, block_known}
+use Rattle.codec_payload_datagram_runs.proofs.RedReceivingLemmas.{own_header, own_known, pushes_block, recovered_if, stores_none, stores_then}
 use Rattle.codec_payload_datagram_runs.proofs.RedStepLemmas.{RedTakes}
 use Rattle.codec_payload_datagram_runs.specs.RedReleases.{Carries}
 use Rattle.codec_payload_datagram_runs.specs.RedRuns.{DeliversWhole}
@@ -60,7 +59,7 @@ wraps : (time step p q t : ℕ) → t ≡ ((time + step) % 2 ^ 32 + p) % 2 ^ 32 
 wraps time step p q t is next = omega arith
 
 -- the time of an entry
-entry_time : (step time j : ℕ) (sent : List Entry) (e : Entry) → AreStepApart step time sent → time < 2 ^ 32 → slice_get sent j ≡ Some e → e.time ≡ (time + j * step) % 2 ^ 32
+pub entry_time : (step time j : ℕ) (sent : List Entry) (e : Entry) → AreStepApart step time sent → time < 2 ^ 32 → slice_get sent j ≡ Some e → e.time ≡ (time + j * step) % 2 ^ 32
 entry_time step time j [] e apart small there = absurd (cc)
 entry_time step time zero (x ∷ sent) e apart small there = let same : x ≡ e = same_Some x e there in omega (arith, ap (λ (y : Entry). y.time) (sym same), apart.0, small)
 entry_time step time (suc j) (x ∷ sent) e apart small there =
@@ -68,7 +67,7 @@ entry_time step time (suc j) (x ∷ sent) e apart small there =
     let next : suc j * step ≡ step + j * step = omega arith in
     wraps time step (j * step) (suc j * step) e.time rest next
 
-no_wrap : (time p q : ℕ) → 1 ≤ q → q < 2 ^ 32 → (time + p) % 2 ^ 32 ≡ (time + (p + q)) % 2 ^ 32 → ⊥
+pub no_wrap : (time p q : ℕ) → 1 ≤ q → q < 2 ^ 32 → (time + p) % 2 ^ 32 ≡ (time + (p + q)) % 2 ^ 32 → ⊥
 no_wrap time p q some few same = omega (arith, some, few, same)
 
 -- two packets have different times
@@ -95,17 +94,17 @@ same_index step time i j sent e f apart small some few all e_there f_there same 
       ]
     ]
 
-or_later : (a b : Bool) → b ≡ true → a || b ≡ true
+pub or_later : (a b : Bool) → b ≡ true → a || b ≡ true
 or_later true b h = refl
 or_later false b h = h
 
 -- Seen times
 
 -- the type of the items; the crate of receivers exports no name for a seen time
-abbrev type_in : {A : Type 0} → List (Option A) → Type 0
+abbrev pub type_in : {A : Type 0} → List (Option A) → Type 0
 type_in {A} times = A
 
-abbrev SeenTime : Type 0
+abbrev pub SeenTime : Type 0
 SeenTime = type_in none_seen.places
 
 seen_set : (places : List (Option SeenTime)) (n time : ℕ) (x : SeenTime) → is_seen time (slice_set places n (Some x)) ≡ true → (x.time ≡ time) ⊎ (is_seen time places ≡ true)
@@ -123,7 +122,7 @@ seen_set (Some y ∷ places) (suc n) time x is = by_first (seen_set places n tim
     by_first later true h = inr refl
     by_first later false h = later h
 
-block_is_seen : (places : List (Option SeenTime)) (time : ℕ) → has_block time places ≡ true → is_seen time places ≡ true
+pub block_is_seen : (places : List (Option SeenTime)) (time : ℕ) → has_block time places ≡ true → is_seen time places ≡ true
 block_is_seen [] time is = is
 block_is_seen (None ∷ places) time is = block_is_seen places time is
 block_is_seen (Some y ∷ places) time is = by_first (block_is_seen places time) y.is_block (eqb y.time time) is
@@ -155,34 +154,23 @@ not_stored_held s n none not_stored = by_tests (is_at_most s.cutoff n) (has_numb
     by_tests false false true not_late there h = absurd (cc)
     by_tests false false false not_late there h = absurd (cc)
 
--- a stored packet, and a packet that is late or held, are neither suspect nor a restart
-outcome_plain : (s : State) (n : ℕ) → (is_suspect (outcome_at s n) ≡ false) × (is_restart (outcome_at s n) ≡ false)
-outcome_plain s n = by_tests (is_at_most s.cutoff n) (has_number n s.held) (ltb (length s.held) s.limit)
-  where
-    by_tests : (a b d : Bool) → (is_suspect (cond a outcomes.Late (cond b outcomes.Duplicate (cond d outcomes.Held outcomes.HeldAndEvicted))) ≡ false)
-        × (is_restart (cond a outcomes.Late (cond b outcomes.Duplicate (cond d outcomes.Held outcomes.HeldAndEvicted))) ≡ false)
-    by_tests true b d = (refl, refl)
-    by_tests false true d = (refl, refl)
-    by_tests false false true = (refl, refl)
-    by_tests false false false = (refl, refl)
-
-and_no : (a b : Bool) → b ≡ false → (a && b) ≡ false
+pub and_no : (a b : Bool) → b ≡ false → (a && b) ≡ false
 and_no true b h = h
 and_no false b h = refl
 
-held_dropped : (s : State) (n : ℕ) → has_number n s.held ≡ true → is_dropped s n ≡ true
+pub held_dropped : (s : State) (n : ℕ) → has_number n s.held ≡ true → is_dropped s n ≡ true
 held_dropped s n held = or_later (is_at_most s.cutoff n) (has_number n s.held) held
 
-number_again_is : (r : Receiving) (low n : ℕ) → r.is_restarting ≡ false → answer_for r.numbering low ≡ extended.Number n → number_again r low ≡ Some n
+pub number_again_is : (r : Receiving) (low n : ℕ) → r.is_restarting ≡ false → answer_for r.numbering low ≡ extended.Number n → number_again r low ≡ Some n
 number_again_is r low n running is = ap (λ (b : Bool). cond b None (number_within (answer_for r.numbering low))) running ∙ ap number_within is
 
-would_not : (r : Receiving) (low n : ℕ) → r.is_restarting ≡ false → answer_for r.numbering low ≡ extended.Number n → is_dropped r.buffer n ≡ true → would_store r low ≡ false
+pub would_not : (r : Receiving) (low n : ℕ) → r.is_restarting ≡ false → answer_for r.numbering low ≡ extended.Number n → is_dropped r.buffer n ≡ true → would_store r low ≡ false
 would_not r low n running is dropped = ap (λ (o : Option ℕ). would_store_at o r) (number_again_is r low n running is) ∙ dropped_not_stored r.buffer n dropped
 
 -- Numbers
 
 -- a number within the backward window
-block_answer : (s : Numbering) (g i : ℕ) → s.greatest ≡ Some g → i < g → g ≤ i + s.backward → s.forward + s.backward ≤ 65536 → 0 < s.forward → answer_for s (i % 65536) ≡ extended.Number i
+pub block_answer : (s : Numbering) (g i : ℕ) → s.greatest ≡ Some g → i < g → g ≤ i + s.backward → s.forward + s.backward ≤ 65536 → 0 < s.forward → answer_for s (i % 65536) ≡ extended.Number i
 block_answer s g i at less near apart some =
     let far : ahead g (i % 65536) ≡ 65536 + i - g = ahead_under g i less (omega (arith, near, apart, some)) in
     let back : behind g (i % 65536) ≡ g - i = behind_under g i less (omega (arith, near, apart, some)) in
@@ -235,7 +223,7 @@ near_step first forward back low k n ks near is = by_case near
 
 -- The buffer is filled
 
-module _ (l : RedSide) (start : State) (own_type : eqb (l.writer.red.primary_pt % 128) l.kinds.payload_type ≡ true) (small : length (packets_of l.c.units) ≤ 65536) where
+module _ (l : RedSide) (start : State) (small : length (packets_of l.c.units) ≤ 65536) where
   abbrev packets : List Packet
   packets = packets_of l.c.units
 
@@ -288,87 +276,6 @@ module _ (l : RedSide) (start : State) (own_type : eqb (l.writer.red.primary_pt 
           let same : one.0 ≡ k = distinct one.0 k one.1 q one.2 there one.3 in
           let held : has_number q.number r.buffer.held ≡ true = subst (λ (n : ℕ). has_number n r.buffer.held ≡ true) (ap (λ (n : ℕ). first + n) same ∙ sym number) one.4 in
           and_no (is_some l.kinds.red && true) (would_store r (q.number % 2 ^ 16)) (would_not r (q.number % 2 ^ 16) q.number running is (held_dropped r.buffer q.number held))
-
-  -- What a delivery stores
-
-  -- the packet of a datagram is stored, and then its blocks
-  pub record IsParted (k : ℕ) (now : Ticks) (s t : Session) : Type 0 where
-    pub packet : Packet
-    pub there : slice_get packets k ≡ Some packet
-    pub number : packet.number ≡ first + k
-    pub answer : answer_for s.packets.numbering (packet.number % 2 ^ 16) ≡ extended.Number packet.number
-    pub mid : Receiving
-    pub outcome : Outcome
-    pub stored : StoresOwn l now packet s.packets mid outcome
-    pub arrivals : List Arrival
-    pub arrivals_are : arrivals ≡ all_carried l.kinds now (carrier_at l.red.receiver l.stream (writer_at l k) packet)
-    pub are : AreBlocks packets l.writer first k now arrivals
-    pub end : Holding
-    pub blocks : RecoversAll true arrivals (record { packets = mid; seen = seen_with (record { time = packet.rtp_time; is_block = false }) s.seen }) end
-    pub packets_is : t.packets ≡ end.packets
-    pub seen_is : t.seen ≡ end.seen
-
-  own_media : (k : ℕ) (q : Packet) → is_own_media l.kinds (carrier_at l.red.receiver l.stream (writer_at l k) q) ≡ true
-  own_media k q = ap (λ (n : ℕ). eqb (n % 128) l.kinds.payload_type) (same_primary l.writer.red (take k (all_remembered packets))) ∙ own_type
-
-  is_whole : (q : Packet) (k : ℕ) (outcome : Outcome) (whole : Bool) (receipt : Receipt) → receipt ≢ Err refusals.BlocksOutOfMemory → receipt ≡ told_of_red whole outcome → whole ≡ true
-  is_whole q k outcome true receipt not_memory told = refl
-  is_whole q k outcome false receipt not_memory told = absurd (not_memory told)
-
-  parts : (k : ℕ) (now : Ticks) (bytes : List ℕ) (s t : Session) (receipt : Receipt) → Tuned l s → Contains l.received (steps.Deliver k now) → slice_get l.written k ≡ Some bytes
-      → answer_for s.packets.numbering ((first + k) % 2 ^ 16) ≡ extended.Number (first + k)
-      → ((q : Packet) → slice_get packets k ≡ Some q → answer_for s.packets.numbering (q.number % 2 ^ 16) ≡ extended.Number q.number
-      → is_repeat l.kinds s.seen s.packets q.rtp_time (q.number % 2 ^ 16) ≡ false)
-      → (later : List ℕ) → Timely l s (k ∷ later) → DeliversWhole now bytes s receipt t → IsParted k now s t
-  parts k now bytes s t receipt tuned inside there answer new later in_time delivers =
-      let is = l.each k bytes there in
-      let q : Packet = is.packet in
-      let in_red : IsInRed (writer_at l k) (packet_at l.stream q) bytes is.after = subst (λ (x : Writer). IsInRed x (packet_at l.stream q) bytes is.after) is.before_is is.in_red in
-      let hears = hears_red l k now bytes q is.after s t receipt tuned is.there in_red delivers in
-      let number : q.number ≡ first + k = number_at packets first k q l.c.numbered is.there in
-      let answer_q : answer_for s.packets.numbering (q.number % 2 ^ 16) ≡ extended.Number q.number = subst (λ (n : ℕ). answer_for s.packets.numbering (n % 2 ^ 16) ≡ extended.Number n) (sym number) answer in
-      let c : Carrier = carrier_at l.red.receiver l.stream (writer_at l k) q in
-      let takes = hears.takes in
-      let mid : Receiving = takes.0 in
-      let primary : TakesPrimary l.kinds now c s.seen s.packets hears.outcome mid = subst (λ (x : Kinds). TakesPrimary x now c s.seen s.packets hears.outcome mid) tuned.kinds_are takes.1 in
-      let own : is_own_media l.kinds c ≡ true = own_media k q in
-      let not_again : (is_own_media l.kinds c && not (is_repeat l.kinds s.seen s.packets c.header.timestamp c.header.sequence_number)) ≡ true = rw (own, new q is.there answer_q) refl in
-      let receives : TakesPrimaryIf true l.kinds now c s.packets hears.outcome mid = subst (λ (b : Bool). TakesPrimaryIf b l.kinds now c s.packets hears.outcome mid) not_again primary in
-      let stored = stores_own l k now q s.packets mid hears.outcome is.there inside tuned.steady answer_q (timely_at l k later q s tuned is.there number in_time)
-      (subst (λ (a : Arrival). Receives a s.packets hears.outcome mid) (primary_is l now q c refl refl) receives) in
-      let plain = outcome_plain s.packets.buffer q.number in
-      let suspect : is_suspect hears.outcome ≡ false = ap is_suspect stored.outcome_is ∙ plain.0 in
-      let restart : is_restart hears.outcome ≡ false = ap is_restart stored.outcome_is ∙ plain.1 in
-      let own_s : is_own_media s.stream c ≡ true = ap (λ (x : Kinds). is_own_media x c) tuned.kinds_are ∙ own in
-      let seen_is : primary_seen (is_own_media s.stream c) hears.outcome c.header.timestamp (has_restarted s.packets mid) s.seen ≡ seen_with (record { time = q.rtp_time; is_block = false }) s.seen =
-      ap (λ (b : Bool). primary_seen b hears.outcome q.rtp_time (has_restarted s.packets mid) s.seen) own_s
-      ∙ ap (λ (b : Bool). seen_with (record { time = q.rtp_time; is_block = false }) (cond b none_seen s.seen)) restart in
-      let whole : hears.whole ≡ true = is_whole q k hears.outcome hears.whole receipt delivers.0 hears.answers in
-      let end : Holding = record { packets = hears.packets; seen = hears.seen } in
-      let all : List Arrival = all_carried l.kinds now c in
-      let others : RecoversUnless (is_suspect hears.outcome) hears.whole all (record { packets = mid; seen = primary_seen (is_own_media s.stream c) hears.outcome c.header.timestamp (has_restarted s.packets mid) s.seen }) end =
-      subst (λ (x : Kinds). RecoversUnless (is_suspect hears.outcome) hears.whole (all_carried x now c)
-      (record { packets = mid; seen = primary_seen (is_own_media s.stream c) hears.outcome c.header.timestamp (has_restarted s.packets mid) s.seen }) end) tuned.kinds_are takes.2 in
-      let stays : RecoversUnless false true all (record { packets = mid; seen = seen_with (record { time = q.rtp_time; is_block = false }) s.seen }) end =
-      subst (λ (x : Seen). RecoversUnless false true all (record { packets = mid; seen = x }) end) seen_is
-      (subst (λ (b : Bool). RecoversUnless false b all (record { packets = mid; seen = primary_seen (is_own_media s.stream c) hears.outcome c.header.timestamp (has_restarted s.packets mid) s.seen }) end) whole
-      (subst (λ (b : Bool). RecoversUnless b hears.whole all (record { packets = mid; seen = primary_seen (is_own_media s.stream c) hears.outcome c.header.timestamp (has_restarted s.packets mid) s.seen }) end) suspect others)) in
-      record {
-        packet = q;
-        there = is.there;
-        number = number;
-        answer = answer_q;
-        mid = mid;
-        outcome = hears.outcome;
-        stored = stored;
-        arrivals = all;
-        arrivals_are = refl;
-        are = blocks_are l.stream packets l.writer first k now l.kinds l.red.receiver q l.given is.there number;
-        end = end;
-        blocks = stays;
-        packets_is = ap (λ (x : Session). x.packets) hears.left;
-        seen_is = ap (λ (x : Session). x.seen) hears.left;
-      }
 
   -- a push while the buffer is filled
   record IsPushedIn (n : ℕ) (s t : State) : Type 0 where
@@ -508,11 +415,11 @@ module _ (l : RedSide) (start : State) (own_type : eqb (l.writer.red.primary_pt 
     pub has : (j : ℕ) → j < length packets → Carries l.writer l.datagrams k j → has_number (first + j) t.packets.buffer.held ≡ true
     pub still : Still s.packets.buffer t.packets.buffer
 
-  delivered_in : (k : ℕ) (now : Ticks) (bytes : List ℕ) (s t : Session) (receipt : Receipt) → Tuned l s → Contains l.received (steps.Deliver k now) → slice_get l.written k ≡ Some bytes
-      → answer_for s.packets.numbering ((first + k) % 2 ^ 16) ≡ extended.Number (first + k) → IsTight k (numbering_after s.packets.numbering ((first + k) % 2 ^ 16))
+  delivered_in : (k : ℕ) (now : Ticks) (datagram bytes : List ℕ) (s t : Session) (receipt : Receipt) → Tuned l s → Contains l.received (steps.Deliver k now) → slice_get l.written k ≡ Some datagram
+      → IsCopy l.again datagram bytes → answer_for s.packets.numbering ((first + k) % 2 ^ 16) ≡ extended.Number (first + k) → IsTight k (numbering_after s.packets.numbering ((first + k) % 2 ^ 16))
       → IsFillingUp s.packets s.seen → (later : List ℕ) → Timely l s (k ∷ later) → DeliversWhole now bytes s receipt t → IsDeliveredIn k s t
-  delivered_in k now bytes s t receipt tuned inside there answer tight up later in_time delivers =
-      let p = parts k now bytes s t receipt tuned inside there answer (λ q q_there is. not_repeated k q s.packets s.seen q_there up.seen_held tuned.steady.running is) later in_time delivers in
+  delivered_in k now datagram bytes s t receipt tuned inside there copy answer tight up later in_time delivers =
+      let p = parts l k now datagram bytes s t receipt tuned inside there copy answer (λ q q_there is. not_repeated k q s.packets s.seen q_there up.seen_held tuned.steady.running is) later in_time delivers in
       let q : Packet = p.packet in
       let mid : Receiving = p.mid in
       let seen : Seen = seen_with (record { time = q.rtp_time; is_block = false }) s.seen in
@@ -554,31 +461,31 @@ module _ (l : RedSide) (start : State) (own_type : eqb (l.writer.red.primary_pt 
     pub numbers : AllNumbered first mid.packets.numbering (delivered after)
     pub in_time : Timely l mid (delivered after)
     pub up : IsFillingUp mid.packets mid.seen
-    pub takes : RedTakes (steps.Finish ∷ after) l.written mid answers t
+    pub takes : RedTakes l.again (steps.Finish ∷ after) l.written mid answers t
     pub has : (carrier j : ℕ) → IsIn carrier (delivered before) → j < length packets → Carries l.writer l.datagrams carrier j → has_number (first + j) mid.packets.buffer.held ≡ true
     pub still : Still s.packets.buffer mid.packets.buffer
 
   pub fills : (back : ℕ) → back + 8 ≡ l.backward → (before after : List DatagramStep) (s t : Session) (answers : List Answer) → HaveNoPops before → Tuned l s
       → AllNumbered first s.packets.numbering (delivered (before ++ steps.Finish ∷ after)) → NearNumbers first l.forward back s.packets.numbering (delivered before)
       → Timely l s (delivered (before ++ steps.Finish ∷ after)) → IsFillingUp s.packets s.seen → ((step : DatagramStep) → IsIn step (before ++ steps.Finish ∷ after) → IsIn step l.received)
-      → RedTakes (before ++ steps.Finish ∷ after) l.written s answers t → FillsAll before after s answers t
+      → RedTakes l.again (before ++ steps.Finish ∷ after) l.written s answers t → FillsAll before after s answers t
   fills back wide [] after s t answers no_pops tuned numbers near in_time up inside takes =
       record { mid = s; tuned = tuned; numbers = numbers; in_time = in_time; up = up; takes = takes; has = λ carrier j is. absurd is; still = λ n h. h }
   fills back wide (steps.Send i ∷ before) after s t answers no_pops tuned numbers near in_time up inside takes =
       let rest = fills back wide before after s t answers no_pops tuned numbers near in_time up (λ step is. inside step (inr is)) takes in
       record { mid = rest.mid; tuned = rest.tuned; numbers = rest.numbers; in_time = rest.in_time; up = rest.up; takes = rest.takes; has = rest.has; still = rest.still }
   fills back wide (steps.Deliver k now ∷ before) after s t answers no_pops tuned numbers near in_time up inside takes =
-      let mid : Session = takes.3 in
+      let mid : Session = takes.5 in
       let there : Contains l.received (steps.Deliver k now) = contains_in (steps.Deliver k now) l.received (inside (steps.Deliver k now) (inl refl)) in
       let later : List ℕ = delivered (before ++ steps.Finish ∷ after) in
-      let one = deliver_fed l k now takes.0 s mid takes.2 tuned there takes.1 numbers.0 later in_time takes.4 in
+      let one = deliver_fed l k now takes.0 takes.2 s mid takes.4 tuned there takes.1 takes.3 numbers.0 later in_time takes.6 in
       let next = near_step first l.forward back ((first + k) % 2 ^ 16) k s.packets.numbering (delivered before) near numbers.0 in
-      let here = delivered_in k now takes.0 s mid takes.2 tuned there takes.1 numbers.0 (tight_next k back (numbering_after s.packets.numbering ((first + k) % 2 ^ 16)) (delivered before) wide next) up later in_time takes.4 in
+      let here = delivered_in k now takes.0 takes.2 s mid takes.4 tuned there takes.1 takes.3 numbers.0 (tight_next k back (numbering_after s.packets.numbering ((first + k) % 2 ^ 16)) (delivered before) wide next) up later in_time takes.6 in
       let near_after : NearNumbers first l.forward back mid.packets.numbering (delivered before) =
       subst (λ (n : Numbering). NearNumbers first l.forward back n (delivered before)) (sym one.numbering) (inr (next.highest, next.is, next.later)) in
       let numbers_after : AllNumbered first mid.packets.numbering (delivered (before ++ steps.Finish ∷ after)) =
       subst (λ (n : Numbering). AllNumbered first n (delivered (before ++ steps.Finish ∷ after))) (sym one.numbering) numbers.1 in
-      let rest = fills back wide before after mid t answers no_pops one.tuned numbers_after near_after (one.timely later in_time) here.up (λ step is. inside step (inr is)) takes.5 in
+      let rest = fills back wide before after mid t answers no_pops one.tuned numbers_after near_after (one.timely later in_time) here.up (λ step is. inside step (inr is)) takes.7 in
       record {
         mid = rest.mid;
         tuned = rest.tuned;
@@ -597,7 +504,7 @@ module _ (l : RedSide) (start : State) (own_type : eqb (l.writer.red.primary_pt 
       let at_end : takes.0 ≡ ended s = finish_is l s takes.0 tuned takes.1 in
       let rest = fills back wide before after (ended s) t answers no_pops (tuned_ended l s tuned) numbers near in_time
       (record { filling = up.filling; no_media = up.no_media; seen_held = up.seen_held }) (λ step is. inside step (inr is))
-      (subst (λ (x : Session). RedTakes (before ++ steps.Finish ∷ after) l.written x answers t) at_end takes.2) in
+      (subst (λ (x : Session). RedTakes l.again (before ++ steps.Finish ∷ after) l.written x answers t) at_end takes.2) in
       record { mid = rest.mid; tuned = rest.tuned; numbers = rest.numbers; in_time = rest.in_time; up = rest.up; takes = rest.takes; has = rest.has; still = rest.still }
 
   -- After the end
@@ -631,11 +538,11 @@ module _ (l : RedSide) (start : State) (own_type : eqb (l.writer.red.primary_pt 
   }
 
   -- a delivery changes nothing
-  after_delivery : (k : ℕ) (rest : List SentUnit) (j : ℕ) (now : Ticks) (bytes : List ℕ) (s t : Session) (receipt : Receipt) → Tuned l s → Contains l.received (steps.Deliver j now)
-      → slice_get l.written j ≡ Some bytes → answer_for s.packets.numbering ((first + j) % 2 ^ 16) ≡ extended.Number (first + j) → Exactly l.c k rest s.packets.buffer
+  after_delivery : (k : ℕ) (rest : List SentUnit) (j : ℕ) (now : Ticks) (datagram bytes : List ℕ) (s t : Session) (receipt : Receipt) → Tuned l s → Contains l.received (steps.Deliver j now)
+      → slice_get l.written j ≡ Some datagram → IsCopy l.again datagram bytes → answer_for s.packets.numbering ((first + j) % 2 ^ 16) ≡ extended.Number (first + j) → Exactly l.c k rest s.packets.buffer
       → (later : List ℕ) → Timely l s (j ∷ later) → DeliversWhole now bytes s receipt t → t.packets.no_media_numbers ≡ s.packets.no_media_numbers
-  after_delivery k rest j now bytes s t receipt tuned inside there answer exactly later in_time delivers =
-      let p = parts j now bytes s t receipt tuned inside there answer
+  after_delivery k rest j now datagram bytes s t receipt tuned inside there copy answer exactly later in_time delivers =
+      let p = parts l j now datagram bytes s t receipt tuned inside there copy answer
       (λ q q_there is.
       let number : q.number ≡ first + j = number_at packets first j q l.c.numbered q_there in
       let late : is_dropped s.packets.buffer q.number ≡ true =
@@ -652,18 +559,18 @@ module _ (l : RedSide) (start : State) (own_type : eqb (l.writer.red.primary_pt 
   -- each pop returns the next unit
   pub answers_after : (later : List DatagramStep) (k : ℕ) (rest : List SentUnit) (s t : Session) (answers : List Answer) → Tuned l s → AllNumbered first s.packets.numbering (delivered later) → Timely l s (delivered later)
       → s.packets.no_media_numbers ≡ [] → s.packets.ended ≡ true → Exactly l.c k rest s.packets.buffer → ((step : DatagramStep) → IsIn step later → IsIn step l.received)
-      → RedTakes later l.written s answers t → AnswersAll l.c.known k rest answers
+      → RedTakes l.again later l.written s answers t → AnswersAll l.c.known k rest answers
   answers_after [] k rest s t answers tuned numbers in_time none at_end exactly inside takes = subst (AnswersAll l.c.known k rest) (sym takes.0) tt
   answers_after (steps.Send i ∷ later) k rest s t answers tuned numbers in_time none at_end exactly inside takes =
       answers_after later k rest s t answers tuned numbers in_time none at_end exactly (λ step is. inside step (inr is)) takes
   answers_after (steps.Deliver j now ∷ later) k rest s t answers tuned numbers in_time none at_end exactly inside takes =
-      let mid : Session = takes.3 in
+      let mid : Session = takes.5 in
       let there : Contains l.received (steps.Deliver j now) = contains_in (steps.Deliver j now) l.received (inside (steps.Deliver j now) (inl refl)) in
-      let one = deliver_fed l j now takes.0 s mid takes.2 tuned there takes.1 numbers.0 (delivered later) in_time takes.4 in
+      let one = deliver_fed l j now takes.0 takes.2 s mid takes.4 tuned there takes.1 takes.3 numbers.0 (delivered later) in_time takes.6 in
       let same : mid.packets.buffer ≡ s.packets.buffer = feeds_dropped k rest now one.fed.ps s.packets.buffer mid.packets.buffer exactly one.fed.feeds in
-      let none_after = after_delivery k rest j now takes.0 s mid takes.2 tuned there takes.1 numbers.0 exactly (delivered later) in_time takes.4 in
+      let none_after = after_delivery k rest j now takes.0 takes.2 s mid takes.4 tuned there takes.1 takes.3 numbers.0 exactly (delivered later) in_time takes.6 in
       answers_after later k rest mid t answers one.tuned (subst (λ (n : Numbering). AllNumbered first n (delivered later)) (sym one.numbering) numbers.1) (one.timely (delivered later) in_time) (none_after ∙ none)
-      (one.fed.ended ∙ at_end) (subst (Exactly l.c k rest) (sym same) exactly) (λ step is. inside step (inr is)) takes.5
+      (one.fed.ended ∙ at_end) (subst (Exactly l.c k rest) (sym same) exactly) (λ step is. inside step (inr is)) takes.7
   answers_after (steps.Pop now ∷ later) k rest s t answers tuned numbers in_time none at_end exactly inside takes =
       let mid : Session = takes.2 in
       let one = pop_once l now takes.0 s mid tuned takes.4 takes.5 in
@@ -679,7 +586,7 @@ module _ (l : RedSide) (start : State) (own_type : eqb (l.writer.red.primary_pt 
       (one.timely (delivered later) in_time) (one.no_media ∙ (ap (λ (r : Receiving). r.no_media_numbers) settled_is ∙ none)) (one.ended ∙ at_end) next (λ step is. inside step (inr is)) takes.6))
   answers_after (steps.Finish ∷ later) k rest s t answers tuned numbers in_time none at_end exactly inside takes =
       let is : takes.0 ≡ ended s = finish_is l s takes.0 tuned takes.1 in
-      answers_after later k rest (ended s) t answers (tuned_ended l s tuned) numbers in_time none refl exactly (λ step is. inside step (inr is)) (subst (λ (x : Session). RedTakes later l.written x answers t) is takes.2)
+      answers_after later k rest (ended s) t answers (tuned_ended l s tuned) numbers in_time none refl exactly (λ step is. inside step (inr is)) (subst (λ (x : Session). RedTakes l.again later l.written x answers t) is takes.2)
 
   -- all units
   pub answers_exactly : (before after : List DatagramStep) (s t : Session) (answers : List Answer) → MayGo l.c.units start.depacketizer start.contiguity
@@ -690,4 +597,4 @@ module _ (l : RedSide) (start : State) (own_type : eqb (l.writer.red.primary_pt 
       let exactly = full_at_pop l.c start mid.packets.buffer filled_all.up.filling may all in
       let is : filled_all.takes.0 ≡ ended mid = finish_is l mid filled_all.takes.0 filled_all.tuned filled_all.takes.1 in
       answers_after after 0 l.c.units (ended mid) t answers (tuned_ended l mid filled_all.tuned) filled_all.numbers filled_all.in_time filled_all.up.no_media refl exactly inside
-      (subst (λ (x : Session). RedTakes after l.written x answers t) is filled_all.takes.2)
+      (subst (λ (x : Session). RedTakes l.again after l.written x answers t) is filled_all.takes.2)

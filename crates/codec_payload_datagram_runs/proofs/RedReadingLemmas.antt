@@ -321,7 +321,7 @@ found_in X f (r ∷ reds) red x (inl same) found =
 found_in X f (r ∷ reds) red x (inr later) found = add_option X x (f (older r)) (filter_map f (map older reds)) (found_in X f reds red x later found)
 
 -- a kept level is not that of the packet itself
-kept_earlier : (w : Writer) (sent : List Entry) (j k : ℕ) → IsKeptIn w.red w.budget sent j k → j < k
+pub kept_earlier : (w : Writer) (sent : List Entry) (j k : ℕ) → IsKeptIn w.red w.budget sent j k → j < k
 kept_earlier w sent j k kept = by_distance kept.distance kept.back kept.is_level
   where
     by_distance : (d : ℕ) → j + d ≡ k → level ((sender_at w.red sent k).primary_pt % 128) kept.entry.time (sender_at w.red sent k).history d ≡ Some kept.block → j < k
@@ -333,6 +333,7 @@ pub kept_carried : (stream : Outgoing) (packets : List Packet) (w : Writer) (fir
     → IsRecoverable w.red receiver w.budget (all_remembered packets) → slice_get packets k ≡ Some q → q.number ≡ first + k → IsKeptIn w.red w.budget (all_remembered packets) j k
     → slice_get packets j ≡ Some p
     → (a : Arrival) × IsIn a (all_carried kinds now (carrier_at receiver stream (record w { red = sender_at w.red (all_remembered packets) k }) q)) × (a.header.timestamp ≡ p.rtp_time)
+    × (k ≤ j + 8)
 kept_carried stream packets w first k j now kinds receiver q p given there number kept p_there =
     let sent : List Entry = all_remembered packets in
     let s : Sender = sender_at w.red sent k in
@@ -362,6 +363,7 @@ kept_carried stream packets w first k j now kinds receiver q p given there numbe
             block_arrival kinds now stream.ssrc y,
             found_in Arrival (λ (b : Block). option_map (block_arrival kinds now stream.ssrc) (recovered_from receiver m q.rtp_time b)) red.redundant one.0 (block_arrival kinds now stream.ssrc y) one.1 made,
             time,
+            let few = back.few in let number_x = back.number in let place = found.2.number in omega (arith, few, number_x, place),
           )
       | inr own ↦
           let number_x : x.seq_no ≡ n = primary_number receiver n q.rtp_time red x own in

@@ -1,23 +1,21 @@
 -- A receiver of a stream in RED does with written datagrams and with pops what its buffer does with their packets and blocks.
-use Rattle.std.proofs.Common.{◌≡◌, ◌≢◌, ◌∙◌, refl, sym, ap, subst, ℕ, ◌+◌, ◌-◌, ◌%◌, ◌^◌, ◌<◌, ◌≤◌, inl, inr, ◌&&◌, ◌||◌, List, [], ◌∷◌, ◌++◌, Bool, true, false, not, cond, eqb, ltb, leb, max}
-use Rattle.std.proofs.Common.{Option, Some, None, Err, length, take, arith, ◌⊎◌}
+use Rattle.std.proofs.Common.{◌≡◌, ◌∙◌, refl, sym, ap, subst, ℕ, ◌+◌, ◌-◌, ◌%◌, ◌^◌, ◌<◌, ◌≤◌, inl, inr, ◌&&◌, ◌||◌, List, [], ◌∷◌, ◌++◌, Bool, true, false, not, cond, eqb, max}
+use Rattle.std.proofs.Common.{Option, Some, None, length, take, arith, ◌⊎◌}
 use Rattle.std.specs.Prelude.{Contains, is_some, slice_get}
 use Rattle.std.specs.Option.{option_map}
-use Rattle.std.proofs.lemmas.Bool.{eq-eqb, leb-true, ltb-true, ne_eqb}
-use Rattle.std.proofs.lemmas.Option.{same_Some, slice_get-map}
-use Rattle.codec_payload_base.specs.declared.error.PacketError.TheVariants as faults
+use Rattle.std.proofs.lemmas.Bool.{eq-eqb, ne_eqb}
+use Rattle.std.proofs.lemmas.Option.{slice_get-map}
 use Rattle.codec_payload_base.specs.declared.wire.RtpHeader.{RtpHeader}
 use Rattle.codec_payload_base.specs.declared.wire.Ticks.{Ticks}
-use Rattle.codec_payload_buffer.proofs.MemberLemmas.{IsIn, contains_in}
 use Rattle.codec_payload_buffer.specs.Held.{Held}
 use Rattle.codec_payload_buffer.specs.Steps.{State, arrived, pushed}
 use Rattle.codec_payload_buffer.specs.declared.buffer.unit.RtpMeta.{RtpMeta}
 use Rattle.codec_payload_codec.specs.Depacketizers.{is_built_in_depacketizer}
 use Rattle.codec_payload_jitter.proofs.RestartLemmas.{answer_in_is, answer_to_is}
 use Rattle.codec_payload_jitter.specs.NotedTimes.{AreTimesOf, first_or, is_untimely}
-use Rattle.codec_payload_jitter.specs.Numbers.{Numbering, ahead, answer_by, answer_for, answer_near, behind, fitting, follows_suspect, greater, is_restarting, number_within, numbering_after, numbering_with}
+use Rattle.codec_payload_jitter.specs.Numbers.{Numbering, answer_for, greater, number_within, numbering_after, numbering_with}
 use Rattle.codec_payload_jitter.specs.Receiving.{Arrival, GoesOn, Notes, NotesAs, Receives, ReceivesAs, Receiving, RecoversAs, RecoversIf}
-use Rattle.codec_payload_jitter.specs.Receiving.{answer_in, answer_to, first_past, first_with, may_recover, meta_for, number_again, outcome_at, settled, waiting_at}
+use Rattle.codec_payload_jitter.specs.Receiving.{answer_in, answer_to, first_past, first_with, may_recover, meta_for, number_again, outcome_at}
 use Rattle.codec_payload_jitter.specs.declared.noted_times.NotedTime.{NotedTime}
 use Rattle.codec_payload_jitter.specs.declared.numbers.Extended.{Extended}
 use Rattle.codec_payload_jitter.specs.declared.numbers.Extended.TheVariants as extended
@@ -29,128 +27,34 @@ use Rattle.codec_payload_sending_red.specs.Writers.{IsInRed, Writer}
 use Rattle.codec_payload_buffer_runs.proofs.order.SafetyLemmas.{number_at}
 use Rattle.codec_payload_buffer_runs.proofs.order.TurnLemmas.{Setting}
 use Rattle.codec_payload_buffer_runs.proofs.units.BuiltInRuns.{push_keeps}
-use Rattle.codec_payload_buffer_runs.specs.Arrivals.{PopsWaiting}
 use Rattle.codec_payload_buffer_runs.specs.RedSchedule.{all_remembered, remembered}
-use Rattle.codec_payload_buffer_runs.specs.Schedule.{Answer}
 use Rattle.codec_payload_buffer_runs.specs.SentStream.{packets_of}
 use Rattle.codec_payload_payloader.specs.Packets.{AreNumbered, Packet}
 use Rattle.codec_payload_rtp.specs.RtpPackets.{Header}
 use Rattle.codec_payload_sending.specs.declared.sender.Outgoing.{Outgoing}
-use Rattle.codec_payload_receiver.proofs.PopLemmas.{drops_stay, pops_at_once}
 use Rattle.codec_payload_receiver.specs.Choice.{is_silent, origin_of, verdict_of}
 use Rattle.codec_payload_receiver.specs.Kinds.{Carrier, Datagram, InRed, Kinds, datagram_at, header_for, is_other}
-use Rattle.codec_payload_receiver.specs.Pops.{PopsOnce}
 use Rattle.codec_payload_receiver.specs.RedOnce.{HasNoBlock}
 use Rattle.codec_payload_receiver.specs.SeenTimes.{Seen, is_seen}
-use Rattle.codec_payload_receiver.specs.Sessions.{Ends, Heard, Hears, Holding, ReceivesBy, ReceivesBytes, RecoversAll, RecoversUnless, RecoversUnseen, Session, SettlesOn, TakesPrimary, TakesPrimaryIf}
-use Rattle.codec_payload_receiver.specs.Sessions.{all_carried, ended, first_waiting, has_restarted, is_none_of, is_open, is_own_media, is_repeat, is_suspect, primary_seen}
-use Rattle.codec_payload_receiver.specs.declared.choice.Candidate.{Candidate}
+use Rattle.codec_payload_receiver.specs.Sessions.{Heard, Hears, Holding, ReceivesBy, ReceivesBytes, RecoversAll, RecoversUnless, RecoversUnseen, Session}
+use Rattle.codec_payload_receiver.specs.Sessions.{is_none_of, is_open, is_own_media}
 use Rattle.codec_payload_receiver.specs.declared.datagram.RedStream.{RedStream}
 use Rattle.codec_payload_datagram_runs.proofs.EventLemmas.{time_at, times_from}
 use Rattle.codec_payload_datagram_runs.proofs.TimelyLemmas.{StayTimely, stamp, time_in, timely_later, timely_now, untimely_is}
 use Rattle.codec_payload_datagram_runs.proofs.ReadingLemmas.{packet_at}
-use Rattle.codec_payload_datagram_runs.proofs.ReceivingLemmas.{AllNumbered, heard, not_repeated, takes_in, turn_of}
-use Rattle.codec_payload_datagram_runs.proofs.RedCourses.{Course, Feeds, IsRaised, feeds_append, raised}
-use Rattle.codec_payload_datagram_runs.proofs.RedReadingLemmas.{AreBlocks, IsBlock, IsRedFor, IsWritten, blocks_are, carrier_at, red_datagram_is}
-use Rattle.codec_payload_datagram_runs.proofs.RedStepLemmas.{RedTakes}
+use Rattle.codec_payload_datagram_runs.proofs.ReceivingLemmas.{KeepsLimits, TakesIn, heard, keeps_then, takes_in, takes_in_again}
+use Rattle.codec_payload_datagram_runs.proofs.RedCourses.{Feeds, feeds_append}
+use Rattle.codec_payload_datagram_runs.proofs.RedNumberLemmas.{IsPast, block_number}
+use Rattle.codec_payload_datagram_runs.proofs.RedReadingLemmas.{AreBlocks, IsBlock, IsRedFor, IsWritten, carrier_at, red_datagram_is}
 use Rattle.codec_payload_datagram_runs.specs.RedReleases.{HasHeaderOf, IsRedDelivery, entries_in}
 use Rattle.codec_payload_datagram_runs.specs.RedRuns.{DeliversWhole}
-use Rattle.codec_payload_datagram_runs.specs.Releases.{delivered}
-use Rattle.codec_payload_datagram_runs.specs.WireRuns.{PopsUnit, Receipt}
+use Rattle.codec_payload_datagram_runs.specs.WireRuns.{Receipt}
 use Rattle.codec_payload_datagram_runs.specs.declared.run.DatagramStep.{DatagramStep}
 use Rattle.codec_payload_datagram_runs.specs.declared.run.DatagramStep.TheVariants as steps
-
--- Numbers
-
--- the numbering after a packet with the number n
-pub record IsPast (n backward : ℕ) (s : Numbering) : Type 0 where
-  pub greatest : ℕ
-  pub is : s.greatest ≡ Some greatest
-  pub over : n ≤ greatest
-  pub near : greatest ≤ n + backward
-
-near_greatest : (s : Numbering) (g low n : ℕ) → answer_near s g low ≡ extended.Number n → max g n ≤ n + s.backward
-near_greatest s g low n is = by_tests (ltb (ahead g low) s.forward) (leb (behind g low) s.backward) (follows_suspect s.suspect low) refl is
-  where
-    by_fit : (b : Bool) (m : ℕ) → cond b (extended.Number m) extended.Spent ≡ extended.Number n → m ≡ n
-    by_fit true m same = cc
-    by_fit false m same = absurd (cc)
-
-    no_restart : (b : Bool) (m : ℕ) → cond b (extended.Restarted m) extended.Spent ≡ extended.Number n → ⊥
-    no_restart true m same = cc
-    no_restart false m same = cc
-
-    by_tests : (a b f : Bool) → leb (behind g low) s.backward ≡ b
-        → cond a (fitting extended.Number (g + ahead g low)) (cond b (extended.Number (g - behind g low)) (cond f (fitting extended.Restarted (is_restarting g low)) extended.Suspect)) ≡ extended.Number n
-        → max g n ≤ n + s.backward
-    by_tests true b f test same = let up : g + ahead g low ≡ n = by_fit (ltb (g + ahead g low) (2 ^ 64)) (g + ahead g low) same in omega (arith, up)
-    by_tests false true f test same =
-        let number : g - behind g low ≡ n = cc in
-        let back : behind g low ≤ s.backward = leb-true (behind g low) s.backward test in
-        omega (arith, number, back)
-    by_tests false false true test same = absurd (no_restart (ltb (is_restarting g low) (2 ^ 64)) (is_restarting g low) same)
-    by_tests false false false test same = absurd (cc)
-
-pub past_number : (s : Numbering) (low n : ℕ) → answer_for s low ≡ extended.Number n → IsPast n s.backward (numbering_after s low)
-past_number s low n is = by_greatest s.greatest refl is
-  where
-    after : numbering_after s low ≡ record s { greatest = Some (greater s.greatest n) }
-    after = ap (λ (e : Extended). numbering_with s e low) is
-
-    by_greatest : (o : Option ℕ) → s.greatest ≡ o → answer_by s o low ≡ extended.Number n → IsPast n s.backward (numbering_after s low)
-    by_greatest None at same = record {
-      greatest = n;
-      is = ap (λ (x : Numbering). x.greatest) after ∙ ap (λ (o : Option ℕ). Some (greater o n)) at;
-      over = omega arith;
-      near = omega arith;
-    }
-    by_greatest (Some g) at same =
-        let near = near_greatest s g low n same in
-        record {
-          greatest = max g n;
-          is = ap (λ (x : Numbering). x.greatest) after ∙ ap (λ (o : Option ℕ). Some (greater o n)) at;
-          over = omega arith;
-          near = near;
-        }
-
-ahead_of : (g i : ℕ) → i ≤ g → g ≤ i + 65535 → ahead g (i % 65536) ≡ (65536 + i - g) % 65536
-ahead_of g i below near = omega arith
-
-behind_of : (g i : ℕ) → i ≤ g → g ≤ i + 65535 → behind g (i % 65536) ≡ g - i
-behind_of g i below near = omega arith
-
--- the number of a block: the one of its packet, if the block is within the windows
-pub block_number : (s : Numbering) (g i m : ℕ) → s.greatest ≡ Some g → i ≤ g → g ≤ i + s.backward + 8 → s.forward + s.backward + 8 ≤ 65536 → 0 < s.forward
-    → number_within (answer_for s (i % 65536)) ≡ Some m → m ≡ i
-block_number s g i m at below near apart some is =
-    by_tests (ltb (ahead g (i % 65536)) s.forward) (leb (behind g (i % 65536)) s.backward) (follows_suspect s.suspect (i % 65536)) refl refl
-    (ap (λ (o : Option ℕ). number_within (answer_by s o (i % 65536))) (sym at) ∙ is)
-  where
-    back : behind g (i % 65536) ≡ g - i
-    back = behind_of g i below (omega (arith, near, apart, some))
-
-    by_fit : (b : Bool) (v : ℕ) → number_within (cond b (extended.Number v) extended.Spent) ≡ Some m → v ≡ m
-    by_fit true v same = same_Some v m same
-    by_fit false v same = absurd (cc)
-
-    no_restart : (b : Bool) (v : ℕ) → number_within (cond b (extended.Restarted v) extended.Spent) ≡ Some m → ⊥
-    no_restart true v same = cc
-    no_restart false v same = cc
-
-    by_tests : (a b f : Bool) → ltb (ahead g (i % 65536)) s.forward ≡ a → leb (behind g (i % 65536)) s.backward ≡ b
-        → number_within (cond a (fitting extended.Number (g + ahead g (i % 65536))) (cond b (extended.Number (g - behind g (i % 65536)))
-        (cond f (fitting extended.Restarted (is_restarting g (i % 65536))) extended.Suspect))) ≡ Some m
-        → m ≡ i
-    by_tests true b f ahead_test behind_test same =
-        let v : g + ahead g (i % 65536) ≡ m = by_fit (ltb (g + ahead g (i % 65536)) (2 ^ 64)) (g + ahead g (i % 65536)) same in
-        let less : ahead g (i % 65536) < s.forward = ltb-true (ahead g (i % 65536)) s.forward ahead_test in
-        let is_ahead = ahead_of g i below (omega (arith, near, apart, some)) in
-        omega (arith, v, less, is_ahead, below, near, apart)
-    by_tests false true f ahead_test behind_test same =
-        let v : g - behind g (i % 65536) ≡ m = same_Some (g - behind g (i % 65536)) m same in
-        omega (arith, v, back, below)
-    by_tests false false true ahead_test behind_test same = absurd (no_restart (ltb (is_restarting g (i % 65536)) (2 ^ 64)) (is_restarting g (i % 65536)) same)
-    by_tests false false false ahead_test behind_test same = absurd (cc)
+use Rattle.codec_payload_sending_history.specs.declared.retransmission.RetransmissionStream.{RetransmissionStream}
+use Rattle.codec_payload_jitter.specs.Receiving.{ReceivesAgain, ReceivesAgainAs}
+use Rattle.codec_payload_jitter.specs.declared.outcome.Outcome.TheVariants as outcomes
+use Rattle.codec_payload_datagram_runs.specs.RedHistoryReleases.{AreHeardInRed}
 
 -- Receiving
 
@@ -176,7 +80,7 @@ second : {X : Type 0} (P : X → Type 0) (b : Bool) (x y : X) → b ≡ false �
 second P b x y taken known = subst (λ (c : Bool). P (cond c x y)) taken known
 
 -- a stream in RED: the units of the sender, as the buffer's part of the run knows them; what was sent, written and received; and how
--- sender, writer and receiver fit
+-- sender, writer and receiver fit; and the stream of retransmissions, which the receiver reads
 pub record RedSide : Type 1 where
   pub c : Setting
   pub stream : Outgoing
@@ -196,6 +100,8 @@ pub record RedSide : Type 1 where
   pub written : List (List ℕ)
   pub each : (k : ℕ) (bytes : List ℕ) → slice_get written k ≡ Some bytes → IsWritten stream (packets_of c.units) writer k bytes
   pub own_type : eqb (writer.red.primary_pt % 128) kinds.payload_type ≡ true
+  pub again : Option RetransmissionStream
+  pub heard : AreHeardInRed again kinds
 
 -- the payload type of the packets stays
 pub same_primary : (s : Sender) (es : List Entry) → (sender_after s es).primary_pt ≡ s.primary_pt
@@ -262,18 +168,28 @@ module _ (l : RedSide) where
   abbrev pub own_header : Packet → RtpHeader
   own_header q = header_for kinds (record (packet_at stream q).header { payload_type = w.red_type })
 
+  -- a datagram delivers this packet
+  abbrev pub IsDeliveryBy : (carrier k : ℕ) → Packet → RtpMeta → Type 0
+  IsDeliveryBy carrier k q meta = (is : IsRedDelivery kinds.ids stream w l.datagrams received k q meta) × (is.carrier ≡ carrier)
+
+  pub own_delivery : (k : ℕ) (now : Ticks) (q : Packet) → Contains received (steps.Deliver k now) → IsDeliveryBy k k q (meta_for now stream.clock_rate (own_header q) q.number)
+  own_delivery k now q inside = (
+    record {
+      carrier = k;
+      delivers = inside;
+      carries = inl refl;
+      number = refl;
+      time = refl;
+      header = subst (λ (b : Bool). HasHeaderOf b kinds.ids stream q (meta_for now stream.clock_rate (own_header q) q.number)) (sym (eq-eqb k k refl)) (refl, refl);
+    },
+    refl,
+  )
+
   pub own_known : (k : ℕ) (now : Ticks) (q : Packet) → Contains received (steps.Deliver k now) → Known k q (meta_for now stream.clock_rate (own_header q) q.number)
-  own_known k now q inside = l.told k q (meta_for now stream.clock_rate (own_header q) q.number) (record {
-    carrier = k;
-    delivers = inside;
-    carries = inl refl;
-    number = refl;
-    time = refl;
-    header = subst (λ (b : Bool). HasHeaderOf b kinds.ids stream q (meta_for now stream.clock_rate (own_header q) q.number)) (sym (eq-eqb k k refl)) (refl, refl);
-  })
+  own_known k now q inside = l.told k q (meta_for now stream.clock_rate (own_header q) q.number) (own_delivery k now q inside).0
 
   -- a number that is noted as one without media
-  noted_fed : (now : Ticks) (low n : ℕ) (r t : Receiving) → Steady r → answer_for r.numbering low ≡ extended.Number n → Notes low r t
+  pub noted_fed : (now : Ticks) (low n : ℕ) (r t : Receiving) → Steady r → answer_for r.numbering low ≡ extended.Number n → Notes low r t
       → IsFed now r t × (t.numbering ≡ numbering_after r.numbering low) × (t.first ≡ r.first)
   noted_fed now low n r t steady is notes =
       let answer : answer_in r low ≡ extended.Number n = answer_in_is r low n steady.running is in
@@ -307,19 +223,13 @@ module _ (l : RedSide) where
     pub buffer : t.buffer ≡ pushed r.buffer (arrived r.buffer.depacketizer (meta_for now stream.clock_rate (own_header q) q.number) q.payload)
     pub no_media : t.no_media_numbers ≡ r.no_media_numbers
     pub first : t.first ≡ first_or r.first (record { number = q.number; time = q.rtp_time })
+    pub limits : KeepsLimits r t
     pub outcome_is : outcome ≡ outcome_at r.buffer q.number
 
-  pub stores_own : (k : ℕ) (now : Ticks) (q : Packet) (r t : Receiving) (outcome : Outcome) → slice_get packets k ≡ Some q → Contains received (steps.Deliver k now) → Steady r
-      → answer_for r.numbering (q.number % 2 ^ 16) ≡ extended.Number q.number → is_untimely r.rate r.first (record { number = q.number; time = q.rtp_time }) ≡ false
-      → Receives (own_arrival now q) r outcome t → StoresOwn now q r t outcome
-  stores_own k now q r t outcome there inside steady is timely receives =
-      let number : q.number ≡ first + k = number_at packets first k q numbered there in
-      let place : k ≡ q.number - first = omega (arith, number) in
-      let time : q.rtp_time ≡ time_of q.number = time_at packets k q there ∙ ap (time_in packets) place in
-      let a : Arrival = own_arrival now q in
-      let one = takes_in time_of q.number a r t outcome steady.running steady.of_codec is steady.times time timely receives in
-      let answer : answer_to r a.header ≡ extended.Number q.number = answer_to_is time_of r a.header q.number steady.running steady.times is time timely in
-      let went : GoesOn q.number a r outcome receives.0 = subst (λ (e : Extended). ReceivesAs e a r outcome receives.0) answer receives.1 in
+  stored_own : (k : ℕ) (now : Ticks) (q : Packet) (r t : Receiving) (outcome : Outcome) → slice_get packets k ≡ Some q → Contains received (steps.Deliver k now) → Steady r
+      → answer_for r.numbering (q.number % 2 ^ 16) ≡ extended.Number q.number → TakesIn time_of (answer_for r.numbering (q.number % 2 ^ 16)) q.number (own_arrival now q) r t
+      → outcome ≡ outcome_at r.buffer q.number → StoresOwn now q r t outcome
+  stored_own k now q r t outcome there inside steady is one outcome_is =
       let meta : RtpMeta = meta_for now stream.clock_rate (own_header q) q.number in
       let p : Held = arrived r.buffer.depacketizer meta q.payload in
       let buffer : t.buffer ≡ pushed r.buffer p =
@@ -344,48 +254,83 @@ module _ (l : RedSide) where
         buffer = buffer;
         no_media = one.no_media_numbers;
         first = one.first ∙ ap (λ (e : Extended). first_with r.first e q.rtp_time) is;
-        outcome_is = went.1.2;
+        limits = one.limits;
+        outcome_is = outcome_is;
       }
 
+  -- the time of its number
+  own_time : (k : ℕ) (q : Packet) → slice_get packets k ≡ Some q → q.rtp_time ≡ time_of q.number
+  own_time k q there =
+      let number : q.number ≡ first + k = number_at packets first k q numbered there in
+      let place : k ≡ q.number - first = omega (arith, number) in
+      time_at packets k q there ∙ ap (time_in packets) place
+
+  -- the packet of a datagram is stored, as it comes or as a retransmission; if it repeats a block, it counts as one without media
+  abbrev pub TakesOwn : (repeats : Bool) → Ticks → Packet → Receiving → Outcome → Receiving → Type 0
+  TakesOwn true now q r outcome t = (outcome ≡ outcomes.NoMedia) × Notes (q.number % 2 ^ 16) r t
+  TakesOwn false now q r outcome t = Receives (own_arrival now q) r outcome t ⊎ ReceivesAgain (own_arrival now q) r outcome t
+
+  pub stores_own : (k : ℕ) (now : Ticks) (q : Packet) (r t : Receiving) (outcome : Outcome) → slice_get packets k ≡ Some q → Contains received (steps.Deliver k now) → Steady r
+      → answer_for r.numbering (q.number % 2 ^ 16) ≡ extended.Number q.number → is_untimely r.rate r.first (record { number = q.number; time = q.rtp_time }) ≡ false
+      → TakesOwn false now q r outcome t → StoresOwn now q r t outcome
+  stores_own k now q r t outcome there inside steady is timely (inl receives) =
+      let time = own_time k q there in
+      let a : Arrival = own_arrival now q in
+      let one = takes_in time_of q.number a r t outcome steady.running steady.of_codec is steady.times time timely receives in
+      let answer : answer_to r a.header ≡ extended.Number q.number = answer_to_is time_of r a.header q.number steady.running steady.times is time timely in
+      let went : GoesOn q.number a r outcome receives.0 = subst (λ (e : Extended). ReceivesAs e a r outcome receives.0) answer receives.1 in
+      stored_own k now q r t outcome there inside steady is one went.1.2
+  stores_own k now q r t outcome there inside steady is timely (inr again) =
+      let a : Arrival = own_arrival now q in
+      let one = takes_in_again time_of q.number a r t outcome steady.running steady.of_codec is steady.times (own_time k q there) again in
+      let number : number_again r a.header.sequence_number ≡ Some q.number =
+      ap (λ (b : Bool). cond b None (number_within (answer_for r.numbering a.header.sequence_number))) steady.running ∙ ap number_within is in
+      let here : ReceivesAgainAs (Some q.number) a r outcome t = subst (λ (o : Option ℕ). ReceivesAgainAs o a r outcome t) number again in
+      stored_own k now q r t outcome there inside steady is one here.1.1.2
+
   -- the primary block on arrival
-  pub primary_is : (now : Ticks) (q : Packet) (c : Carrier) → c.header ≡ record (packet_at stream q).header { payload_type = w.red_type } → c.primary.payload ≡ q.payload
+  pub primary_is : (type : ℕ) (now : Ticks) (q : Packet) (c : Carrier) → c.header ≡ record (packet_at stream q).header { payload_type = type } → c.primary.payload ≡ q.payload
       → (record { now = now; header = header_for kinds c.header; bytes = c.primary.payload }) ≡ own_arrival now q
-  primary_is now q c header bytes =
+  primary_is type now q c header bytes =
       ap (λ (h : Header). record { now = now; header = header_for kinds h; bytes = c.primary.payload }) header
       ∙ ap (λ (b : List ℕ). record { now = now; header = own_header q; bytes = b }) bytes
 
   -- the first packet after a datagram: its packet counts, if it was pushed
-  abbrev FirstAfter : Bool → NotedTime → Option NotedTime → Option NotedTime → Type 0
+  abbrev pub FirstAfter : Bool → NotedTime → Option NotedTime → Option NotedTime → Type 0
   FirstAfter true x o p = p ≡ first_or o x
   FirstAfter false x o p = p ≡ o
 
-  primary_fed : (b : Bool) (k : ℕ) (now : Ticks) (q : Packet) (c : Carrier) (r t : Receiving) (outcome : Outcome) → c.header ≡ record (packet_at stream q).header { payload_type = w.red_type }
-      → c.primary.payload ≡ q.payload → slice_get packets k ≡ Some q → Contains received (steps.Deliver k now) → Steady r
+  pub primary_fed : (repeats : Bool) (k : ℕ) (now : Ticks) (q : Packet) (r t : Receiving) (outcome : Outcome) → slice_get packets k ≡ Some q → Contains received (steps.Deliver k now) → Steady r
       → answer_for r.numbering (q.number % 2 ^ 16) ≡ extended.Number q.number → is_untimely r.rate r.first (record { number = q.number; time = q.rtp_time }) ≡ false
-      → TakesPrimaryIf b kinds now c r outcome t
-      → IsFed now r t × (t.numbering ≡ numbering_after r.numbering (q.number % 2 ^ 16)) × FirstAfter b (record { number = q.number; time = q.rtp_time }) r.first t.first
-  primary_fed true k now q c r t outcome header bytes there inside steady is timely takes =
-      let one = stores_own k now q r t outcome there inside steady is timely (subst (λ (a : Arrival). Receives a r outcome t) (primary_is now q c header bytes) takes) in
+      → TakesOwn repeats now q r outcome t
+      → IsFed now r t × (t.numbering ≡ numbering_after r.numbering (q.number % 2 ^ 16)) × FirstAfter (not repeats) (record { number = q.number; time = q.rtp_time }) r.first t.first
+  primary_fed false k now q r t outcome there inside steady is timely takes =
+      let one = stores_own k now q r t outcome there inside steady is timely takes in
       (one.fed, one.numbering, one.first)
-  primary_fed false k now q c r t outcome header bytes there inside steady is timely takes =
-      let low : c.header.sequence_number ≡ q.number % 2 ^ 16 = ap (λ (h : Header). h.sequence_number) header in
-      noted_fed now (q.number % 2 ^ 16) q.number r t steady is (subst (λ (n : ℕ). Notes n r t) low takes.1)
+  primary_fed true k now q r t outcome there inside steady is timely takes = noted_fed now (q.number % 2 ^ 16) q.number r t steady is takes.1
 
   -- Blocks
 
-  pub block_known : (k : ℕ) (now : Ticks) (a : Arrival) (n : ℕ) → Contains received (steps.Deliver k now) → (is : IsBlock packets w first k now a) → n ≡ first + is.index
-      → Known is.index is.packet (meta_for a.now stream.clock_rate a.header n)
-  block_known k now a n inside is number = l.told is.index is.packet (meta_for a.now stream.clock_rate a.header n) (record {
-    carrier = k;
-    delivers = subst (λ (at : Ticks). Contains received (steps.Deliver k at)) (sym is.at) inside;
-    carries = inr (subst (λ (es : List Entry). IsKeptIn w.red w.budget es is.index k) (sym l.entries) is.kept);
-    number = number ∙ sym (number_at packets first is.index is.packet numbered is.there);
-    time = ap (λ (m : ℕ). record { numer = m; rate = stream.clock_rate }) is.time;
-    header = subst (λ (b : Bool). HasHeaderOf b kinds.ids stream is.packet (meta_for a.now stream.clock_rate a.header n)) (sym other) (is.marker, is.values);
-  })
+  pub block_delivery : (k : ℕ) (now : Ticks) (a : Arrival) (n : ℕ) → Contains received (steps.Deliver k now) → (is : IsBlock packets w first k now a) → n ≡ first + is.index
+      → IsDeliveryBy k is.index is.packet (meta_for a.now stream.clock_rate a.header n)
+  block_delivery k now a n inside is number = (
+    record {
+      carrier = k;
+      delivers = subst (λ (at : Ticks). Contains received (steps.Deliver k at)) (sym is.at) inside;
+      carries = inr (subst (λ (es : List Entry). IsKeptIn w.red w.budget es is.index k) (sym l.entries) is.kept);
+      number = number ∙ sym (number_at packets first is.index is.packet numbered is.there);
+      time = ap (λ (m : ℕ). record { numer = m; rate = stream.clock_rate }) is.time;
+      header = subst (λ (b : Bool). HasHeaderOf b kinds.ids stream is.packet (meta_for a.now stream.clock_rate a.header n)) (sym other) (is.marker, is.values);
+    },
+    refl,
+  )
     where
       other : eqb is.index k ≡ false
       other = ne_eqb is.index k (λ same. omega (arith, same, is.below))
+
+  pub block_known : (k : ℕ) (now : Ticks) (a : Arrival) (n : ℕ) → Contains received (steps.Deliver k now) → (is : IsBlock packets w first k now a) → n ≡ first + is.index
+      → Known is.index is.packet (meta_for a.now stream.clock_rate a.header n)
+  block_known k now a n inside is number = l.told is.index is.packet (meta_for a.now stream.clock_rate a.header n) (block_delivery k now a n inside is number).0
 
   -- blocks of the packet k are stored after it: the numbering is past it, and stays
   pub record StoresBlocks (now : Ticks) (r t : Receiving) : Type 0 where
@@ -393,6 +338,7 @@ module _ (l : RedSide) where
     pub numbering : t.numbering ≡ r.numbering
     pub no_media : t.no_media_numbers ≡ r.no_media_numbers
     pub first : t.first ≡ r.first
+    pub limits : KeepsLimits r t
 
   pub stores_none : (now : Ticks) (r t : Receiving) → t ≡ r → Steady r → StoresBlocks now r t
   stores_none now r t same steady = record {
@@ -400,6 +346,7 @@ module _ (l : RedSide) where
     numbering = ap (λ (x : Receiving). x.numbering) same;
     no_media = ap (λ (x : Receiving). x.no_media_numbers) same;
     first = ap (λ (x : Receiving). x.first) same;
+    limits = record { wait_limits = ap (λ (x : Receiving). x.wait_limits) same; room = ap (λ (x : Receiving). x.room) same };
   }
 
   -- a stored block
@@ -450,6 +397,10 @@ module _ (l : RedSide) where
         numbering = numbering;
         no_media = ap (λ (x : Receiving). x.no_media_numbers) recovers.4 ∙ ap (λ (x : Receiving). x.no_media_numbers) accepts.3;
         first = ap (λ (x : Receiving). x.first) recovers.4 ∙ ap (λ (x : Receiving). x.first) accepts.3;
+        limits = record {
+          wait_limits = ap (λ (x : Receiving). x.wait_limits) recovers.4 ∙ ap (λ (x : Receiving). x.wait_limits) accepts.3;
+          room = ap (λ (x : Receiving). x.room) recovers.4 ∙ ap (λ (x : Receiving). x.room) accepts.3;
+        };
       }
 
   recovered_as : (o : Option ℕ) (went_in : Bool) (k : ℕ) (now : Ticks) (a : Arrival) (r t : Receiving) → number_again r a.header.sequence_number ≡ o
@@ -479,7 +430,7 @@ module _ (l : RedSide) where
   past_same n s t same past = subst (IsPast n backward) (sym same) past
 
   pub stores_then : (now : Ticks) (r mid t : Receiving) → StoresBlocks now r mid → StoresBlocks now mid t → StoresBlocks now r t
-  stores_then now r mid t one two = record { fed = fed_then now r mid t one.fed two.fed; numbering = two.numbering ∙ one.numbering; no_media = two.no_media ∙ one.no_media; first = two.first ∙ one.first }
+  stores_then now r mid t one two = record { fed = fed_then now r mid t one.fed two.fed; numbering = two.numbering ∙ one.numbering; no_media = two.no_media ∙ one.no_media; first = two.first ∙ one.first; limits = keeps_then r mid t one.limits two.limits }
 
   pub all_recovered : (all : List Arrival) (whole : Bool) (k : ℕ) (now : Ticks) (x y : Holding) → Contains received (steps.Deliver k now) → AreBlocks packets w first k now all
       → IsPast (first + k) backward x.packets.numbering → Steady x.packets → RecoversAll whole all x y → StoresBlocks now x.packets y.packets
@@ -509,7 +460,7 @@ module _ (l : RedSide) where
   abbrev pub writer_at : ℕ → Writer
   writer_at k = record w { red = sender_at w.red (all_remembered packets) k }
 
-  own_primary : (k : ℕ) (q : Packet) → is_own_media kinds (carrier_at l.red.receiver stream (writer_at k) q) ≡ true
+  pub own_primary : (k : ℕ) (q : Packet) → is_own_media kinds (carrier_at l.red.receiver stream (writer_at k) q) ≡ true
   own_primary k q = ap (λ (n : ℕ). eqb (n % 128) kinds.payload_type) (same_primary w.red (take k (all_remembered packets))) ∙ l.own_type
 
   -- The packets of the datagrams with these indices are timely. If no packet was first so far, none can repeat a block
@@ -533,7 +484,7 @@ module _ (l : RedSide) where
   has_first (Some y) x = refl
 
   -- after a datagram
-  timely_after : (b : Bool) (k : ℕ) (ks : List ℕ) (o p : Option NotedTime) → (b ≡ true) ⊎ (is_some o ≡ true) → StayTimely stream.clock_rate first packets o (k ∷ ks)
+  pub timely_after : (b : Bool) (k : ℕ) (ks : List ℕ) (o p : Option NotedTime) → (b ≡ true) ⊎ (is_some o ≡ true) → StayTimely stream.clock_rate first packets o (k ∷ ks)
       → FirstAfter b (stamp first packets k) o p → (is_some p ≡ true) × StayTimely stream.clock_rate first packets p ks
   timely_after true k ks o p some stay is = (
     ap is_some is ∙ has_first o (stamp first packets k),
@@ -544,7 +495,7 @@ module _ (l : RedSide) where
   timely_after false k ks (Some x) p (inr some) stay is =
       (ap is_some is, subst (λ (y : Option NotedTime). StayTimely stream.clock_rate first packets y ks) (sym is) stay.1)
 
-  heard_at_once : (now : Ticks) (bytes : List ℕ) (s t : Session) (receipt : Receipt) → Tuned s → DeliversWhole now bytes s receipt t → Heard now (datagram_at s.stream s.ssrc bytes) s receipt t
+  pub heard_at_once : (now : Ticks) (bytes : List ℕ) (s t : Session) (receipt : Receipt) → Tuned s → DeliversWhole now bytes s receipt t → Heard now (datagram_at s.stream s.ssrc bytes) s receipt t
   heard_at_once now bytes s t receipt tuned delivers = by_case delivers.1.1
     where
       settled_already : is_open s now.0 ≡ false
@@ -571,159 +522,3 @@ module _ (l : RedSide) where
         not_again = l.is_red.not_again;
       }) accepted room own in_red in
       subst (λ (d : Datagram). Hears now d s receipt t) is (heard now (datagram_at s.stream s.ssrc bytes) s t receipt delivers.1.0 (heard_at_once now bytes s t receipt tuned delivers))
-
-  -- the effect of a delivery
-  pub record IsDelivered (k : ℕ) (now : Ticks) (s t : Session) : Type 0 where
-    pub fed : IsFed now s.packets t.packets
-    pub numbering : t.packets.numbering ≡ numbering_after s.packets.numbering ((first + k) % 2 ^ 16)
-    pub tuned : Tuned t
-    pub timely : (ks : List ℕ) → Timely s (k ∷ ks) → Timely t ks
-
-  pub deliver_fed : (k : ℕ) (now : Ticks) (bytes : List ℕ) (s t : Session) (receipt : Receipt) → Tuned s → Contains received (steps.Deliver k now) → slice_get l.written k ≡ Some bytes
-      → answer_for s.packets.numbering ((first + k) % 2 ^ 16) ≡ extended.Number (first + k) → (later : List ℕ) → Timely s (k ∷ later) → DeliversWhole now bytes s receipt t → IsDelivered k now s t
-  deliver_fed k now bytes s t receipt tuned inside there answer later in_time delivers =
-      let is = l.each k bytes there in
-      let q : Packet = is.packet in
-      let in_red : IsInRed (writer_at k) (packet_at stream q) bytes is.after = subst (λ (x : Writer). IsInRed x (packet_at stream q) bytes is.after) is.before_is is.in_red in
-      let hears = hears_red k now bytes q is.after s t receipt tuned is.there in_red delivers in
-      let number : q.number ≡ first + k = number_at packets first k q numbered is.there in
-      let answer_q : answer_for s.packets.numbering (q.number % 2 ^ 16) ≡ extended.Number q.number = subst (λ (n : ℕ). answer_for s.packets.numbering (n % 2 ^ 16) ≡ extended.Number n) (sym number) answer in
-      let c : Carrier = carrier_at l.red.receiver stream (writer_at k) q in
-      let takes = hears.takes in
-      let mid : Receiving = takes.0 in
-      let primary : TakesPrimary kinds now c s.seen s.packets hears.outcome mid = subst (λ (x : Kinds). TakesPrimary x now c s.seen s.packets hears.outcome mid) tuned.kinds_are takes.1 in
-      let pushed_if : Bool = is_own_media kinds c && not (is_repeat kinds s.seen s.packets c.header.timestamp c.header.sequence_number) in
-      let one = primary_fed pushed_if k now q c s.packets mid hears.outcome
-      refl refl is.there inside tuned.steady answer_q (timely_at k later q s tuned is.there number in_time) primary in
-      let numbering : mid.numbering ≡ numbering_after s.packets.numbering ((first + k) % 2 ^ 16) = one.1 ∙ ap (λ (n : ℕ). numbering_after s.packets.numbering (n % 2 ^ 16)) number in
-      let past : IsPast (first + k) backward mid.numbering =
-      subst (IsPast (first + k) backward) (sym numbering) (subst (λ (b : ℕ). IsPast (first + k) b (numbering_after s.packets.numbering ((first + k) % 2 ^ 16))) tuned.steady.backward_is
-      (past_number s.packets.numbering ((first + k) % 2 ^ 16) (first + k) answer)) in
-      let holding : Holding = record { packets = mid; seen = primary_seen (is_own_media s.stream c) hears.outcome c.header.timestamp (has_restarted s.packets mid) s.seen } in
-      let end : Holding = record { packets = hears.packets; seen = hears.seen } in
-      let blocks = blocks_are stream packets w first k now kinds l.red.receiver q l.given is.there number in
-      let others : RecoversUnless (is_suspect hears.outcome) hears.whole (all_carried kinds now c) holding end =
-      subst (λ (x : Kinds). RecoversUnless (is_suspect hears.outcome) hears.whole (all_carried x now c) holding end) tuned.kinds_are takes.2 in
-      let stored = recovered_unless (is_suspect hears.outcome) hears.whole (all_carried kinds now c) k now holding end inside blocks past one.0.steady others in
-      let all : IsFed now s.packets hears.packets = fed_then now s.packets mid hears.packets one.0 stored.fed in
-      let packets_is : t.packets ≡ hears.packets = ap (λ (x : Session). x.packets) hears.left in
-      let own : is_own_media kinds c ≡ true = own_primary k q in
-      let new : HasNoBlock s.seen → (is_own_media kinds c && not (is_repeat kinds s.seen s.packets c.header.timestamp c.header.sequence_number)) ≡ true = λ none.
-      let fresh : is_repeat kinds s.seen s.packets c.header.timestamp c.header.sequence_number ≡ false =
-      ap (λ (x : Kinds). is_repeat x s.seen s.packets c.header.timestamp c.header.sequence_number) (sym tuned.kinds_are) ∙ not_repeated s c.header.timestamp c.header.sequence_number none in
-      rw (own, fresh) refl in
-      let stamped : (record { number = q.number; time = q.rtp_time }) ≡ stamp first packets k =
-      ap (λ (n : ℕ). record { number = n; time = q.rtp_time }) number ∙ ap (λ (n : ℕ). record { number = first + k; time = n }) (time_at packets k q is.there) in
-      let first_is : t.packets.first ≡ mid.first = ap (λ (x : Receiving). x.first) packets_is ∙ stored.first in
-      record {
-        timely = λ ks in_time_so.
-            let some : (pushed_if ≡ true) ⊎ (is_some s.packets.first ≡ true) = elim in_time_so.0 [ inl none ↦ inl (new none) | inr has ↦ inr has ] in
-            let here = timely_after pushed_if k ks s.packets.first mid.first some in_time_so.1
-            (subst (λ (x : NotedTime). FirstAfter pushed_if x s.packets.first mid.first) stamped one.2) in (
-              inr (ap is_some first_is ∙ here.0),
-              subst (λ (o : Option NotedTime). StayTimely stream.clock_rate first packets o ks) (sym first_is) here.1,
-            );
-        fed = subst (IsFed now s.packets) (sym packets_is) all;
-        numbering = ap (λ (x : Receiving). x.numbering) packets_is ∙ (stored.numbering ∙ numbering);
-        tuned = record {
-          kinds_are = ap (λ (x : Session). x.stream) hears.left ∙ tuned.kinds_are;
-          named = ap (λ (x : Session). x.named) hears.left ∙ tuned.named;
-          ssrc = ap (λ (x : Session). x.ssrc) hears.left;
-          drops_none = ap (λ (x : Session). x.gates.drops) hears.left ∙ tuned.drops_none;
-          steady = subst Steady (sym packets_is) all.steady;
-        };
-      }
-
-  -- the effect of a pop
-  pub record IsPoppedOnce (now : Ticks) (answer : Answer) (s t : Session) : Type 0 where
-    pub up : State
-    pub up_is : up ≡ (settled s.packets).buffer
-    pub raised_to : IsRaised s.packets.buffer up
-    pub no_media : t.packets.no_media_numbers ≡ (settled s.packets).no_media_numbers
-    pub wait : Option ℕ
-    pub wait_is : wait ≡ waiting_at (settled s.packets) now.0
-    pub pops : PopsWaiting wait up answer t.packets.buffer
-    pub numbering : t.packets.numbering ≡ s.packets.numbering
-    pub ended : t.packets.ended ≡ s.packets.ended
-    pub tuned : Tuned t
-    pub timely : (ks : List ℕ) → Timely s ks → Timely t ks
-
-  pub pop_once : (now : Ticks) (answer : Answer) (s t : Session) → Tuned s → answer ≢ Some (Err faults.OutOfMemory) → PopsUnit now s answer t → IsPoppedOnce now answer s t
-  pop_once now answer s t tuned not_memory gated =
-      let popped : PopsOnce now.0 s answer t = pops_at_once now.0 s answer t tuned.drops_none gated in
-      let r : Receiving = settled s.packets in
-      let up = raised s.packets.buffer s.packets.no_media_numbers in
-      let wait : Option ℕ = waiting_at r now.0 in
-      let of_codec : is_built_in_depacketizer r.buffer.depacketizer ≡ true = ap (λ (x : State). is_built_in_depacketizer x.depacketizer) up.is ∙ tuned.steady.of_codec in
-      let turn = turn_of wait r answer popped.0 of_codec not_memory popped.1 in
-      let packets_is : t.packets ≡ popped.0 = ap (λ (x : Session). x.packets) popped.2 in
-      record {
-        up = r.buffer;
-        up_is = refl;
-        raised_to = up;
-        no_media = ap (λ (x : Receiving). x.no_media_numbers) packets_is ∙ turn.no_media_numbers;
-        wait = wait;
-        wait_is = refl;
-        pops = subst (λ (x : Receiving). PopsWaiting wait r.buffer answer x.buffer) (sym packets_is) turn.pops;
-        numbering = ap (λ (x : Receiving). x.numbering) packets_is ∙ turn.numbering;
-        ended = ap (λ (x : Receiving). x.ended) packets_is ∙ turn.ended;
-        timely = λ ks. timely_same ks s t (ap (λ (x : Session). x.seen) popped.2) (ap (λ (x : Receiving). x.first) packets_is ∙ turn.first);
-        tuned = record {
-          kinds_are = ap (λ (x : Session). x.stream) popped.2 ∙ tuned.kinds_are;
-          named = ap (λ (x : Session). x.named) popped.2 ∙ tuned.named;
-          ssrc = ap (λ (x : Session). x.ssrc) popped.2 ∙ tuned.ssrc;
-          drops_none = ap (λ (x : Session). x.gates.drops) popped.2 ∙ (drops_stay _ s.gates _ answer ∙ tuned.drops_none);
-          steady = record {
-            rate = ap (λ (x : Receiving). x.rate) packets_is ∙ (turn.rate ∙ tuned.steady.rate);
-            running = ap (λ (x : Receiving). x.is_restarting) packets_is ∙ (turn.is_restarting ∙ tuned.steady.running);
-            of_codec = ap (λ (x : Receiving). is_built_in_depacketizer x.buffer.depacketizer) packets_is ∙ turn.of_codec;
-            forward_is = ap (λ (x : Receiving). x.numbering.forward) packets_is ∙ (ap (λ (x : Numbering). x.forward) turn.numbering ∙ tuned.steady.forward_is);
-            backward_is = ap (λ (x : Receiving). x.numbering.backward) packets_is ∙ (ap (λ (x : Numbering). x.backward) turn.numbering ∙ tuned.steady.backward_is);
-            times = subst (AreTimesOf time_of) (sym (ap (λ (x : Receiving). x.noted) packets_is ∙ turn.noted)) tuned.steady.times;
-          };
-        };
-      }
-
-  -- at the end of the stream no packet waits for the choice
-  pub finish_is : (s t : Session) → Tuned s → Ends s t → t ≡ ended s
-  finish_is s t tuned finishes =
-      let none : first_waiting s ≡ None = ap (λ (o : Option ℕ). cond (is_none_of o) (slice_get s.choice.candidates 0) None) tuned.ssrc in
-      let stays : SettlesOn None true s finishes.0 = subst (λ (o : Option Candidate). SettlesOn o true s finishes.0) none finishes.1 in
-      finishes.2 ∙ ap ended stays.1
-
-  pub tuned_ended : (s : Session) → Tuned s → Tuned (ended s)
-  tuned_ended s tuned = record {
-    kinds_are = tuned.kinds_are;
-    named = tuned.named;
-    ssrc = tuned.ssrc;
-    drops_none = tuned.drops_none;
-    steady = record {
-      rate = tuned.steady.rate;
-      running = refl;
-      of_codec = tuned.steady.of_codec;
-      forward_is = tuned.steady.forward_is;
-      backward_is = tuned.steady.backward_is;
-      times = tuned.steady.times;
-    };
-  }
-
-  -- the steps of the receiver are a course of its buffer
-  pub red_course : (later : List DatagramStep) (s t : Session) (answers : List Answer) → Tuned s → AllNumbered first s.packets.numbering (delivered later) → Timely s (delivered later)
-      → ((step : DatagramStep) → IsIn step later → IsIn step received) → RedTakes later l.written s answers t
-      → Course Known packets later s.packets.buffer answers t.packets.buffer
-  red_course [] s t answers tuned numbers in_time inside takes = (takes.0, ap (λ (x : Session). x.packets.buffer) takes.1)
-  red_course (steps.Send i ∷ later) s t answers tuned numbers in_time inside takes = red_course later s t answers tuned numbers in_time (λ step is. inside step (inr is)) takes
-  red_course (steps.Deliver k now ∷ later) s t answers tuned numbers in_time inside takes =
-      let mid : Session = takes.3 in
-      let there : Contains received (steps.Deliver k now) = contains_in (steps.Deliver k now) received (inside (steps.Deliver k now) (inl refl)) in
-      let one = deliver_fed k now takes.0 s mid takes.2 tuned there takes.1 numbers.0 (delivered later) in_time takes.4 in
-      let rest = red_course later mid t answers one.tuned (subst (λ (n : Numbering). AllNumbered first n (delivered later)) (sym one.numbering) numbers.1) (one.timely (delivered later) in_time) (λ step is. inside step (inr is)) takes.5 in
-      (one.fed.ps, mid.packets.buffer, one.fed.feeds, rest)
-  red_course (steps.Pop now ∷ later) s t answers tuned numbers in_time inside takes =
-      let mid : Session = takes.2 in
-      let one = pop_once now takes.0 s mid tuned takes.4 takes.5 in
-      let rest = red_course later mid t takes.1 one.tuned (subst (λ (n : Numbering). AllNumbered first n (delivered later)) (sym one.numbering) numbers) (one.timely (delivered later) in_time) (λ step is. inside step (inr is)) takes.6 in
-      (takes.0, takes.1, one.up, one.wait, mid.packets.buffer, takes.3, one.raised_to, one.pops, rest)
-  red_course (steps.Finish ∷ later) s t answers tuned numbers in_time inside takes =
-      let at_end : takes.0 ≡ ended s = finish_is s takes.0 tuned takes.1 in
-      red_course later (ended s) t answers (tuned_ended s tuned) numbers in_time (λ step is. inside step (inr is)) (subst (λ (x : Session). RedTakes later l.written x answers t) at_end takes.2)

@@ -1,30 +1,35 @@
 -- The units that a run in RED releases, from three parts: what it sends, what it receives, and the theorem of the buffer.
 use Rattle.std.proofs.Common.{◌≡◌, ◌∙◌, refl, sym, ap, subst, ℕ, ◌+◌, ◌-◌, ◌%◌, ◌^◌, ◌<◌, ◌≤◌, ◌&&◌, List, [], ◌∷◌, ◌++◌, inr, inl, Bool, true, false, not, eqb, ltb, leb, Option, None, Some, Result, Ok, Err, length, arith}
+use Rattle.std.specs.Prelude.{slice_get}
 use Rattle.std.proofs.lemmas.Bool.{and_parts, eq-eqb, leb-true}
 use Rattle.std.proofs.lemmas.Option.{slice_get_within}
-use Rattle.codec_payload_buffer.proofs.MemberLemmas.{IsIn, in_contains, in_right}
+use Rattle.codec_payload_base.specs.declared.wire.Ticks.{Ticks}
+use Rattle.codec_payload_buffer.proofs.MemberLemmas.{IsIn, contains_in, in_contains, in_right}
 use Rattle.codec_payload_buffer.specs.ContiguityTable.{contiguity_for}
+use Rattle.codec_payload_buffer.specs.Held.{Held, has_number}
 use Rattle.codec_payload_buffer.specs.declared.buffer.unit.RtpMeta.{RtpMeta}
 use Rattle.codec_payload_codec.proofs.CodecLemmas.{codec_payloads, marker_free}
 use Rattle.codec_payload_codec.specs.Depacketizers.{DepacketizerKind, DepacketizerState, is_built_in_depacketizer, is_codec, kind_of_depacketizer}
-use Rattle.codec_payload_codec.specs.Packetizers.{may_split, payloads_by}
+use Rattle.codec_payload_codec.specs.Packetizers.{PacketizerState, Vp9Packetizing, is_video, may_split, payloads_by}
 use Rattle.codec_payload_jitter.specs.NotedTimes.{AreTimesOf}
 use Rattle.codec_payload_jitter.specs.Numbers.{Numbering, no_numbers, numbering_within}
 use Rattle.codec_payload_jitter.specs.declared.numbers.WindowError.{WindowError}
 use Rattle.codec_payload_jitter.specs.declared.numbers.WindowError.TheVariants as windows
 use Rattle.codec_payload_red.specs.RedRun.{IsRecoverable}
+use Rattle.codec_payload_sending_history.specs.declared.retransmission.RetransmissionStream.{RetransmissionStream}
 use Rattle.codec_payload_sending_red.specs.Writers.{Writer}
-use Rattle.codec_payload_buffer_runs.proofs.order.RunSettings.{empty, fresh, may_go, setting}
+use Rattle.codec_payload_buffer_runs.proofs.order.RunSettings.{empty, fresh, may_go, ready, setting, tracked}
 use Rattle.codec_payload_buffer_runs.proofs.order.SafetyLemmas.{SendsAll, all_end, sends_all}
-use Rattle.codec_payload_buffer_runs.proofs.order.TurnLemmas.{Setting}
+use Rattle.codec_payload_buffer_runs.proofs.order.TurnLemmas.{ArePushes, IsPush, IsReady, Setting}
 use Rattle.codec_payload_buffer_runs.proofs.units.BuiltInRuns.{plainly, unused_exactly}
 use Rattle.codec_payload_buffer_runs.proofs.units.StreamLemmas.{Streams, streams}
-use Rattle.codec_payload_buffer_runs.proofs.units.UnitRows.{IsFaithful}
+use Rattle.codec_payload_buffer_runs.proofs.units.UnitRows.{IsFaithful, held_as}
 use Rattle.codec_payload_buffer_runs.specs.Exact.{AnswersAll}
 use Rattle.codec_payload_buffer_runs.specs.Headline.{IsUnused}
 use Rattle.codec_payload_buffer_runs.specs.LawfulUnits.{AllLawful}
+use Rattle.codec_payload_buffer_runs.specs.Log as runs
 use Rattle.codec_payload_buffer_runs.specs.RedSchedule.{all_remembered}
-use Rattle.codec_payload_buffer_runs.specs.ReportedIds.{read_by}
+use Rattle.codec_payload_buffer_runs.specs.ReportedIds.{next_id, read_by}
 use Rattle.codec_payload_buffer_runs.specs.Schedule.{Answer, RunState}
 use Rattle.codec_payload_buffer_runs.specs.SentStream.{SentUnit, packets_of, units_of_run}
 use Rattle.codec_payload_buffer_runs.specs.declared.run.Step.{Step}
@@ -38,23 +43,30 @@ use Rattle.codec_payload_receiver.specs.declared.receiver.RedSettings.{RedSettin
 use Rattle.codec_payload_receiver.specs.declared.receiver.Settings.{Settings}
 use Rattle.codec_payload_receiver.specs.declared.receiver.SettingsError.{SettingsError}
 use Rattle.codec_payload_receiver.specs.declared.receiver.SettingsError.TheVariants as settings_errors
+use Rattle.codec_payload_datagram_runs.proofs.RedHearingLemmas.{red_course}
 use Rattle.codec_payload_datagram_runs.proofs.Courses.{proceeds}
 use Rattle.codec_payload_datagram_runs.proofs.DeliveredLemmas.{AllIn}
 use Rattle.codec_payload_datagram_runs.proofs.EventLemmas.{times_from}
+use Rattle.codec_payload_datagram_runs.proofs.LogLemmas.{Chained, all_follow, none_is_lost, none_passed, stretches}
 use Rattle.codec_payload_datagram_runs.proofs.NewReceivers.{IsBegun, new_is_begun, passed}
 use Rattle.codec_payload_datagram_runs.proofs.ReceivingLemmas.{AllNumbered}
+use Rattle.codec_payload_datagram_runs.proofs.RedCopies.{RedProceeds, red_proceeds}
 use Rattle.codec_payload_datagram_runs.proofs.RedCourses.{Course, course_in_order, fed_before}
 use Rattle.codec_payload_datagram_runs.proofs.RedExactLemmas.{IsFillingUp, NearNumbers, answers_exactly, fills}
+use Rattle.codec_payload_datagram_runs.proofs.RedLogLemmas.{HasRedLog, IsPlaced, red_chained, red_log}
+use Rattle.codec_payload_datagram_runs.proofs.RedPushLemmas.{AreBrought, brought_in}
 use Rattle.codec_payload_datagram_runs.proofs.RedReadingLemmas.{IsRedFor, entries_are, written_at}
-use Rattle.codec_payload_datagram_runs.proofs.RedReceivingLemmas.{IsTuned, RedSide, Timely, red_course}
+use Rattle.codec_payload_datagram_runs.proofs.RedReceivingLemmas.{IsTuned, RedSide, Timely}
 use Rattle.codec_payload_datagram_runs.proofs.RedStepLemmas.{RedComes, RedTakes, SendsAlone, only_sends, red_comes_to, same_sends, same_times, sends_alone, writes_count, written_in}
 use Rattle.codec_payload_datagram_runs.proofs.ReleaseLemmas.{AllBelow, first_for, first_low, first_small, numbered_within}
 use Rattle.codec_payload_datagram_runs.proofs.SendingLemmas.{SendsRun, running, same_count, sends_run, times_in}
 use Rattle.codec_payload_datagram_runs.proofs.TimelyLemmas.{StayTimely, stay_timely}
 use Rattle.codec_payload_receiver.proofs.BlockTimeLemmas.{new_has_no_block}
 use Rattle.codec_payload_receiver.specs.RedOnce.{HasNoBlock}
+use Rattle.codec_payload_datagram_runs.specs.RedHistoryReleases.{AreHeardInRed}
+use Rattle.codec_payload_datagram_runs.specs.RedLogs.{IsBroughtBy, KeepsRedPromises, PromisesInRed, PushesAll, RedWireLog, StaysInTurn}
 use Rattle.codec_payload_datagram_runs.specs.RedReleases.{AllComeInRed, IsInRedWithinWindows, IsRedDelivery, ReleaseInRed, ReleasesUnitsInRed, entries_in, is_ssrc_of, red_receiver}
-use Rattle.codec_payload_datagram_runs.specs.RedRuns.{RedRuns, RedWire, WritesAll, begins_in_red}
+use Rattle.codec_payload_datagram_runs.specs.RedRuns.{RedWire, WritesAll, begins_in_red}
 use Rattle.codec_payload_datagram_runs.specs.Releases.{AreDatagrams, ComeWithin, delivered, received_steps, sending_steps, times_sent}
 use Rattle.codec_payload_datagram_runs.specs.WireRuns.{begins}
 use Rattle.codec_payload_datagram_runs.specs.declared.run.DatagramStep.{DatagramStep}
@@ -106,21 +118,31 @@ uses_red s depacketizer receiver red e is =
     }
 
 -- the numbers of datagrams that were sent
-takes_below : (later : List DatagramStep) (written : List (List ℕ)) (s t : Session) (answers : List Answer) → RedTakes later written s answers t → AllBelow (length written) (delivered later)
-takes_below [] written s t answers takes = tt
-takes_below (steps.Send i ∷ later) written s t answers takes = takes_below later written s t answers takes
-takes_below (steps.Deliver k now ∷ later) written s t answers takes = (slice_get_within written k takes.0 takes.1, takes_below later written takes.3 t answers takes.5)
-takes_below (steps.Pop now ∷ later) written s t answers takes = takes_below later written takes.2 t takes.1 takes.6
-takes_below (steps.Finish ∷ later) written s t answers takes = takes_below later written takes.0 t answers takes.2
+takes_below : (again : Option RetransmissionStream) (later : List DatagramStep) (written : List (List ℕ)) (s t : Session) (answers : List Answer) → RedTakes again later written s answers t → AllBelow (length written) (delivered later)
+takes_below again [] written s t answers takes = tt
+takes_below again (steps.Send i ∷ later) written s t answers takes = takes_below again later written s t answers takes
+takes_below again (steps.Deliver k now ∷ later) written s t answers takes = (slice_get_within written k takes.0 takes.1, takes_below again later written takes.5 t answers takes.7)
+takes_below again (steps.Pop now ∷ later) written s t answers takes = takes_below again later written takes.2 t takes.1 takes.6
+takes_below again (steps.Finish ∷ later) written s t answers takes = takes_below again later written takes.0 t answers takes.2
 
 -- at first no time was seen
 none_is_seen : (time : ℕ) → is_seen time none_seen.places ≡ true → ⊥
 none_is_seen time is = absurd (cc)
 
+-- only codecs of video send picture ids
+has_no_ids : (packetizer : PacketizerState) → is_video packetizer ≡ false → next_id packetizer ≡ None
+has_no_ids (Vp9Packetizing sender) none = absurd (cc)
+has_no_ids packetizer none = refl
+
+-- a list of pushes
+each_pushes : (c : Setting) (ps : List Held) → ((p : Held) → IsIn p ps → IsPush c p) → ArePushes c ps
+each_pushes c [] each = tt
+each_pushes c (p ∷ ps) each = (each p (inl refl), each_pushes c ps (λ q is. each q (inr is)))
+
 -- The theorem
 
-module _ (samples : List Sample) (all_steps : List DatagramStep) (sender : Sending) (writer : Writer) (receiver : Session) (t : RedWire)
-    (run : RedRuns samples all_steps (begins_in_red sender writer receiver) t) (within : IsInRedWithinWindows samples all_steps (begins_in_red sender writer receiver) t) where
+module _ (again : Option RetransmissionStream) (samples : List Sample) (all_steps : List DatagramStep) (sender : Sending) (writer : Writer) (receiver : Session) (t : RedWire)
+    (run : RedProceeds again samples all_steps (begins_in_red sender writer receiver) t) (hears : AreHeardInRed again receiver.stream) (within : IsInRedWithinWindows samples all_steps (begins_in_red sender writer receiver) t) where
   abbrev received : List DatagramStep
   received = received_steps samples 0 all_steps t.wire.sends
 
@@ -142,15 +164,15 @@ module _ (samples : List Sample) (all_steps : List DatagramStep) (sender : Sendi
   abbrev backward : ℕ
   backward = within.plain.settings.backward
 
-  comes : RedComes samples all_steps (begins_in_red sender writer receiver) t
-  comes = red_comes_to samples all_steps (begins_in_red sender writer receiver) t run
+  comes : RedComes again samples all_steps (begins_in_red sender writer receiver) t
+  comes = red_comes_to again samples all_steps (begins_in_red sender writer receiver) t run
 
-  takes : RedTakes received t.written receiver t.wire.pops t.wire.session
-  takes = subst (λ (answers : List Answer). RedTakes received t.written receiver answers t.wire.session) (sym comes.pops)
-      (subst (λ (sends : List SentSample). RedTakes (received_steps samples 0 all_steps sends) t.written receiver comes.answers t.wire.session) (sym comes.sends) comes.takes)
+  takes : RedTakes again received t.written receiver t.wire.pops t.wire.session
+  takes = subst (λ (answers : List Answer). RedTakes again received t.written receiver answers t.wire.session) (sym comes.pops)
+      (subst (λ (sends : List SentSample). RedTakes again (received_steps samples 0 all_steps sends) t.written receiver comes.answers t.wire.session) (sym comes.sends) comes.takes)
 
   alone : SendsAlone samples all_steps (begins sender receiver) t
-  alone = sends_alone samples all_steps (begins sender receiver) (begins_in_red sender writer receiver) t run (refl, refl, refl)
+  alone = sends_alone again samples all_steps (begins sender receiver) (begins_in_red sender writer receiver) t run (refl, refl, refl)
 
   begun : IsBegun within.plain.settings within.plain.depacketizer receiver
   begun = new_is_begun within.plain.settings within.plain.depacketizer receiver within.plain.new
@@ -169,10 +191,10 @@ module _ (samples : List Sample) (all_steps : List DatagramStep) (sender : Sendi
       omega (arith, any.at.few, same_count sender.stream any.all alone.end.datagrams any.at.reads, ap length alone.datagrams)
 
   wrote : WritesAll writer t.wire.datagrams t.written t.writer
-  wrote = written_in samples all_steps writer (begins_in_red sender writer receiver) t run (refl, refl)
+  wrote = written_in again samples all_steps writer (begins_in_red sender writer receiver) t run (refl, refl)
 
   below : AllBelow (length t.wire.datagrams) (delivered received)
-  below = subst (λ (n : ℕ). AllBelow n (delivered received)) (writes_count writer t.wire.datagrams t.written t.writer wrote) (takes_below received t.written receiver t.wire.session t.wire.pops takes)
+  below = subst (λ (n : ℕ). AllBelow n (delivered received)) (writes_count writer t.wire.datagrams t.written t.writer wrote) (takes_below again received t.written receiver t.wire.session t.wire.pops takes)
 
   numbers : AllNumbered first receiver.packets.numbering (delivered received)
   numbers = subst (λ (n : Numbering). AllNumbered first n (delivered received)) (sym (ap (λ (x : Session). x.packets.numbering) begun.is))
@@ -290,6 +312,8 @@ module _ (samples : List Sample) (all_steps : List DatagramStep) (sender : Sendi
     written = t.written;
     each = λ k bytes there. written_at sender.stream packets writer t.wire.datagrams t.written t.writer k bytes within.one_red.media_type reads wrote there;
     own_type = own_type;
+    again = again;
+    heard = hears;
   }
 
   nothing_noted : AreTimesOf (times_from first packets) receiver.packets.noted
@@ -347,17 +371,17 @@ module _ (samples : List Sample) (all_steps : List DatagramStep) (sender : Sendi
       let near : NearNumbers first forward back receiver.packets.numbering (delivered come.before) =
       inl (ap (λ (n : Numbering). n.greatest) numbering_is, subst (λ (f : ℕ). ComeWithin f back (delivered come.before)) forward_is come.near) in
       let filling = empty samples sends start after units_sent unused within.plain.readable Known faithful units lawful (sym whole.whole) all_fit in
-      let none_seen_yet : IsFillingUp side receiver.packets.buffer own_type small receiver.packets receiver.seen = record {
+      let none_seen_yet : IsFillingUp side receiver.packets.buffer small receiver.packets receiver.seen = record {
         filling = filling;
         no_media = ap (λ (x : Session). x.packets.no_media_numbers) begun.is;
         seen_held = λ time is. absurd (not_seen time is);
       } in
       let inside : (step : DatagramStep) → IsIn step (come.before ++ steps.Finish ∷ come.after) → IsIn step received = λ step is. subst (IsIn step) (sym come.whole) is in
-      let all = fills side receiver.packets.buffer own_type small back (omega (arith, wide, back_is)) come.before come.after receiver t.wire.session t.wire.pops come.no_pops tuned
+      let all = fills side receiver.packets.buffer small back (omega (arith, wide, back_is)) come.before come.after receiver t.wire.session t.wire.pops come.no_pops tuned
       (subst (λ (ss : List DatagramStep). AllNumbered first receiver.packets.numbering (delivered ss)) come.whole numbers) near
       (subst (λ (ss : List DatagramStep). Timely side receiver (delivered ss)) come.whole in_time) none_seen_yet inside
-      (subst (λ (ss : List DatagramStep). RedTakes ss t.written receiver t.wire.pops t.wire.session) come.whole takes) in
-      answers_exactly side receiver.packets.buffer own_type small come.before come.after receiver t.wire.session t.wire.pops
+      (subst (λ (ss : List DatagramStep). RedTakes again ss t.written receiver t.wire.pops t.wire.session) come.whole takes) in
+      answers_exactly side receiver.packets.buffer small come.before come.after receiver t.wire.session t.wire.pops
       (may_go samples sends start after units_sent unused within.plain.readable Known faithful) all
       (λ step is. inside step (in_right step come.before (steps.Finish ∷ come.after) (inr is)))
       (λ j less.
@@ -367,7 +391,7 @@ module _ (samples : List Sample) (all_steps : List DatagramStep) (sender : Sendi
       not_seen : (time : ℕ) → is_seen time receiver.seen.places ≡ true → ⊥
       not_seen time is = none_is_seen time (subst (λ (x : Session). is_seen time x.seen.places ≡ true) begun.is is)
 
-  pub releases_units : ReleasesUnitsInRed samples all_steps (begins_in_red sender writer receiver) t
+  abbrev releases_units : ReleasesUnitsInRed samples all_steps (begins_in_red sender writer receiver) t
   releases_units = record {
     units = units;
     canonical = units_sent.canonical ∙ ap (units_of_run sender.packetizer samples) (same_sends sender.mtu all_steps);
@@ -380,5 +404,84 @@ module _ (samples : List Sample) (all_steps : List DatagramStep) (sender : Sendi
     exactly = answers_all;
   }
 
+  pub releases_all : ReleasesUnitsInRed samples all_steps (begins_in_red sender writer receiver) t
+  releases_all = releases_units
+
+  -- Pop by pop
+
+  no_ids : next_id sender.packetizer ≡ None
+  no_ids = has_no_ids sender.packetizer within.no_video
+
+  readies : IsReady here 0 receiver.packets.buffer
+  readies = ready samples sends start after units_sent unused within.plain.readable Known faithful units lawful (sym whole.whole)
+
+  abbrev Pushes : ℕ → ℕ → Ticks → DepacketizerState → List Held → Type 0
+  Pushes = PushesAll samples all_steps (begins_in_red sender writer receiver) t packets
+
+  back : receiver.packets.numbering.backward ≡ backward
+  back = ap (λ (x : Session). x.packets.numbering.backward) begun.is
+
+  are_pushes : (highest carrier : ℕ) (now : Ticks) (d : DepacketizerState) (ps : List Held) → kind_of_depacketizer d ≡ kind → Pushes highest carrier now d ps → ArePushes here ps
+  are_pushes highest carrier now d ps reads pushes = each_pushes here ps (λ p is.
+      let one = pushes.each p (contains_in p ps is) in
+      (one.index, one.packet, one.there, one.known, one.held ∙ ap (λ (x : DepacketizerKind). held_as x p.meta one.packet.payload) reads))
+
+  chain : (g : RedWireLog samples all_steps (begins_in_red sender writer receiver) t units) → Chained here receiver.packets.buffer g.turns g.end
+  chain g = red_chained here Pushes are_pushes receiver.packets receiver.packets.ended 0 received 0 (runs.begun receiver.packets.buffer) g.turns g.end readies
+      (record { sent = tt; now = refl }) g.is_log
+
+  module _ (in_turn : StaysInTurn within.red.step backward (delivered received)) where
+    abbrev jump : ℕ
+    jump = in_turn.jump
+
+    gives : (highest carrier : ℕ) (now : Ticks) (d : DepacketizerState) (ps : List Held) → AreBrought side jump in_turn.in_turn highest carrier now d ps
+        → ((j : ℕ) (q : Packet) → slice_get packets j ≡ Some q → IsBroughtBy writer t.wire.datagrams backward highest carrier j → has_number q.number ps ≡ true)
+        → Pushes highest carrier now d ps
+    gives highest carrier now d ps brought all = record {
+      each = λ p is.
+          let one = brought_in side jump in_turn.in_turn highest carrier now d ps p brought (in_contains p ps is) in
+          record {
+            index = one.index;
+            packet = one.packet;
+            there = one.there;
+            brought = subst (λ (b : ℕ). IsBroughtBy writer t.wire.datagrams b highest carrier one.index) (sym back) one.brought;
+            known = one.known.0;
+            by = one.known.1;
+            received = one.received;
+            held = one.held;
+          };
+      all = λ j q there brings. all j q there (subst (λ (b : ℕ). IsBroughtBy writer t.wire.datagrams b highest carrier j) back brings);
+    }
+
+    placed : IsPlaced side jump in_turn.in_turn receiver.packets Pushes gives 0 receiver (delivered received)
+    placed = inl (
+      ap (λ (x : Session). x.packets.numbering.greatest) begun.is,
+      refl,
+      ap (λ (x : Session). x.seen) begun.is,
+      in_turn.near,
+    )
+
+    log : HasRedLog side jump in_turn.in_turn receiver.packets Pushes gives receiver.packets.ended 0 received (runs.begun receiver.packets.buffer) t.wire.pops t.wire.session.packets.buffer
+    log = red_log side jump in_turn.in_turn receiver.packets Pushes gives received 0 0 receiver t.wire.session t.wire.pops tuned (record { wait_limits = refl; room = refl }) numbers placed in_time
+        (ap (λ (x : Session). x.packets.no_media_numbers) begun.is) readies (λ step is. is) takes (runs.begun receiver.packets.buffer) refl
+
+    pub keeps_promises : KeepsRedPromises samples all_steps (begins_in_red sender writer receiver) t
+    keeps_promises = record {
+      released = releases_units;
+      first = first;
+      numbered = whole.numbered;
+      logged = record { turns = log.turns; end = log.end; is_log = log.is_log; answers = log.answers_are; left = log.left };
+      order = λ g. stretches here 0 receiver.packets.buffer g.turns g.end readies (chain g);
+      contiguous = λ g. all_follow here 0 None false receiver.packets.buffer g.turns g.end no_ids readies
+          (tracked samples sends start after units_sent unused within.plain.readable Known faithful units lawful (sym whole.whole)) (chain g);
+      no_silent_loss = λ g. none_is_lost here 0 receiver.packets.buffer g.turns g.end readies (chain g);
+      none_skipped = λ g. none_passed here 0 receiver.packets.buffer g.turns g.end no_ids readies (chain g);
+    }
+
+pub promises_in_red : PromisesInRed
+promises_in_red samples all_steps sender writer receiver t run within in_turn =
+    keeps_promises None samples all_steps sender writer receiver t (red_proceeds None samples all_steps (begins_in_red sender writer receiver) t run) tt within in_turn
+
 pub release_in_red : ReleaseInRed
-release_in_red samples all_steps sender writer receiver t run within = releases_units samples all_steps sender writer receiver t run within
+release_in_red samples all_steps sender writer receiver t run within =
+    releases_all None samples all_steps sender writer receiver t (red_proceeds None samples all_steps (begins_in_red sender writer receiver) t run) tt within

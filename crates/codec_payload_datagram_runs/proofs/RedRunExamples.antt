@@ -1,17 +1,19 @@
 -- The premises of a run in RED can be met.
 use Rattle.std.specs.Global.{Vec}
-use Rattle.std.proofs.Common.{◌≡◌, refl, sym, subst, ℕ, zero, suc, ◌+◌, ◌<◌, ◌≤◌, List, [], ◌∷◌, inl, inr, length, arith, lit<, lit≤}
+use Rattle.std.proofs.Common.{◌≡◌, refl, sym, subst, ℕ, zero, suc, ◌+◌, ◌*◌, ◌<◌, ◌≤◌, List, [], ◌∷◌, inl, inr, length, arith, lit<, lit≤}
 use Rattle.std.specs.Prelude.{Contains}
+use Rattle.std.proofs.Math.Nat.{mul-le-mul_left}
 use Rattle.codec_payload_codec.specs.Depacketizers.{OpusDepacketizing}
 use Rattle.codec_payload_jitter.specs.Numbers.{no_numbers}
 use Rattle.codec_payload_red.specs.RedLevels.{Entry, levels, within}
 use Rattle.codec_payload_red.specs.RedRun.{IsKeptIn, IsRecoverable}
 use Rattle.codec_payload_receiver.specs.declared.receiver.Settings.{Settings}
 use Rattle.codec_payload_datagram_runs.proofs.RedReleaseLemmas.{release_in_red}
+use Rattle.codec_payload_datagram_runs.specs.RedLogs.{StaysInTurn}
 use Rattle.codec_payload_datagram_runs.specs.RedReleases.{AllComeInRed, AreOfOneRed, Carries, IsInRedWithinWindows, entries_in, red_receiver}
 use Rattle.codec_payload_datagram_runs.specs.RedRunExample.{PopsAllInRed, RedCanBeMet, frame_entries, lossy_steps, red_begins, red_session, red_settings, red_used, red_writer}
 use Rattle.codec_payload_datagram_runs.specs.RedRuns.{RedRuns, RedWire}
-use Rattle.codec_payload_datagram_runs.specs.Releases.{IsWithinWindows, delivered, received_steps}
+use Rattle.codec_payload_datagram_runs.specs.Releases.{ComeWithin, IsWithinWindows, delivered, received_steps}
 use Rattle.codec_payload_datagram_runs.specs.WireRunExample.{at, frames_sent, one_each, opus_sender}
 use Rattle.codec_payload_datagram_runs.specs.declared.run.DatagramStep.{DatagramStep}
 use Rattle.codec_payload_datagram_runs.specs.declared.run.DatagramStep.TheVariants as steps
@@ -38,7 +40,7 @@ plain_within no_media = record {
   timely = (λ l. absurd (omega (arith, l)), tt);
 }
 
-recoverable : (no_media : Vec ℕ) → IsRecoverable red_writer.red (red_receiver (red_settings no_media) red_used) red_writer.budget frame_entries
+pub recoverable : (no_media : Vec ℕ) → IsRecoverable red_writer.red (red_receiver (red_settings no_media) red_used) red_writer.budget frame_entries
 recoverable no_media = record {
   fresh = refl;
   accepted = refl;
@@ -94,7 +96,7 @@ each_comes sent entries (suc zero) l = (2, (1, omega arith, refl), inr (subst (�
 each_comes sent entries (suc (suc zero)) l = (2, (1, omega arith, refl), inl refl)
 each_comes sent entries (suc (suc (suc k))) l = absurd (omega (arith, l))
 
-all_come : (sent : List (List ℕ)) → entries_in sent ≡ frame_entries → AllComeInRed 4096 3 (no_numbers 3000 1000) red_writer sent (received_steps frames_sent 0 lossy_steps one_each)
+pub all_come : (sent : List (List ℕ)) → entries_in sent ≡ frame_entries → AllComeInRed 4096 3 (no_numbers 3000 1000) red_writer sent (received_steps frames_sent 0 lossy_steps one_each)
 all_come sent entries = record {
   few = lit≤ tt;
   before = before_end;
@@ -115,5 +117,25 @@ pops_all no_media t run sends count entries =
     (subst (λ (es : List SentSample). AllComeInRed 4096 3 (no_numbers 3000 1000) red_writer t.wire.datagrams (received_steps frames_sent 0 lossy_steps es)) (sym sends) (all_come t.wire.datagrams entries)) in
     (r, r.exactly all)
 
+-- deliveries within a turn of the clock
+
+by_step : (forward backward step : ℕ) (ks : List ℕ) → forward ≤ 32768 → backward < forward → step ≤ 2016 → ComeWithin forward backward ks → StaysInTurn step backward ks
+by_step forward backward step ks few order small near =
+    let most : (64 * forward + backward + 9) * step ≤ (64 * forward + backward + 9) * 2016 = mul-le-mul_left (64 * forward + backward + 9) small in
+    record { jump = forward; near = near; in_turn = omega (arith, most, few, order) }
+
+by_window : (forward backward step : ℕ) (ks : List ℕ) → forward ≤ 4000 → backward < forward → step ≤ 16383 → ComeWithin forward backward ks → StaysInTurn step backward ks
+by_window forward backward step ks few order small near =
+    let most : (64 * forward + backward + 9) * step ≤ (64 * forward + backward + 9) * 16383 = mul-le-mul_left (64 * forward + backward + 9) small in
+    record { jump = forward; near = near; in_turn = omega (arith, most, few, order) }
+
 pub red_can_be_met : RedCanBeMet
-red_can_be_met = record { within = within_by; all_come = all_come; are_delivered = refl; all_popped = pops_all }
+red_can_be_met = record {
+  within = within_by;
+  all_come = all_come;
+  in_turn = record { jump = 3000; near = (lit< tt, (lit< tt, lit≤ tt, tt)); in_turn = lit≤ tt };
+  by_step = by_step;
+  by_window = by_window;
+  are_delivered = refl;
+  all_popped = pops_all;
+}

@@ -8,15 +8,18 @@ use Rattle.std.proofs.lemmas.List.{length-append}
 use Rattle.std.proofs.lemmas.Option.{slice_get_within}
 use Rattle.codec_payload_base.specs.declared.error.PacketError.TheVariants as faults
 use Rattle.codec_payload_base.specs.declared.wire.Ticks.{Ticks}
+use Rattle.codec_payload_sending_history.specs.declared.retransmission.RetransmissionStream.{RetransmissionStream}
 use Rattle.codec_payload_sending_red.specs.Writers.{Writer}
 use Rattle.codec_payload_buffer_runs.specs.Schedule.{Answer}
 use Rattle.codec_payload_buffer_runs.specs.declared.run.Step.{Step}
 use Rattle.codec_payload_buffer_runs.specs.declared.run.Step.TheVariants as run_steps
 use Rattle.codec_payload_payloader.specs.Sending.{Sample}
 use Rattle.codec_payload_receiver.specs.Sessions.{Ends, Session}
+use Rattle.codec_payload_datagram_runs.proofs.Courses.{IsCopy}
+use Rattle.codec_payload_datagram_runs.proofs.RedCopies.{DeliversRedCopy, RedProceeds}
 use Rattle.codec_payload_datagram_runs.proofs.StepLemmas.{get_append, past_end}
 use Rattle.codec_payload_datagram_runs.specs.HistoryRuns.{sent_since}
-use Rattle.codec_payload_datagram_runs.specs.RedRuns.{DeliversWhole, RedRuns, RedWire, WritesAll, WritesWhatIsSent}
+use Rattle.codec_payload_datagram_runs.specs.RedRuns.{DeliversWhole, RedWire, WritesAll, WritesWhatIsSent}
 use Rattle.codec_payload_datagram_runs.specs.Releases.{received_steps, sending_steps, sends_after, sent_after, times_of, times_sent}
 use Rattle.codec_payload_datagram_runs.specs.WireRuns.{DoesStep, PopsUnit, Receipt, Runs, SendsIt, Wire}
 use Rattle.codec_payload_datagram_runs.specs.declared.run.DatagramStep.{DatagramStep}
@@ -68,25 +71,23 @@ written_step samples step w s t gains done before =
     (writes_append w s.wire.datagrams s.written s.writer (sent_since s.wire done.0) done.1 done.2 before done.4))
 
 -- a delivery writes nothing
-written_delivery : (o : Option (List ℕ)) (now : Ticks) (w : Writer) (s t : RedWire)
-    → MatchOption o (t ≡ s) (λ bytes. (receipt : Receipt) × (session : Session) × DeliversWhole now bytes s.wire.session receipt session
-    × (t ≡ record s { wire = record s.wire { session = session; receipts = s.wire.receipts ++ receipt ∷ [] } }))
+written_delivery : (again : Option RetransmissionStream) (o : Option (List ℕ)) (now : Ticks) (w : Writer) (s t : RedWire) → DeliversRedCopy again o now s t
     → WritesAll w s.wire.datagrams s.written s.writer → WritesAll w t.wire.datagrams t.written t.writer
-written_delivery None now w s t same before = subst (λ (x : RedWire). WritesAll w x.wire.datagrams x.written x.writer) (sym same) before
-written_delivery (Some bytes) now w s t done before = subst (λ (x : RedWire). WritesAll w x.wire.datagrams x.written x.writer) (sym done.3) before
+written_delivery again None now w s t same before = subst (λ (x : RedWire). WritesAll w x.wire.datagrams x.written x.writer) (sym same) before
+written_delivery again (Some datagram) now w s t done before = subst (λ (x : RedWire). WritesAll w x.wire.datagrams x.written x.writer) (sym done.5) before
 
-pub written_in : (samples : List Sample) (all_steps : List DatagramStep) (w : Writer) (s t : RedWire) → RedRuns samples all_steps s t
+pub written_in : (again : Option RetransmissionStream) (samples : List Sample) (all_steps : List DatagramStep) (w : Writer) (s t : RedWire) → RedProceeds again samples all_steps s t
     → WritesAll w s.wire.datagrams s.written s.writer → WritesAll w t.wire.datagrams t.written t.writer
-written_in samples [] w s t run before = subst (λ (x : RedWire). WritesAll w x.wire.datagrams x.written x.writer) (sym run) before
-written_in samples (steps.Send i ∷ later) w s t run before =
-    written_in samples later w run.0 t run.2 (written_step samples (steps.Send i) w s run.0 (λ wire does. gained_sample (slice_get samples i) s.wire wire does) run.1 before)
-written_in samples (steps.Deliver k now ∷ later) w s t run before =
-    written_in samples later w run.0 t run.2 (written_delivery (slice_get s.written k) now w s run.0 run.1 before)
-written_in samples (steps.Pop now ∷ later) w s t run before =
-    written_in samples later w run.0 t run.2
+written_in again samples [] w s t run before = subst (λ (x : RedWire). WritesAll w x.wire.datagrams x.written x.writer) (sym run) before
+written_in again samples (steps.Send i ∷ later) w s t run before =
+    written_in again samples later w run.0 t run.2 (written_step samples (steps.Send i) w s run.0 (λ wire does. gained_sample (slice_get samples i) s.wire wire does) run.1 before)
+written_in again samples (steps.Deliver k now ∷ later) w s t run before =
+    written_in again samples later w run.0 t run.2 (written_delivery again (slice_get s.written k) now w s run.0 run.1 before)
+written_in again samples (steps.Pop now ∷ later) w s t run before =
+    written_in again samples later w run.0 t run.2
     (written_step samples (steps.Pop now) w s run.0 (λ wire does. (gained_none s.wire wire (ap (λ (x : Wire). x.datagrams) does.4)).0) run.1 before)
-written_in samples (steps.Finish ∷ later) w s t run before =
-    written_in samples later w run.0 t run.2
+written_in again samples (steps.Finish ∷ later) w s t run before =
+    written_in again samples later w run.0 t run.2
     (written_step samples steps.Finish w s run.0 (λ wire does. (gained_none s.wire wire (ap (λ (x : Wire). x.datagrams) does.2)).0) run.1 before)
 
 -- What is sent does not depend on what is received
@@ -168,63 +169,62 @@ alone_later samples later x t all_steps same alone = record {
   sends = alone.sends;
 }
 
-delivery_alike : (o : Option (List ℕ)) (now : Ticks) (x : Wire) (s t : RedWire)
-    → MatchOption o (t ≡ s) (λ bytes. (receipt : Receipt) × (session : Session) × DeliversWhole now bytes s.wire.session receipt session
-    × (t ≡ record s { wire = record s.wire { session = session; receipts = s.wire.receipts ++ receipt ∷ [] } }))
-    → AreAlike x s → AreAlike x t
-delivery_alike None now x s t same alike = subst (AreAlike x) (sym same) alike
-delivery_alike (Some bytes) now x s t done alike = subst (AreAlike x) (sym done.3) alike
+delivery_alike : (again : Option RetransmissionStream) (o : Option (List ℕ)) (now : Ticks) (x : Wire) (s t : RedWire) → DeliversRedCopy again o now s t → AreAlike x s → AreAlike x t
+delivery_alike again None now x s t same alike = subst (AreAlike x) (sym same) alike
+delivery_alike again (Some datagram) now x s t done alike = subst (AreAlike x) (sym done.5) alike
 
-pub sends_alone : (samples : List Sample) (all_steps : List DatagramStep) (x : Wire) (s t : RedWire) → RedRuns samples all_steps s t → AreAlike x s → SendsAlone samples all_steps x t
-sends_alone samples [] x s t run alike = record {
+pub sends_alone : (again : Option RetransmissionStream) (samples : List Sample) (all_steps : List DatagramStep) (x : Wire) (s t : RedWire) → RedProceeds again samples all_steps s t → AreAlike x s → SendsAlone samples all_steps x t
+sends_alone again samples [] x s t run alike = record {
   end = x;
   runs = refl;
   sending = alike.0 ∙ ap (λ (y : RedWire). y.wire.sending) (sym run);
   datagrams = alike.1 ∙ ap (λ (y : RedWire). y.wire.datagrams) (sym run);
   sends = alike.2 ∙ ap (λ (y : RedWire). y.wire.sends) (sym run);
 }
-sends_alone samples (steps.Send i ∷ later) x s t run alike =
+sends_alone again samples (steps.Send i ∷ later) x s t run alike =
     let done = run.1 in
     let one = send_once samples i (slice_get samples i) x s.wire done.0 refl alike.0 alike.1 alike.2 done.3 in
-    let rest = sends_alone samples later one.0 run.0 t run.2
+    let rest = sends_alone again samples later one.0 run.0 t run.2
     (one.2 ∙ ap (λ (y : RedWire). y.wire.sending) (sym done.5), one.3 ∙ ap (λ (y : RedWire). y.wire.datagrams) (sym done.5), one.4 ∙ ap (λ (y : RedWire). y.wire.sends) (sym done.5)) in
     record { end = rest.end; runs = (one.0, one.1, rest.runs); sending = rest.sending; datagrams = rest.datagrams; sends = rest.sends }
-sends_alone samples (steps.Deliver k now ∷ later) x s t run alike =
+sends_alone again samples (steps.Deliver k now ∷ later) x s t run alike =
     alone_later samples later x t (steps.Deliver k now ∷ later) refl
-    (sends_alone samples later x run.0 t run.2 (delivery_alike (slice_get s.written k) now x s run.0 run.1 alike))
-sends_alone samples (steps.Pop now ∷ later) x s t run alike =
+    (sends_alone again samples later x run.0 t run.2 (delivery_alike again (slice_get s.written k) now x s run.0 run.1 alike))
+sends_alone again samples (steps.Pop now ∷ later) x s t run alike =
     let done = run.1 in
     let same : run.0.wire ≡ record s.wire { session = done.3.1; pops = s.wire.pops ++ done.3.0 ∷ [] } = ap (λ (y : RedWire). y.wire) done.5 ∙ done.3.4 in
     alone_later samples later x t (steps.Pop now ∷ later) refl
-    (sends_alone samples later x run.0 t run.2 (alike.0 ∙ ap (λ (y : Wire). y.sending) (sym same), alike.1 ∙ ap (λ (y : Wire). y.datagrams) (sym same), alike.2 ∙ ap (λ (y : Wire). y.sends) (sym same)))
-sends_alone samples (steps.Finish ∷ later) x s t run alike =
+    (sends_alone again samples later x run.0 t run.2 (alike.0 ∙ ap (λ (y : Wire). y.sending) (sym same), alike.1 ∙ ap (λ (y : Wire). y.datagrams) (sym same), alike.2 ∙ ap (λ (y : Wire). y.sends) (sym same)))
+sends_alone again samples (steps.Finish ∷ later) x s t run alike =
     let done = run.1 in
     let same : run.0.wire ≡ record s.wire { session = done.3.0 } = ap (λ (y : RedWire). y.wire) done.5 ∙ done.3.2 in
     alone_later samples later x t (steps.Finish ∷ later) refl
-    (sends_alone samples later x run.0 t run.2 (alike.0 ∙ ap (λ (y : Wire). y.sending) (sym same), alike.1 ∙ ap (λ (y : Wire). y.datagrams) (sym same), alike.2 ∙ ap (λ (y : Wire). y.sends) (sym same)))
+    (sends_alone again samples later x run.0 t run.2 (alike.0 ∙ ap (λ (y : Wire). y.sending) (sym same), alike.1 ∙ ap (λ (y : Wire). y.datagrams) (sym same), alike.2 ∙ ap (λ (y : Wire). y.sends) (sym same)))
 
 -- What is received
 
--- the receiver makes these steps over these written datagrams, and pops have these answers
-abbrev pub RedTakes : List DatagramStep → List (List ℕ) → Session → List Answer → Session → Type 0
-RedTakes [] written s answers t = (answers ≡ []) × (t ≡ s)
-RedTakes (steps.Send i ∷ later) written s answers t = RedTakes later written s answers t
-RedTakes (steps.Deliver k now ∷ later) written s answers t =
-    (bytes : List ℕ) × (slice_get written k ≡ Some bytes) × (receipt : Receipt) × (mid : Session) × DeliversWhole now bytes s receipt mid × RedTakes later written mid answers t
-RedTakes (steps.Pop now ∷ later) written s answers t =
-    (answer : Answer) × (more : List Answer) × (mid : Session) × (answers ≡ answer ∷ more) × (answer ≢ Some (Err faults.OutOfMemory)) × PopsUnit now s answer mid × RedTakes later written mid more t
-RedTakes (steps.Finish ∷ later) written s answers t = (mid : Session) × Ends s mid × RedTakes later written mid answers t
+-- the receiver makes these steps over copies of these written datagrams, and pops have these answers
+abbrev pub RedTakes : Option RetransmissionStream → List DatagramStep → List (List ℕ) → Session → List Answer → Session → Type 0
+RedTakes again [] written s answers t = (answers ≡ []) × (t ≡ s)
+RedTakes again (steps.Send i ∷ later) written s answers t = RedTakes again later written s answers t
+RedTakes again (steps.Deliver k now ∷ later) written s answers t =
+    (datagram : List ℕ) × (slice_get written k ≡ Some datagram) × (bytes : List ℕ) × IsCopy again datagram bytes
+    × (receipt : Receipt) × (mid : Session) × DeliversWhole now bytes s receipt mid × RedTakes again later written mid answers t
+RedTakes again (steps.Pop now ∷ later) written s answers t =
+    (answer : Answer) × (more : List Answer) × (mid : Session) × (answers ≡ answer ∷ more) × (answer ≢ Some (Err faults.OutOfMemory)) × PopsUnit now s answer mid
+    × RedTakes again later written mid more t
+RedTakes again (steps.Finish ∷ later) written s answers t = (mid : Session) × Ends s mid × RedTakes again later written mid answers t
 
 -- the effect of the steps of a run
-pub record RedComes (samples : List Sample) (all_steps : List DatagramStep) (s t : RedWire) : Type 0 where
+pub record RedComes (again : Option RetransmissionStream) (samples : List Sample) (all_steps : List DatagramStep) (s t : RedWire) : Type 0 where
   pub later : List SentSample
   pub sends : t.wire.sends ≡ s.wire.sends ++ later
   pub answers : List Answer
   pub pops : t.wire.pops ≡ s.wire.pops ++ answers
   pub grows : (k : ℕ) (bytes : List ℕ) → slice_get s.written k ≡ Some bytes → slice_get t.written k ≡ Some bytes
-  pub takes : RedTakes (received_steps samples (length s.written) all_steps later) t.written s.wire.session answers t.wire.session
+  pub takes : RedTakes again (received_steps samples (length s.written) all_steps later) t.written s.wire.session answers t.wire.session
 
-module _ (samples : List Sample) where
+module _ (again : Option RetransmissionStream) (samples : List Sample) where
   abbrev Received : ℕ → List DatagramStep → List SentSample → List DatagramStep
   Received = received_steps samples
 
@@ -242,7 +242,7 @@ module _ (samples : List Sample) where
       → MatchOption o (wire ≡ s.wire) (λ sample. (entry : SentSample) × SendsIt sample s.wire.sending s.wire.datagrams entry wire.sending wire.datagrams
       × (wire ≡ record s.wire { sending = wire.sending; datagrams = wire.datagrams; sends = s.wire.sends ++ entry ∷ [] }))
       → length outs ≡ length (sent_since s.wire wire)
-      → RedComes samples later (after_step s wire outs writer) t → RedComes samples (steps.Send i ∷ later) s t
+      → RedComes again samples later (after_step s wire outs writer) t → RedComes again samples (steps.Send i ∷ later) s t
   send_comes None i later s wire outs writer t is same count comes =
       let length_same = count_same s wire outs count (ap (λ (x : Wire). x.datagrams) same) in
       record {
@@ -251,9 +251,9 @@ module _ (samples : List Sample) where
         answers = comes.answers;
         pops = comes.pops ∙ ap (λ (x : Wire). x.pops ++ comes.answers) same;
         grows = λ k bytes there. comes.grows k bytes (get_append s.written outs k bytes there);
-        takes = subst (λ (o : Option Sample). RedTakes (Received (sent_after (length s.written) o comes.later) later (sends_after o comes.later)) t.written s.wire.session comes.answers t.wire.session) (sym is)
-            (subst (λ (x : Session). RedTakes (Received (length s.written) later comes.later) t.written x comes.answers t.wire.session) (ap (λ (x : Wire). x.session) same)
-            (subst (λ (n : ℕ). RedTakes (Received n later comes.later) t.written wire.session comes.answers t.wire.session) length_same comes.takes));
+        takes = subst (λ (o : Option Sample). RedTakes again (Received (sent_after (length s.written) o comes.later) later (sends_after o comes.later)) t.written s.wire.session comes.answers t.wire.session) (sym is)
+            (subst (λ (x : Session). RedTakes again (Received (length s.written) later comes.later) t.written x comes.answers t.wire.session) (ap (λ (x : Wire). x.session) same)
+            (subst (λ (n : ℕ). RedTakes again (Received n later comes.later) t.written wire.session comes.answers t.wire.session) length_same comes.takes));
       }
   send_comes (Some sample) i later s wire outs writer t is done count comes =
       let entry : SentSample = done.0 in
@@ -266,18 +266,16 @@ module _ (samples : List Sample) where
         answers = comes.answers;
         pops = comes.pops ∙ ap (λ (x : Wire). x.pops ++ comes.answers) done.2;
         grows = λ k bytes there. comes.grows k bytes (get_append s.written outs k bytes there);
-        takes = subst (λ (o : Option Sample). RedTakes (Received (sent_after (length s.written) o (entry ∷ comes.later)) later (sends_after o (entry ∷ comes.later)))
+        takes = subst (λ (o : Option Sample). RedTakes again (Received (sent_after (length s.written) o (entry ∷ comes.later)) later (sends_after o (entry ∷ comes.later)))
             t.written s.wire.session comes.answers t.wire.session) (sym is)
-            (subst (λ (n : ℕ). RedTakes (Received n later comes.later) t.written s.wire.session comes.answers t.wire.session) length_more
-            (subst (λ (x : Session). RedTakes (Received (length (s.written ++ outs)) later comes.later) t.written x comes.answers t.wire.session) session comes.takes));
+            (subst (λ (n : ℕ). RedTakes again (Received n later comes.later) t.written s.wire.session comes.answers t.wire.session) length_more
+            (subst (λ (x : Session). RedTakes again (Received (length (s.written ++ outs)) later comes.later) t.written x comes.answers t.wire.session) session comes.takes));
       }
 
-  deliver_comes : (o : Option (List ℕ)) (k : ℕ) (now : Ticks) (later : List DatagramStep) (s mid t : RedWire) → slice_get s.written k ≡ o
-      → MatchOption o (mid ≡ s) (λ bytes. (receipt : Receipt) × (session : Session) × DeliversWhole now bytes s.wire.session receipt session
-      × (mid ≡ record s { wire = record s.wire { session = session; receipts = s.wire.receipts ++ receipt ∷ [] } }))
-      → RedComes samples later mid t → RedComes samples (steps.Deliver k now ∷ later) s t
+  deliver_comes : (o : Option (List ℕ)) (k : ℕ) (now : Ticks) (later : List DatagramStep) (s mid t : RedWire) → slice_get s.written k ≡ o → DeliversRedCopy again o now s mid
+      → RedComes again samples later mid t → RedComes again samples (steps.Deliver k now ∷ later) s t
   deliver_comes None k now later s mid t is same comes =
-      let c : RedComes samples later s t = subst (λ (x : RedWire). RedComes samples later x t) same comes in
+      let c : RedComes again samples later s t = subst (λ (x : RedWire). RedComes again samples later x t) same comes in
       let past : ltb k (length s.written) ≡ false = le-ltb k (length s.written) (past_end s.written k is) in
       record {
         later = c.later;
@@ -287,20 +285,20 @@ module _ (samples : List Sample) where
         grows = c.grows;
         takes = rw past c.takes;
       }
-  deliver_comes (Some bytes) k now later s mid t is done comes =
-      let c : RedComes samples later (record s { wire = record s.wire { session = done.1; receipts = s.wire.receipts ++ done.0 ∷ [] } }) t =
-      subst (λ (x : RedWire). RedComes samples later x t) done.3 comes in
-      let within : ltb k (length s.written) ≡ true = lt-ltb k (length s.written) (slice_get_within s.written k bytes is) in
+  deliver_comes (Some datagram) k now later s mid t is done comes =
+      let c : RedComes again samples later (record s { wire = record s.wire { session = done.3; receipts = s.wire.receipts ++ done.2 ∷ [] } }) t =
+      subst (λ (x : RedWire). RedComes again samples later x t) done.5 comes in
+      let within : ltb k (length s.written) ≡ true = lt-ltb k (length s.written) (slice_get_within s.written k datagram is) in
       record {
         later = c.later;
         sends = c.sends;
         answers = c.answers;
         pops = c.pops;
         grows = c.grows;
-        takes = rw within (bytes, c.grows k bytes is, done.0, done.1, done.2, c.takes);
+        takes = rw within (datagram, c.grows k datagram is, done.0, done.1, done.2, done.3, done.4, c.takes);
       }
 
-  pub red_comes_to : (all_steps : List DatagramStep) (s t : RedWire) → RedRuns samples all_steps s t → RedComes samples all_steps s t
+  pub red_comes_to : (all_steps : List DatagramStep) (s t : RedWire) → RedProceeds again samples all_steps s t → RedComes again samples all_steps s t
   red_comes_to [] s t run = record {
     later = [];
     sends = ap (λ (x : RedWire). x.wire.sends) run ∙ sym (append-nil s.wire.sends);
@@ -312,14 +310,14 @@ module _ (samples : List Sample) where
   red_comes_to (steps.Send i ∷ later) s t run =
       let done = run.1 in
       send_comes (slice_get samples i) i later s done.0 done.1 done.2 t refl done.3 (writes_count s.writer (sent_since s.wire done.0) done.1 done.2 done.4)
-      (subst (λ (x : RedWire). RedComes samples later x t) done.5 (red_comes_to later run.0 t run.2))
+      (subst (λ (x : RedWire). RedComes again samples later x t) done.5 (red_comes_to later run.0 t run.2))
   red_comes_to (steps.Deliver k now ∷ later) s t run = deliver_comes (slice_get s.written k) k now later s run.0 t refl run.1 (red_comes_to later run.0 t run.2)
   red_comes_to (steps.Pop now ∷ later) s t run =
       let done = run.1 in
       let wire : Wire = done.0 in
       let outs : List (List ℕ) = done.1 in
       let does : wire ≡ record s.wire { session = done.3.1; pops = s.wire.pops ++ done.3.0 ∷ [] } = done.3.4 in
-      let comes : RedComes samples later (after_step s wire outs done.2) t = subst (λ (x : RedWire). RedComes samples later x t) done.5 (red_comes_to later run.0 t run.2) in
+      let comes : RedComes again samples later (after_step s wire outs done.2) t = subst (λ (x : RedWire). RedComes again samples later x t) done.5 (red_comes_to later run.0 t run.2) in
       let length_same = count_same s wire outs (writes_count s.writer (sent_since s.wire wire) outs done.2 done.4) (ap (λ (x : Wire). x.datagrams) does) in
       record {
         later = comes.later;
@@ -334,8 +332,8 @@ module _ (samples : List Sample) where
           refl,
           done.3.2,
           done.3.3,
-          subst (λ (n : ℕ). RedTakes (Received n later comes.later) t.written done.3.1 comes.answers t.wire.session) length_same
-              (subst (λ (x : Session). RedTakes (Received (length (s.written ++ outs)) later comes.later) t.written x comes.answers t.wire.session) (ap (λ (x : Wire). x.session) does) comes.takes),
+          subst (λ (n : ℕ). RedTakes again (Received n later comes.later) t.written done.3.1 comes.answers t.wire.session) length_same
+              (subst (λ (x : Session). RedTakes again (Received (length (s.written ++ outs)) later comes.later) t.written x comes.answers t.wire.session) (ap (λ (x : Wire). x.session) does) comes.takes),
         );
       }
   red_comes_to (steps.Finish ∷ later) s t run =
@@ -343,7 +341,7 @@ module _ (samples : List Sample) where
       let wire : Wire = done.0 in
       let outs : List (List ℕ) = done.1 in
       let does : wire ≡ record s.wire { session = done.3.0 } = done.3.2 in
-      let comes : RedComes samples later (after_step s wire outs done.2) t = subst (λ (x : RedWire). RedComes samples later x t) done.5 (red_comes_to later run.0 t run.2) in
+      let comes : RedComes again samples later (after_step s wire outs done.2) t = subst (λ (x : RedWire). RedComes again samples later x t) done.5 (red_comes_to later run.0 t run.2) in
       let length_same = count_same s wire outs (writes_count s.writer (sent_since s.wire wire) outs done.2 done.4) (ap (λ (x : Wire). x.datagrams) does) in
       record {
         later = comes.later;
@@ -354,7 +352,7 @@ module _ (samples : List Sample) where
         takes = (
           done.3.0,
           done.3.1,
-          subst (λ (n : ℕ). RedTakes (Received n later comes.later) t.written done.3.0 comes.answers t.wire.session) length_same
-              (subst (λ (x : Session). RedTakes (Received (length (s.written ++ outs)) later comes.later) t.written x comes.answers t.wire.session) (ap (λ (x : Wire). x.session) does) comes.takes),
+          subst (λ (n : ℕ). RedTakes again (Received n later comes.later) t.written done.3.0 comes.answers t.wire.session) length_same
+              (subst (λ (x : Session). RedTakes again (Received (length (s.written ++ outs)) later comes.later) t.written x comes.answers t.wire.session) (ap (λ (x : Wire). x.session) does) comes.takes),
         );
       }

@@ -37,15 +37,17 @@ use Rattle.codec_payload_sending.specs.Senders.{Sending}
 use Rattle.codec_payload_receiver.specs.Sessions.{Session}
 use Rattle.codec_payload_receiver.specs.RedOnce.{HasNoBlock}
 use Rattle.codec_payload_receiver.proofs.BlockTimeLemmas.{new_has_no_block}
+use Rattle.codec_payload_datagram_runs.proofs.BroughtLemmas.{Came, pops_came}
 use Rattle.codec_payload_datagram_runs.proofs.Courses.{Proceeds, proceeds}
 use Rattle.codec_payload_datagram_runs.proofs.DeliveredLemmas.{AllIn, delivered_before}
 use Rattle.codec_payload_datagram_runs.proofs.TimelyLemmas.{StayTimely, stay_timely}
 use Rattle.codec_payload_datagram_runs.proofs.EventLemmas.{Brings, HasLog, IsMet, IsRead, delivery_of, met, split_at_end, times_from}
 use Rattle.codec_payload_datagram_runs.proofs.GapLemmas.{only_past_gap}
-use Rattle.codec_payload_datagram_runs.proofs.LogLemmas.{Chained, all_follow, chained, log_known, none_is_lost, none_passed, stretches}
+use Rattle.codec_payload_datagram_runs.proofs.LogLemmas.{Chained, all_follow, all_in_time, chained, log_known, none_is_lost, none_passed, stretches}
 use Rattle.codec_payload_datagram_runs.proofs.NewReceivers.{IsBegun, new_is_begun}
 use Rattle.codec_payload_datagram_runs.proofs.ReceivingLemmas.{AllNumbered, IsListening}
 use Rattle.codec_payload_datagram_runs.proofs.SendingLemmas.{SendsRun, running, same_count, sends_run}
+use Rattle.codec_payload_datagram_runs.proofs.HeldLemmas.{AllHeld}
 use Rattle.codec_payload_datagram_runs.proofs.StepLemmas.{ComesTo, Takes, comes_to}
 use Rattle.codec_payload_datagram_runs.proofs.ValueLemmas.{has_values}
 use Rattle.codec_payload_datagram_runs.specs.HistoryReleases.{AreHeard}
@@ -345,6 +347,9 @@ module _ (again : Option RetransmissionStream) (samples : List Sample) (all_step
     contiguous = λ plain l. all_follow here 0 None false receiver.packets.buffer l.turns l.end plain readies
         (tracked samples sends start after units_sent unused within.readable Known faithful units lawful (sym whole.whole)) (chain l);
     no_silent_loss = λ l. none_is_lost here 0 receiver.packets.buffer l.turns l.end readies (chain l);
+    in_time = λ l. all_in_time here receiver.packets.buffer l.turns l.end readies (ap (λ (x : Session). x.packets.buffer.cutoff) begun.is) (chain l);
+    before_pops = (pops_came rate first (packets_of units) whole.numbered receiver.packets.ended received [] come.events receiver.packets.buffer t.session.packets.buffer t.pops come.brings meets
+        (subst (λ (x : Session). AllHeld (Came []) x.packets.buffer.held) (sym begun.is) tt)).0;
     none_skipped = λ plain l. none_passed here 0 receiver.packets.buffer l.turns l.end plain readies (chain l);
     skipped_past_gap = λ l. only_past_gap here receiver.packets.buffer l.turns l.end readies
         (nothing samples sends start after units_sent unused within.readable Known faithful units lawful (sym whole.whole)) (chain l);

@@ -40,11 +40,11 @@ abbrev pub From : ℕ → List (List ℕ) → Type 0
 From n [] = Unit {0}
 From n (d ∷ ds) = (number_in d ≡ Some (n % 65536)) × From (n + 1) ds
 
-from_same : (n m : ℕ) (ds : List (List ℕ)) → n % 65536 ≡ m % 65536 → From n ds → From m ds
+pub from_same : (n m : ℕ) (ds : List (List ℕ)) → n % 65536 ≡ m % 65536 → From n ds → From m ds
 from_same n m [] same from = tt
 from_same n m (d ∷ ds) same from = (from.0 ∙ ap Some same, from_same (n + 1) (m + 1) ds (omega (arith, same)) from.1)
 
-from_append : (n : ℕ) (ds es : List (List ℕ)) → From n ds → From (n + length ds) es → From n (ds ++ es)
+pub from_append : (n : ℕ) (ds es : List (List ℕ)) → From n ds → From (n + length ds) es → From n (ds ++ es)
 from_append n [] es here more = subst (λ (m : ℕ). From m es) (omega arith) more
 from_append n (d ∷ ds) es here more = (here.0, from_append (n + 1) ds es here.1 (subst (λ (m : ℕ). From m es) (omega arith) more))
 
@@ -78,11 +78,11 @@ packet_of d n e = by_read (rtp_at d) refl e
 -- What a step sends
 
 -- a step of a run without a history has sent these datagrams
-record Grows (s t : Wire) : Type 0 where
-  new : List (List ℕ)
-  whole : t.datagrams ≡ s.datagrams ++ new
-  numbers : From s.sending.stream.number new
-  next : t.sending.stream.number % 65536 ≡ (s.sending.stream.number + length new) % 65536
+pub record Grows (s t : Wire) : Type 0 where
+  pub new : List (List ℕ)
+  pub whole : t.datagrams ≡ s.datagrams ++ new
+  pub numbers : From s.sending.stream.number new
+  pub next : t.sending.stream.number % 65536 ≡ (s.sending.stream.number + length new) % 65536
 
 grows_none : (s t : Wire) → t.sending ≡ s.sending → t.datagrams ≡ s.datagrams → Grows s t
 grows_none s t sending datagrams = record {
@@ -123,16 +123,16 @@ grows_not : (o : Option (List ℕ)) (now : Ticks) (s t : Wire)
 grows_not None now s t same = grows_none s t (ap (λ (x : Wire). x.sending) same) (ap (λ (x : Wire). x.datagrams) same)
 grows_not (Some bytes) now s t done = grows_none s t (ap (λ (x : Wire). x.sending) done.3) (ap (λ (x : Wire). x.datagrams) done.3)
 
-grows : (samples : List Sample) (step : DatagramStep) (s t : Wire) → DoesStep samples step s t → Grows s t
+pub grows : (samples : List Sample) (step : DatagramStep) (s t : Wire) → DoesStep samples step s t → Grows s t
 grows samples (steps.Send i) s t does = grows_sent samples (slice_get samples i) s t does
 grows samples (steps.Deliver k now) s t does = grows_not (slice_get s.datagrams k) now s t does
 grows samples (steps.Pop now) s t does = grows_none s t (ap (λ (x : Wire). x.sending) does.4) (ap (λ (x : Wire). x.datagrams) does.4)
 grows samples steps.Finish s t does = grows_none s t (ap (λ (x : Wire). x.sending) does.2) (ap (λ (x : Wire). x.datagrams) does.2)
 
-new_is : (s t : Wire) (g : Grows s t) → sent_since s t ≡ g.new
+pub new_is : (s t : Wire) (g : Grows s t) → sent_since s t ≡ g.new
 new_is s t g = ap (drop (length s.datagrams)) g.whole ∙ drop-append_seam s.datagrams g.new
 
-from_packets : (n : ℕ) (ds : List (List ℕ)) → From n ds → All IsPacket ds
+pub from_packets : (n : ℕ) (ds : List (List ℕ)) → From n ds → All IsPacket ds
 from_packets n ds from k d within =
     packet_of (get_or ds k d) ((n + k) % 65536) (from_at n k ds (get_or ds k d) from (slice_get-get_or ds k d within))
 
@@ -151,7 +151,7 @@ packets_sent samples step s t does =
 -- The packets of the history
 
 -- each kept packet is a sent datagram: the newest is the last one
-abbrev AreLatest : List (List ℕ) → List Sent → Type 0
+abbrev pub AreLatest : List (List ℕ) → List Sent → Type 0
 AreLatest datagrams packets =
     (place : ℕ) (p : Sent) → slice_get packets place ≡ Some p → (place < length datagrams) × (slice_get datagrams (length datagrams - 1 - place) ≡ Some p.bytes)
 
@@ -165,7 +165,7 @@ get_last : (xs : List (List ℕ)) (x : List ℕ) → slice_get (xs ++ x ∷ []) 
 get_last [] x = refl
 get_last (y ∷ xs) x = get_last xs x
 
-one_more : (xs : List (List ℕ)) (x : List ℕ) → length (xs ++ x ∷ []) ≡ suc (length xs)
+pub one_more : (xs : List (List ℕ)) (x : List ℕ) → length (xs ++ x ∷ []) ≡ suc (length xs)
 one_more [] x = refl
 one_more (y ∷ xs) x = ap suc (one_more xs x)
 
@@ -203,19 +203,19 @@ latest_set datagrams packets place p resent there latest i q now =
     (at.0, at.1 ∙ ap Some was.2)
 
 -- a history of these datagrams, whose next retransmission has this number
-record IsOf (again : Option RetransmissionStream) (number : ℕ) (datagrams : List (List ℕ)) (h : Past) : Type 0 where
-  latest : AreLatest datagrams h.packets
-  few : length h.packets ≤ 32768
-  limit : h.limit ≤ 32768
-  stream : h.stream ≡ again
-  next : h.next ≡ number
+pub record IsOf (again : Option RetransmissionStream) (number : ℕ) (datagrams : List (List ℕ)) (h : Past) : Type 0 where
+  pub latest : AreLatest datagrams h.packets
+  pub few : length h.packets ≤ 32768
+  pub limit : h.limit ≤ 32768
+  pub stream : h.stream ≡ again
+  pub next : h.next ≡ number
 
 -- its highest number is that of the last datagram
-record IsNewest (first : ℕ) (datagrams : List (List ℕ)) (h : Past) : Type 0 where
-  none : datagrams ≡ [] → h.packets ≡ []
-  newest : (n : ℕ) → length datagrams ≡ suc n → h.newest ≡ (first + n) % 65536
-  small : h.newest < 65536
-  some : 1 ≤ h.limit
+pub record IsNewest (first : ℕ) (datagrams : List (List ℕ)) (h : Past) : Type 0 where
+  pub none : datagrams ≡ [] → h.packets ≡ []
+  pub newest : (n : ℕ) → length datagrams ≡ suc n → h.newest ≡ (first + n) % 65536
+  pub small : h.newest < 65536
+  pub some : 1 ≤ h.limit
 
 -- so the next datagram follows it
 comes_next : (first : ℕ) (datagrams : List (List ℕ)) (h : Past) → IsNewest first datagrams h
@@ -247,7 +247,7 @@ keeps_one again first next datagrams d h t of newest is keeps =
       },
     )
 
-keeps_all : (again : Option RetransmissionStream) (first next : ℕ) (datagrams new : List (List ℕ)) (h t : Past) → IsOf again next datagrams h → IsNewest first datagrams h
+pub keeps_all : (again : Option RetransmissionStream) (first next : ℕ) (datagrams new : List (List ℕ)) (h t : Past) → IsOf again next datagrams h → IsNewest first datagrams h
     → From (first + length datagrams) new → KeepsAll h new t → IsOf again next (datagrams ++ new) t × IsNewest first (datagrams ++ new) t
 keeps_all again first next datagrams [] h t of newest from keeps = (
   subst (λ (x : Past). IsOf again next (datagrams ++ []) x) (sym keeps) (subst (λ (ds : List (List ℕ)). IsOf again next ds h) (sym (append-nil datagrams)) of),
@@ -265,7 +265,7 @@ keeps_all again first next datagrams (d ∷ new) h t of newest from keeps =
 none_there : (place : ℕ) (p : Sent) → slice_get [] place ≡ Some p → ⊥
 none_there place p there = absurd (cc)
 
-newest_stays : (first : ℕ) (datagrams : List (List ℕ)) (now : Ticks) (number : ℕ) (h t : Past) (answer : Resent) (bytes : List ℕ) → IsNewest first datagrams h
+pub newest_stays : (first : ℕ) (datagrams : List (List ℕ)) (now : Ticks) (number : ℕ) (h t : Past) (answer : Resent) (bytes : List ℕ) → IsNewest first datagrams h
     → Resends now number h [] answer bytes t → IsNewest first datagrams t
 newest_stays first datagrams now number h t results.Written bytes is resends =
     let left = resends.5 in
@@ -284,22 +284,22 @@ newest_stays first datagrams now number h t results.TooLarge bytes is resends = 
 -- Retransmissions
 
 -- the number after that many retransmissions
-abbrev advanced : Option RetransmissionStream → ℕ → ℕ → ℕ
+abbrev pub advanced : Option RetransmissionStream → ℕ → ℕ → ℕ
 advanced again next zero = next
 advanced again next (suc n) = advanced again (next_after again next) n
 
-advanced_append : (again : Option RetransmissionStream) (next : ℕ) (bs cs : List (List ℕ)) → advanced again (advanced again next (length bs)) (length cs) ≡ advanced again next (length (bs ++ cs))
+pub advanced_append : (again : Option RetransmissionStream) (next : ℕ) (bs cs : List (List ℕ)) → advanced again (advanced again next (length bs)) (length cs) ≡ advanced again next (length (bs ++ cs))
 advanced_append again next [] cs = refl
 advanced_append again next (b ∷ bs) cs = advanced_append again (next_after again next) bs cs
 
-repeats_append : (again : Option RetransmissionStream) (next : ℕ) (datagrams bs : List (List ℕ)) (ks : List ℕ) (cs : List (List ℕ)) (js : List ℕ) → AreRepeats again next datagrams bs ks
+pub repeats_append : (again : Option RetransmissionStream) (next : ℕ) (datagrams bs : List (List ℕ)) (ks : List ℕ) (cs : List (List ℕ)) (js : List ℕ) → AreRepeats again next datagrams bs ks
     → AreRepeats again (advanced again next (length bs)) datagrams cs js → AreRepeats again next datagrams (bs ++ cs) (ks ++ js)
 repeats_append again next datagrams [] [] cs js here more = more
 repeats_append again next datagrams [] (k ∷ ks) cs js here more = absurd here
 repeats_append again next datagrams (b ∷ bs) [] cs js here more = absurd here
 repeats_append again next datagrams (b ∷ bs) (k ∷ ks) cs js here more = (here.0, repeats_append again (next_after again next) datagrams bs ks cs js here.1 more)
 
-repeats_more : (again : Option RetransmissionStream) (next : ℕ) (datagrams new bs : List (List ℕ)) (ks : List ℕ) → AreRepeats again next datagrams bs ks
+pub repeats_more : (again : Option RetransmissionStream) (next : ℕ) (datagrams new bs : List (List ℕ)) (ks : List ℕ) → AreRepeats again next datagrams bs ks
     → AreRepeats again next (datagrams ++ new) bs ks
 repeats_more again next datagrams new [] [] here = tt
 repeats_more again next datagrams new [] (k ∷ ks) here = absurd here
@@ -307,7 +307,7 @@ repeats_more again next datagrams new (b ∷ bs) [] here = absurd here
 repeats_more again next datagrams new (b ∷ bs) (k ∷ ks) here =
     ((here.0.0, get_append datagrams new k here.0.0 here.0.1, here.0.2), repeats_more again (next_after again next) datagrams new bs ks here.1)
 
-copy_at : (again : Option RetransmissionStream) (next : ℕ) (datagrams bs : List (List ℕ)) (ks : List ℕ) (j : ℕ) (bytes : List ℕ) → AreRepeats again next datagrams bs ks → slice_get bs j ≡ Some bytes
+pub copy_at : (again : Option RetransmissionStream) (next : ℕ) (datagrams bs : List (List ℕ)) (ks : List ℕ) (j : ℕ) (bytes : List ℕ) → AreRepeats again next datagrams bs ks → slice_get bs j ≡ Some bytes
     → (k : ℕ) × (slice_get ks j ≡ Some k) × (d : List ℕ) × (slice_get datagrams k ≡ Some d) × IsCopy again d bytes
 copy_at again next datagrams [] ks j bytes repeats there = absurd (cc)
 copy_at again next datagrams (b ∷ bs) [] j bytes repeats there = absurd repeats
@@ -315,7 +315,7 @@ copy_at again next datagrams (b ∷ bs) (k ∷ ks) zero bytes repeats there =
     (k, refl, repeats.0.0, repeats.0.1, subst (IsCopy again repeats.0.0) (same_Some b bytes there) (inr (next, repeats.0.2)))
 copy_at again next datagrams (b ∷ bs) (k ∷ ks) (suc j) bytes repeats there = copy_at again (next_after again next) datagrams bs ks j bytes repeats.1 there
 
-no_copy_at : (again : Option RetransmissionStream) (next : ℕ) (datagrams bs : List (List ℕ)) (ks : List ℕ) (j : ℕ) → AreRepeats again next datagrams bs ks → slice_get bs j ≡ None → slice_get ks j ≡ None
+pub no_copy_at : (again : Option RetransmissionStream) (next : ℕ) (datagrams bs : List (List ℕ)) (ks : List ℕ) (j : ℕ) → AreRepeats again next datagrams bs ks → slice_get bs j ≡ None → slice_get ks j ≡ None
 no_copy_at again next datagrams [] [] j repeats none = refl
 no_copy_at again next datagrams [] (k ∷ ks) j repeats none = absurd repeats
 no_copy_at again next datagrams (b ∷ bs) [] j repeats none = absurd repeats
@@ -327,7 +327,7 @@ latest_is : (first sent place number : ℕ) → place < sent → place < 65536 �
 latest_is first sent place number within few is = omega (arith, within, few, is)
 
 -- the answer of the history repeats the latest datagram with the number
-resends_copy : (again : Option RetransmissionStream) (first next : ℕ) (datagrams : List (List ℕ)) (now : Ticks) (number : ℕ) (h t : Past) (answer : Resent) (bytes : List ℕ)
+pub resends_copy : (again : Option RetransmissionStream) (first next : ℕ) (datagrams : List (List ℕ)) (now : Ticks) (number : ℕ) (h t : Past) (answer : Resent) (bytes : List ℕ)
     → From first datagrams → IsOf again next datagrams h → Resends now number h [] answer bytes t
     → IsOf again (advanced again next (length (written answer bytes))) datagrams t
     × AreRepeats again next datagrams (written answer bytes) (repeated_by answer (latest_with first (length datagrams) number))
@@ -376,13 +376,13 @@ record Comes (again : Option RetransmissionStream) (first begin : ℕ) (samples 
   repeats : AreRepeats again begin t.wire.datagrams t.retransmissions (repeated_in first samples (length s.wire.datagrams) repeated all_steps later more)
 
 -- the entries of sends from a step of the run without a history on, and how many datagrams were sent after it
-record Follows (samples : List Sample) (step : DatagramStep) (s t : Wire) (rest : List SentSample) : Type 0 where
-  later : List SentSample
-  sends : t.sends ++ rest ≡ s.sends ++ later
-  left : sends_by samples step later ≡ rest
-  sent : sent_by samples (length s.datagrams) step later ≡ length t.datagrams
+pub record Follows (samples : List Sample) (step : DatagramStep) (s t : Wire) (rest : List SentSample) : Type 0 where
+  pub later : List SentSample
+  pub sends : t.sends ++ rest ≡ s.sends ++ later
+  pub left : sends_by samples step later ≡ rest
+  pub sent : sent_by samples (length s.datagrams) step later ≡ length t.datagrams
 
-follows_same : (samples : List Sample) (step : DatagramStep) (s t : Wire) (rest : List SentSample) → sends_by samples step rest ≡ rest
+pub follows_same : (samples : List Sample) (step : DatagramStep) (s t : Wire) (rest : List SentSample) → sends_by samples step rest ≡ rest
     → sent_by samples (length s.datagrams) step rest ≡ length s.datagrams → t.sends ≡ s.sends → t.datagrams ≡ s.datagrams → Follows samples step s t rest
 follows_same samples step s t rest left sent sends datagrams = record {
   later = rest;
@@ -413,7 +413,7 @@ follows_not samples k None now s t rest same =
 follows_not samples k (Some bytes) now s t rest done =
     follows_same samples (steps.Deliver k now) s t rest refl refl (ap (λ (x : Wire). x.sends) done.3) (ap (λ (x : Wire). x.datagrams) done.3)
 
-follows : (samples : List Sample) (step : DatagramStep) (s t : Wire) (rest : List SentSample) → DoesStep samples step s t → Follows samples step s t rest
+pub follows : (samples : List Sample) (step : DatagramStep) (s t : Wire) (rest : List SentSample) → DoesStep samples step s t → Follows samples step s t rest
 follows samples (steps.Send i) s t rest does = follows_sent samples i (slice_get samples i) s t rest refl does
 follows samples (steps.Deliver k now) s t rest does = follows_not samples k (slice_get s.datagrams k) now s t rest does
 follows samples (steps.Pop now) s t rest does =
@@ -559,7 +559,7 @@ above_zero : (n : ℕ) → (n ≡ 0 → ⊥) → 1 ≤ n
 above_zero zero some = absurd (some refl)
 above_zero (suc n) some = omega arith
 
-new_history : (settings : HistorySettings) (h : Past) → history_by settings ≡ Ok h → (h.packets ≡ []) × (h.limit ≤ 32768) × (1 ≤ h.limit) × (h.newest ≡ 0)
+pub new_history : (settings : HistorySettings) (h : Past) → history_by settings ≡ Ok h → (h.packets ≡ []) × (h.limit ≤ 32768) × (1 ≤ h.limit) × (h.newest ≡ 0)
 new_history settings h new =
     let a = not_failed (eqb settings.limit 0 || ltb 32768 settings.limit) errors.Limit _ h new in
     let b = not_failed (not (stream_fits settings.stream)) errors.PayloadType _ h a.1 in

@@ -1,6 +1,6 @@
 -- Packets below the first one that are timely: those of a sender whose datagrams come as the premises of a run say.
 use Rattle.std.proofs.Common.{◌≡◌, ◌∙◌, refl, sym, ap, subst, ℕ, zero, suc, ◌+◌, ◌-◌, ◌*◌, ◌%◌, ◌^◌, ◌<◌, ◌≤◌, ◌&&◌, List, [], ◌∷◌, map, Bool, true, false, Option, Some, None, arith, ltb}
-use Rattle.std.specs.Prelude.{slice_get, slice_index_or}
+use Rattle.std.specs.Prelude.{slice_index_or}
 use Rattle.std.proofs.lemmas.Bool.{ltb-true, le-ltb}
 use Rattle.codec_payload_jitter.specs.NotedTimes.{first_or, is_untimely}
 use Rattle.codec_payload_jitter.specs.Numbers.{number_in}

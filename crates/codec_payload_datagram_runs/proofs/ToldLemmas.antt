@@ -1,15 +1,17 @@
 -- A receiver after an announced restart: the next packet of its stream begins new numbers.
-use Rattle.std.proofs.Common.{◌≡◌, ◌≢◌, ◌∙◌, refl, sym, ap, subst, ℕ, ◌+◌, ◌%◌, ◌^◌, ◌<◌, ◌⊎◌, inl, inr, ◌||◌, ◌&&◌, not, cond, List, [], ◌∷◌, Bool, true, false, Option, Some, None, Err, arith}
-use Rattle.std.specs.Prelude.{slice_get, is_some}
+use Rattle.std.proofs.Common.{◌≡◌, ◌≢◌, ◌∙◌, refl, sym, ap, subst, ℕ, ◌+◌, ◌%◌, ◌^◌, ◌<◌, ◌⊎◌, inl, inr, ◌||◌, ◌&&◌, not, cond, List, [], ◌∷◌, Bool, true, false, Option, Some, None, Err}
+use Rattle.std.specs.Prelude.{is_some}
 use Rattle.std.proofs.lemmas.Option.{same_Some}
 use Rattle.codec_payload_base.specs.declared.error.PacketError.TheVariants as faults
 use Rattle.codec_payload_base.specs.declared.wire.RtpHeader.{RtpHeader}
 use Rattle.codec_payload_base.specs.declared.wire.Ticks.{Ticks}
-use Rattle.codec_payload_buffer.specs.Steps.{State}
+use Rattle.codec_payload_buffer.specs.Held.{Held}
+use Rattle.codec_payload_buffer.specs.Steps.{State, arrived, pushed}
+use Rattle.codec_payload_buffer.specs.declared.buffer.unit.RtpMeta.{RtpMeta}
 use Rattle.codec_payload_codec.specs.Depacketizers.{is_built_in_depacketizer}
 use Rattle.codec_payload_jitter.specs.NotedTimes.{AreTimesOf, contradicts, is_untimely}
 use Rattle.codec_payload_jitter.specs.Numbers.{Numbering, answer_anew, begun_with, number_in}
-use Rattle.codec_payload_jitter.specs.Receiving.{Arrival, Confirms, GoesOn, PopsWith, Receives, ReceivesAs, Receiving, Restarts}
+use Rattle.codec_payload_jitter.specs.Receiving.{Arrival, Confirms, GoesOn, PopsWith, Receives, ReceivesAs, Receiving}
 use Rattle.codec_payload_jitter.specs.Receiving.{answer_by_time, answer_in, answer_to, answer_to_contradiction, begun_anew, is_contradicted, numbered, settled, waiting_at, with_first}
 use Rattle.codec_payload_jitter.specs.Receiving as jitter
 use Rattle.codec_payload_jitter.specs.declared.noted_times.NotedTime.{NotedTime}
@@ -17,6 +19,7 @@ use Rattle.codec_payload_jitter.specs.declared.numbers.Extended.{Extended}
 use Rattle.codec_payload_jitter.specs.declared.numbers.Extended.TheVariants as extended
 use Rattle.codec_payload_jitter.specs.declared.outcome.Outcome.{Outcome}
 use Rattle.codec_payload_buffer_runs.specs.Arrivals.{Arrives, Asked, Event, Meets, PopsWaiting}
+use Rattle.codec_payload_buffer_runs.specs.Log.{Stretch, Turn, begun, with_pushes}
 use Rattle.codec_payload_buffer_runs.specs.Schedule.{Answer}
 use Rattle.codec_payload_payloader.specs.Packets.{AreNumbered, Packet}
 use Rattle.codec_payload_sending.specs.declared.sender.Outgoing.{Outgoing}
@@ -28,15 +31,16 @@ use Rattle.codec_payload_receiver.specs.RedOnce.{HasNoBlock}
 use Rattle.codec_payload_receiver.specs.Sessions.{Hears, Session, TakesMedia, ended, packet_seen}
 use Rattle.codec_payload_receiver.specs.declared.receiver.Retransmission.{Retransmission}
 use Rattle.codec_payload_datagram_runs.proofs.Courses.{IsCopy}
-use Rattle.codec_payload_datagram_runs.proofs.EventLemmas.{AllHaveValues, AllTimed, Brings, IsMetOn, met_by, numbering_through, packet_at_index, time_at, values_asked, values_with}
+use Rattle.codec_payload_datagram_runs.proofs.EventLemmas.{AllHaveValues, AllTimed, Brings, HasLog, IsMetOn, IsRead, met_by, numbering_through, packet_at_index, time_at, turn_at, values_asked, values_with}
 use Rattle.codec_payload_datagram_runs.proofs.TimelyLemmas.{StayTimely, time_in, timely_begun}
 use Rattle.codec_payload_datagram_runs.proofs.ReadingLemmas.{datagram_is, packet_at}
-use Rattle.codec_payload_datagram_runs.proofs.ReceivingLemmas.{AllNumbered, IsListening, IsPushedBy, TakesIn, arrival_at, calmed, finishes_at, heard, heard_at_once, not_repeated, same_ssrc}
-use Rattle.codec_payload_datagram_runs.proofs.ReceivingLemmas.{settled_none, still_calm, stored_is_pushed, turn_of, waits_for_nothing, went_in}
+use Rattle.codec_payload_datagram_runs.proofs.ReceivingLemmas.{AllNumbered, IsListening, IsPushedBy, KeepsLimits, TakesIn, arrival_at, calmed, finishes_at, heard, heard_at_once, not_repeated, same_ssrc}
+use Rattle.codec_payload_datagram_runs.proofs.ReceivingLemmas.{keeps_then, settled_none, still_calm, stored_is_pushed, turn_of, wait_same, waits_for_nothing, went_in}
 use Rattle.codec_payload_datagram_runs.proofs.StepLemmas.{Takes}
 use Rattle.codec_payload_datagram_runs.specs.Releases.{AreDatagrams, ReadsAs, delivered, is_sent_again_by}
 use Rattle.codec_payload_datagram_runs.specs.RestartReleases.{EndsAfterFirst, name_in}
 use Rattle.codec_payload_datagram_runs.specs.RestartRuns.{told}
+use Rattle.codec_payload_datagram_runs.specs.WireLogs.{AnswersTurn, IsLogOf, wait_of}
 use Rattle.codec_payload_datagram_runs.specs.WireRuns.{Delivers, PopsUnit, Receipt}
 use Rattle.codec_payload_datagram_runs.specs.declared.run.DatagramStep.{DatagramStep}
 use Rattle.codec_payload_datagram_runs.specs.declared.run.DatagramStep.TheVariants as steps
@@ -202,6 +206,8 @@ record IsPoppedTold (stream : Outgoing) (now : Ticks) (answer : Answer) (s t : S
   numbering : t.packets.numbering ≡ s.packets.numbering
   is_told : IsTold stream t
   kinds : t.stream ≡ s.stream
+  limits : KeepsLimits s.packets t.packets
+  wait_is : wait ≡ waiting_at s.packets now.0
   ended : t.packets.ended ≡ s.packets.ended
 
 pops_told : (stream : Outgoing) (now : Ticks) (answer : Answer) (s t : Session) → IsTold stream s → answer ≢ Some (Err faults.OutOfMemory) → PopsUnit now s answer t → IsPoppedTold stream now answer s t
@@ -240,6 +246,8 @@ pops_told stream now answer s t is_told not_memory gated =
         fresh = ap (λ (x : Receiving). x.first) packets ∙ (turn.first ∙ is_told.fresh);
       };
       kinds = ap (λ (x : Session). x.stream) popped.2;
+      limits = record { wait_limits = ap (λ (x : Receiving). x.wait_limits) packets ∙ turn.limits.wait_limits; room = ap (λ (x : Receiving). x.room) packets ∙ turn.limits.room };
+      wait_is = refl;
       ended = ap (λ (x : Receiving). x.ended) packets ∙ turn.ended;
     }
 
@@ -264,7 +272,30 @@ pub record IsHeard (time_of : ℕ → ℕ) (stream : Outgoing) (packets : List P
   pub times : AreTimesOf time_of t.packets.noted
   pub through : t.packets.numbering ≡ numbering
   pub kinds : t.stream ≡ s.stream
+  pub limits : KeepsLimits s.packets t.packets
   pub calm : IsListening None stream (calmed t)
+  pub logs : (r : Receiving) → KeepsLimits r s.packets → (w : Stretch) → w.now ≡ s.packets.buffer
+      → HasLog (IsRead s.stream.ids stream packets) packets r s.packets.ended all_steps w answers t.packets.buffer
+
+-- receivers with the same limits have the same logs
+log_limits : (known : ℕ → Packet → RtpMeta → Type 0) (packets : List Packet) (r s : Receiving) → KeepsLimits r s → (at_end : Bool) (later : List DatagramStep) (w : Stretch) (turns : List Turn) (end : Stretch)
+    → IsLogOf known packets s at_end later w turns end → IsLogOf known packets r at_end later w turns end
+log_limits known packets r s keeps at_end [] w [] end log = log
+log_limits known packets r s keeps at_end [] w (turn ∷ turns) end log = absurd log
+log_limits known packets r s keeps at_end (steps.Send i ∷ later) w turns end log = log_limits known packets r s keeps at_end later w turns end log
+log_limits known packets r s keeps at_end (steps.Deliver k now ∷ later) w turns end log =
+    (log.0, log.1, log.2, log.3, log.4, log_limits known packets r s keeps at_end later (with_pushes w (arrived w.now.depacketizer log.1 log.0.payload ∷ [])) turns end log.5)
+log_limits known packets r s keeps at_end (steps.Pop now ∷ later) w [] end log = absurd log
+log_limits known packets r s keeps at_end (steps.Pop now ∷ later) w (turn ∷ turns) end log =
+    let same : wait_of s at_end w.now now.0 ≡ wait_of r at_end w.now now.0 =
+    wait_same r (record s { buffer = w.now; ended = at_end }) now.0 (record { wait_limits = keeps.wait_limits; room = keeps.room }) in
+    (log.0, subst (λ (o : Option ℕ). AnswersTurn o w.now turn.passed turn.answer turn.after) same log.1, log_limits known packets r s keeps at_end later (begun turn.after) turns end log.2)
+log_limits known packets r s keeps at_end (steps.Finish ∷ later) w turns end log = log_limits known packets r s keeps true later w turns end log
+
+log_with : (known : ℕ → Packet → RtpMeta → Type 0) (packets : List Packet) (r s : Receiving) → KeepsLimits r s → (at_end : Bool) (later : List DatagramStep) (w : Stretch) (answers : List Answer) (t : State)
+    → HasLog known packets s at_end later w answers t → HasLog known packets r at_end later w answers t
+log_with known packets r s keeps at_end later w answers t log =
+    record { turns = log.turns; end = log.end; is_log = log_limits known packets r s keeps at_end later w log.turns log.end log.is_log; answers_are = log.answers_are; left = log.left }
 
 -- without a restart
 pub heard_on : (time_of : ℕ → ℕ) (first : ℕ) (stream : Outgoing) (packets : List Packet) (all_steps : List DatagramStep) (s : Session) (answers : List Answer) (t : Session)
@@ -278,7 +309,9 @@ heard_on time_of first stream packets all_steps s answers t on = record {
   times = on.times;
   through = on.through;
   kinds = on.kinds;
+  limits = on.limits;
   calm = still_calm None stream t on.listening;
+  logs = λ r keeps w is. log_with (IsRead s.stream.ids stream packets) packets r s.packets keeps s.packets.ended all_steps w answers t.packets.buffer (on.met.logs w is);
 }
 
 module _ (stream : Outgoing) (types : (stream.payload_type < 64) ⊎ (95 < stream.payload_type)) (first : ℕ) (packets : List Packet) (datagrams : List (List ℕ))
@@ -298,7 +331,9 @@ module _ (stream : Outgoing) (types : (stream.payload_type < 64) ⊎ (95 < strea
     times = subst (λ (x : Session). AreTimesOf time_of x.packets.noted) (sym takes.1) times;
     through = ap (λ (x : Session). x.packets.numbering) takes.1;
     kinds = ap (λ (x : Session). x.stream) takes.1;
+    limits = subst (λ (x : Session). KeepsLimits s.packets x.packets) (sym takes.1) (record { wait_limits = refl; room = refl });
     calm = subst (λ (x : Session). IsListening None stream (calmed x)) (sym takes.1) is_told.calm;
+    logs = λ r keeps w is. record { turns = []; end = w; is_log = refl; answers_are = sym takes.0; left = is ∙ sym (ap (λ (x : Session). x.packets.buffer) takes.1) };
   }
   met_told time_of (steps.Send i ∷ later) s t answers is_told in_time numbers timed timely times takes =
       let rest = met_told time_of later s t answers is_told in_time numbers timed timely times takes in
@@ -310,7 +345,9 @@ module _ (stream : Outgoing) (types : (stream.payload_type < 64) ⊎ (95 < strea
         times = rest.times;
         through = rest.through;
         kinds = rest.kinds;
+        limits = rest.limits;
         calm = rest.calm;
+        logs = λ r keeps w is. let l = rest.logs r keeps w is in record { turns = l.turns; end = l.end; is_log = l.is_log; answers_are = l.answers_are; left = l.left };
       }
   met_told time_of (steps.Deliver k now ∷ later) s t answers is_told in_time numbers timed timely times takes =
       let mid : Session = takes.5 in
@@ -339,7 +376,22 @@ module _ (stream : Outgoing) (types : (stream.payload_type < 64) ⊎ (95 < strea
         times = all.times;
         through = all.through ∙ ap (λ (n : Numbering). numbering_through first n (delivered later)) numbering;
         kinds = all.kinds ∙ one.kinds;
+        limits = keeps_then s.packets mid.packets t.packets one.limits all.limits;
         calm = still_calm None stream t all.listening;
+        logs = λ r keeps w is.
+            let h : Held = arrived w.now.depacketizer one.meta q.payload in
+            let next : pushed w.now h ≡ mid.packets.buffer = ap (λ (b : State). pushed b (arrived b.depacketizer one.meta q.payload)) is ∙ sym one.buffer in
+            let here = log_with (IsRead mid.stream.ids stream packets) packets r mid.packets (keeps_then r s.packets mid.packets keeps one.limits) mid.packets.ended later
+            (with_pushes w (h ∷ [])) answers t.packets.buffer (rest.logs (with_pushes w (h ∷ [])) next) in
+            let l = subst (λ (x : Kinds). HasLog (IsRead x.ids stream packets) packets r s.packets.ended later (with_pushes w (h ∷ [])) answers t.packets.buffer) one.kinds
+            (subst (λ (b : Bool). HasLog (IsRead mid.stream.ids stream packets) packets r b later (with_pushes w (h ∷ [])) answers t.packets.buffer) one.ended here) in
+            record {
+              turns = l.turns;
+              end = l.end;
+              is_log = (q, one.meta, p.1, (one.tells, (q, p.1, one.values)), one.received, l.is_log);
+              answers_are = l.answers_are;
+              left = l.left;
+            };
       }
   met_told time_of (steps.Pop now ∷ later) s t answers is_told in_time numbers timed timely times takes =
       let mid : Session = takes.2 in
@@ -354,7 +406,23 @@ module _ (stream : Outgoing) (types : (stream.payload_type < 64) ⊎ (95 < strea
         times = rest.times;
         through = rest.through ∙ ap (λ (n : Numbering). numbering_begun first n (delivered later)) one.numbering;
         kinds = rest.kinds ∙ one.kinds;
+        limits = keeps_then s.packets mid.packets t.packets one.limits rest.limits;
         calm = rest.calm;
+        logs = λ r keeps w is.
+            let wait : one.wait ≡ wait_of r s.packets.ended w.now now.0 =
+            one.wait_is ∙ (wait_same r s.packets now.0 keeps ∙ ap (λ (b : State). wait_of r s.packets.ended b now.0) (sym is)) in
+            let turn = turn_at (wait_of r s.packets.ended w.now now.0) w.now mid.packets.buffer takes.0
+            (subst (λ (o : Option ℕ). PopsWaiting o w.now takes.0 mid.packets.buffer) wait (subst (λ (b : State). PopsWaiting one.wait b takes.0 mid.packets.buffer) (sym is) one.pops)) in
+            let l = subst (λ (x : Kinds). HasLog (IsRead x.ids stream packets) packets r s.packets.ended later (begun mid.packets.buffer) takes.1 t.packets.buffer) one.kinds
+            (subst (λ (b : Bool). HasLog (IsRead mid.stream.ids stream packets) packets r b later (begun mid.packets.buffer) takes.1 t.packets.buffer) one.ended
+            (rest.logs r (keeps_then r s.packets mid.packets keeps one.limits) (begun mid.packets.buffer) refl)) in
+            record {
+              turns = record { stretch = w; passed = turn.0; answer = takes.0; after = mid.packets.buffer } ∷ l.turns;
+              end = l.end;
+              is_log = (refl, turn.1, l.is_log);
+              answers_are = ap (λ (as' : List Answer). takes.0 ∷ as') l.answers_are ∙ sym takes.3;
+              left = l.left;
+            };
       }
   met_told time_of (steps.Finish ∷ later) s t answers is_told in_time numbers timed timely times takes =
       let at_end : takes.0 ≡ ended s = finishes_at stream.ssrc s takes.0 is_told.calm.ssrc takes.1 in
@@ -383,5 +451,9 @@ module _ (stream : Outgoing) (types : (stream.payload_type < 64) ⊎ (95 < strea
         through = subst (λ (ks : List ℕ). t.packets.numbering ≡ numbering_begun first s.packets.numbering ks) (sym in_time)
             (subst (λ (ks : List ℕ). t.packets.numbering ≡ numbering_through first s.packets.numbering ks) in_time all.through);
         kinds = all.kinds;
+        limits = record { wait_limits = all.limits.wait_limits; room = all.limits.room };
         calm = still_calm None stream t all.listening;
+        logs = λ r keeps w is.
+            let l = log_with (IsRead s.stream.ids stream packets) packets r (ended s).packets (record { wait_limits = keeps.wait_limits; room = keeps.room }) true later w answers t.packets.buffer (rest.logs w is) in
+            record { turns = l.turns; end = l.end; is_log = l.is_log; answers_are = l.answers_are; left = l.left };
       }

@@ -1,10 +1,9 @@
 -- If all datagrams of a part arrive before its first pop, its pops return the units of earlier parts that are still held, and then
 -- all units of the part.
-use Rattle.std.proofs.Common.{◌≡◌, ◌≢◌, ◌∙◌, refl, sym, ap, subst, ℕ, suc, ◌+◌, ◌<◌, ◌≤◌, ◌||◌, ◌&&◌, not, cond, List, [], ◌∷◌, ◌++◌, Bool, true, false, Option, Some, None, Ok, Err, arith, length, ltb, eqb, append-nil, inl, inr}
+use Rattle.std.proofs.Common.{◌≡◌, ◌≢◌, ◌∙◌, refl, sym, ap, subst, ℕ, suc, ◌+◌, ◌<◌, ◌≤◌, ◌||◌, cond, List, [], ◌∷◌, ◌++◌, Bool, true, false, Option, Some, None, Ok, Err, arith, length, ltb, eqb, append-nil, inl, inr}
 use Rattle.std.specs.Prelude.{slice_get}
 use Rattle.std.proofs.lemmas.Bool.Decides.{nat_tests}
 use Rattle.std.proofs.lemmas.Option.{slice_get_within}
-use Rattle.codec_payload_base.specs.declared.error.PacketError.{PacketError}
 use Rattle.codec_payload_base.specs.declared.error.PacketError.TheVariants as faults
 use Rattle.codec_payload_buffer.proofs.MemberLemmas.{IsIn}
 use Rattle.codec_payload_buffer.proofs.PlaceLemmas.{length_placed}
@@ -13,7 +12,7 @@ use Rattle.codec_payload_buffer.specs.ContiguityTable.{checked}
 use Rattle.codec_payload_buffer.specs.Frames.{frames}
 use Rattle.codec_payload_buffer.specs.Held.{Held, Rises, above, has_number, placed}
 use Rattle.codec_payload_buffer.specs.Release.{Release}
-use Rattle.codec_payload_buffer.specs.Steps.{AllOfTime, Passes, PassesOver, Pops, PopsOver, Refuses, Releases, State, Unpacked, Unpacks, arrived, due_among, due_of, follows, is_at_most, is_dropped, kept_to_limit, metas_of, none, nothing_unpacked, one_more, packets_of_frame, pushed, without, without_lowest}
+use Rattle.codec_payload_buffer.specs.Steps.{Passes, PassesOver, PopsOver, Releases, State, Unpacked, Unpacks, arrived, due_among, due_of, follows, is_at_most, is_dropped, kept_to_limit, none, nothing_unpacked, one_more, packets_of_frame, pushed, without_lowest}
 use Rattle.codec_payload_buffer.specs.declared.buffer.frames.CompleteFrame.{CompleteFrame}
 use Rattle.codec_payload_buffer.specs.declared.buffer.unit.RtpMeta.{RtpMeta}
 use Rattle.codec_payload_buffer.specs.declared.contiguity.Contiguity.{Contiguity}
@@ -26,11 +25,11 @@ use Rattle.codec_payload_buffer_runs.proofs.order.ExactLemmas.{MayGo, dropped, p
 use Rattle.codec_payload_buffer_runs.proofs.order.FillLemmas.{IsFilled, filled, full_row}
 use Rattle.codec_payload_buffer_runs.proofs.order.FollowsLemmas.{checked_lacks}
 use Rattle.codec_payload_buffer_runs.proofs.order.SafetyLemmas.{next_after}
-use Rattle.codec_payload_buffer_runs.proofs.order.TurnLemmas.{ArePushes, Beyond, FrameOf, IsPush, Setting, count, frame_due}
+use Rattle.codec_payload_buffer_runs.proofs.order.TurnLemmas.{Beyond, FrameOf, IsPush, Setting, count, frame_due}
 use Rattle.codec_payload_buffer_runs.proofs.units.UnitIds.{TellInTurn, told_at}
 use Rattle.codec_payload_buffer_runs.proofs.units.UnitRows.{Exact, exact_payloads, held_as}
 use Rattle.codec_payload_buffer_runs.specs.Arrivals.{Arrives, Asked, Event, HasArrival, Meets, OnlyArrive, PopsWaiting}
-use Rattle.codec_payload_buffer_runs.specs.Exact.{AnswersAll, IsWhole}
+use Rattle.codec_payload_buffer_runs.specs.Exact.{AnswersAll}
 use Rattle.codec_payload_buffer_runs.specs.Headline.{IsUnitAt, packets_before}
 use Rattle.codec_payload_buffer_runs.specs.LawfulUnits.{AllLawful}
 use Rattle.codec_payload_buffer_runs.specs.ReportedIds.{Tells, id_later, read_by}
@@ -38,13 +37,10 @@ use Rattle.codec_payload_buffer_runs.specs.Schedule.{Answer}
 use Rattle.codec_payload_buffer_runs.specs.SentStream.{SentUnit, packets_of}
 use Rattle.codec_payload_payloader.specs.Packets.{AreNumbered, Packet}
 use Rattle.codec_payload_datagram_runs.proofs.EventLemmas.{AllAtOnce}
-use Rattle.codec_payload_datagram_runs.proofs.JoinedFrames.{AllUnder, IsDueIn, due_at_once, due_in, earlier_in, has_later, in_earlier, in_later, joined, later_in, placed_later}
-use Rattle.codec_payload_datagram_runs.proofs.LayerLemmas.{CutoffUnder, IsLow, Order, all_high, before, earlier_over, earlier_releases, later_frame, layered_refuses, low_in, new_stays, number_high, number_is, same_beyond}
-use Rattle.codec_payload_datagram_runs.specs.RestartReleases.{AreEarlier, EndsWithAll}
-
-not_not : (b : Bool) → not (not b) ≡ b
-not_not true = refl
-not_not false = refl
+use Rattle.codec_payload_datagram_runs.proofs.JoinedFrames.{IsDueIn, due_at_once, due_in, earlier_in, has_later, in_earlier, in_later, joined, later_in, placed_later}
+use Rattle.codec_payload_datagram_runs.proofs.LayerLemmas.{IsLow, Order, all_high, before, earlier_over, earlier_releases, later_frame, later_one, layered_refuses, left_of, low_in, new_stays, number_high, number_is, same_beyond, view_of}
+use Rattle.codec_payload_datagram_runs.specs.Deliveries.{IsCutoffBelow}
+use Rattle.codec_payload_datagram_runs.specs.RestartReleases.{EndsWithAll}
 
 or_true : (b : Bool) → (b || true) ≡ true
 or_true true = refl
@@ -89,7 +85,7 @@ module _ (known : ℕ → Packet → RtpMeta → Type 0) (splits : Bool) (units 
     has : has_number n new ≡ true
     still : (m : ℕ) → has_number m before_it ≡ true → has_number m new ≡ true
 
-  not_at_most : (n : ℕ) (m : Option ℕ) → CutoffUnder bound m → bound < n → is_at_most m n ≡ false
+  not_at_most : (n : ℕ) (m : Option ℕ) → IsCutoffBelow bound m → bound < n → is_at_most m n ≡ false
   not_at_most n None under high = refl
   not_at_most n (Some k) under high = grind (arith, nat_tests, under, high)
 
@@ -344,37 +340,6 @@ module _ (known : ℕ → Packet → RtpMeta → Type 0) (splits : Bool) (units 
       (pop_answers c.known c.clock_rate c.first c.kind c.faithful c.splits c.units k rest (record s { hold_back = 0 }) meets.2 meets.0 meets.1 (exactly_with k 0 rest s exactly) pops.0 pops.1
       (λ n left there. answers_after n left events meets.2 t meets.1 (λ i m at. all i m (inr at)) once.1 there meets.5))
 
-  due_marked : (v : State) (b : Bool) (fs : List CompleteFrame) → due_among (record v { evicted = b }) fs ≡ due_among v fs
-  due_marked v b [] = refl
-  due_marked v b (f ∷ fs) = refl
-
-  -- the packets of this part alone, with a mark if the numbers do not follow; and after its first unit
-  abbrev view_of : List Held → State → CompleteFrame → State
-  view_of new s f = record (later_in new s) { evicted = not (follows s f) }
-
-  abbrev left_of : List Held → State → CompleteFrame → State
-  left_of new t f = record t { held = above f.last new; hold_back = 0 }
-
-  -- the first unit of this part
-  first_releases : (from : ℕ) (s t : State) (r : Release) (is : IsFullIn from s) (out : Releases s r t) → due_of (later_in is.new s) ≡ Some out.frame
-      → Releases (view_of is.new s out.frame) r (left_of is.new t out.frame)
-  first_releases from s t r is out due =
-      let f : CompleteFrame = out.frame in
-      let later = later_frame known splits units kind bound done o c same_kind gap next grows within embeds from is.old is.new s f is.held is.earlier is.there due in
-      let same : follows (view_of is.new s f) f ≡ follows s f = not_not (follows s f) in
-      record {
-        frame = f;
-        is_due = due_marked (later_in is.new s) (not (follows s f)) (frames is.new) ∙ due;
-        depacketizer = out.depacketizer;
-        gives = subst (λ (ps : List Held). Unpacks s.depacketizer ps nothing_unpacked (Ok (record { bytes = r.bytes; extra = r.codec_extra })) out.depacketizer) later.packets out.gives;
-        may = ap (λ (b : Bool). (checked s.contiguity r.codec_extra b).0) same ∙ out.may;
-        time = subst (AllOfTime r.time) later.packets out.time;
-        metas = out.metas ∙ ap metas_of later.packets;
-        contiguous = out.contiguous ∙ ap (λ (b : Bool). (checked s.contiguity r.codec_extra b).1) (sym same);
-        left = ap (λ (x : State). record x { held = above f.last is.new; hold_back = 0 }) out.left
-            ∙ ap (λ (b : Bool). without (view_of is.new s f) f out.depacketizer (checked s.contiguity r.codec_extra b).2 false) (sym same);
-      }
-
   -- the others are left
   exactly_left : (from : ℕ) (s t : State) (r : Release) (is : IsFullIn from s) (out : Releases s r t) → due_of (later_in is.new s) ≡ Some out.frame → (n : ℕ) (left : List SentUnit)
       → Exactly c n left (left_of is.new t out.frame) → Exactly c n left t
@@ -399,7 +364,7 @@ module _ (known : ℕ → Packet → RtpMeta → Type 0) (splits : Bool) (units 
       let view : State = view_of is.new s out.frame in
       let after : State = left_of is.new t out.frame in
       pop_answers c.known c.clock_rate c.first c.kind c.faithful c.splits c.units 0 c.units view after (Some (Ok r)) more (exactly_at view is.row is.there.rises refl is.there.reads) (λ e. cc)
-      ([], (view, none, first_releases from s t r is out due)) (λ n left there. answers_after n left events t fin more all once (exactly_left from s t r is out due n left there) meets)
+      ([], (view, none, later_one known splits units kind bound done o c same_kind gap next grows within embeds from is.old is.new s t r out is.held is.earlier is.there due)) (λ n left there. answers_after n left events t fin more all once (exactly_left from s t r is out due n left there) meets)
 
   -- one more unit of an earlier part
   one_older : (r : Release) (place : ℕ) (more : List Answer) → place < done → IsUnitAt known splits units place r → EndsWithAll known splits units done c.known c.units more

@@ -1,4 +1,5 @@
 pub mod WireRuns
+pub mod Deliveries
 pub mod Releases
 pub mod WireLogs
 pub mod OwnRuns
@@ -9,8 +10,14 @@ pub mod OwnHistoryRuns
 pub mod HistoryRunExample
 pub mod RestartRuns
 pub mod RestartReleases
+pub mod RestartLogs
 pub mod RestartRunExample
 pub mod RedRuns
 pub mod RedReleases
+pub mod RedLogs
 pub mod OwnRedRuns
 pub mod RedRunExample
+pub mod RedHistoryRuns
+pub mod RedHistoryReleases
+pub mod OwnRedHistoryRuns
+pub mod RedHistoryRunExample

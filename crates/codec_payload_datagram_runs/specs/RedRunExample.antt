@@ -1,6 +1,6 @@
 -- A run in RED that meets the premises: of three frames of Opus the datagram of the second is lost, and the third repeats its payload.
 use Rattle.std.specs.Global.{Vec}
-use Rattle.std.specs.Prelude.{◌≡◌, ℕ, List, [], ◌∷◌, Some, None, length}
+use Rattle.std.specs.Prelude.{◌≡◌, ℕ, ◌<◌, ◌≤◌, List, [], ◌∷◌, Some, None, length}
 use Rattle.codec_payload_codec.specs.Depacketizers.{OpusDepacketizing}
 use Rattle.codec_payload_jitter.specs.Numbers.{no_numbers}
 use Rattle.codec_payload_red.specs.RedLevels.{Entry}
@@ -10,9 +10,10 @@ use Rattle.codec_payload_receiver.specs.Sessions.{Session, session_with}
 use Rattle.codec_payload_receiver.specs.declared.datagram.RedStream.{RedStream}
 use Rattle.codec_payload_receiver.specs.declared.receiver.RedSettings.{RedSettings}
 use Rattle.codec_payload_receiver.specs.declared.receiver.Settings.{Settings}
+use Rattle.codec_payload_datagram_runs.specs.RedLogs.{StaysInTurn}
 use Rattle.codec_payload_datagram_runs.specs.RedReleases.{AllComeInRed, IsInRedWithinWindows, IsKnownInRed, ReleasesUnitsInRed, entries_in}
 use Rattle.codec_payload_datagram_runs.specs.RedRuns.{RedRuns, RedWire, begins_in_red}
-use Rattle.codec_payload_datagram_runs.specs.Releases.{delivered, received_steps}
+use Rattle.codec_payload_datagram_runs.specs.Releases.{ComeWithin, delivered, received_steps}
 use Rattle.codec_payload_datagram_runs.specs.WireRunExample.{at, frames_sent, one_each, opus_sender, opus_settings}
 use Rattle.codec_payload_datagram_runs.specs.declared.run.DatagramStep.{DatagramStep}
 use Rattle.codec_payload_datagram_runs.specs.declared.run.DatagramStep.TheVariants as steps
@@ -54,6 +55,11 @@ pub record RedCanBeMet : Type 0 where
   pub within : (no_media : Vec ℕ) (t : RedWire) → t.wire.sends ≡ one_each → entries_in t.wire.datagrams ≡ frame_entries → IsInRedWithinWindows frames_sent lossy_steps (red_begins no_media) t
   pub all_come : (sent : List (List ℕ)) → entries_in sent ≡ frame_entries
       → AllComeInRed 4096 3 (no_numbers 3000 1000) red_writer sent (received_steps frames_sent 0 lossy_steps one_each)
+  -- the premise of its promises pop by pop. Deliveries within the windows meet it, if packets are at most 2,016 ticks apart, or the
+  -- forward window is at most 4,000
+  pub in_turn : StaysInTurn 960 1000 (delivered (received_steps frames_sent 0 lossy_steps one_each))
+  pub by_step : (forward backward step : ℕ) (ks : List ℕ) → forward ≤ 32768 → backward < forward → step ≤ 2016 → ComeWithin forward backward ks → StaysInTurn step backward ks
+  pub by_window : (forward backward step : ℕ) (ks : List ℕ) → forward ≤ 4000 → backward < forward → step ≤ 16383 → ComeWithin forward backward ks → StaysInTurn step backward ks
   -- the written datagrams that it delivers
   pub are_delivered : delivered (received_steps frames_sent 0 lossy_steps one_each) ≡ 0 ∷ 2 ∷ []
   -- a run with this schedule pops all units

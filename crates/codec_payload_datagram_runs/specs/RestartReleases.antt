@@ -1,7 +1,5 @@
 -- The units that a run with announced restarts releases.
-use Rattle.std.specs.Prelude.{◌≡◌, ℕ, ◌+◌, ◌^◌, ◌<◌, ◌⊎◌, Bool, true, false, List, [], ◌∷◌, ◌++◌, Option, Some, None, Ok, Err, length, map}
-use Rattle.std.specs.List.{flat_map}
-use Rattle.codec_payload_buffer.specs.Release.{Release}
+use Rattle.std.specs.Prelude.{◌≡◌, ℕ, ◌+◌, ◌^◌, ◌<◌, ◌≤◌, ◌⊎◌, max, Bool, true, false, List, [], ◌∷◌, ◌++◌, Option, Some, None, Ok, Err, length, map}
 use Rattle.codec_payload_buffer.specs.declared.buffer.unit.RtpMeta.{RtpMeta}
 use Rattle.codec_payload_codec.specs.Depacketizers.{DepacketizerKind, DepacketizerState, kind_of_depacketizer}
 use Rattle.codec_payload_codec.specs.Packetizers.{facts_of, payloads_by}
@@ -10,12 +8,13 @@ use Rattle.codec_payload_buffer_runs.specs.Headline.{InOrder, IsUnitAt}
 use Rattle.codec_payload_buffer_runs.specs.ReportedIds.{next_id}
 use Rattle.codec_payload_buffer_runs.specs.Schedule.{Answer}
 use Rattle.codec_payload_buffer_runs.specs.SentStream.{AllEndWithTail, AreReadable, SentUnit, packets_of, units_of_run}
-use Rattle.codec_payload_payloader.specs.Packets.{Packet}
+use Rattle.codec_payload_payloader.specs.Packets.{AreNumbered, Packet}
 use Rattle.codec_payload_payloader.specs.Sending.{Sample}
 use Rattle.codec_payload_sending.specs.Senders.{Sending}
 use Rattle.codec_payload_rtp.specs.declared.values.ExtensionIds.{ExtensionIds}
 use Rattle.codec_payload_receiver.specs.Sessions.{Session, session_by}
 use Rattle.codec_payload_receiver.specs.declared.receiver.Settings.{Settings}
+use Rattle.codec_payload_datagram_runs.specs.Deliveries.{Delivery, PopsAreBrought, brought_by}
 use Rattle.codec_payload_datagram_runs.specs.Releases.{AllComeFirst, AreDatagrams, AreOfOneStream, ComeTimely, ComeWithin, HaveValuesOfSamples, IsDelivery, delivered, received_steps, sending_steps, times_sent}
 use Rattle.codec_payload_datagram_runs.specs.RestartRuns.{RunsParts}
 use Rattle.codec_payload_datagram_runs.specs.WireRuns.{begins, bytes_in, wire_of}
@@ -102,6 +101,35 @@ AreUnitsOfParts samples receiver [] senders runs units = units ≡ []
 AreUnitsOfParts samples receiver (part ∷ parts) [] runs units = units ≡ []
 AreUnitsOfParts samples receiver (part ∷ parts) (sender ∷ senders) [] units = units ≡ []
 
+-- the packets of each part have consecutive numbers, from its first number on, as the receiver reports them
+abbrev pub AreNumberedInParts : List ℕ → List (List SentUnit) → Type 0
+AreNumberedInParts [] [] = Unit {0}
+AreNumberedInParts (first ∷ firsts) (us ∷ units) = AreNumbered first (packets_of us) × AreNumberedInParts firsts units
+AreNumberedInParts [] (us ∷ units) = ⊥
+AreNumberedInParts (first ∷ firsts) [] = ⊥
+
+-- the lowest number that is at least `reached`, and above those of the datagrams with these indices
+abbrev pub next_above : (reached first : ℕ) → List ℕ → ℕ
+next_above reached first [] = reached
+next_above reached first (k ∷ ks) = next_above (max reached (first + k + 1)) first ks
+
+-- the first number of each part is above the numbers of all datagrams that were delivered in earlier parts, and at least `reached`
+abbrev pub AreApart : (reached : ℕ) (firsts : List ℕ) → List Sample → List Part → List DatagramRun → Type 0
+AreApart reached (first ∷ firsts) samples (part ∷ parts) (run ∷ runs) =
+    (reached ≤ first) × AreApart (next_above reached first (delivered (received_in samples part run))) firsts samples parts runs
+AreApart reached (first ∷ firsts) samples (part ∷ parts) [] = Unit {0}
+AreApart reached (first ∷ firsts) samples [] runs = Unit {0}
+AreApart reached [] samples parts runs = Unit {0}
+
+-- each pop returns packets that were delivered before it: in `before`, or in these parts in front of the pop
+abbrev pub AreBroughtInParts : List Delivery → (firsts : List ℕ) → List Sample → List Part → List DatagramRun → Type 0
+AreBroughtInParts before (first ∷ firsts) samples (part ∷ parts) (run ∷ runs) =
+    PopsAreBrought first before (received_in samples part run) run.pops.items
+    × AreBroughtInParts (brought_by first before (received_in samples part run)) firsts samples parts runs
+AreBroughtInParts before (first ∷ firsts) samples (part ∷ parts) [] = Unit {0}
+AreBroughtInParts before (first ∷ firsts) samples [] runs = Unit {0}
+AreBroughtInParts before [] samples parts runs = Unit {0}
+
 -- what is known of the metadata of a packet of a part, by its index in the part
 abbrev pub IsKnownInPart : ExtensionIds → List Sample → Part → Sending → DatagramRun → List SentUnit → ℕ → Packet → RtpMeta → Type 0
 IsKnownInPart ids samples part sender run us = IsDelivery ids sender.stream (packets_of us) (received_in samples part run)
@@ -161,12 +189,17 @@ AreReleasedWhole known splits all limit ids samples count (part ∷ parts) (send
 AreReleasedWhole known splits all limit ids samples count (part ∷ parts) [] runs units = Unit {0}
 AreReleasedWhole known splits all limit ids samples count [] senders runs units = Unit {0}
 
--- the units of the parts. The pops return them in order, each at most once and complete: all units of a part before those of the
--- next one. If all datagrams of a part arrive before its stream ends, and all its pops come after that, they return all its units
+-- the units of the parts, and the number of the first packet of each part. The pops return the units in order, each at most once and
+-- complete: all units of a part before those of the next one; and from packets that were delivered before the pop. If all
+-- datagrams of a part arrive before its stream ends, and all its pops come after that, they return all its units
 pub record ReleasesParts (samples : List Sample) (parts : List Part) (senders : List Sending) (receiver : Session) (runs : List DatagramRun) (kind : DepacketizerKind) : Type 0 where
   pub units : List (List SentUnit)
   pub each : AreUnitsOfParts samples receiver parts senders runs units
+  pub firsts : List ℕ
+  pub numbered : AreNumberedInParts firsts units
+  pub apart : AreApart 0 firsts samples parts runs
   pub in_order : InOrder (IsKnownInParts receiver.stream.ids samples parts senders runs units) (splits_in kind) (units_in units) 0 (pops_in runs)
+  pub before_pops : AreBroughtInParts [] firsts samples parts runs
   pub exactly : AreReleasedWhole (IsKnownInParts receiver.stream.ids samples parts senders runs units) (splits_in kind) (units_in units) receiver.packets.buffer.limit receiver.stream.ids samples
       0 parts senders runs units
 

@@ -1,21 +1,23 @@
 -- A run over datagrams, pop by pop: the buffer of the receiver before each pop, and the units that it held.
-use Rattle.std.specs.Prelude.{◌≡◌, ◌≢◌, ◌⊎◌, ℕ, Bool, true, false, List, [], ◌∷◌, Option, Some, None, Err, length, map, slice_get}
+use Rattle.std.specs.Prelude.{◌≡◌, ◌≢◌, ◌⊎◌, ℕ, ◌+◌, Bool, true, false, List, [], ◌∷◌, Option, Some, None, Err, length, map, slice_get}
 use Rattle.codec_payload_base.specs.declared.error.PacketError.TheVariants as faults
 use Rattle.codec_payload_buffer.specs.Steps.{PopsOver, State, arrived}
 use Rattle.codec_payload_buffer.specs.declared.buffer.frames.CompleteFrame.{CompleteFrame}
 use Rattle.codec_payload_buffer.specs.declared.buffer.unit.RtpMeta.{RtpMeta}
 use Rattle.codec_payload_codec.specs.Packetizers.{may_split}
 use Rattle.codec_payload_jitter.specs.Receiving.{Receiving, waiting_at}
+use Rattle.codec_payload_buffer_runs.specs.Headline.{packets_before}
 use Rattle.codec_payload_buffer_runs.specs.Log.{Stretch, Turn, begun, with_pushes}
 use Rattle.codec_payload_buffer_runs.specs.ReportedIds.{next_id}
 use Rattle.codec_payload_buffer_runs.specs.RunOrder.{AllFollowAsSaid, AreStretches}
-use Rattle.codec_payload_buffer_runs.specs.RunUnits.{IsGap, NoneIsLost, NonePassedOver}
+use Rattle.codec_payload_buffer_runs.specs.RunUnits.{Fate, IsGap, NoneIsLost, NonePassedOver}
 use Rattle.codec_payload_buffer_runs.specs.Schedule.{Answer}
 use Rattle.codec_payload_buffer_runs.specs.SentStream.{SentUnit, packets_of}
 use Rattle.codec_payload_payloader.specs.Packets.{AreNumbered, Packet}
 use Rattle.codec_payload_payloader.specs.Sending.{Sample}
 use Rattle.codec_payload_sending.specs.Senders.{Sending}
 use Rattle.codec_payload_receiver.specs.Sessions.{Session}
+use Rattle.codec_payload_datagram_runs.specs.Deliveries.{ComesInTime, PopsAreBrought}
 use Rattle.codec_payload_datagram_runs.specs.Releases.{IsKnownOf, IsWithinWindows, ReleasesUnits, received_steps}
 use Rattle.codec_payload_datagram_runs.specs.WireRuns.{Runs, Wire, begins}
 use Rattle.codec_payload_datagram_runs.specs.declared.run.DatagramStep.{DatagramStep}
@@ -61,6 +63,12 @@ pub record WireLog (samples : List Sample) (all_steps : List DatagramStep) (s t 
 abbrev pub OfEachLog : List Sample → List DatagramStep → Wire → Wire → List SentUnit → (List Turn → Stretch → Type 0) → Type 0
 OfEachLog samples all_steps s t units P = (log : WireLog samples all_steps s t units) → P log.turns log.end
 
+-- each unit whose packets come in time is released or skipped, or held whole in the end, or a packet of it was evicted
+abbrev pub AllInTime : (ℕ → Packet → RtpMeta → Type 0) → ℕ → Bool → List SentUnit → List Turn → Stretch → Type 0
+AllInTime known first splits units turns end =
+    (place : ℕ) (u : SentUnit) → slice_get units place ≡ Some u → ComesInTime (first + packets_before place units) (first + packets_before (place + 1) units) [] turns
+    → Fate known first splits units place turns turns end
+
 -- the guarantees of a run, pop by pop
 pub record KeepsPromises (samples : List Sample) (all_steps : List DatagramStep) (s t : Wire) : Type 0 where
   -- The units of the samples, and which of them the pops return.
@@ -80,6 +88,11 @@ pub record KeepsPromises (samples : List Sample) (all_steps : List DatagramStep)
   -- A unit that is held whole before a pop is released whole by that or a later one, or held whole in the end, unless a packet of it
   -- was evicted, or a pop skipped it.
   pub no_silent_loss : OfEachLog samples all_steps s t released.units (NoneIsLost (IsKnownOf samples all_steps s t released.units) first (may_split s.sending.packetizer) released.units)
+  -- The same for a unit whose packets all come before a pop, while the cutoff is below it: no pop released or skipped a later unit, and
+  -- no later packet was evicted.
+  pub in_time : OfEachLog samples all_steps s t released.units (AllInTime (IsKnownOf samples all_steps s t released.units) first (may_split s.sending.packetizer) released.units)
+  -- Each packet of a popped unit was delivered before that pop, with its number and its time of arrival.
+  pub before_pops : PopsAreBrought first [] (received_steps samples 0 all_steps t.sends) t.pops
   -- If picture id and TL0PICIDX are not both sent, no pop skips a unit.
   pub none_skipped : next_id s.sending.packetizer ≡ None → OfEachLog samples all_steps s t released.units (λ turns end. NonePassedOver turns)
   -- If both are sent, a unit is skipped only after 16,384 units in a row that no pop returned.

@@ -145,7 +145,7 @@ fn do_history_step<P: Packetizer, D: Depacketizer>(
 }
 
 /// Keeps datagrams that a sender wrote.
-fn keep_all(history: &mut History, datagrams: &[Vec<u8>]) -> Result<(), PacketError>
+pub(crate) fn keep_all(history: &mut History, datagrams: &[Vec<u8>]) -> Result<(), PacketError>
     requires { All IsPacket (bytes_in datagrams.now) }
     ensures ok { OnOk result (KeepsAll history.old (bytes_in datagrams.now) history.new) }
     ensures err { OnErr result (KeepsSome history.old (bytes_in datagrams.now) history.new) }
@@ -162,7 +162,7 @@ fn keep_all(history: &mut History, datagrams: &[Vec<u8>]) -> Result<(), PacketEr
 }
 
 /// Requests a packet, and appends its retransmission, if the history wrote one.
-fn resend(
+pub(crate) fn resend(
     alloc: Global,
     history: &mut History,
     now: Ticks,

@@ -2,6 +2,7 @@
 #![tactic(auto)]
 
 pub mod history_run;
+pub mod red_history_run;
 pub mod red_run;
 pub mod restart_run;
 pub mod run;

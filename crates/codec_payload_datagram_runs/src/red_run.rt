@@ -7,6 +7,7 @@ ghost use Rattle.codec_payload_receiver.specs.Sessions.{ReceivesBytes};
 ghost use Rattle.codec_payload_datagram_runs.specs.HistoryRuns.{IsPacket};
 ghost use Rattle.codec_payload_datagram_runs.specs.OwnRedRuns.{AsksInRedRun, AsksInRedStep};
 ghost use Rattle.codec_payload_datagram_runs.specs.OwnRuns.{AsksForEnds, AsksForUnit, AsksPacketizer};
+ghost use Rattle.codec_payload_datagram_runs.specs.RedLogs.{KeepsPromisesInRed};
 ghost use Rattle.codec_payload_datagram_runs.specs.RedReleases.{ReleasesInRed};
 ghost use Rattle.codec_payload_datagram_runs.specs.RedRuns.{DeliversWhole, DoesRedStep, RedRuns, RedStops, RedStopsAt, StopsDelivering, WritesAll, WritesSome, begins_in_red, red_wire_of};
 ghost use Rattle.codec_payload_datagram_runs.specs.WireRuns.{bytes_in};
@@ -56,6 +57,8 @@ pub fn run_datagrams_in_red<P: Packetizer, D: Depacketizer>(
     ensures runs { IfOk result (λ run. RedRuns (map sample_of samples.now) steps.now (begins_in_red link.old.sender link.old.writer link.old.receiver) (red_wire_of link.new.sender link.new.writer link.new.receiver run)) }
     // The popped units, if the delivered datagrams arrive within the windows of the receiver.
     ensures units { IfOk result (λ run. ReleasesInRed (map sample_of samples.now) steps.now (begins_in_red link.old.sender link.old.writer link.old.receiver) (red_wire_of link.new.sender link.new.writer link.new.receiver run)) }
+    // Pop by pop: what each delivery pushes, what the receiver holds, which units are contiguous, and that none is lost silently.
+    ensures promises { IfOk result (λ run. KeepsPromisesInRed (map sample_of samples.now) steps.now (begins_in_red link.old.sender link.old.writer link.old.receiver) (red_wire_of link.new.sender link.new.writer link.new.receiver run)) }
     ensures stops { OnErr result (RedStops (map sample_of samples.now) steps.now (begins_in_red link.old.sender link.old.writer link.old.receiver) link.new.sender link.new.writer link.new.receiver) }
     ensures fault { IfErr result (λ fault. fault ≡ OutOfMemory) }
     // Custom codecs are asked in each step, as `specs/OwnRedRuns.antt` says.
@@ -73,7 +76,7 @@ pub fn run_datagrams_in_red<P: Packetizer, D: Depacketizer>(
 }
 
 /// Executes one step, and records its result.
-fn do_red_step<P: Packetizer, D: Depacketizer>(
+pub(crate) fn do_red_step<P: Packetizer, D: Depacketizer>(
     alloc: Global,
     link: &mut RedLink<P, D>,
     samples: &[ToPayload],
@@ -120,7 +123,7 @@ fn do_red_step<P: Packetizer, D: Depacketizer>(
 /// # Errors
 ///
 /// `OutOfMemory`: memory ran out for the datagram or for one of its blocks; the datagram then has no receipt.
-fn deliver_whole<D: Depacketizer>(
+pub(crate) fn deliver_whole<D: Depacketizer>(
     receiver: &mut Receiver<D>,
     now: Ticks,
     bytes: &[u8],

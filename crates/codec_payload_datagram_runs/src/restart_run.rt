@@ -4,6 +4,7 @@ ghost use Rattle.std.specs.Prelude.{◌≡◌, map, IfOk, IfErr, OnErr, Bool};
 ghost use Rattle.codec_payload_base.specs.declared.error.PacketError.TheVariants.{OutOfMemory};
 ghost use Rattle.codec_payload_payloader.specs.Sending.{sample_of};
 ghost use Rattle.codec_payload_datagram_runs.specs.OwnRuns.{AsksForEnds, AsksForUnit, AsksPacketizer};
+ghost use Rattle.codec_payload_datagram_runs.specs.RestartLogs.{KeepsPromisesWithRestarts};
 ghost use Rattle.codec_payload_datagram_runs.specs.RestartReleases.{ReleasesWithRestarts};
 ghost use Rattle.codec_payload_datagram_runs.specs.RestartRuns.{AsksInParts, RunsParts, StopsParts, told_if};
 
@@ -45,6 +46,8 @@ pub fn run_with_restarts<P: Packetizer, D: Depacketizer>(
     ensures runs { IfOk result (λ runs. RunsParts (map sample_of samples.now) Bool.false parts.now senders.old receiver.old runs.items senders.new receiver.new) }
     // The popped units of all parts, if the datagrams of each part arrive within the windows of the receiver.
     ensures units { IfOk result (λ runs. ReleasesWithRestarts (map sample_of samples.now) parts.now senders.old receiver.old runs.items) }
+    // Pop by pop over all parts: what the receiver holds, which units are contiguous, and that none is lost silently.
+    ensures promises { IfOk result (λ runs. KeepsPromisesWithRestarts (map sample_of samples.now) parts.now senders.old receiver.old runs.items receiver.new) }
     ensures stops { OnErr result (StopsParts (map sample_of samples.now) Bool.false parts.now senders.old receiver.old senders.new receiver.new) }
     ensures fault { IfErr result (λ fault. fault ≡ OutOfMemory) }
     // Custom codecs are asked in each step, as `specs/OwnRuns.antt` says.

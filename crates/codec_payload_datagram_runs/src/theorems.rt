@@ -2,6 +2,7 @@
 
 ghost use Rattle.codec_payload_datagram_runs.specs.HistoryRunExample.{HistoryCanBeMet};
 ghost use Rattle.codec_payload_datagram_runs.specs.RestartRunExample.{RestartCanBeMet};
+ghost use Rattle.codec_payload_datagram_runs.specs.RedHistoryRunExample.{RedHistoryCanBeMet};
 ghost use Rattle.codec_payload_datagram_runs.specs.RedRunExample.{RedCanBeMet};
 ghost use Rattle.codec_payload_datagram_runs.specs.WireRunExample.{CanBeMet};
 
@@ -24,7 +25,14 @@ pub fn restart_premises_can_be_met()
 {}
 
 /// The premises of a run in RED can be met: of three datagrams of Opus the second is lost, and the third repeats its payload. So
-/// each packet comes before the stream ends.
+/// each packet comes before the stream ends. Deliveries within the windows stay within a turn of the RTP clock, if packets are at most
+/// 2,016 ticks apart, or the forward window is at most 4,000.
 pub fn red_premises_can_be_met()
     ensures { RedCanBeMet }
+{}
+
+/// The premises of a run in RED with retransmissions can be met: of three datagrams of Opus the second and the third are lost, and a
+/// retransmission of the third has both packets. So each packet comes before the stream ends.
+pub fn red_history_premises_can_be_met()
+    ensures { RedHistoryCanBeMet }
 {}

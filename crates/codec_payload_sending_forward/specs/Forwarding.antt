@@ -1,5 +1,5 @@
 -- What a forwarder does with a packet.
-use Rattle.std.specs.Prelude.{◌≡◌, ◌<◌, ◌⊎◌, ℕ, ◌+◌, ◌-◌, ◌%◌, ◌≤◌, ◌==◌, ◌&&◌, max, min, nat_lt, not, if◌then◌else◌, Bool, true, false, List, [], ◌∷◌, ◌++◌, length, Option, Some, None, is_some, Result, Ok, Err}
+use Rattle.std.specs.Prelude.{◌≡◌, ◌<◌, ◌⊎◌, ℕ, ◌+◌, ◌-◌, ◌%◌, ◌≤◌, ◌==◌, ◌/◌, ◌&&◌, drop, max, min, nat_lt, not, if◌then◌else◌, Bool, true, false, List, [], ◌∷◌, ◌++◌, length, Option, Some, None, is_some, Result, Ok, Err}
 use Rattle.std.specs.Int.{w16, to_be_bytes}
 use Rattle.codec_payload_base.specs.Extended.{nearest}
 use Rattle.codec_payload_base.specs.Flags.{has_bit}
@@ -56,10 +56,22 @@ is_source (Some source) ssrc = source == ssrc
 
 -- ---- which packets a viewer can begin with
 
--- VP9: P is clear, and B is set (RFC 9628, section 4.2)
+-- VP9 (RFC 9628, section 4.2): a PictureID, if I is set, has a second byte if its highest bit is set
+abbrev pub behind_id : Bool → List ℕ → List ℕ
+behind_id false bytes = bytes
+behind_id true [] = []
+behind_id true (id ∷ bytes) = if has_bit id 7 then drop 1 bytes else bytes
+
+-- behind it, if L is set, is an octet of layers, with SID in bits 1 to 3
+abbrev pub is_lowest_layer : Bool → List ℕ → Bool
+is_lowest_layer false bytes = true
+is_lowest_layer true [] = false
+is_lowest_layer true (layers ∷ bytes) = layers / 2 % 8 == 0
+
+-- P is clear, B is set, and L is clear or SID is 0: an upper spatial layer needs the one below
 abbrev pub begins_vp9 : List ℕ → Bool
 begins_vp9 [] = false
-begins_vp9 (flags ∷ bytes) = is_key_payload (flags ∷ bytes) && has_bit flags 3
+begins_vp9 (flags ∷ bytes) = is_key_payload (flags ∷ bytes) && (has_bit flags 3 && is_lowest_layer (has_bit flags 5) (behind_id (has_bit flags 7) bytes))
 
 -- AV1: N is set, and Z is clear (RTP payload format for AV1, section 4.4)
 abbrev pub begins_av1 : List ℕ → Bool

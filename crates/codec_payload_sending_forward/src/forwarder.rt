@@ -13,14 +13,13 @@ ghost use Rattle.codec_payload_sending_forward.specs.Numbers.{after_packet, plac
 ghost use Rattle.codec_payload_sending_forward.specs.Vp8Numbers.{offsets_at};
 ghost use Rattle.codec_payload_sending_forward.specs.Forwarding.{IsNotRequested, IsNumberOf, IsRequested, IsResent, IsWritten, Forwards, Leaves, Repeats, after_written, begins, codec_fits, forward_by, ids_after, ids_left, ids_switched, is_source, next_packet, number_in, packet_under, sent_packet, size_again, forwarded_size, ticks_between, time_for, wrapped};
 
+use crate::beginning::begins;
 use crate::renumbering::{Placed, Renumbering};
 use crate::times::Retiming;
 use crate::vp8_ids::{IdOffsets, Vp8Ids};
 use codec_payload_base::wire::Codec;
 use codec_payload_rtp::rtp::{PacketHeader, RtpPacket};
 use codec_payload_sending_history::retransmission::{History, RetransmissionStream};
-use codec_payload_vp8::vp8::detect_vp8_keyframe;
-use codec_payload_vp9::vp9::detect_vp9_keyframe;
 use std::alloc::{AllocError, Global};
 use std::marker::Model;
 use thiserror::Error;
@@ -142,24 +141,6 @@ fn codec_fits(codec: Codec) -> bool
     ensures { result ≡ codec_fits codec }
 {
     !matches!(codec, Codec::H264 | Codec::H265 | Codec::H266)
-}
-
-/// Returns whether a viewer can begin with a packet that has this payload.
-fn begins(codec: Codec, payload: &[u8]) -> bool
-    ensures { result ≡ begins codec payload.now }
-{
-    match codec {
-        Codec::Vp8 => detect_vp8_keyframe(payload),
-        Codec::Vp9 => match payload.first() {
-            Some(flags) => detect_vp9_keyframe(payload) && flags & 0x08 != 0,
-            None => false,
-        },
-        Codec::Av1 => match payload.first() {
-            Some(header) => header & 0x08 != 0 && header & 0x80 == 0,
-            None => false,
-        },
-        _ => true,
-    }
 }
 
 /// Returns whether a source is the one with this SSRC.
@@ -369,7 +350,8 @@ impl Forwarder {
     /// the highest number was written: at least 1, at most 2^31 - 1. A viewer begins with:
     ///
     /// - VP8: the first packet of a keyframe (RFC 7741, section 4.2).
-    /// - VP9: the first packet of a frame that refers to no other: P is clear, and B is set (RFC 9628, section 4.2).
+    /// - VP9: the first packet of the lowest spatial layer of a picture that refers to no other: P is clear, B is set, and L is
+    ///   clear or SID is 0 (RFC 9628, section 4.2).
     /// - AV1: the first packet of a coded video sequence: N is set, and Z is clear (RTP payload format for AV1, section 4.4).
     /// - Other codecs: any packet.
     ///

@@ -2,6 +2,7 @@
 //! (docs/use/FORWARDING.md).
 #![tactic(auto)]
 
+mod beginning;
 pub mod counts;
 pub mod forwarder;
 pub mod renumbering;

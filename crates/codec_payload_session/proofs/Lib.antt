@@ -18,6 +18,7 @@ mod ReportingLemmas
 mod RestLemmas
 mod SkipLemmas
 mod SourceLemmas
+mod SsrcLemmas
 mod StillLemmas
 mod TelephoneLemmas
 mod UnitLemmas

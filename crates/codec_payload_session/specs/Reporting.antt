@@ -52,7 +52,7 @@ due_streams is_new (s ∷ later) = due_if (is_due is_new s later) s (due_streams
 abbrev pub is_new_round : ℕ → List StreamState → Bool
 is_new_round room ss = nat_le (length (due_streams true ss)) room || (length (due_streams false ss) == 0)
 
--- the blocks about the first of these streams, for as many as there is room; a stream of which nothing came has none
+-- the blocks about the first streams that are due, for as many as there is room; a stream of which nothing came has a turn and no block
 abbrev pub blocks_of : Bool → ℕ → ℕ → ℕ → List StreamState → List ReportBlock
 blocks_of is_new room tick_rate now ss = filter_map (block_of tick_rate now) (take room (due_streams is_new ss))
 
@@ -78,7 +78,7 @@ abbrev pub all_reported : Bool → ℕ → List StreamState → List StreamState
 all_reported is_new room [] = []
 all_reported is_new room (s ∷ ss) = reported_if (is_chosen is_new room s ss) is_new s ∷ all_reported is_new (room_after (is_chosen is_new room s ss) room) ss
 
--- a report takes as many streams off its round as it has room for; so while no stream begins or ends, n streams have a block each in
+-- a report takes as many streams off its round as it has room for; so while no stream begins or ends, n streams have a turn each in
 -- n / room reports, rounded up
 abbrev pub TakeTurns : Type 0
 TakeTurns = (is_new : Bool) (room : ℕ) (ss : List StreamState) → length (due_streams false (all_reported is_new room ss)) ≡ length (due_streams is_new ss) - room

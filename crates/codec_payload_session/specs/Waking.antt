@@ -31,6 +31,16 @@ OthersSleep until since (suc place) (s ∷ ss) = Sleeps until since s × OthersS
 pub record IsBound (w : Waking) (ss : List StreamState) : Type 0 where
   pub others : OthersSleep w.until w.since w.fed ss
 
+-- the SSRC of each stream
+abbrev pub ssrcs_of : List StreamState → List ℕ
+ssrcs_of [] = []
+ssrcs_of (s ∷ ss) = s.ssrc ∷ ssrcs_of ss
+
+-- the bound applies to these streams, and the list has their SSRCs
+pub record IsIndexed (w : Waking) (ssrcs : List ℕ) (ss : List StreamState) : Type 0 where
+  pub bound : IsBound w ss
+  pub listed : ssrcs ≡ ssrcs_of ss
+
 -- the bound says nothing: it applies to any streams
 pub record SaysNothing (w : Waking) : Type 0 where
   pub bound : (ss : List StreamState) → IsBound w ss

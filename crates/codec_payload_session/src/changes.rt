@@ -2,7 +2,7 @@
 
 ghost use Rattle.std.specs.Prelude.{◌≡◌, true};
 ghost use Rattle.std.specs.List.{position};
-ghost use Rattle.codec_payload_session.specs.Changes.{any_left_behind, are_alike, continued, continues, plays, takes_turns};
+ghost use Rattle.codec_payload_session.specs.Changes.{are_alike, continued, continues, plays, takes_turns};
 ghost use Rattle.codec_payload_session.specs.Formats.{is_video};
 
 use crate::formats::{Format, is_video};
@@ -37,25 +37,6 @@ fn playing(streams: &[StreamState], ssrc: u32, payload_type: u8) -> Option<usize
     ensures { result ≡ position (plays ssrc payload_type) streams.now }
 {
     streams.iter().position(|s| s.plays(ssrc, payload_type))
-}
-
-/// Returns whether the sender left a stream for this format, if its stream is announced.
-#[inline(always)]
-pub(crate) fn any_left_behind(
-    streams: &[StreamState],
-    now: u64,
-    wait: u64,
-    ssrc: u32,
-    format: &Format,
-) -> bool
-    ensures { result ≡ any_left_behind now wait ssrc format.now streams.now }
-{
-    for stream in streams {
-        if stream.is_left_behind(now, wait, ssrc, format) {
-            return true;
-        }
-    }
-    false
 }
 
 /// Ends the streams that the sender left for this format.

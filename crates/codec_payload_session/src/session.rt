@@ -22,7 +22,7 @@ use crate::pairs::remove_pair;
 use crate::reporter::report_deadline;
 use crate::reports::SenderClock;
 use crate::stream::{Ending, StreamInfo, earlier};
-use crate::streams::{Streams, Who, place_of};
+use crate::streams::{Streams, Who};
 use crate::telephone::TelephoneQueue;
 use crate::transport::{note, reporter_for, restart, transport_deadline};
 use crate::waking::due_in;
@@ -519,7 +519,7 @@ impl Session {
         ensures value { result ≡ block_among (position (is_of ssrc payload_type) self.now.port.streams) self.now.settings.tick_rate now.0 self.now.port.streams }
         ensures fits { IfSome result (λ block. block.cumulative_lost < 16777216) }
     {
-        match place_of(&self.streams.list, ssrc, payload_type) {
+        match self.streams.place_of(ssrc, payload_type) {
             Some(place) => self.streams.list[place].peek_report(now, self.settings.tick_rate),
             None => None,
         }
@@ -532,7 +532,7 @@ impl Session {
     pub fn sender_clock(&self, ssrc: u32, payload_type: u8) -> Option<SenderClock>
         ensures { result ≡ clock_among (position (is_of ssrc payload_type) self.now.port.streams) self.now.port.streams }
     {
-        match place_of(&self.streams.list, ssrc, payload_type) {
+        match self.streams.place_of(ssrc, payload_type) {
             Some(place) => {
                 let stream = &self.streams.list[place];
                 stream.sender_clock
@@ -611,7 +611,7 @@ impl Session {
     pub fn receiver_of(&self, ssrc: u32, payload_type: u8) -> Option<&Receiver>
         ensures { option_map (λ receiver. receiver.now) result ≡ receiver_among (position (is_of ssrc payload_type) self.now.port.streams) self.now.port.streams }
     {
-        match place_of(&self.streams.list, ssrc, payload_type) {
+        match self.streams.place_of(ssrc, payload_type) {
             Some(place) => self.receiver_at(place),
             None => None,
         }

@@ -18,7 +18,7 @@ ghost use Rattle.codec_payload_session.specs.Changes.{any_left_behind, continued
 ghost use Rattle.codec_payload_session.specs.Units.{event_to, turn_to};
 ghost use Rattle.codec_payload_session.specs.Waking.{FeedsOne, StepsPort};
 
-use crate::changes::{any_left_behind, continues, leave_behind};
+use crate::changes::{continues, leave_behind};
 use crate::compound::take_packets;
 use crate::formats::{Format, SessionSettings, SsrcPair};
 use crate::pairs::{pair, with_pair};
@@ -28,6 +28,7 @@ use crate::stream::{Ending, Step, StreamState, is_no_memory, is_nothing};
 use crate::waking::{Waking, step_excepted};
 use codec_payload_base::wire::{Frequency, Ticks};
 use codec_payload_buffer::buffer::PoppedUnit;
+use codec_payload_index::ssrcs::Ssrcs;
 use codec_payload_jitter::jitter::WaitLimits;
 use codec_payload_jitter::outcome::Outcome;
 use codec_payload_receiver::parsed::ParsedDatagram;
@@ -43,6 +44,8 @@ use std::marker::Model;
 pub(crate) struct Streams {
     pub(crate) alloc: Global,
     pub(crate) list: Vec<StreamState>,
+    /// The SSRC of each stream.
+    pub(crate) ssrcs: Ssrcs,
     /// Whether new streams are refused.
     pub(crate) finished: bool,
     /// How many datagrams the removed streams took.
@@ -71,11 +74,11 @@ impl Model for Streams {
 
     ghost Value = { Port };
 
-    ghost use Rattle.codec_payload_session.specs.Waking.{IsBound};
+    ghost use Rattle.codec_payload_session.specs.Waking.{IsIndexed};
 
     ghost view = { λ s. record { streams = s.list.items; finished = s.finished; ended = s.ended } };
 
-    ghost invariant = { λ s. IsBound s.waking s.list.items };
+    ghost invariant = { λ s. IsIndexed s.waking s.ssrcs s.list.items };
 }
 
 impl Streams {
@@ -86,6 +89,7 @@ impl Streams {
         Streams {
             alloc,
             list: Vec::new(alloc),
+            ssrcs: Ssrcs::new(alloc),
             finished: false,
             ended: 0,
             waking: Waking::unknown(),
@@ -152,12 +156,12 @@ impl Streams {
                 self.take_media(settings, (ssrc, format), now, datagram)
             }
             SortedPacket::Retransmission(ssrc, payload_type) => {
-                match place_of(&self.list, ssrc, payload_type) {
+                match self.place_of(ssrc, payload_type) {
                     Some(place) => self.feed(place, settings.probation, now, datagram),
                     None => Ok(Arrival::Unassociated),
                 }
             }
-            SortedPacket::NoMedia(ssrc) => match place_of_ssrc(&self.list, ssrc) {
+            SortedPacket::NoMedia(ssrc) => match self.place_of_ssrc(ssrc) {
                 Some(place) => self.feed(place, settings.probation, now, datagram),
                 None => Ok(Arrival::Unknown),
             },
@@ -203,7 +207,14 @@ impl Streams {
     fn has_left_behind(&self, now: u64, wait: u64, ssrc: u32, format: &Format) -> bool
         ensures { result ≡ any_left_behind now wait ssrc format.now self.now.streams }
     {
-        any_left_behind(&self.list, now, wait, ssrc, format)
+        let mut from = 0;
+        while let Some(place) = self.ssrcs.find(ssrc, from) {
+            if self.list[place].is_left_behind(now, wait, ssrc, format) {
+                return true;
+            }
+            from = place + 1;
+        }
+        false
     }
 
     /// Passes a datagram to its stream, or begins a stream with it.
@@ -218,10 +229,34 @@ impl Streams {
         requires { can_begin settings.now of.1 ≡ true }
         ensures { BeginsOrFeeds (position (is_of of.0 of.1.payload_type) self.old.streams) settings.now of.0 of.1 now datagram.now self.old result self.new }
     {
-        match place_of(&self.list, of.0, of.1.payload_type) {
+        match self.place_of(of.0, of.1.payload_type) {
             Some(place) => self.feed(place, settings.probation, now, datagram),
             None => self.begin(settings, of, now, datagram),
         }
+    }
+
+    /// Returns the place of the stream with this SSRC and payload type.
+    #[inline(always)]
+    pub(crate) fn place_of(&self, ssrc: u32, payload_type: u8) -> Option<usize>
+        ensures value { result ≡ position (is_of ssrc payload_type) self.now.streams }
+        ensures within { IfSome result (λ at. at < length self.now.streams) }
+    {
+        let mut from = 0;
+        while let Some(place) = self.ssrcs.find(ssrc, from) {
+            if self.list[place].format.payload_type == payload_type {
+                return Some(place);
+            }
+            from = place + 1;
+        }
+        None
+    }
+
+    /// Returns the place of the first stream of this SSRC.
+    fn place_of_ssrc(&self, ssrc: u32) -> Option<usize>
+        ensures value { result ≡ position (has_ssrc ssrc) self.now.streams }
+        ensures within { IfSome result (λ at. at < length self.now.streams) }
+    {
+        self.ssrcs.find(ssrc, 0)
     }
 
     /// Passes a datagram to the stream at this place.
@@ -278,8 +313,10 @@ impl Streams {
         ensures err { OnErr result (self.new ≡ self.old) }
     {
         let place = leaving(max_streams, &self.list);
+        self.list.reserve(1)?;
+        self.ssrcs.push(stream.ssrc)?;
         self.waking = Waking::unknown();
-        self.list.push(stream)?;
+        self.list.push(stream).unwrap();
         if let Some(place) = place {
             self.remove(place);
         }
@@ -292,6 +329,7 @@ impl Streams {
         ensures { self.new ≡ removed place self.old }
     {
         self.waking = Waking::unknown();
+        self.ssrcs.remove(place);
         let gone = self.list.remove(place);
         self.ended = self.ended.wrapping_add(gone.taken);
     }
@@ -411,7 +449,7 @@ impl Streams {
         ensures reports { ReportsIf (position (is_of of.0 of.1) self.old.streams) tick_rate now.0 self.old result self.new }
         ensures fits { IfSome result (λ block. block.cumulative_lost < 16777216) }
     {
-        match place_of(&self.list, of.0, of.1) {
+        match self.place_of(of.0, of.1) {
             Some(place) => self.report_at(place, now, tick_rate),
             None => None,
         }
@@ -491,23 +529,6 @@ fn arrival_of(ssrc: u32, payload_type: u8, answer: Result<Outcome, ReceiveError>
             fault,
         },
     }
-}
-
-/// Returns the place of the stream with this SSRC and payload type.
-#[inline(always)]
-pub(crate) fn place_of(streams: &[StreamState], ssrc: u32, payload_type: u8) -> Option<usize>
-    ensures value { result ≡ position (is_of ssrc payload_type) streams.now }
-    ensures within { IfSome result (λ at. at < length streams.now) }
-{
-    streams.iter().position(|s| s.is_of(ssrc, payload_type))
-}
-
-/// Returns the place of the first stream of this SSRC.
-fn place_of_ssrc(streams: &[StreamState], ssrc: u32) -> Option<usize>
-    ensures value { result ≡ position (has_ssrc ssrc) streams.now }
-    ensures within { IfSome result (λ at. at < length streams.now) }
-{
-    streams.iter().position(|s| s.ssrc == ssrc)
 }
 
 /// Returns the place of the first stream in probation.

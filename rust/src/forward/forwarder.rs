@@ -2,14 +2,13 @@
 
 //! One stream of a viewer: packets of one source after another, under the viewer's SSRC, payload type, numbers and times.
 
+use crate::forward::beginning::begins;
 use crate::forward::renumbering::{Placed, Renumbering};
 use crate::forward::times::Retiming;
 use crate::forward::vp8_ids::{IdOffsets, Vp8Ids};
 use crate::history::retransmission::{History, RetransmissionStream};
 use crate::memory::{AllocError, TryVec};
 use crate::rtp::packet::{PacketHeader, RtpPacket};
-use crate::vp8::detect_vp8_keyframe;
-use crate::vp9::detect_vp9_keyframe;
 use crate::wire::Codec;
 use alloc::vec::Vec;
 use core::fmt;
@@ -128,22 +127,6 @@ fn first_of(stream: Option<RetransmissionStream>) -> u16 {
 /// Returns whether the library finds the keyframes of a codec, or needs none.
 fn codec_fits(codec: Codec) -> bool {
     !matches!(codec, Codec::H264 | Codec::H265 | Codec::H266)
-}
-
-/// Returns whether a viewer can begin with a packet that has this payload.
-fn begins(codec: Codec, payload: &[u8]) -> bool {
-    match codec {
-        Codec::Vp8 => detect_vp8_keyframe(payload),
-        Codec::Vp9 => match payload.first() {
-            Some(flags) => detect_vp9_keyframe(payload) && flags & 0x08 != 0,
-            None => false,
-        },
-        Codec::Av1 => match payload.first() {
-            Some(header) => header & 0x08 != 0 && header & 0x80 == 0,
-            None => false,
-        },
-        _ => true,
-    }
 }
 
 /// Returns whether a source is the one with this SSRC.
@@ -315,7 +298,8 @@ impl Forwarder {
     /// the highest number was written: at least 1, at most 2^31 - 1. A viewer begins with:
     ///
     /// - VP8: the first packet of a keyframe (RFC 7741, section 4.2).
-    /// - VP9: the first packet of a frame that refers to no other: P is clear, and B is set (RFC 9628, section 4.2).
+    /// - VP9: the first packet of the lowest spatial layer of a picture that refers to no other: P is clear, B is set, and L is
+    ///   clear or SID is 0 (RFC 9628, section 4.2).
     /// - AV1: the first packet of a coded video sequence: N is set, and Z is clear (RTP payload format for AV1, section 4.4).
     /// - Other codecs: any packet.
     ///

@@ -5,6 +5,8 @@
 #[doc(hidden)]
 pub mod history_run;
 #[doc(hidden)]
+pub mod red_history_run;
+#[doc(hidden)]
 pub mod red_run;
 #[doc(hidden)]
 pub mod restart_run;
@@ -13,6 +15,9 @@ pub mod run;
 
 #[doc(inline)]
 pub use history_run::{HistoryRun, HistoryStep, Link, run_with_history};
+
+#[doc(inline)]
+pub use red_history_run::{RedHistoryLink, RedHistoryRun, run_in_red_with_history};
 
 #[doc(inline)]
 pub use red_run::{RedLink, RedRun, run_datagrams_in_red};

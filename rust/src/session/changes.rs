@@ -28,23 +28,6 @@ fn playing(streams: &[StreamState], ssrc: u32, payload_type: u8) -> Option<usize
     streams.iter().position(|s| s.plays(ssrc, payload_type))
 }
 
-/// Returns whether the sender left a stream for this format, if its stream is announced.
-#[inline(always)]
-pub(crate) fn any_left_behind(
-    streams: &[StreamState],
-    now: u64,
-    wait: u64,
-    ssrc: u32,
-    format: &Format,
-) -> bool {
-    for stream in streams {
-        if stream.is_left_behind(now, wait, ssrc, format) {
-            return true;
-        }
-    }
-    false
-}
-
 /// Ends the streams that the sender left for this format.
 pub(crate) fn leave_behind(streams: &mut [StreamState], now: u64, wait: u64, of: (u32, Format)) {
     for place in 0..streams.len() {

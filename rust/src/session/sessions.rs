@@ -17,7 +17,7 @@ use crate::session::pairs::remove_pair;
 use crate::session::reporter::report_deadline;
 use crate::session::reports::SenderClock;
 use crate::session::stream::{Ending, StreamInfo, earlier};
-use crate::session::streams::{Streams, Who, place_of};
+use crate::session::streams::{Streams, Who};
 use crate::session::telephone::TelephoneQueue;
 use crate::session::transport::{note, reporter_for, restart, transport_deadline};
 use crate::session::waking::due_in;
@@ -444,7 +444,7 @@ impl Session {
     /// [`FeedbackSettings::report_interval`]: crate::session::formats::FeedbackSettings::report_interval
     /// [`StreamInfo::round_trip`]: crate::session::stream::StreamInfo::round_trip
     pub fn peek_report(&self, now: Ticks, ssrc: u32, payload_type: u8) -> Option<ReportBlock> {
-        match place_of(&self.streams.list, ssrc, payload_type) {
+        match self.streams.place_of(ssrc, payload_type) {
             Some(place) => self.streams.list[place].peek_report(now, self.settings.tick_rate),
             None => None,
         }
@@ -455,7 +455,7 @@ impl Session {
     ///
     /// [`SenderClock::ntp_at`]: crate::session::reports::SenderClock::ntp_at
     pub fn sender_clock(&self, ssrc: u32, payload_type: u8) -> Option<SenderClock> {
-        match place_of(&self.streams.list, ssrc, payload_type) {
+        match self.streams.place_of(ssrc, payload_type) {
             Some(place) => {
                 let stream = &self.streams.list[place];
                 stream.sender_clock
@@ -520,7 +520,7 @@ impl Session {
     /// [`Receiver::unit_is_decodable`]: crate::stream::receiver::Receiver::unit_is_decodable
     /// [`Receiver::unit_is_keyframe`]: crate::stream::receiver::Receiver::unit_is_keyframe
     pub fn receiver_of(&self, ssrc: u32, payload_type: u8) -> Option<&Receiver> {
-        match place_of(&self.streams.list, ssrc, payload_type) {
+        match self.streams.place_of(ssrc, payload_type) {
             Some(place) => self.receiver_at(place),
             None => None,
         }

@@ -3,13 +3,14 @@
 //! The streams of a session, in the order in which they began.
 
 use crate::buffer::PoppedUnit;
+use crate::index::ssrcs::Ssrcs;
 use crate::jitter::jitter_buffer::WaitLimits;
 use crate::jitter::outcome::Outcome;
 use crate::memory::{AllocError, TryVec};
 use crate::rtcp::compound::{CompoundRule, Packets, read_compound};
 use crate::rtcp::items::ReportBlock;
 use crate::rtp::packet::PacketHeader;
-use crate::session::changes::{any_left_behind, continues, leave_behind};
+use crate::session::changes::{continues, leave_behind};
 use crate::session::compound::take_packets;
 use crate::session::formats::{Format, SessionSettings, SsrcPair};
 use crate::session::pairs::{pair, with_pair};
@@ -26,6 +27,8 @@ use alloc::vec::Vec;
 #[derive(Debug)]
 pub(crate) struct Streams {
     pub(crate) list: Vec<StreamState>,
+    /// The SSRC of each stream.
+    pub(crate) ssrcs: Ssrcs,
     /// Whether new streams are refused.
     pub(crate) finished: bool,
     /// How many datagrams the removed streams took.
@@ -54,6 +57,7 @@ impl Streams {
     pub(crate) fn none() -> Streams {
         Streams {
             list: Vec::new(),
+            ssrcs: Ssrcs::new(),
             finished: false,
             ended: 0,
             waking: Waking::unknown(),
@@ -110,12 +114,12 @@ impl Streams {
                 self.take_media(settings, (ssrc, format), now, datagram)
             }
             SortedPacket::Retransmission(ssrc, payload_type) => {
-                match place_of(&self.list, ssrc, payload_type) {
+                match self.place_of(ssrc, payload_type) {
                     Some(place) => self.feed(place, settings.probation, now, datagram),
                     None => Ok(Arrival::Unassociated),
                 }
             }
-            SortedPacket::NoMedia(ssrc) => match place_of_ssrc(&self.list, ssrc) {
+            SortedPacket::NoMedia(ssrc) => match self.place_of_ssrc(ssrc) {
                 Some(place) => self.feed(place, settings.probation, now, datagram),
                 None => Ok(Arrival::Unknown),
             },
@@ -154,7 +158,14 @@ impl Streams {
     /// Returns whether the sender left a stream for this format, if its stream is announced.
     #[inline(always)]
     fn has_left_behind(&self, now: u64, wait: u64, ssrc: u32, format: &Format) -> bool {
-        any_left_behind(&self.list, now, wait, ssrc, format)
+        let mut from = 0;
+        while let Some(place) = self.ssrcs.find(ssrc, from) {
+            if self.list[place].is_left_behind(now, wait, ssrc, format) {
+                return true;
+            }
+            from = place + 1;
+        }
+        false
     }
 
     /// Passes a datagram to its stream, or begins a stream with it.
@@ -166,10 +177,28 @@ impl Streams {
         now: Ticks,
         datagram: &ParsedDatagram<'_>,
     ) -> Result<Arrival, AllocError> {
-        match place_of(&self.list, of.0, of.1.payload_type) {
+        match self.place_of(of.0, of.1.payload_type) {
             Some(place) => self.feed(place, settings.probation, now, datagram),
             None => self.begin(settings, of, now, datagram),
         }
+    }
+
+    /// Returns the place of the stream with this SSRC and payload type.
+    #[inline(always)]
+    pub(crate) fn place_of(&self, ssrc: u32, payload_type: u8) -> Option<usize> {
+        let mut from = 0;
+        while let Some(place) = self.ssrcs.find(ssrc, from) {
+            if self.list[place].format.payload_type == payload_type {
+                return Some(place);
+            }
+            from = place + 1;
+        }
+        None
+    }
+
+    /// Returns the place of the first stream of this SSRC.
+    fn place_of_ssrc(&self, ssrc: u32) -> Option<usize> {
+        self.ssrcs.find(ssrc, 0)
     }
 
     /// Passes a datagram to the stream at this place.
@@ -215,8 +244,10 @@ impl Streams {
     /// Adds a stream. If all places are taken, the first stream in probation is removed.
     fn add(&mut self, max_streams: usize, stream: StreamState) -> Result<(), AllocError> {
         let place = leaving(max_streams, &self.list);
+        self.list.try_room(1)?;
+        self.ssrcs.push(stream.ssrc)?;
         self.waking = Waking::unknown();
-        self.list.try_push(stream)?;
+        self.list.push(stream);
         if let Some(place) = place {
             self.remove(place);
         }
@@ -226,6 +257,7 @@ impl Streams {
     /// Removes the stream at this place.
     fn remove(&mut self, place: usize) {
         self.waking = Waking::unknown();
+        self.ssrcs.remove(place);
         let gone = self.list.remove(place);
         self.ended = self.ended.wrapping_add(gone.taken);
     }
@@ -333,7 +365,7 @@ impl Streams {
         tick_rate: Frequency,
         of: (u32, u8),
     ) -> Option<ReportBlock> {
-        match place_of(&self.list, of.0, of.1) {
+        match self.place_of(of.0, of.1) {
             Some(place) => self.report_at(place, now, tick_rate),
             None => None,
         }
@@ -399,17 +431,6 @@ fn arrival_of(ssrc: u32, payload_type: u8, answer: Result<Outcome, ReceiveError>
             fault,
         },
     }
-}
-
-/// Returns the place of the stream with this SSRC and payload type.
-#[inline(always)]
-pub(crate) fn place_of(streams: &[StreamState], ssrc: u32, payload_type: u8) -> Option<usize> {
-    streams.iter().position(|s| s.is_of(ssrc, payload_type))
-}
-
-/// Returns the place of the first stream of this SSRC.
-fn place_of_ssrc(streams: &[StreamState], ssrc: u32) -> Option<usize> {
-    streams.iter().position(|s| s.ssrc == ssrc)
 }
 
 /// Returns the place of the first stream in probation.

@@ -3,6 +3,8 @@
 mod losses;
 mod own_codec;
 mod red;
+mod red_pops;
+mod red_resent;
 mod resent;
 mod restarted;
 mod rows;

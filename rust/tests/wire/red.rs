@@ -9,20 +9,20 @@ use codec_payload::rtp::RtpPacket;
 use codec_payload::schedule::datagrams::{DatagramStep, RedLink, RedRun, run_datagrams_in_red};
 use codec_payload::sender::Sender;
 use codec_payload::stream::RedSettings;
-use codec_payload::stream::receiver::Receiver;
+use codec_payload::stream::receiver::{Receiver, ReceiverSettings};
 use codec_payload::wire::{Codec, ExtensionValues, Frequency, MediaTime, Pt, Ticks, ToPayload};
 
 /// How many frames there are; each has one datagram, from number 65,535 on.
-const FRAMES: usize = 300;
+pub const FRAMES: usize = 300;
 
 /// The ticks from frame to frame: 20 ms of 48 kHz.
 const STEP: u32 = 960;
 
-fn frame_of(index: usize) -> [u8; 3] {
+pub fn frame_of(index: usize) -> [u8; 3] {
     [index as u8, 0xa5, (index / 256) as u8]
 }
 
-fn samples() -> Vec<ToPayload> {
+pub fn samples() -> Vec<ToPayload> {
     (0..FRAMES)
         .map(|index| ToPayload {
             pt: Pt::new_with_value(96),
@@ -35,17 +35,17 @@ fn samples() -> Vec<ToPayload> {
         .collect()
 }
 
-/// A sender of Opus, a writer that repeats the payloads at these distances, and a receiver whose frames wait for missing packets
-/// until the end.
-fn link_of(distances: &[u32], limit: usize) -> Result<RedLink<NoBox, NoBox>, Fail> {
+/// A sender of Opus, a writer that repeats the payloads at these distances, and a receiver with these settings.
+pub fn link_with(
+    distances: &[u32],
+    limit: usize,
+    limits: WaitLimits,
+    change: impl Fn(&mut ReceiverSettings),
+) -> Result<RedLink<NoBox, NoBox>, Fail> {
     let mut of_sender = sender_settings()?;
     of_sender.clock_rate = Frequency::FORTY_EIGHT_KHZ;
     of_sender.mtu = 1_199;
-    let mut settings = receiver_settings(WaitLimits {
-        hold_back: None,
-        start: 0,
-        max_wait: None,
-    })?;
+    let mut settings = receiver_settings(limits)?;
     settings.clock_rate = Frequency::FORTY_EIGHT_KHZ;
     settings.limit = limit;
     settings.red = Some(RedSettings {
@@ -53,6 +53,7 @@ fn link_of(distances: &[u32], limit: usize) -> Result<RedLink<NoBox, NoBox>, Fai
         step: STEP,
         retransmission: None,
     });
+    change(&mut settings);
     let pack = CodecPacketizer::from_codec(Codec::Opus).ok_or("no packetizer")?;
     let depack = CodecDepacketizer::from_codec(Codec::Opus).ok_or("no depacketizer")?;
     Ok(RedLink {
@@ -60,6 +61,16 @@ fn link_of(distances: &[u32], limit: usize) -> Result<RedLink<NoBox, NoBox>, Fai
         writer: RedWriter::new(63, 96, distances, 1_200).map_err(|_| "settings out of range")?,
         receiver: Receiver::new(depack, settings).map_err(|_| "settings out of range")?,
     })
+}
+
+/// The same with a receiver whose frames wait for missing packets until the end.
+fn link_of(distances: &[u32], limit: usize) -> Result<RedLink<NoBox, NoBox>, Fail> {
+    let limits = WaitLimits {
+        hold_back: None,
+        start: 0,
+        max_wait: None,
+    };
+    link_with(distances, limit, limits, |_| {})
 }
 
 fn deliver(datagram: usize) -> DatagramStep {

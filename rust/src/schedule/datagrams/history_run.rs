@@ -110,7 +110,7 @@ fn do_history_step<P: Packetizer, D: Depacketizer>(
 }
 
 /// Keeps datagrams that a sender wrote.
-fn keep_all(history: &mut History, datagrams: &[Vec<u8>]) -> Result<(), PacketError> {
+pub(crate) fn keep_all(history: &mut History, datagrams: &[Vec<u8>]) -> Result<(), PacketError> {
     for datagram in datagrams {
         match history.keep(datagram) {
             Ok(_) => {}
@@ -122,7 +122,7 @@ fn keep_all(history: &mut History, datagrams: &[Vec<u8>]) -> Result<(), PacketEr
 }
 
 /// Requests a packet, and appends its retransmission, if the history wrote one.
-fn resend(
+pub(crate) fn resend(
     history: &mut History,
     now: Ticks,
     number: u16,

@@ -55,7 +55,7 @@ pub fn run_datagrams_in_red<P: Packetizer, D: Depacketizer>(
 }
 
 /// Executes one step, and records its result.
-fn do_red_step<P: Packetizer, D: Depacketizer>(
+pub(crate) fn do_red_step<P: Packetizer, D: Depacketizer>(
     link: &mut RedLink<P, D>,
     samples: &[ToPayload],
     step: DatagramStep,
@@ -94,7 +94,7 @@ fn do_red_step<P: Packetizer, D: Depacketizer>(
 /// # Errors
 ///
 /// `OutOfMemory`: memory ran out for the datagram or for one of its blocks; the datagram then has no receipt.
-fn deliver_whole<D: Depacketizer>(
+pub(crate) fn deliver_whole<D: Depacketizer>(
     receiver: &mut Receiver<D>,
     now: Ticks,
     bytes: &[u8],

@@ -2,7 +2,7 @@ use Rattle.std.proofs.Common.{inl, inr, refl, sym, subst, map, List}
 use Rattle.std.proofs.lemmas.List.{drop_all, drop_more}
 use Rattle.codec_payload_codec.proofs.AnswerLemmas.{on_err}
 use Rattle.codec_payload_payloader.specs.Sending.{sample_of}
-use Rattle.codec_payload_datagram_runs.proofs.RedReleaseLemmas.{release_in_red}
+use Rattle.codec_payload_datagram_runs.proofs.RedReleaseLemmas.{promises_in_red, release_in_red}
 use Rattle.codec_payload_datagram_runs.specs.RedRuns.{RedRuns, RedStops, RedWire, red_wire_of}
 use Rattle.codec_payload_datagram_runs.specs.OwnRedRuns.{AsksInRedRun}
 use Rattle.codec_payload_datagram_runs.specs.OwnRuns.{AsksForEnds, AsksForUnit, AsksPacketizer}
@@ -46,6 +46,13 @@ pub returns-clause-units : goal.returns-clause-units
 returns-clause-units g c =
     let end : RedWire = red_wire_of c.loop-step.link.sender c.loop-step.link.writer c.loop-step.link.receiver c.loop-step.run in
     release_in_red (map sample_of c.args.samples.now) c.args.steps.now c.args.link.now.sender c.args.link.now.writer c.args.link.now.receiver end
+    (c.loop-step.invariant.runs end
+    (subst (λ (xs : List DatagramStep). RedRuns (map sample_of c.args.samples.now) xs end end) (sym (drop_all c.loop-step.step-index c.args.steps.now c.loop-step-test.false)) refl))
+
+pub returns-clause-promises : goal.returns-clause-promises
+returns-clause-promises g c =
+    let end : RedWire = red_wire_of c.loop-step.link.sender c.loop-step.link.writer c.loop-step.link.receiver c.loop-step.run in
+    promises_in_red (map sample_of c.args.samples.now) c.args.steps.now c.args.link.now.sender c.args.link.now.writer c.args.link.now.receiver end
     (c.loop-step.invariant.runs end
     (subst (λ (xs : List DatagramStep). RedRuns (map sample_of c.args.samples.now) xs end end) (sym (drop_all c.loop-step.step-index c.args.steps.now c.loop-step-test.false)) refl))
 

@@ -6,9 +6,9 @@ use Rattle.codec_payload_codec.proofs.AnswerLemmas.{on_err}
 use Rattle.codec_payload_payloader.specs.Sending.{Sample, sample_of}
 use Rattle.codec_payload_sending.specs.Senders.{Sending}
 use Rattle.codec_payload_receiver.specs.Sessions.{Session}
-use Rattle.codec_payload_datagram_runs.proofs.RestartLemmas.{release_with_restarts}
+use Rattle.codec_payload_datagram_runs.proofs.RestartLemmas.{promises_with_restarts, release_with_restarts}
 use Rattle.codec_payload_datagram_runs.specs.OwnRuns.{AsksForEnds, AsksForUnit, AsksInRun, AsksPacketizer}
-use Rattle.codec_payload_datagram_runs.specs.RestartRuns.{AsksInParts, RunsParts, RunsPartsBy, StopsParts, told_if}
+use Rattle.codec_payload_datagram_runs.specs.RestartRuns.{RunsParts, RunsPartsBy, StopsParts, told_if}
 use Rattle.codec_payload_datagram_runs.specs.WireRuns.{Runs, Stops, Wire, begins, wire_of}
 use Rattle.codec_payload_datagram_runs.specs.declared.restart_run.Part.{Part}
 use Rattle.codec_payload_datagram_runs.specs.declared.run.DatagramRun.{DatagramRun}
@@ -196,6 +196,14 @@ returns-clause-units g c =
     let samples : List Sample = map sample_of c.args.samples.now in
     let over : min (length c.args.parts.now) (length c.loop-place.senders) ≤ c.loop-place.place = omega (arith, c.loop-place-test.false, c.min-place-end.ensures, c.loop-place.auto.senders) in
     release_with_restarts samples c.args.parts.now c.args.senders.now c.args.receiver.now c.loop-place.runs.items c.loop-place.senders c.loop-place.receiver
+    (whole_run (Runs samples) c.args.parts.now c.args.senders.now c.args.receiver.now c.loop-place.receiver c.args.parts.now c.loop-place.senders c.loop-place.place c.loop-place.runs.items
+    c.loop-place.invariant.runs over)
+
+pub returns-clause-promises : goal.returns-clause-promises
+returns-clause-promises g c =
+    let samples : List Sample = map sample_of c.args.samples.now in
+    let over : min (length c.args.parts.now) (length c.loop-place.senders) ≤ c.loop-place.place = omega (arith, c.loop-place-test.false, c.min-place-end.ensures, c.loop-place.auto.senders) in
+    promises_with_restarts samples c.args.parts.now c.args.senders.now c.args.receiver.now c.loop-place.runs.items c.loop-place.senders c.loop-place.receiver
     (whole_run (Runs samples) c.args.parts.now c.args.senders.now c.args.receiver.now c.loop-place.receiver c.args.parts.now c.loop-place.senders c.loop-place.place c.loop-place.runs.items
     c.loop-place.invariant.runs over)
 

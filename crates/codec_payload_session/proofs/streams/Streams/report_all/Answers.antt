@@ -1,7 +1,9 @@
-use Rattle.std.proofs.Common.{◌≡◌, arith, rules, ap, length, List, ℕ}
+use Rattle.std.proofs.Common.{◌≡◌, ◌∙◌, arith, rules, ap, length, List, ℕ}
 use Rattle.codec_payload_session.specs.Reporting.{blocks_of, bytes_of}
 use Rattle.codec_payload_session.proofs.PacketLemmas.{blocks_length, whole_blocks}
 use Rattle.codec_payload_session.proofs.ReporterLemmas.{few_blocks}
+use Rattle.codec_payload_session.proofs.SsrcLemmas.{kept, same_reported}
+use Rattle.codec_payload_session.specs.Waking.{ssrcs_of}
 use Rattle.codec_payload_session.proofs.streams.Streams.report_all.Goals as goal
 
 pub write_report-requires-whole : goal.write_report-requires-whole
@@ -13,3 +15,9 @@ write_report-requires-whole c = λ l.
       whole_blocks blocks c.deref-3.result.now is,
       omega (arith, ap (λ (bytes : List ℕ). length bytes) is, blocks_length blocks, few_blocks is_new room c.args.tick_rate c.args.now.0 c.deref-2.result.now, c.next_round-round.ensures.room, c.most_blocks.ensures),
     )
+
+pub invariant_of-self : goal.invariant_of-self
+invariant_of-self c =
+    let round = c.next_round-round.result in
+    let same = ap ssrcs_of c.start_fractions.ensures ∙ same_reported round.is_new round.room c.deref_mut.result.now ∙ ap ssrcs_of c.deref_mut.ensures.value in
+    kept c.unknown-self-inside.result c.self.inside.ssrcs c.self.inside.list c.start_fractions.new.streams (c.unknown-self-inside.ensures.bound c.start_fractions.new.streams) c.self.invariant.listed same

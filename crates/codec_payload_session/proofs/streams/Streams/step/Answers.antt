@@ -1,4 +1,4 @@
-use Rattle.std.proofs.Common.{◌≡◌, ◌∙◌, List, Option, length, refl, subst, sym}
+use Rattle.std.proofs.Common.{◌≡◌, ◌∙◌, List, Option, length, ap, refl, subst, sym}
 use Rattle.std.proofs.lemmas.List.{with_items_is}
 use Rattle.std.specs.Vec.{with_items}
 use Rattle.codec_payload_session.specs.Arrivals.{Port}
@@ -6,6 +6,8 @@ use Rattle.codec_payload_session.specs.Turns.{StepsFirst}
 use Rattle.codec_payload_session.specs.Units.{Turn, turn_to}
 use Rattle.codec_payload_session.specs.Waking.{StepsPort}
 use Rattle.codec_payload_session.specs.declared.stream.StreamState.{StreamState}
+use Rattle.codec_payload_session.specs.Waking.{ssrcs_of}
+use Rattle.codec_payload_session.proofs.SsrcLemmas.{kept, step_ssrcs}
 use Rattle.codec_payload_session.proofs.WakingLemmas.{steps_length, steps_port}
 use Rattle.codec_payload_session.proofs.streams.Streams.step.Goals as goal
 
@@ -22,3 +24,9 @@ returns-then-holds c =
     let same : written ≡ ts = with_items_is c.self.inside.list ts long in
     subst (λ (q : Port). StepsPort c.args.now c.args.idle_timeout q turn (record p { streams = written })) c.self.view_is
     (steps_port c.args.now c.args.idle_timeout p turn ss ts written refl same first)
+
+pub invariant_of-self : goal.invariant_of-self
+invariant_of-self c =
+    let turn : Option Turn = turn_to c.step_excepted.result c.step_excepted.new.unit in
+    let same = step_ssrcs c.args.now c.args.idle_timeout c.deref_mut.result.now turn c.step_excepted.new.streams c.step_excepted.ensures.first ∙ ap ssrcs_of c.deref_mut.ensures.value in
+    kept c.self.inside.waking c.self.inside.ssrcs c.self.inside.list c.step_excepted.new.streams c.step_excepted.ensures.bound c.self.invariant.listed same

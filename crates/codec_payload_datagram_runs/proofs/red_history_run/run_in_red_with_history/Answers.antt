@@ -1,0 +1,71 @@
+use Rattle.std.proofs.Common.{inl, inr, refl, sym, subst, map, List}
+use Rattle.std.proofs.lemmas.List.{drop_all, drop_more}
+use Rattle.codec_payload_codec.proofs.AnswerLemmas.{on_err}
+use Rattle.codec_payload_payloader.specs.Sending.{sample_of}
+use Rattle.codec_payload_datagram_runs.proofs.RedRepeatLemmas.{promises_in_red_with_history, release_in_red_with_history, repeats_in_red_with_history}
+use Rattle.codec_payload_datagram_runs.specs.OwnRedHistoryRuns.{AsksInRedHistoryRun}
+use Rattle.codec_payload_datagram_runs.specs.RedHistoryRuns.{RedHistoryRuns, RedHistoryStops, RedResending, red_resending_of}
+use Rattle.codec_payload_datagram_runs.specs.OwnRuns.{AsksForEnds, AsksForUnit, AsksPacketizer}
+use Rattle.codec_payload_datagram_runs.specs.declared.history_run.HistoryStep.{HistoryStep}
+use Rattle.codec_payload_datagram_runs.proofs.red_history_run.run_in_red_with_history.Goals as goal
+
+pub loop-step-preserved : goal.loop-step-preserved
+loop-step-preserved g c =
+    let now : RedResending = red_resending_of c.loop-step.link.red.sender c.loop-step.link.red.writer c.loop-step.link.history c.loop-step.link.red.receiver c.loop-step.run in
+    let next : RedResending = red_resending_of c.do_red_history_step.new.link.red.sender c.do_red_history_step.new.link.red.writer c.do_red_history_step.new.link.history c.do_red_history_step.new.link.red.receiver c.do_red_history_step.new.run in
+    record {
+      runs = λ t later.
+          c.loop-step.invariant.runs t
+          (subst (λ (xs : List HistoryStep). RedHistoryRuns (map sample_of c.args.samples.now) xs now t)
+          (sym (drop_more c.args.steps.now c.loop-step.step-index _ c.loop-step-test.true))
+          (next, c.in_ok-do_red_history_step.ensures.ok, later));
+      stops = λ sending writer history session later.
+          c.loop-step.invariant.stops sending writer history session
+          (subst (λ (xs : List HistoryStep). RedHistoryStops (map sample_of c.args.samples.now) xs now sending writer history session)
+          (sym (drop_more c.args.steps.now c.loop-step.step-index _ c.loop-step-test.true))
+          (inr (next, c.in_ok-do_red_history_step.ensures.ok, later)));
+      own = λ t later.
+          c.loop-step.invariant.own t
+          (subst (λ (xs : List HistoryStep). AsksInRedHistoryRun (AsksPacketizer g.P.Packetizer.state g.P.Packetizer.packetize_step g.P.Packetizer.marker_step g.P.Packetizer.marks_spurts) (AsksForEnds g.D.Depacketizer.is_head g.D.Depacketizer.is_tail) (AsksForUnit g.D.Depacketizer.state g.D.Depacketizer.depacketize_step) (map sample_of c.args.samples.now) xs now t)
+          (sym (drop_more c.args.steps.now c.loop-step.step-index _ c.loop-step-test.true))
+          (next, c.in_ok-do_red_history_step.ensures.ok, c.in_ok-do_red_history_step.ensures.own, later));
+    }
+
+pub returns-in_err-do_red_history_step-clause-stops : goal.returns-in_err-do_red_history_step-clause-stops
+returns-in_err-do_red_history_step-clause-stops g c =
+    let now : RedResending = red_resending_of c.loop-step.link.red.sender c.loop-step.link.red.writer c.loop-step.link.history c.loop-step.link.red.receiver c.loop-step.run in
+    let link = c.do_red_history_step.new.link in
+    on_err c.from_residual.result
+    (c.loop-step.invariant.stops link.red.sender link.red.writer link.history link.red.receiver
+    (subst (λ (xs : List HistoryStep). RedHistoryStops (map sample_of c.args.samples.now) xs now link.red.sender link.red.writer link.history link.red.receiver)
+    (sym (drop_more c.args.steps.now c.loop-step.step-index _ c.loop-step-test.true))
+    (inl c.in_err-do_red_history_step.ensures.err)))
+
+-- at the end no step is left
+pub returns-clause-units : goal.returns-clause-units
+returns-clause-units g c =
+    let end : RedResending = red_resending_of c.loop-step.link.red.sender c.loop-step.link.red.writer c.loop-step.link.history c.loop-step.link.red.receiver c.loop-step.run in
+    release_in_red_with_history (map sample_of c.args.samples.now) c.args.steps.now c.args.link.now.red.sender c.args.link.now.red.writer c.args.link.now.history c.args.link.now.red.receiver end
+    (c.loop-step.invariant.runs end
+    (subst (λ (xs : List HistoryStep). RedHistoryRuns (map sample_of c.args.samples.now) xs end end) (sym (drop_all c.loop-step.step-index c.args.steps.now c.loop-step-test.false)) refl))
+
+pub returns-clause-promises : goal.returns-clause-promises
+returns-clause-promises g c =
+    let end : RedResending = red_resending_of c.loop-step.link.red.sender c.loop-step.link.red.writer c.loop-step.link.history c.loop-step.link.red.receiver c.loop-step.run in
+    promises_in_red_with_history (map sample_of c.args.samples.now) c.args.steps.now c.args.link.now.red.sender c.args.link.now.red.writer c.args.link.now.history c.args.link.now.red.receiver end
+    (c.loop-step.invariant.runs end
+    (subst (λ (xs : List HistoryStep). RedHistoryRuns (map sample_of c.args.samples.now) xs end end) (sym (drop_all c.loop-step.step-index c.args.steps.now c.loop-step-test.false)) refl))
+
+pub returns-clause-repeats : goal.returns-clause-repeats
+returns-clause-repeats g c =
+    let end : RedResending = red_resending_of c.loop-step.link.red.sender c.loop-step.link.red.writer c.loop-step.link.history c.loop-step.link.red.receiver c.loop-step.run in
+    repeats_in_red_with_history (map sample_of c.args.samples.now) c.args.steps.now c.args.link.now.red.sender c.args.link.now.red.writer c.args.link.now.history c.args.link.now.red.receiver end
+    (c.loop-step.invariant.runs end
+    (subst (λ (xs : List HistoryStep). RedHistoryRuns (map sample_of c.args.samples.now) xs end end) (sym (drop_all c.loop-step.step-index c.args.steps.now c.loop-step-test.false)) refl))
+
+pub returns-clause-own : goal.returns-clause-own
+returns-clause-own g c =
+    let end : RedResending = red_resending_of c.loop-step.link.red.sender c.loop-step.link.red.writer c.loop-step.link.history c.loop-step.link.red.receiver c.loop-step.run in
+    c.loop-step.invariant.own end
+    (subst (λ (xs : List HistoryStep). AsksInRedHistoryRun (AsksPacketizer g.P.Packetizer.state g.P.Packetizer.packetize_step g.P.Packetizer.marker_step g.P.Packetizer.marks_spurts) (AsksForEnds g.D.Depacketizer.is_head g.D.Depacketizer.is_tail) (AsksForUnit g.D.Depacketizer.state g.D.Depacketizer.depacketize_step) (map sample_of c.args.samples.now) xs end end)
+    (sym (drop_all c.loop-step.step-index c.args.steps.now c.loop-step-test.false)) refl)

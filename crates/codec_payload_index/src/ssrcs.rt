@@ -1,0 +1,158 @@
+//! A list of SSRCs, which finds the places of an SSRC by a search.
+
+ghost use Rattle.std.specs.Prelude.{◌≡◌, ◌<◌, ◌≤◌, IfOk, OnErr, OnOk, ℕ, List, [], ◌∷◌, ◌++◌, length, map, nat_lt};
+ghost use Rattle.std.specs.List.{remove};
+ghost use Rattle.std.specs.List.Sorted.{IsPartitionPoint};
+ghost use Rattle.codec_payload_index.specs.Ssrcs.{IsFirstFrom, Rises, key, key_of, lowered};
+
+use std::alloc::{AllocError, Global};
+use std::marker::Model;
+
+/// Up to how many SSRCs a walk is faster than a search.
+const FEW: usize = 16;
+
+/// A list of SSRCs. It may have an SSRC at several places.
+#[derive(Debug, Drop)]
+pub struct Ssrcs {
+    list: Vec<u32>,
+    /// An entry for each place, in rising order of SSRCs, and of places if the SSRC is the same.
+    entries: Vec<Entry>,
+}
+
+/// An SSRC, and a place of the list that has it.
+#[derive(Clone, Copy, Debug)]
+struct Entry {
+    ssrc: u32,
+    place: usize,
+}
+
+impl Model for Ssrcs {
+    ghost use Rattle.std.specs.Prelude.{ℕ, List};
+    ghost use Rattle.codec_payload_index.specs.Ssrcs.{AreEntries};
+
+    ghost Value = { List ℕ };
+
+    ghost view = { λ s. s.list.items };
+
+    ghost invariant = { λ s. AreEntries s.list.items s.entries.items };
+}
+
+impl Ssrcs {
+    /// Creates an empty list. Does not allocate.
+    pub fn new(alloc: Global) -> Ssrcs
+        ensures { result ≡ [] }
+    {
+        Ssrcs {
+            list: Vec::new(alloc),
+            entries: Vec::new(alloc),
+        }
+    }
+
+    /// Returns the first place from `from` on that has this SSRC.
+    #[inline(always)]
+    pub fn find(&self, ssrc: u32, from: usize) -> Option<usize>
+        ensures { IsFirstFrom from ssrc self.now result }
+    {
+        if self.list.len() <= FEW {
+            walk(&self.list, ssrc, from)
+        } else {
+            self.look_up(ssrc, from)
+        }
+    }
+
+    /// Finds the same place by a search.
+    fn look_up(&self, ssrc: u32, from: usize) -> Option<usize>
+        ensures { IsFirstFrom from ssrc self.now result }
+    {
+        let at = search(&self.entries, ssrc, from);
+        if at >= self.entries.len() {
+            return None;
+        }
+        let entry = self.entries[at];
+        if entry.ssrc == ssrc {
+            Some(entry.place)
+        } else {
+            None
+        }
+    }
+
+    /// Adds an SSRC at the end.
+    pub fn push(&mut self, ssrc: u32) -> Result<(), AllocError>
+        ensures ok { OnOk result (self.new ≡ self.old ++ ssrc ∷ []) }
+        ensures err { OnErr result (self.new ≡ self.old) }
+    {
+        self.list.reserve(1)?;
+        self.entries.reserve(1)?;
+        let place = self.list.len();
+        let at = search(&self.entries, ssrc, place);
+        self.entries.insert(at, Entry { ssrc, place }).unwrap();
+        self.list.push(ssrc).unwrap();
+        Ok(())
+    }
+
+    /// Removes the SSRC at this place. Those behind it move one place to the front.
+    pub fn remove(&mut self, place: usize)
+        requires { place < length self.old }
+        ensures { self.new ≡ remove self.old place }
+    {
+        let ssrc = self.list.remove(place);
+        let at = search(&self.entries, ssrc, place);
+        self.entries.remove(at);
+        lower(&mut self.entries, place);
+    }
+}
+
+/// Finds the first place from `from` on by a step for each place.
+#[inline(always)]
+fn walk(ssrcs: &[u32], ssrc: u32, from: usize) -> Option<usize>
+    ensures { IsFirstFrom from ssrc ssrcs.now result }
+{
+    let mut place = from;
+    while place < ssrcs.len() {
+        if ssrcs[place] == ssrc {
+            return Some(place);
+        }
+        place += 1;
+    }
+    None
+}
+
+/// Returns how many entries come before this SSRC and place.
+fn search(entries: &[Entry], ssrc: u32, from: usize) -> usize
+    requires { Rises entries.now }
+    ensures bound { result ≤ length entries.now }
+    ensures point { IsPartitionPoint (λ e. key_of e < key ssrc from) (λ e. key ssrc from ≤ key_of e) entries.now result }
+{
+    entries.partition_point(|entry| comes_before(*entry, ssrc, from))
+}
+
+/// Returns whether the entry comes before this SSRC and place.
+#[inline(always)]
+fn comes_before(entry: Entry, ssrc: u32, from: usize) -> bool
+    ensures { result ≡ nat_lt (key_of entry) (key ssrc from) }
+{
+    entry.ssrc < ssrc || (entry.ssrc == ssrc && entry.place < from)
+}
+
+/// Moves the entries of all places behind this one to the front by one place.
+fn lower(entries: &mut Vec<Entry>, place: usize)
+    ensures { entries.new.items ≡ map (lowered place) entries.old.items }
+{
+    for at in 0..entries.len() {
+        entries[at] = lowered(entries[at], place);
+    }
+}
+
+/// Returns the entry once a place is removed.
+fn lowered(entry: Entry, place: usize) -> Entry
+    ensures { result ≡ lowered place entry }
+{
+    if place < entry.place {
+        Entry {
+            ssrc: entry.ssrc,
+            place: entry.place - 1,
+        }
+    } else {
+        entry
+    }
+}

@@ -1,0 +1,22 @@
+use Rattle.std.proofs.Common.{◌≡◌, ◌∙◌, ◌<◌, ℕ, List, length, ap, arith, subst, sym}
+use Rattle.std.specs.List.{remove}
+use Rattle.codec_payload_session.specs.Arrivals.{Port}
+use Rattle.codec_payload_session.specs.Waking.{IsIndexed, ssrcs_of}
+use Rattle.codec_payload_session.specs.declared.stream.StreamState.{StreamState}
+use Rattle.codec_payload_session.proofs.SsrcLemmas.{count_of, of_removed}
+use Rattle.codec_payload_session.proofs.streams.Streams.remove.Goals as goal
+
+pub remove-requires : goal.remove-requires
+remove-requires c =
+    let ss = c.self.inside.list.items in
+    let within : c.args.place < length ss = subst (λ (p : Port). c.args.place < length p.streams) (sym c.self.view_is) c.requires in
+    let long : length c.self.inside.ssrcs ≡ length ss = ap (λ (l : List ℕ). length l) c.self.invariant.listed ∙ count_of ss in
+    omega (arith, within, long)
+
+pub invariant_of-self : goal.invariant_of-self
+invariant_of-self c =
+    let ss = c.self.inside.list.items in
+    record {
+      bound = (c.unknown-self-inside.ensures.bound c.remove-gone.new.self.items);
+      listed = c.remove.ensures ∙ ap (λ (l : List ℕ). remove l c.args.place) c.self.invariant.listed ∙ sym (of_removed ss c.args.place) ∙ sym (ap ssrcs_of c.remove-gone.ensures.items);
+    }
