@@ -1,0 +1,6 @@
+pub mod ForwardLemmas
+pub mod KeptPayloads
+pub mod SenderLemmas
+pub mod SourceLemmas
+pub mod ViewerLemmas
+pub mod ViewerRuns
