@@ -260,7 +260,8 @@ module _ (samples : List Sample) (all_steps : List ForwardStep) (sender : Sendin
       timely = subst (λ (ds : List DatagramStep). ComeTimely rate (times_sent rate (viewer_samples e rate samples) seen t.wire.sends) (delivered ds)) (sym same_received)
           (subst (λ (ts : List ℕ). ComeTimely rate ts (delivered (received_steps samples 0 seen t.wire.sends))) (sym (times_move e rate within.widths.clock_rate samples seen t.wire.sends))
           (come_timely e rate within.widths.clock_rate (times_sent rate samples seen t.wire.sends) (delivered (received_steps samples 0 seen t.wire.sends))
-          (small rate samples seen t.wire.sends) (come_under rate samples 0 seen t.wire.sends) within.timely));
+          (small rate samples seen t.wire.sends)
+          (subst (λ (n : ℕ). AllUnder n (delivered (received_steps samples 0 seen t.wire.sends))) (omega arith) (come_under rate samples 0 seen t.wire.sends)) within.timely));
     }
 
     pub releases : ReleasesUnits (viewer_samples e rate samples) seen (begins (viewer_sender e sender) receiver) (viewer_wire e t.wire)

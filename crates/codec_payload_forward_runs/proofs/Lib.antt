@@ -1,4 +1,6 @@
 pub mod ForwardLemmas
+pub mod ForwardRunExamples
+pub mod PlainSteps
 pub mod KeptPayloads
 pub mod SenderLemmas
 pub mod SourceLemmas

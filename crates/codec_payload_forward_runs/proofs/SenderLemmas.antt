@@ -24,7 +24,7 @@ use Rattle.codec_payload_datagram_runs.specs.WireRuns.{DoesStep, SendsIt, SendsO
 use Rattle.codec_payload_datagram_runs.specs.declared.run.DatagramStep.TheVariants as plain
 use Rattle.codec_payload_datagram_runs.specs.declared.run.SentSample.{SentSample}
 use Rattle.codec_payload_forward_runs.specs.ForwardReleases.{viewer_bytes, viewer_counts, viewer_datagram, viewer_packet, viewer_sample, viewer_samples, viewer_sender, viewer_stream, viewer_wire}
-use Rattle.codec_payload_forward_runs.specs.ForwardRuns.{packet_of}
+use Rattle.codec_payload_forward_runs.specs.ForwardRuns.{packet_read}
 
 -- Lists
 
@@ -58,7 +58,7 @@ module _ (e : Forward) (fits_type : e.settings.payload_type < 128) (fits_ssrc : 
   }
 
   pub reads : (d : List ℕ) (p : Packet) → rtp_at d ≡ Ok p → p.padding < 256 → rtp_at (viewer_datagram e d) ≡ Ok (viewer_packet e p)
-  reads d p is few = ap (λ (r : Result Packet RtpError). rtp_at (viewer_bytes e (packet_of r))) is ∙ packet_again (viewer_packet e p) (fits p) few
+  reads d p is few = ap (λ (r : Result Packet RtpError). rtp_at (viewer_bytes e (packet_read r))) is ∙ packet_again (viewer_packet e p) (fits p) few
 
   -- a packet of the viewer's stream, with this number and time
   abbrev packet_with : Bool → List ℕ → ℕ → ℕ → Packet
@@ -160,7 +160,7 @@ module _ (e : Forward) (fits_type : e.settings.payload_type < 128) (fits_ssrc : 
       → DoesStep (viewer_samples e rate samples) (plain.Send i) (viewer_wire e s) (viewer_wire e t)
   sends_step rate samples i s t is some does =
       subst (λ (o : Option Sample).
-          MatchOption o (viewer_wire e t ≡ viewer_wire e s)
-          (λ sample. (entry : SentSample) × SendsIt sample (viewer_sender e s.sending) (map (viewer_datagram e) s.datagrams) entry (viewer_sender e t.sending) (map (viewer_datagram e) t.datagrams)
-          × (viewer_wire e t ≡ record (viewer_wire e s) { sending = viewer_sender e t.sending; datagrams = map (viewer_datagram e) t.datagrams; sends = s.sends ++ entry ∷ [] })))
+      MatchOption o (viewer_wire e t ≡ viewer_wire e s)
+      (λ sample. (entry : SentSample) × SendsIt sample (viewer_sender e s.sending) (map (viewer_datagram e) s.datagrams) entry (viewer_sender e t.sending) (map (viewer_datagram e) t.datagrams)
+      × (viewer_wire e t ≡ record (viewer_wire e s) { sending = viewer_sender e t.sending; datagrams = map (viewer_datagram e) t.datagrams; sends = s.sends ++ entry ∷ [] })))
       (sym (slice_get-map (viewer_sample e rate) samples i)) (send_step rate (slice_get samples i) s t is some does)

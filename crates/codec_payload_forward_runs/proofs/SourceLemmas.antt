@@ -47,14 +47,17 @@ pub record IsSource (ssrc rate : ℕ) (codec : Codec) (s : Sending) (datagrams :
 sent_of : (ssrc rate : ℕ) (codec : Codec) (sample : Sample) (s t : Sending) (datagrams : List (List ℕ)) → IsSource ssrc rate codec s datagrams → Sends s (sent_sample sample) t → AllOf ssrc codec t.datagrams
 sent_of ssrc rate codec sample s t datagrams is sends =
     of_each ssrc codec t.datagrams (λ i l.
-        let within : i < length sends.payloads = omega (arith, sends.sent.0, l) in
-        let at = sends.sent.1 i within in
-        (_, at.reads, record {
-          source = is.source;
-          number = omega arith;
-          time = omega arith;
-          kept = kept_each codec s.packetizer t.packetizer s.mtu sample.bytes sends.payloads is.keeps sends.packetized i within;
-        }))
+    let within : i < length sends.payloads = omega (arith, sends.sent.0, l) in
+    let at = sends.sent.1 i within in (
+      _,
+      at.reads,
+      record {
+        source = is.source;
+        number = omega arith;
+        time = omega arith;
+        kept = kept_each codec s.packetizer t.packetizer s.mtu sample.bytes sends.payloads is.keeps sends.packetized i within;
+      },
+    ))
 
 -- a refused sample leaves a packetizer whose payloads are kept
 refused_keeps : (ssrc rate : ℕ) (codec : Codec) (sample : Sample) (fault : PacketError) (s t : Sending) (datagrams : List (List ℕ)) → IsSource ssrc rate codec s datagrams

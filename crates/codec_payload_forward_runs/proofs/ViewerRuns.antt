@@ -16,6 +16,7 @@ use Rattle.codec_payload_sending_forward.specs.declared.forwarder.Forwarded.{For
 use Rattle.codec_payload_sending_forward.specs.declared.forwarder.Forwarded.TheVariants as answers
 use Rattle.codec_payload_datagram_runs.proofs.RepeatLemmas.{Follows, follows, grows, Grows}
 use Rattle.codec_payload_datagram_runs.proofs.StepLemmas.{get_append, past_end}
+use Rattle.codec_payload_datagram_runs.specs.HistoryReleases.{sends_by}
 use Rattle.codec_payload_datagram_runs.specs.WireRuns.{Delivers, DoesStep, Receipt, Runs, Wire}
 use Rattle.codec_payload_datagram_runs.specs.declared.run.DatagramStep.{DatagramStep}
 use Rattle.codec_payload_datagram_runs.specs.declared.run.DatagramStep.TheVariants as plain
@@ -24,7 +25,7 @@ use Rattle.codec_payload_forward_runs.proofs.SenderLemmas.{sends_step}
 use Rattle.codec_payload_forward_runs.proofs.SourceLemmas.{AllOf, IsDatagramOf, IsSource, of_at, source_after}
 use Rattle.codec_payload_forward_runs.proofs.ViewerLemmas.{DoesOne, GoesOn, HasNone, IsOf, does_one, goes_further, goes_nowhere, same_viewer}
 use Rattle.codec_payload_forward_runs.specs.ForwardReleases.{AreForwarded, forwarded_by, forwarded_in, viewer_bytes, viewer_datagram, viewer_packet, viewer_samples, viewer_steps, viewer_wire}
-use Rattle.codec_payload_forward_runs.specs.ForwardRuns.{DoesForwardStep, DoesPlain, ForwardRuns, Hops, packet_in, packet_of, written_by}
+use Rattle.codec_payload_forward_runs.specs.ForwardRuns.{DoesForwardStep, DoesPlain, ForwardRuns, Hops, packet_in, packet_read, written_by}
 use Rattle.codec_payload_forward_runs.specs.declared.run.ForwardStep.{ForwardStep}
 use Rattle.codec_payload_forward_runs.specs.declared.run.ForwardStep.TheVariants as steps
 
@@ -42,7 +43,7 @@ forwarded_more f datagrams new [] [] here = tt
 forwarded_more f datagrams new [] (k ∷ ks) here = absurd here
 forwarded_more f datagrams new (b ∷ bs) [] here = absurd here
 forwarded_more f datagrams new (b ∷ bs) (k ∷ ks) here =
-    ((here.0.0, here.0.1, get_append datagrams new k here.0.0 here.0.2, here.0.3), forwarded_more f datagrams new bs ks here.1)
+    ((here.0.0, here.0.1, get_append datagrams new k here.0.0 here.0.2, here.0.3, here.0.4, here.0.5), forwarded_more f datagrams new bs ks here.1)
 
 forwarded_at : (f : Forward) (datagrams bs : List (List ℕ)) (ks : List ℕ) (j : ℕ) (b : List ℕ) → AreForwarded f datagrams bs ks → slice_get bs j ≡ Some b
     → (k : ℕ) × (slice_get ks j ≡ Some k) × (slice_get (map (viewer_datagram f) datagrams) k ≡ Some b)
@@ -51,7 +52,7 @@ forwarded_at f datagrams (c ∷ bs) [] j b are there = absurd are
 forwarded_at f datagrams (c ∷ bs) (k ∷ ks) zero b are there =
     let is = are.0 in
     let same : c ≡ b = same_Some c b there in
-    let bytes : viewer_datagram f is.0 ≡ b = ap (λ (r : Result Packet RtpError). viewer_bytes f (packet_of r)) is.3 ∙ (sym is.4 ∙ same) in
+    let bytes : viewer_datagram f is.0 ≡ b = ap (λ (r : Result Packet RtpError). viewer_bytes f (packet_read r)) is.3 ∙ (sym is.4 ∙ same) in
     (k, refl, slice_get-map (viewer_datagram f) datagrams k ∙ (ap (option_map (viewer_datagram f)) is.2 ∙ ap Some bytes))
 forwarded_at f datagrams (c ∷ bs) (k ∷ ks) (suc j) b are there = forwarded_at f datagrams bs ks j b are.1 there
 
@@ -106,7 +107,7 @@ module _ (ssrc rate : ℕ) (codec : Codec) (samples : List Sample) where
       by None e = skips (e, rw e at does)
       by (Some d) e =
           let of : IsDatagramOf ssrc codec d = of_at ssrc codec s.wire.datagrams k d at.source.all e in
-          let is : packet_in (slice_get s.wire.datagrams k) ≡ Some of.0 = ap packet_in e ∙ ap packet_of of.1 in
+          let is : packet_in (slice_get s.wire.datagrams k) ≡ Some of.0 = ap packet_in e ∙ ap packet_read of.1 in
           let done = rw is at does in
           let of_codec : IsOf ssrc s.forwarder.settings.codec of.0 = subst (λ (c : Codec). IsOf ssrc c of.0) (sym at.codec_is) of.2 in
           answers_one (record {
@@ -190,7 +191,7 @@ module _ (ssrc rate : ℕ) (codec : Codec) (samples : List Sample) where
   stays steps.Finish s mid at does = quiet_stays s mid does.0 does.2 at (ap (λ (x : Wire). x.sending) does.1.2) (ap (λ (x : Wire). x.datagrams) does.1.2)
 
   -- the forwarder at the end of a run
-  ends_on : (all_steps : List ForwardStep) (s t : Hops) → IsAt ssrc rate codec s → ForwardRuns samples all_steps s t → GoesOn ssrc s.forwarder t.forwarder
+  pub ends_on : (all_steps : List ForwardStep) (s t : Hops) → IsAt ssrc rate codec s → ForwardRuns samples all_steps s t → GoesOn ssrc s.forwarder t.forwarder
   ends_on [] s t at run = goes_nowhere ssrc s.forwarder t.forwarder (ap (λ (x : Hops). x.forwarder) run)
   ends_on (step ∷ later) s t at run =
       let one = stays step s run.0 at run.1 in
@@ -226,10 +227,10 @@ module _ (ssrc rate : ℕ) (codec : Codec) (samples : List Sample) where
         course = λ fit. (
           viewer_wire e mid.wire,
           sends_step e fit.1 fit.2 rate samples i s.wire mid.wire at.source.clock fit.0 stepped,
-          subst (λ (n : ℕ). Runs (viewer_samples e rate samples) (viewer_steps samples n forwarded later _ c.more) (viewer_wire e mid.wire) (viewer_wire e t.wire)) (sym f.sent)
+          subst (λ (n : ℕ). Runs (viewer_samples e rate samples) (viewer_steps samples n forwarded later (sends_by samples (plain.Send i) f.later) c.more) (viewer_wire e mid.wire) (viewer_wire e t.wire)) (sym f.sent)
               (subst (λ (es : List SentSample). Runs (viewer_samples e rate samples) (viewer_steps samples (length mid.wire.datagrams) forwarded later es c.more) (viewer_wire e mid.wire) (viewer_wire e t.wire)) (sym f.left) (c.course fit)),
         );
-        written = subst (λ (n : ℕ). AreForwarded e t.wire.datagrams t.written (forwarded_in samples n forwarded later _ c.more)) (sym f.sent)
+        written = subst (λ (n : ℕ). AreForwarded e t.wire.datagrams t.written (forwarded_in samples n forwarded later (sends_by samples (plain.Send i) f.later) c.more)) (sym f.sent)
             (subst (λ (es : List SentSample). AreForwarded e t.wire.datagrams t.written (forwarded_in samples (length mid.wire.datagrams) forwarded later es c.more)) (sym f.left) c.written);
       }
 
@@ -247,6 +248,7 @@ module _ (ssrc rate : ℕ) (codec : Codec) (samples : List Sample) where
           let w = a.one.writes b is in
           let same : viewer_packet t.forwarder a.packet ≡ viewer_packet a.forwarder a.packet = same_viewer a.forwarder t.forwarder a.packet goes.settings (goes.numbers w.0) (goes.times w.0) in
           (a.datagram, a.packet, a.there, a.reads, w.1 ∙ ap packet_bytes (sym same), w.2 ∙ ap (λ (p : Packet). Ok p) (sym same))
+
       by : (answer : Forwarded) → a.answer ≡ answer → AreForwarded t.forwarder s.wire.datagrams (written_by a.answer a.bytes) (forwarded_by a.answer k)
       by answers.Began is = rw is (wrote a.bytes (rw is refl), tt)
       by answers.Written is = rw is (wrote a.bytes (rw is refl), tt)

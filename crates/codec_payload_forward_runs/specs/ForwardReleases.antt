@@ -31,7 +31,7 @@ use Rattle.codec_payload_datagram_runs.specs.WireRuns.{Wire}
 use Rattle.codec_payload_datagram_runs.specs.declared.run.DatagramStep.{DatagramStep}
 use Rattle.codec_payload_datagram_runs.specs.declared.run.DatagramStep.TheVariants as plain
 use Rattle.codec_payload_datagram_runs.specs.declared.run.SentSample.{SentSample}
-use Rattle.codec_payload_forward_runs.specs.ForwardRuns.{ForwardRuns, Hops, begins_forwarding, packet_of}
+use Rattle.codec_payload_forward_runs.specs.ForwardRuns.{ForwardRuns, Hops, begins_forwarding, packet_read}
 use Rattle.codec_payload_forward_runs.specs.declared.run.ForwardStep.{ForwardStep}
 use Rattle.codec_payload_forward_runs.specs.declared.run.ForwardStep.TheVariants as steps
 
@@ -97,7 +97,7 @@ viewer_bytes f None = []
 viewer_bytes f (Some p) = packet_bytes (viewer_packet f p)
 
 abbrev pub viewer_datagram : Forward → List ℕ → List ℕ
-viewer_datagram f datagram = viewer_bytes f (packet_of (rtp_at datagram))
+viewer_datagram f datagram = viewer_bytes f (packet_read (rtp_at datagram))
 
 -- a sender's stream as the viewer gets it
 abbrev pub viewer_stream : Forward → Outgoing → Outgoing

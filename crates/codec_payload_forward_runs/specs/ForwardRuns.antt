@@ -38,13 +38,13 @@ abbrev pub begins_forwarding : Sending → Forward → Session → Hops
 begins_forwarding sending forwarder session = record { wire = begins sending session; forwarder = forwarder; written = []; answers = [] }
 
 -- the packet of the datagram with this index, if there is one
-abbrev pub packet_of : Result Packet RtpError → Option Packet
-packet_of (Ok p) = Some p
-packet_of (Err fault) = None
+abbrev pub packet_read : Result Packet RtpError → Option Packet
+packet_read (Ok p) = Some p
+packet_read (Err fault) = None
 
 abbrev pub packet_in : Option (List ℕ) → Option Packet
 packet_in None = None
-packet_in (Some datagram) = packet_of (rtp_at datagram)
+packet_in (Some datagram) = packet_read (rtp_at datagram)
 
 -- the datagram that was written, if one was
 abbrev pub written_by : Forwarded → List ℕ → List (List ℕ)
@@ -90,7 +90,8 @@ ForwardRuns samples (step ∷ later) s t = (mid : Hops) × DoesForwardStep sampl
 -- memory ran out for a step of sender or receiver, or for its results after it was done
 abbrev pub StopsOrIsDone : List Sample → DatagramStep → Wire → Sending → Session → Type 0
 StopsOrIsDone samples step s sending session =
-    StopsAt samples step s sending session ⊎ ((wire : Wire) × DoesStep samples step s wire × (sending ≡ wire.sending) × (session ≡ wire.session))
+    StopsAt samples step s sending session
+    ⊎ ((wire : Wire) × DoesStep samples step (begins s.sending s.session) wire × (sending ≡ wire.sending) × (session ≡ wire.session))
 
 -- Memory ran out for a step. The forwarder is as before
 abbrev pub ForwardStopsAt : List Sample → ForwardStep → Hops → Sending → Forward → Session → Type 0

@@ -1,13 +1,15 @@
 //! Whole runs over two hops: a sender's datagrams come to a forwarder, and what the forwarder writes comes to a viewer's receiver.
 
-ghost use Rattle.std.specs.Prelude.{◌≡◌, ◌≢◌, ◌<◌, ◌^◌, ◌++◌, [], List, length, map, IfOk, IfErr, OnOk, OnErr, Option, Result, IsTrue};
+ghost use Rattle.std.specs.Prelude.{◌≡◌, ◌<◌, ◌^◌, ◌++◌, ℕ, List, length, map, true, IfOk, IfErr, OnOk, OnErr, Result};
 ghost use Rattle.codec_payload_base.specs.declared.error.PacketError.TheVariants.{OutOfMemory};
 ghost use Rattle.codec_payload_payloader.specs.Sending.{sample_of};
 ghost use Rattle.codec_payload_receiver.specs.declared.receiver.ReceiveError.TheVariants as refusals;
 ghost use Rattle.codec_payload_receiver.specs.Sessions.{ReceivesBytes};
-ghost use Rattle.codec_payload_datagram_runs.specs.WireRuns.{Delivers, DoesStep, StopsAt, wire_of};
+ghost use Rattle.codec_payload_rtp.specs.RtpValues.{packet_of};
+ghost use Rattle.codec_payload_sending_forward.specs.Forwarding.{Forwards};
+ghost use Rattle.codec_payload_datagram_runs.specs.WireRuns.{Delivers, DoesStep, bytes_in, wire_of};
 ghost use Rattle.codec_payload_forward_runs.specs.ForwardReleases.{ForwardsPackets, KeepsPromisesForwarded, ReleasesForwarded};
-ghost use Rattle.codec_payload_forward_runs.specs.ForwardRuns.{DoesForwardStep, ForwardRuns, ForwardStops, ForwardStopsAt, StopsOrIsDone, begins_forwarding, hops_of, is_plain};
+ghost use Rattle.codec_payload_forward_runs.specs.ForwardRuns.{DoesForwardStep, ForwardRuns, ForwardStops, ForwardStopsAt, StopsOrIsDone, begins_forwarding, hops_of, is_plain, written_by};
 
 use codec_payload_base::error::PacketError;
 use codec_payload_base::wire::{Ticks, ToPayload};
@@ -113,7 +115,13 @@ fn do_forward_step<P: Packetizer, D: Depacketizer>(
 {
     match step {
         ForwardStep::Send(sample) => {
-            do_plain_step(alloc, link, samples, DatagramStep::Send(sample), &mut run.run)
+            do_plain_step(
+                alloc,
+                link,
+                samples,
+                DatagramStep::Send(sample),
+                &mut run.run,
+            )
         }
         ForwardStep::Forward { datagram, now } => {
             let Some(bytes) = run.run.datagrams.get(datagram) else {
@@ -123,12 +131,7 @@ fn do_forward_step<P: Packetizer, D: Depacketizer>(
                 return Ok(());
             };
             run.answers.reserve(1)?;
-            run.written.reserve(1)?;
-            let mut out = Vec::new(alloc);
-            let answer = link.forwarder.write(now, &packet, &mut out)?;
-            if answer == Forwarded::Began || answer == Forwarded::Written {
-                run.written.push(out).unwrap();
-            }
+            let answer = forward(alloc, &mut link.forwarder, now, &packet, &mut run.written)?;
             run.answers.push(answer).unwrap();
             Ok(())
         }
@@ -142,7 +145,13 @@ fn do_forward_step<P: Packetizer, D: Depacketizer>(
             Ok(())
         }
         ForwardStep::Pop { now } => {
-            do_plain_step(alloc, link, samples, DatagramStep::Pop { now }, &mut run.run)
+            do_plain_step(
+                alloc,
+                link,
+                samples,
+                DatagramStep::Pop { now },
+                &mut run.run,
+            )
         }
         ForwardStep::Finish => {
             do_plain_step(alloc, link, samples, DatagramStep::Finish, &mut run.run)
@@ -158,13 +167,19 @@ fn do_plain_step<P: Packetizer, D: Depacketizer>(
     step: DatagramStep,
     run: &mut DatagramRun,
 ) -> Result<(), PacketError>
-    requires { IsTrue (is_plain step) }
+    requires { is_plain step ≡ true }
     ensures ok { OnOk result (DoesStep (map sample_of samples.now) step (wire_of link.old.sender link.old.receiver run.old) (wire_of link.new.sender link.new.receiver run.new)) }
     ensures same { link.new.forwarder ≡ link.old.forwarder }
     ensures err { OnErr result (StopsOrIsDone (map sample_of samples.now) step (wire_of link.old.sender link.old.receiver run.old) link.new.sender link.new.receiver) }
     ensures fault { IfErr result (λ fault. fault ≡ OutOfMemory) }
 {
-    let one = run_datagrams(alloc, &mut link.sender, &mut link.receiver, samples, &[step])?;
+    let one = run_datagrams(
+        alloc,
+        &mut link.sender,
+        &mut link.receiver,
+        samples,
+        &[step],
+    )?;
     append(&mut run.datagrams, one.datagrams)?;
     append(&mut run.sends, one.sends)?;
     append(&mut run.pops, one.pops)?;
@@ -180,6 +195,27 @@ fn append<T: Drop>(list: &mut Vec<T>, more: Vec<T>) -> Result<(), AllocError>
         list.push(item)?;
     }
     Ok(())
+}
+
+/// Passes a packet to the forwarder, and appends what it wrote.
+fn forward(
+    alloc: Global,
+    forwarder: &mut Forwarder,
+    now: u64,
+    packet: &RtpPacket<'_>,
+    written: &mut Vec<Vec<u8>>,
+) -> Result<Forwarded, PacketError>
+    ensures ok { IfOk result (λ answer. (bytes : List ℕ) × Forwards now (packet_of packet.now) forwarder.old answer bytes forwarder.new × (bytes_in written.new.items ≡ bytes_in written.old.items ++ written_by answer bytes)) }
+    ensures err { OnErr result (forwarder.new ≡ forwarder.old) }
+    ensures fault { IfErr result (λ fault. fault ≡ OutOfMemory) }
+{
+    written.reserve(1)?;
+    let mut out = Vec::new(alloc);
+    let answer = forwarder.write(now, packet, &mut out)?;
+    if answer == Forwarded::Began || answer == Forwarded::Written {
+        written.push(out).unwrap();
+    }
+    Ok(answer)
 }
 
 /// Passes a datagram to the viewer's receiver.
