@@ -1,22 +1,19 @@
 -- The sender whose datagrams a viewer gets sends its samples as the sender of the run does.
-use Rattle.std.proofs.Common.{◌≡◌, ◌∙◌, refl, sym, ap, subst, ℕ, zero, suc, ◌+◌, ◌*◌, ◌/◌, ◌%◌, ◌^◌, ◌<◌, ◌≤◌, List, [], ◌∷◌, ◌++◌, Bool, true, false, Option, Some, None, MatchOption, Result, Ok, Err, length, map, arith}
+use Rattle.std.proofs.Common.{◌≡◌, ◌∙◌, refl, sym, ap, subst, ℕ, zero, suc, ◌*◌, ◌/◌, ◌%◌, ◌^◌, ◌<◌, List, [], ◌∷◌, ◌++◌, Bool, Option, Some, None, MatchOption, Result, Ok, length, map, arith}
 use Rattle.std.specs.Prelude.{slice_get, slice_index_or}
 use Rattle.std.specs.Option.{option_map}
 use Rattle.std.proofs.Math.Nat.{mul-div_cancel}
-use Rattle.std.proofs.lemmas.List.{length-append, length-map}
+use Rattle.std.proofs.lemmas.List.{length-map}
 use Rattle.std.proofs.lemmas.Option.{slice_get-map}
 use Rattle.codec_payload_base.specs.declared.error.PacketError.{PacketError}
-use Rattle.codec_payload_base.specs.declared.wire.extension.ExtensionValues.{ExtensionValues}
 use Rattle.codec_payload_codec.specs.Packetizers.{PacketizerState}
 use Rattle.codec_payload_payloader.specs.Sending.{Sample, rtp_time_at}
-use Rattle.codec_payload_receiver.specs.Defaults.{no_ids}
 use Rattle.codec_payload_rtp.proofs.RtpWriting.{packet_again}
-use Rattle.codec_payload_rtp.specs.RtpPackets.{FitsHeader, Header, Packet, packet_bytes}
+use Rattle.codec_payload_rtp.specs.RtpPackets.{FitsHeader, Packet}
 use Rattle.codec_payload_rtp.specs.RtpReading.{rtp_at}
 use Rattle.codec_payload_rtp.specs.declared.rtp.RtpError.{RtpError}
-use Rattle.codec_payload_sending.specs.Datagrams.{AreSent, IsSentAt, header_at, header_with, time_of}
+use Rattle.codec_payload_sending.specs.Datagrams.{AreSent, IsSentAt, header_at, time_of}
 use Rattle.codec_payload_sending.specs.Senders.{Refuses, Sending, Sends, counted}
-use Rattle.codec_payload_sending.specs.declared.sender.Counts.{Counts}
 use Rattle.codec_payload_sending.specs.declared.sender.Outgoing.{Outgoing}
 use Rattle.codec_payload_sending_forward.specs.Forwarding.{Forward}
 use Rattle.codec_payload_sending_forward.specs.Times.{time_as}

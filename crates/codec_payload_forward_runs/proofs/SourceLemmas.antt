@@ -1,5 +1,5 @@
 -- The datagrams of the sender: packets of one source, whose payloads the forwarder keeps.
-use Rattle.std.proofs.Common.{◌≡◌, ◌∙◌, refl, sym, ap, subst, ℕ, zero, suc, ◌+◌, ◌%◌, ◌^◌, ◌<◌, List, [], ◌∷◌, ◌++◌, true, Option, Some, None, MatchOption, Ok, length, arith}
+use Rattle.std.proofs.Common.{◌≡◌, ◌∙◌, sym, ap, subst, ℕ, zero, suc, ◌<◌, List, [], ◌∷◌, ◌++◌, true, Option, Some, None, MatchOption, Ok, length, arith}
 use Rattle.std.specs.Prelude.{slice_get, slice_index_or}
 use Rattle.std.proofs.lemmas.Option.{same_Some}
 use Rattle.codec_payload_base.specs.declared.wire.Codec.{Codec}
@@ -8,7 +8,6 @@ use Rattle.codec_payload_payloader.specs.Sending.{Sample}
 use Rattle.codec_payload_rtp.specs.RtpPackets.{Packet}
 use Rattle.codec_payload_rtp.specs.RtpReading.{rtp_at}
 use Rattle.codec_payload_sending.specs.Senders.{Refuses, Sending, Sends}
-use Rattle.codec_payload_sending.specs.Datagrams.{IsSentAt}
 use Rattle.codec_payload_datagram_runs.specs.WireRuns.{DoesStep, SendsIt, SendsOrRefuses, Wire, sent_sample}
 use Rattle.codec_payload_datagram_runs.specs.declared.run.DatagramStep.TheVariants as plain
 use Rattle.codec_payload_datagram_runs.specs.declared.run.SentSample.{SentSample}

@@ -1,10 +1,9 @@
 -- What a forwarder writes for a packet of its source, and what stays in it.
-use Rattle.std.proofs.Common.{◌≡◌, ◌∙◌, refl, sym, ap, subst, ℕ, ◌+◌, ◌-◌, ◌%◌, ◌^◌, ◌<◌, ◌≤◌, List, [], ◌∷◌, Bool, true, false, ltb, Option, Some, None, Result, Ok, Err, arith}
+use Rattle.std.proofs.Common.{◌≡◌, ◌∙◌, refl, sym, ap, subst, ℕ, ◌+◌, ◌-◌, ◌%◌, ◌<◌, ◌≤◌, List, [], ◌∷◌, Bool, true, false, ltb, Some, Ok, arith}
 use Rattle.std.specs.Prelude.{nat_le}
 use Rattle.std.proofs.lemmas.Bool.{eq-eqb, leb-false, leb-true}
 use Rattle.codec_payload_base.specs.Extended.{ahead, nearest}
 use Rattle.codec_payload_base.specs.declared.wire.Codec.{Codec}
-use Rattle.codec_payload_base.specs.declared.wire.Codec.TheVariants as codecs
 use Rattle.codec_payload_rtp.specs.RtpPackets.{Packet, packet_bytes}
 use Rattle.codec_payload_rtp.specs.RtpReading.{rtp_at}
 use Rattle.codec_payload_sending_forward.specs.Forwarding.{Forward, Forwards, after_begin, after_next, first_packet, is_source, next_packet, number_in, packet_under, payload_for, ticks_between}

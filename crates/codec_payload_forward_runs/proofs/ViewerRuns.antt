@@ -1,5 +1,5 @@
 -- A run with a forwarder is, for the viewer's receiver, a run over one hop from the sender whose datagrams the viewer gets.
-use Rattle.std.proofs.Common.{◌≡◌, ◌∙◌, refl, sym, ap, subst, ℕ, zero, suc, ◌+◌, ◌%◌, ◌^◌, ◌<◌, ◌≤◌, List, [], ◌∷◌, ◌++◌, Bool, true, false, ltb, Option, Some, None, MatchOption, Result, Ok, Err, length, map, drop, arith, append_assoc, append-nil}
+use Rattle.std.proofs.Common.{◌≡◌, ◌∙◌, refl, sym, ap, subst, ℕ, zero, suc, ◌^◌, ◌<◌, List, [], ◌∷◌, ◌++◌, true, false, ltb, Option, Some, None, MatchOption, Result, Ok, length, map, append_assoc, append-nil}
 use Rattle.std.specs.Prelude.{slice_get}
 use Rattle.std.specs.Option.{option_map}
 use Rattle.std.proofs.lemmas.Bool.{le-ltb, lt-ltb}
@@ -11,18 +11,17 @@ use Rattle.codec_payload_receiver.specs.Sessions.{Session}
 use Rattle.codec_payload_rtp.specs.RtpPackets.{Packet, packet_bytes}
 use Rattle.codec_payload_rtp.specs.RtpReading.{rtp_at}
 use Rattle.codec_payload_rtp.specs.declared.rtp.RtpError.{RtpError}
-use Rattle.codec_payload_sending_forward.specs.Forwarding.{Forward, Forwards, is_source}
+use Rattle.codec_payload_sending_forward.specs.Forwarding.{Forward}
 use Rattle.codec_payload_sending_forward.specs.declared.forwarder.Forwarded.{Forwarded}
 use Rattle.codec_payload_sending_forward.specs.declared.forwarder.Forwarded.TheVariants as answers
 use Rattle.codec_payload_datagram_runs.proofs.RepeatLemmas.{Follows, follows, grows, Grows}
 use Rattle.codec_payload_datagram_runs.proofs.StepLemmas.{get_append, past_end}
 use Rattle.codec_payload_datagram_runs.specs.HistoryReleases.{sends_by}
 use Rattle.codec_payload_datagram_runs.specs.WireRuns.{Delivers, DoesStep, Receipt, Runs, Wire}
-use Rattle.codec_payload_datagram_runs.specs.declared.run.DatagramStep.{DatagramStep}
 use Rattle.codec_payload_datagram_runs.specs.declared.run.DatagramStep.TheVariants as plain
 use Rattle.codec_payload_datagram_runs.specs.declared.run.SentSample.{SentSample}
 use Rattle.codec_payload_forward_runs.proofs.SenderLemmas.{sends_step}
-use Rattle.codec_payload_forward_runs.proofs.SourceLemmas.{AllOf, IsDatagramOf, IsSource, of_at, source_after}
+use Rattle.codec_payload_forward_runs.proofs.SourceLemmas.{IsDatagramOf, IsSource, of_at, source_after}
 use Rattle.codec_payload_forward_runs.proofs.ViewerLemmas.{DoesOne, GoesOn, HasNone, IsOf, does_one, goes_further, goes_nowhere, same_viewer}
 use Rattle.codec_payload_forward_runs.specs.ForwardReleases.{AreForwarded, forwarded_by, forwarded_in, viewer_bytes, viewer_datagram, viewer_packet, viewer_samples, viewer_steps, viewer_wire}
 use Rattle.codec_payload_forward_runs.specs.ForwardRuns.{DoesForwardStep, DoesPlain, ForwardRuns, Hops, packet_in, packet_read, written_by}

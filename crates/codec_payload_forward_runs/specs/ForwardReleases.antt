@@ -3,10 +3,9 @@
 -- The forwarder changes the same fields of all packets, numbers and times by the same offsets. So the viewer's receiver sees the
 -- datagrams of one sender: the sender of the run, with the viewer's SSRC, payload type, numbers and times. Premises and guarantees are
 -- those of a run over one hop from that sender.
-use Rattle.std.specs.Prelude.{◌≡◌, ℕ, ◌+◌, ◌%◌, ◌<◌, ◌^◌, nat_lt, if◌then◌else◌, Bool, true, false, List, [], ◌∷◌, ◌++◌, Option, Some, None, option_map, Result, Ok, Err, drop, length, map, slice_get, refl}
+use Rattle.std.specs.Prelude.{◌≡◌, ℕ, ◌+◌, ◌%◌, ◌<◌, ◌^◌, nat_lt, if◌then◌else◌, Bool, true, false, List, [], ◌∷◌, ◌++◌, Option, Some, None, option_map, Ok, drop, map, slice_get}
 use Rattle.codec_payload_base.specs.declared.wire.Codec.{Codec}
 use Rattle.codec_payload_base.specs.declared.wire.Codec.TheVariants as codecs
-use Rattle.codec_payload_base.specs.declared.wire.Ticks.{Ticks}
 use Rattle.codec_payload_buffer_runs.specs.SentStream.{AreReadable, SentUnit, units_of_run}
 use Rattle.codec_payload_codec.specs.Depacketizers.{DepacketizerState}
 use Rattle.codec_payload_codec.specs.Packetizers.{PacketizerState, Vp8Packetizing}
@@ -23,7 +22,6 @@ use Rattle.codec_payload_sending_forward.specs.Forwarding.{Forward, is_source, p
 use Rattle.codec_payload_sending_forward.specs.Times.{time_as}
 use Rattle.codec_payload_sending_forward.specs.declared.forwarder.Forwarded.{Forwarded}
 use Rattle.codec_payload_sending_forward.specs.declared.forwarder.Forwarded.TheVariants as answers
-use Rattle.codec_payload_sending_forward.specs.declared.forwarder.ForwardSettings.{ForwardSettings}
 use Rattle.codec_payload_datagram_runs.specs.HistoryReleases.{delivery_of}
 use Rattle.codec_payload_datagram_runs.specs.Releases.{AreOfOneStream, ComeTimely, ComeWithin, ReleasesUnits, delivered, received_steps, sending_steps, sends_after, sent_after, times_sent}
 use Rattle.codec_payload_datagram_runs.specs.WireLogs.{KeepsPromises}

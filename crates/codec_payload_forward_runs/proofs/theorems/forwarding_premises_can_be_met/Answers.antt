@@ -1,4 +1,3 @@
-use Rattle.codec_payload_forward_runs.proofs.ForwardLemmas.{packets_forwarded, promises_forwarded, release_forwarded}
 use Rattle.codec_payload_forward_runs.proofs.ForwardRunExamples.{can_be_met}
 use Rattle.codec_payload_forward_runs.proofs.theorems.forwarding_premises_can_be_met.Goals as goal
 
