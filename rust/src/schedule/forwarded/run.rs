@@ -101,12 +101,7 @@ fn do_forward_step<P: Packetizer, D: Depacketizer>(
                 return Ok(());
             };
             run.answers.try_room(1)?;
-            run.written.try_room(1)?;
-            let mut out = Vec::new();
-            let answer = link.forwarder.write(now, &packet, &mut out)?;
-            if answer == Forwarded::Began || answer == Forwarded::Written {
-                run.written.push(out);
-            }
+            let answer = forward(&mut link.forwarder, now, &packet, &mut run.written)?;
             run.answers.push(answer);
             Ok(())
         }
@@ -146,6 +141,22 @@ fn append<T>(list: &mut Vec<T>, more: Vec<T>) -> Result<(), AllocError> {
         list.try_push(item)?;
     }
     Ok(())
+}
+
+/// Passes a packet to the forwarder, and appends what it wrote.
+fn forward(
+    forwarder: &mut Forwarder,
+    now: u64,
+    packet: &RtpPacket<'_>,
+    written: &mut Vec<Vec<u8>>,
+) -> Result<Forwarded, PacketError> {
+    written.try_room(1)?;
+    let mut out = Vec::new();
+    let answer = forwarder.write(now, packet, &mut out)?;
+    if answer == Forwarded::Began || answer == Forwarded::Written {
+        written.push(out);
+    }
+    Ok(answer)
 }
 
 /// Passes a datagram to the viewer's receiver.
