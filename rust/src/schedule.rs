@@ -3,6 +3,7 @@
 //! Whole runs: samples are sent, some of their packets are pushed, in any order, and units are popped.
 
 pub mod datagrams;
+pub mod forwarded;
 #[doc(hidden)]
 pub mod plain;
 #[doc(hidden)]

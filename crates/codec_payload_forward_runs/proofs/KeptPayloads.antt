@@ -1,0 +1,155 @@
+-- Payloads that a forwarder keeps: all but those of VP8 with picture ids.
+use Rattle.std.proofs.Common.{◌≡◌, ◌∙◌, refl, sym, ap, subst, ℕ, zero, suc, ◌<◌, List, [], ◌∷◌, ◌++◌, Bool, true, false, ltb, Option, Some, None, Result, Ok, Err, length, arith}
+use Rattle.std.specs.Prelude.{slice_index_or}
+use Rattle.std.proofs.lemmas.Bool.{ltb-false, ltb-true}
+use Rattle.codec_payload_base.specs.Answers.{Lands}
+use Rattle.codec_payload_base.specs.Described.{AnswersDescribed, described}
+use Rattle.codec_payload_base.specs.declared.error.PacketError.{PacketError}
+use Rattle.codec_payload_base.specs.declared.wire.Codec.{Codec}
+use Rattle.codec_payload_base.specs.declared.wire.Codec.TheVariants as codecs
+use Rattle.codec_payload_codec.specs.Packetizers.{PacketizerState, PacketizerStep, is_built_in}
+use Rattle.codec_payload_codec.specs.Packetizers as packetizers
+use Rattle.codec_payload_sending_forward.specs.Forwarding.{payload_for}
+use Rattle.codec_payload_sending_forward.specs.Vp8Numbers.{payload_as}
+use Rattle.codec_payload_sending_forward.specs.declared.vp8_ids.IdOffsets.{IdOffsets}
+use Rattle.codec_payload_vp8.specs.Vp8Sent.{advanced, gives_packets, header}
+use Rattle.codec_payload_forward_runs.specs.ForwardReleases.{keeps_payloads}
+
+-- a payload without ids
+plain_payload : (o : IdOffsets) (first last : Bool) (piece : List ℕ) → payload_as o (header None first last ++ piece) ≡ header None first last ++ piece
+plain_payload o true last [] = refl
+plain_payload o true last (b ∷ piece) = refl
+plain_payload o false last [] = refl
+plain_payload o false last (b ∷ piece) = refl
+
+plain_each : (o : IdOffsets) (first : Bool) (pieces : List (List ℕ)) (i : ℕ) → i < length (described (header None) first pieces)
+    → payload_as o (slice_index_or (described (header None) first pieces) i []) ≡ slice_index_or (described (header None) first pieces) i []
+plain_each o first [] i l = absurd (omega (arith, l))
+plain_each o first (piece ∷ []) zero l = plain_payload o first true piece
+plain_each o first (piece ∷ []) (suc i) l = absurd (omega (arith, l))
+plain_each o first (piece ∷ next ∷ pieces) zero l = plain_payload o first false piece
+plain_each o first (piece ∷ next ∷ pieces) (suc i) l = plain_each o false (next ∷ pieces) i (omega (arith, l))
+
+-- those of a frame
+vp8_each : (o : IdOffsets) (mtu : ℕ) (frame : List ℕ) (payloads : List (List ℕ)) → AnswersDescribed (header None) 1 mtu frame (Ok payloads) → (i : ℕ) → i < length payloads
+    → payload_as o (slice_index_or payloads i []) ≡ slice_index_or payloads i []
+vp8_each o mtu frame payloads answers i l = by (ltb 1 mtu) refl
+  where
+    by : (b : Bool) → ltb 1 mtu ≡ b → payload_as o (slice_index_or payloads i []) ≡ slice_index_or payloads i []
+    by true e =
+        let are = answers.1 (ltb-true 1 mtu e) in
+        subst (λ (ps : List (List ℕ)). payload_as o (slice_index_or ps i []) ≡ slice_index_or ps i []) (sym are.2)
+        (plain_each o true are.0 i (subst (λ (ps : List (List ℕ)). i < length ps) are.2 l))
+    by false e = absurd (omega (arith, l, ap length (answers.0 (ltb-false 1 mtu e))))
+
+-- the packetizer keeps its id: none
+still_none : (gave : Bool) → advanced gave None ≡ None
+still_none true = refl
+still_none false = refl
+
+-- VP8 without ids: its payloads, and the packetizer after a frame
+abbrev IsPlainVp8 : PacketizerState → Type 0
+IsPlainVp8 packetizer = packetizer ≡ packetizers.Vp8Packetizing None
+
+is_plain_vp8 : (packetizer : PacketizerState) → keeps_payloads codecs.Vp8 packetizer ≡ true → IsPlainVp8 packetizer
+is_plain_vp8 packetizers.G711Packetizing keeps = absurd (cc)
+is_plain_vp8 packetizers.G722Packetizing keeps = absurd (cc)
+is_plain_vp8 packetizers.OpusPacketizing keeps = absurd (cc)
+is_plain_vp8 packetizers.ComfortNoisePacketizing keeps = absurd (cc)
+is_plain_vp8 packetizers.TelePacketizing keeps = absurd (cc)
+is_plain_vp8 (packetizers.Vp8Packetizing None) keeps = refl
+is_plain_vp8 (packetizers.Vp8Packetizing (Some id)) keeps = absurd (cc)
+is_plain_vp8 (packetizers.Vp9Packetizing sender) keeps = absurd (cc)
+is_plain_vp8 packetizers.Av1Packetizing keeps = absurd (cc)
+is_plain_vp8 (packetizers.AmrWbPacketizing octet) keeps = absurd (cc)
+is_plain_vp8 packetizers.NullPacketizing keeps = absurd (cc)
+is_plain_vp8 packetizers.BoxedPacketizing keeps = absurd (cc)
+
+-- the packetizer is asked for a frame, if it is built in
+abbrev pub Asks : PacketizerState → ℕ → List ℕ → Result (List (List ℕ)) PacketError → PacketizerState → Type 0
+Asks packetizer mtu frame answer after = is_built_in packetizer ≡ true → PacketizerStep packetizer mtu frame answer after
+
+vp8_keeps : (packetizer after : PacketizerState) (mtu : ℕ) (frame : List ℕ) (answer : Result (List (List ℕ)) PacketError) → IsPlainVp8 packetizer → Asks packetizer mtu frame answer after
+    → keeps_payloads codecs.Vp8 after ≡ true
+vp8_keeps packetizer after mtu frame answer plain asks =
+    let step : PacketizerStep (packetizers.Vp8Packetizing None) mtu frame answer after = subst (λ (p : PacketizerState). Asks p mtu frame answer after) plain asks refl in
+    let next : step.1 ≡ None = step.2.1 ∙ still_none (gives_packets answer) in
+    ap (keeps_payloads codecs.Vp8) step.3 ∙ ap (λ (id : Option ℕ). keeps_payloads codecs.Vp8 (packetizers.Vp8Packetizing id)) next
+
+vp8_kept : (packetizer after : PacketizerState) (mtu : ℕ) (frame : List ℕ) (payloads : List (List ℕ)) → IsPlainVp8 packetizer → Asks packetizer mtu frame (Ok payloads) after
+    → (o : IdOffsets) (i : ℕ) → i < length payloads → payload_as o (slice_index_or payloads i []) ≡ slice_index_or payloads i []
+vp8_kept packetizer after mtu frame payloads plain asks o i l =
+    let step : PacketizerStep (packetizers.Vp8Packetizing None) mtu frame (Ok payloads) after = subst (λ (p : PacketizerState). Asks p mtu frame (Ok payloads) after) plain asks refl in
+    vp8_each o mtu frame payloads step.2.0 i l
+
+-- a packetizer whose payloads are kept is one after a frame too
+pub still_keeps : (codec : Codec) (packetizer after : PacketizerState) (mtu : ℕ) (frame : List ℕ) (answer : Result (List (List ℕ)) PacketError) → keeps_payloads codec packetizer ≡ true
+    → Asks packetizer mtu frame answer after → keeps_payloads codec after ≡ true
+still_keeps codecs.Vp8 packetizer after mtu frame answer keeps asks = vp8_keeps packetizer after mtu frame answer (is_plain_vp8 packetizer keeps) asks
+still_keeps codecs.Opus packetizer after mtu frame answer keeps asks = refl
+still_keeps codecs.PCMU packetizer after mtu frame answer keeps asks = refl
+still_keeps codecs.PCMA packetizer after mtu frame answer keeps asks = refl
+still_keeps codecs.G722 packetizer after mtu frame answer keeps asks = refl
+still_keeps codecs.CN packetizer after mtu frame answer keeps asks = refl
+still_keeps codecs.AmrWb packetizer after mtu frame answer keeps asks = refl
+still_keeps codecs.H264 packetizer after mtu frame answer keeps asks = refl
+still_keeps codecs.H265 packetizer after mtu frame answer keeps asks = refl
+still_keeps codecs.H266 packetizer after mtu frame answer keeps asks = refl
+still_keeps codecs.Vp9 packetizer after mtu frame answer keeps asks = refl
+still_keeps codecs.Av1 packetizer after mtu frame answer keeps asks = refl
+still_keeps codecs.Null packetizer after mtu frame answer keeps asks = refl
+still_keeps codecs.Tele packetizer after mtu frame answer keeps asks = refl
+still_keeps codecs.Rtx packetizer after mtu frame answer keeps asks = refl
+still_keeps codecs.Red packetizer after mtu frame answer keeps asks = refl
+still_keeps codecs.Unknown packetizer after mtu frame answer keeps asks = refl
+
+-- and one after a frame that was refused
+abbrev pub Declines : PacketizerState → ℕ → List ℕ → PacketError → PacketizerState → Type 0
+Declines packetizer mtu frame fault after = is_built_in packetizer ≡ true → (answer : Result (List (List ℕ)) PacketError) × PacketizerStep packetizer mtu frame answer after × Lands answer (Err fault) []
+
+vp8_declines : (packetizer after : PacketizerState) (mtu : ℕ) (frame : List ℕ) (fault : PacketError) → IsPlainVp8 packetizer → Declines packetizer mtu frame fault after
+    → keeps_payloads codecs.Vp8 after ≡ true
+vp8_declines packetizer after mtu frame fault plain declines =
+    let step = subst (λ (p : PacketizerState). Declines p mtu frame fault after) plain declines refl in
+    vp8_keeps (packetizers.Vp8Packetizing None) after mtu frame step.0 refl (λ built. step.1)
+
+pub refused_still : (codec : Codec) (packetizer after : PacketizerState) (mtu : ℕ) (frame : List ℕ) (fault : PacketError) → keeps_payloads codec packetizer ≡ true
+    → Declines packetizer mtu frame fault after → keeps_payloads codec after ≡ true
+refused_still codecs.Vp8 packetizer after mtu frame fault keeps declines = vp8_declines packetizer after mtu frame fault (is_plain_vp8 packetizer keeps) declines
+refused_still codecs.Opus packetizer after mtu frame fault keeps declines = refl
+refused_still codecs.PCMU packetizer after mtu frame fault keeps declines = refl
+refused_still codecs.PCMA packetizer after mtu frame fault keeps declines = refl
+refused_still codecs.G722 packetizer after mtu frame fault keeps declines = refl
+refused_still codecs.CN packetizer after mtu frame fault keeps declines = refl
+refused_still codecs.AmrWb packetizer after mtu frame fault keeps declines = refl
+refused_still codecs.H264 packetizer after mtu frame fault keeps declines = refl
+refused_still codecs.H265 packetizer after mtu frame fault keeps declines = refl
+refused_still codecs.H266 packetizer after mtu frame fault keeps declines = refl
+refused_still codecs.Vp9 packetizer after mtu frame fault keeps declines = refl
+refused_still codecs.Av1 packetizer after mtu frame fault keeps declines = refl
+refused_still codecs.Null packetizer after mtu frame fault keeps declines = refl
+refused_still codecs.Tele packetizer after mtu frame fault keeps declines = refl
+refused_still codecs.Rtx packetizer after mtu frame fault keeps declines = refl
+refused_still codecs.Red packetizer after mtu frame fault keeps declines = refl
+refused_still codecs.Unknown packetizer after mtu frame fault keeps declines = refl
+
+-- its payloads are kept
+pub kept_each : (codec : Codec) (packetizer after : PacketizerState) (mtu : ℕ) (frame : List ℕ) (payloads : List (List ℕ)) → keeps_payloads codec packetizer ≡ true
+    → Asks packetizer mtu frame (Ok payloads) after → (i : ℕ) → i < length payloads → (o : IdOffsets) → payload_for codec o (slice_index_or payloads i []) ≡ slice_index_or payloads i []
+kept_each codecs.Vp8 packetizer after mtu frame payloads keeps asks i l o = vp8_kept packetizer after mtu frame payloads (is_plain_vp8 packetizer keeps) asks o i l
+kept_each codecs.Opus packetizer after mtu frame payloads keeps asks i l o = refl
+kept_each codecs.PCMU packetizer after mtu frame payloads keeps asks i l o = refl
+kept_each codecs.PCMA packetizer after mtu frame payloads keeps asks i l o = refl
+kept_each codecs.G722 packetizer after mtu frame payloads keeps asks i l o = refl
+kept_each codecs.CN packetizer after mtu frame payloads keeps asks i l o = refl
+kept_each codecs.AmrWb packetizer after mtu frame payloads keeps asks i l o = refl
+kept_each codecs.H264 packetizer after mtu frame payloads keeps asks i l o = refl
+kept_each codecs.H265 packetizer after mtu frame payloads keeps asks i l o = refl
+kept_each codecs.H266 packetizer after mtu frame payloads keeps asks i l o = refl
+kept_each codecs.Vp9 packetizer after mtu frame payloads keeps asks i l o = refl
+kept_each codecs.Av1 packetizer after mtu frame payloads keeps asks i l o = refl
+kept_each codecs.Null packetizer after mtu frame payloads keeps asks i l o = refl
+kept_each codecs.Tele packetizer after mtu frame payloads keeps asks i l o = refl
+kept_each codecs.Rtx packetizer after mtu frame payloads keeps asks i l o = refl
+kept_each codecs.Red packetizer after mtu frame payloads keeps asks i l o = refl
+kept_each codecs.Unknown packetizer after mtu frame payloads keeps asks i l o = refl

@@ -1,0 +1,3 @@
+pub mod ForwardReleases
+pub mod ForwardRuns
+pub mod ForwardRunExample

@@ -1,0 +1,6 @@
+//! Whole runs over two hops: samples are sent to a forwarder, which forwards their datagrams to a viewer's receiver. On both hops
+//! datagrams are lost, repeated and reordered.
+#![tactic(auto)]
+
+pub mod run;
+pub mod theorems;
