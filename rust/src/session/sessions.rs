@@ -20,7 +20,6 @@ use crate::session::stream::{Ending, StreamInfo, earlier};
 use crate::session::streams::{Streams, Who};
 use crate::session::telephone::TelephoneQueue;
 use crate::session::transport::{note, reporter_for, restart, transport_deadline};
-use crate::session::waking::due_in;
 use crate::stream::parsed::ParsedDatagram;
 use crate::stream::receiver::{ReceiveError, Receiver};
 use crate::wire::Ticks;
@@ -383,7 +382,7 @@ impl Session {
         if !self.telephone.is_empty() {
             return Some(Ticks(0));
         }
-        let streams = due_in(&self.streams.list, self.settings.idle_timeout);
+        let streams = self.streams.due_in(self.settings.idle_timeout);
         let report = report_deadline(&self.streams.list, self.report_due);
         match earlier(
             earlier(streams, report),
