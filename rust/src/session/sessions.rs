@@ -376,8 +376,10 @@ impl Session {
     }
 
     /// Returns when a poll may have an event without a datagram: `Ticks(0)` while telephone events wait, else the time of a
-    /// stream, of the next report if a stream is announced, or of the next feedback about the transport. `None`: there is no such time. The cost is one step for each
-    /// stream.
+    /// stream, of the next report if a stream is announced, or of the next feedback about the transport. `None`: there is no such time.
+    ///
+    /// Call it once polls have no event: then its cost does not grow with the streams, unless one of them leaves. Otherwise, and for
+    /// up to 16 streams, it is one step for each stream.
     pub fn next_deadline(&self) -> Option<Ticks> {
         if !self.telephone.is_empty() {
             return Some(Ticks(0));
