@@ -124,6 +124,7 @@ impl StreamState {
 }
 
 /// Returns when the next report is due, if a stream is announced.
+#[tactic(auto, using(crate::proofs::ReportingLemmas::none_planned))]
 pub(crate) fn report_deadline(streams: &[StreamState], due: Option<u64>) -> Option<u64>
     ensures { result ≡ report_deadline due streams.now }
 {

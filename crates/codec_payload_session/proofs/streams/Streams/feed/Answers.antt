@@ -11,7 +11,7 @@ use Rattle.codec_payload_session.proofs.streams.Streams.feed.Goals as goal
 pub invariant_of-self : goal.invariant_of-self
 invariant_of-self c = record {
   bound = bound_set c.except-self-inside.result c.args.place c.self.inside.list.items c.feed_one.new.stream c.except-self-inside.ensures.place
-      (subst (λ (l : List StreamState). IsBound c.except-self-inside.result l) c.deref.ensures.value c.except-self-inside.ensures.bound);
+      (subst (λ (l : List StreamState). IsBound c.except-self-inside.result l) c.deref-2.ensures.value c.except-self-inside.ensures.bound);
   listed =
       let within : c.args.place < length c.self.inside.list.items = subst (λ (p : Port). c.args.place < length p.streams) (sym c.self.view_is) c.requires in
       c.self.invariant.listed
