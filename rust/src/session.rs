@@ -8,6 +8,7 @@ mod changes;
 #[doc(hidden)]
 pub mod checks;
 mod compound;
+mod dues;
 #[doc(hidden)]
 pub mod formats;
 mod goodbyes;

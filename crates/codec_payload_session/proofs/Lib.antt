@@ -3,6 +3,7 @@ mod AssociationLemmas
 mod CalmLemmas
 mod ChangeLemmas
 mod CheckLemmas
+mod DeadlineLemmas
 mod DueLemmas
 mod GoodbyeLemmas
 mod IdleLemmas

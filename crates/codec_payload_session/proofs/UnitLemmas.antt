@@ -1,5 +1,5 @@
 -- Answers whose unit is in memory of the caller, with that unit.
-use Rattle.std.proofs.Common.{◌≡◌, ◌∙◌, refl, ap, sym, subst, ℕ, List, [], ◌∷◌, Option, Some, None, Result, Ok, Err}
+use Rattle.std.proofs.Common.{◌≡◌, ◌∙◌, refl, ap, ℕ, List, [], ◌∷◌, Option, Some, None, Result, Ok, Err}
 use Rattle.std.specs.Prelude.{⊤}
 use Rattle.std.specs.Global.{Vec}
 use Rattle.std.specs.declared.alloc.AllocError.{AllocError}
@@ -14,8 +14,8 @@ use Rattle.codec_payload_session.specs.Ports.{Session}
 use Rattle.codec_payload_session.specs.Requests.{Asking}
 use Rattle.codec_payload_session.specs.Streams.{RequestsBy, RestsBy, StreamState, step_of, step_with}
 use Rattle.codec_payload_session.specs.Telephone.{Gives, GivesFrom, Queue}
-use Rattle.codec_payload_session.specs.Turns.{after_step, event_of, is_nothing, told_by}
-use Rattle.codec_payload_session.specs.Units.{event_to, popped_with, result_with, step_to, with_unit}
+use Rattle.codec_payload_session.specs.Turns.{after_step, is_nothing, told_by}
+use Rattle.codec_payload_session.specs.Units.{event_to, popped_with, result_with, step_to}
 use Rattle.codec_payload_session.specs.declared.session.Event.{Event as EventWith}
 use Rattle.codec_payload_session.specs.declared.stream.Stage.{Stage}
 use Rattle.codec_payload_session.specs.declared.stream.Stage.TheVariants as stages

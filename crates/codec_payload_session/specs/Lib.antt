@@ -3,6 +3,7 @@ pub mod Arrivals
 pub mod Associations
 pub mod Changes
 pub mod Checks
+pub mod Dues
 pub mod Formats
 pub mod Idle
 pub mod Named

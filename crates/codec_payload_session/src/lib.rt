@@ -6,6 +6,7 @@ mod association;
 mod changes;
 pub mod checks;
 mod compound;
+mod dues;
 pub mod formats;
 mod goodbyes;
 mod named;

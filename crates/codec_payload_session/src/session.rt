@@ -25,7 +25,6 @@ use crate::stream::{Ending, StreamInfo, earlier};
 use crate::streams::{Streams, Who};
 use crate::telephone::TelephoneQueue;
 use crate::transport::{note, reporter_for, restart, transport_deadline};
-use crate::waking::due_in;
 use codec_payload_base::error::PacketError;
 use codec_payload_base::wire::Ticks;
 use codec_payload_buffer::buffer::PoppedUnit;
@@ -435,15 +434,17 @@ impl Session {
     }
 
     /// Returns when a poll may have an event without a datagram: `Ticks(0)` while telephone events wait, else the time of a
-    /// stream, of the next report if a stream is announced, or of the next feedback about the transport. `None`: there is no such time. The cost is one step for each
-    /// stream.
+    /// stream, of the next report if a stream is announced, or of the next feedback about the transport. `None`: there is no such time.
+    ///
+    /// Call it once polls have no event: then its cost does not grow with the streams, unless one of them leaves. Otherwise, and for
+    /// up to 16 streams, it is one step for each stream.
     pub fn next_deadline(&self) -> Option<Ticks>
         ensures { option_map (λ at. at.0) result ≡ next_of self.now }
     {
         if !self.telephone.is_empty() {
             return Some(Ticks(0));
         }
-        let streams = due_in(&self.streams.list, self.settings.idle_timeout);
+        let streams = self.streams.due_in(self.settings.idle_timeout);
         let report = report_deadline(&self.streams.list, self.report_due);
         match earlier(
             earlier(streams, report),

@@ -4,6 +4,7 @@ ghost use Rattle.std.specs.Prelude.{◌≡◌, IfOk, IfSome, true};
 ghost use Rattle.std.specs.Option.{option_map};
 ghost use Rattle.codec_payload_session.specs.Changes.{is_left_behind, is_playing, left_behind, plays};
 ghost use Rattle.codec_payload_session.specs.Checks.{can_begin};
+ghost use Rattle.codec_payload_session.specs.Dues.{key_of};
 ghost use Rattle.codec_payload_session.specs.Pairs.{paired_if};
 ghost use Rattle.codec_payload_session.specs.Quiet.{RestsUntil, or_none, time_of};
 ghost use Rattle.codec_payload_session.specs.Requests.{wait_by};
@@ -29,6 +30,9 @@ use codec_payload_receiver::pops::Popped;
 use codec_payload_receiver::receiver::{Counters, ReceiveError};
 use std::alloc::{AllocError, Global};
 use std::marker::Model;
+
+/// The two last times in a list of times.
+pub(crate) const LAST_KEY: u64 = u64::MAX - 1;
 
 /// Why a stream ended.
 #[derive(Clone, Copy, Debug, PartialEq, Eq)]
@@ -513,6 +517,19 @@ impl StreamState {
         }
     }
 
+    /// Returns the same time as a number of a list of times: 2^64 - 1 is none, and 2^64 - 2 is one of the two last times.
+    #[inline(always)]
+    pub(crate) fn due_key(&self, idle_timeout: u64) -> u64
+        ensures { result ≡ key_of (due_of idle_timeout self.now) }
+    {
+        let due = self.due_or_max(idle_timeout);
+        if due < LAST_KEY {
+            due
+        } else {
+            key_of(self.due(idle_timeout))
+        }
+    }
+
     /// Returns until when the stream has no event, and when its latest datagram arrived. A stream in probation has none.
     pub(crate) fn asleep(&self) -> (u64, u64)
         ensures { Sleeps result.0 result.1 self.now }
@@ -576,6 +593,16 @@ fn or_max(time: Option<u64>) -> u64
     ensures { result ≡ or_max time }
 {
     time.unwrap_or(u64::MAX)
+}
+
+/// Returns the time as a number of a list of times.
+fn key_of(time: Option<u64>) -> u64
+    ensures { result ≡ key_of time }
+{
+    match time {
+        Some(at) => at.min(LAST_KEY),
+        None => u64::MAX,
+    }
 }
 
 /// Returns whether a step has no event.

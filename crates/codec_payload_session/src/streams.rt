@@ -7,7 +7,7 @@ ghost use Rattle.codec_payload_base.specs.Answers.{Finds};
 ghost use Rattle.codec_payload_rtcp.specs.RtcpReading.{compound_at, packets_left};
 ghost use Rattle.codec_payload_session.specs.Reports.{noted_where};
 ghost use Rattle.codec_payload_session.specs.Sorting.{sorted_packet, sorted_rtcp};
-ghost use Rattle.codec_payload_session.specs.Streams.{is_of, waiting_if, waiting_where};
+ghost use Rattle.codec_payload_session.specs.Streams.{due_in, is_of, waiting_if, waiting_where};
 ghost use Rattle.codec_payload_session.specs.Turns.{StepsFirst, TakesTurn, after_step, told_by};
 ghost use Rattle.codec_payload_session.specs.Arrivals.{BeginsIf, BeginsOrFeeds, Feeds, TakesIn, TakesInAs, added, arrival_of, has_place, has_ssrc, includes, leaving, left_if, left_where, on_probation, removed, say_goodbye, TakesMedia};
 ghost use Rattle.codec_payload_session.specs.Ports.{ReportsIf, ReportsOn, everyone, no_port};
@@ -20,6 +20,7 @@ ghost use Rattle.codec_payload_session.specs.Waking.{FeedsOne, StepsPort};
 
 use crate::changes::{continues, leave_behind};
 use crate::compound::take_packets;
+use crate::dues::Dues;
 use crate::formats::{Format, SessionSettings, SsrcPair};
 use crate::pairs::{pair, with_pair};
 use crate::session::{Arrival, Event};
@@ -52,6 +53,8 @@ pub(crate) struct Streams {
     pub(crate) ended: u64,
     /// Until when the streams have no event.
     pub(crate) waking: Waking,
+    /// When each of them may have an event.
+    pub(crate) dues: Dues,
 }
 
 /// The step of the stream at a place.
@@ -78,7 +81,7 @@ impl Model for Streams {
 
     ghost view = { λ s. record { streams = s.list.items; finished = s.finished; ended = s.ended } };
 
-    ghost invariant = { λ s. IsIndexed s.waking s.ssrcs s.list.items };
+    ghost invariant = { λ s. IsIndexed s.waking s.ssrcs s.dues s.list.items };
 }
 
 impl Streams {
@@ -93,6 +96,7 @@ impl Streams {
             finished: false,
             ended: 0,
             waking: Waking::unknown(),
+            dues: Dues::unknown(alloc),
         }
     }
 
@@ -271,6 +275,7 @@ impl Streams {
         requires { place < length self.old.streams }
         ensures { Feeds probation place now datagram.now self.old result self.new }
     {
+        self.dues.except(self.waking, place, &self.list);
         self.waking = self.waking.except(place, &self.list);
         let stream = &mut self.list[place];
         feed_one(stream, probation, now, datagram)
@@ -370,6 +375,8 @@ impl Streams {
         let turn = step_first(&mut self.list, now, idle_timeout, unit);
         if turn.is_none() {
             self.waking = Waking::of(&self.list);
+            self.dues
+                .find(self.alloc, self.waking, &self.list, idle_timeout);
         }
         turn
     }
@@ -421,6 +428,14 @@ impl Streams {
             }
             Step::Nothing => None,
         }
+    }
+
+    /// Returns when a stream may have an event without a datagram.
+    #[inline(always)]
+    pub(crate) fn due_in(&self, idle_timeout: u64) -> Option<u64>
+        ensures { result ≡ due_in idle_timeout self.now.streams }
+    {
+        self.dues.due_in(self.waking, &self.list, idle_timeout)
     }
 
     /// Ends these streams at that time.

@@ -19,6 +19,9 @@ use crate::stream::receiver::{Counters, ReceiveError};
 use crate::wire::Ticks;
 use alloc::vec::Vec;
 
+/// The two last times in a list of times.
+pub(crate) const LAST_KEY: u64 = u64::MAX - 1;
+
 /// Why a stream ended.
 #[derive(Clone, Copy, Debug, PartialEq, Eq)]
 #[non_exhaustive]
@@ -426,6 +429,17 @@ impl StreamState {
         }
     }
 
+    /// Returns the same time as a number of a list of times: 2^64 - 1 is none, and 2^64 - 2 is one of the two last times.
+    #[inline(always)]
+    pub(crate) fn due_key(&self, idle_timeout: u64) -> u64 {
+        let due = self.due_or_max(idle_timeout);
+        if due < LAST_KEY {
+            due
+        } else {
+            key_of(self.due(idle_timeout))
+        }
+    }
+
     /// Returns until when the stream has no event, and when its latest datagram arrived. A stream in probation has none.
     pub(crate) fn asleep(&self) -> (u64, u64) {
         if is_probation(self.stage) {
@@ -475,6 +489,14 @@ fn or_none(time: Option<u64>) -> u64 {
 /// Returns the time, or 2^64 - 1 without one.
 fn or_max(time: Option<u64>) -> u64 {
     time.unwrap_or(u64::MAX)
+}
+
+/// Returns the time as a number of a list of times.
+fn key_of(time: Option<u64>) -> u64 {
+    match time {
+        Some(at) => at.min(LAST_KEY),
+        None => u64::MAX,
+    }
 }
 
 /// Returns whether a step has no event.

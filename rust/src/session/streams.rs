@@ -12,6 +12,7 @@ use crate::rtcp::items::ReportBlock;
 use crate::rtp::packet::PacketHeader;
 use crate::session::changes::{continues, leave_behind};
 use crate::session::compound::take_packets;
+use crate::session::dues::Dues;
 use crate::session::formats::{Format, SessionSettings, SsrcPair};
 use crate::session::pairs::{pair, with_pair};
 use crate::session::sessions::{Arrival, Event};
@@ -35,6 +36,8 @@ pub(crate) struct Streams {
     pub(crate) ended: u64,
     /// Until when the streams have no event.
     pub(crate) waking: Waking,
+    /// When each of them may have an event.
+    pub(crate) dues: Dues,
 }
 
 /// The step of the stream at a place.
@@ -61,6 +64,7 @@ impl Streams {
             finished: false,
             ended: 0,
             waking: Waking::unknown(),
+            dues: Dues::unknown(),
         }
     }
 
@@ -210,6 +214,7 @@ impl Streams {
         now: Ticks,
         datagram: &ParsedDatagram<'_>,
     ) -> Result<Arrival, AllocError> {
+        self.dues.except(self.waking, place, &self.list);
         self.waking = self.waking.except(place, &self.list);
         let stream = &mut self.list[place];
         feed_one(stream, probation, now, datagram)
@@ -297,6 +302,7 @@ impl Streams {
         let turn = step_first(&mut self.list, now, idle_timeout, unit);
         if turn.is_none() {
             self.waking = Waking::of(&self.list);
+            self.dues.find(self.waking, &self.list, idle_timeout);
         }
         turn
     }
@@ -344,6 +350,12 @@ impl Streams {
             }
             Step::Nothing => None,
         }
+    }
+
+    /// Returns when a stream may have an event without a datagram.
+    #[inline(always)]
+    pub(crate) fn due_in(&self, idle_timeout: u64) -> Option<u64> {
+        self.dues.due_in(self.waking, &self.list, idle_timeout)
     }
 
     /// Ends these streams at that time.
