@@ -11,6 +11,8 @@ mod compound;
 #[doc(hidden)]
 pub mod formats;
 mod goodbyes;
+#[doc(hidden)]
+pub mod keyframe;
 mod named;
 mod pairs;
 mod reporter;
@@ -32,6 +34,9 @@ pub use checks::SessionSettingsError;
 
 #[doc(inline)]
 pub use formats::{FeedbackSettings, Format, SessionSettings, SsrcPair};
+
+#[doc(inline)]
+pub use keyframe::KeyframeAnswer;
 
 #[doc(inline)]
 pub use reports::SenderClock;

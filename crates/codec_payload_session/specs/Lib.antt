@@ -5,6 +5,7 @@ pub mod Changes
 pub mod Checks
 pub mod Formats
 pub mod Idle
+pub mod Keyframes
 pub mod Named
 pub mod Pairs
 pub mod Polls

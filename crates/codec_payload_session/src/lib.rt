@@ -8,6 +8,7 @@ pub mod checks;
 mod compound;
 pub mod formats;
 mod goodbyes;
+pub mod keyframe;
 mod named;
 mod pairs;
 mod reporter;
