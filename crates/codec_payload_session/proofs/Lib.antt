@@ -6,6 +6,7 @@ mod CheckLemmas
 mod DueLemmas
 mod GoodbyeLemmas
 mod IdleLemmas
+mod KeyframeLemmas
 mod NamedLemmas
 mod PacketLemmas
 mod PacketsLemmas

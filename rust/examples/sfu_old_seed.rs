@@ -1,0 +1,451 @@
+//! SFU: a publisher sends two layers of VP8, a viewer gets one of them and switches, and packets are lost on both hops. It fails
+//! unless the viewer shows what it should, and prints what it shows:
+//!
+//! ```sh
+//! cargo run --release --example sfu
+//! ```
+//!
+//! - A `Session` receives from the publisher, and requests what is missing. A `History` for each layer is a store: it keeps each
+//!   packet once, for all viewers. A `Forwarder` for each viewer writes its packets.
+//! - A retransmission is the packet that it repeats: unwrap it, then treat it like any other.
+//! - A forwarder goes over to a layer at its next keyframe. Ask the publisher for one (PLI) when a viewer wants a layer, and when
+//!   the viewer itself asks, at most once in 500 ms. Packets of that keyframe may have come before its first one: pass them again.
+//! - Answer a viewer's NACK from the store of the layer that it gets.
+//!
+//! The network is simulated: 20 ms for a hop, with losses each way on both hops.
+
+use codec_payload::forward::{ForwardSettings, Forwarded, Forwarder};
+use codec_payload::history::{KeptOnce, OriginalStream, Request, Resent, RetransmissionStream};
+use codec_payload::keyframes::FromKeyframe;
+use codec_payload::rtcp::{CompoundRule, PictureLoss};
+use codec_payload::rtp::{RtpPacket, is_rtcp};
+use codec_payload::{
+    Codec, CodecPacketizer, CodecSpec, Event, ExtensionValues, FeedbackSettings, Format, Frequency,
+    History, HistorySettings, MediaTime, Sample, Sender, SenderSettings, Session, SessionSettings,
+    SsrcPair, Ticks, Vp8Packetizer, read_requests,
+};
+use std::collections::VecDeque;
+use std::error::Error;
+
+const FRAMES: u64 = 240;
+const INTERVAL: u64 = 50;
+const SWITCH_EVERY: u64 = 60;
+const FRAME: usize = 2_500;
+const HOP: u64 = 20;
+const VP8: u8 = 96;
+const RTX: u8 = 97;
+const RTX_SSRC: u32 = 10;
+const VIEWER: u32 = 99;
+const VIEWER_RTX: u32 = 98;
+const SFU: u32 = 50;
+const KEYFRAME_INTERVAL: u64 = 500;
+
+type Done = Result<(), Box<dyn Error>>;
+
+/// One direction of a hop of the network.
+struct Way {
+    chance: u64,
+    loss: u64,
+    queue: VecDeque<(u64, Vec<u8>)>,
+}
+
+impl Way {
+    fn new(chance: u64, loss: u64) -> Way {
+        let queue = VecDeque::new();
+        Way {
+            chance,
+            loss,
+            queue,
+        }
+    }
+
+    fn send(&mut self, now: u64, datagram: &[u8]) {
+        self.chance = self
+            .chance
+            .wrapping_mul(6_364_136_223_846_793_005)
+            .wrapping_add(1_442_695_040_888_963_407);
+        if (self.chance >> 33) % 100 >= self.loss {
+            self.queue.push_back((now + HOP, datagram.to_vec()));
+        }
+    }
+
+    /// The next datagram that arrives until now.
+    fn arrived(&mut self, now: u64) -> Option<Vec<u8>> {
+        let is_due = self.queue.front().is_some_and(|(due, _)| *due <= now);
+        if is_due {
+            self.queue.pop_front().map(|(_, datagram)| datagram)
+        } else {
+            None
+        }
+    }
+}
+
+/// A request for a keyframe.
+fn send_pli(way: &mut Way, now: u64, ssrc: u32) -> Done {
+    let mut pli = Vec::new();
+    let (sender_ssrc, media_ssrc) = (SFU, ssrc);
+    PictureLoss {
+        sender_ssrc,
+        media_ssrc,
+    }
+    .write(&mut pli)?;
+    way.send(now, &pli);
+    Ok(())
+}
+
+/// The stream of a layer.
+fn layer_stream(ssrc: u32) -> OriginalStream {
+    let payload_type = VP8;
+    OriginalStream { ssrc, payload_type }
+}
+
+// ---- The recipe ----
+
+struct Sfu {
+    /// Receives from the publisher, and requests what is missing.
+    session: Session,
+    /// The latest packets of each layer, for all viewers.
+    stores: [History; 2],
+    /// From when on a keyframe of a layer may be requested.
+    next_pli: [u64; 2],
+    /// The stream of one viewer.
+    viewer: Forwarder,
+    to_publisher: Way,
+    to_viewer: Way,
+}
+
+impl Sfu {
+    fn request_keyframe(&mut self, now: u64, ssrc: u32) -> Done {
+        let next = &mut self.next_pli[ssrc as usize - 1];
+        if now < *next {
+            return Ok(());
+        }
+        *next = now + KEYFRAME_INTERVAL;
+        send_pli(&mut self.to_publisher, now, ssrc)
+    }
+
+    /// Passes a packet to the viewer. Returns whether it is the first one of another layer.
+    fn forward(&mut self, now: u64, datagram: &[u8]) -> Result<bool, Box<dyn Error>> {
+        let (packet, mut out) = (RtpPacket::parse(datagram)?, Vec::new());
+        let did = self.viewer.write(90 * now, &packet, &mut out)?;
+        if matches!(did, Forwarded::Began | Forwarded::Written) {
+            self.to_viewer.send(now, &out);
+        }
+        Ok(did == Forwarded::Began)
+    }
+
+    /// A datagram of the publisher. The SSRCs of its layers are those of the session description.
+    fn receive(&mut self, now: u64, datagram: &[u8]) -> Done {
+        self.session.receive(Ticks(now), datagram)?;
+        let (Ok(packet), false) = (RtpPacket::parse(datagram), is_rtcp(datagram)) else {
+            return Ok(());
+        };
+        let (ssrc, mut bytes) = (packet.header.ssrc % RTX_SSRC, datagram.to_vec());
+        let Some(store) = (ssrc as usize).checked_sub(1).filter(|it| *it < 2) else {
+            return Ok(());
+        };
+        let repeats = packet.header.payload_type == RTX;
+        if repeats && layer_stream(ssrc).write(datagram, &mut bytes).is_err() {
+            return Ok(()); // padding alone, which probes the bandwidth
+        }
+        let is_new = self.stores[store].keep_once(&bytes)? == KeptOnce::New;
+        let first = RtpPacket::parse(&bytes)?.header.sequence_number;
+        if is_new && self.forward(now, &bytes)? {
+            // Packets of the keyframe that came before its first one.
+            for number in (1..64).map(|step| first.wrapping_add(step)) {
+                if self.stores[store].resend(Ticks(0), number, &mut bytes)? == Resent::Written {
+                    self.forward(now, &bytes)?;
+                }
+            }
+        }
+        Ok(())
+    }
+
+    /// RTCP of the viewer. What is malformed requests nothing.
+    fn answer(&mut self, now: u64, rtcp: &[u8]) -> Done {
+        let requests = read_requests(CompoundRule::ReducedSize, VIEWER, rtcp);
+        let (Some(source), Ok(requests)) = (self.viewer.source(), requests) else {
+            return Ok(());
+        };
+        for request in requests {
+            match request {
+                Request::Packet(number) => self.resend(now, source, number)?,
+                _ => self.request_keyframe(now, source)?,
+            }
+        }
+        Ok(())
+    }
+
+    fn resend(&mut self, now: u64, source: u32, number: u16) -> Done {
+        let (store, mut out) = (&self.stores[source as usize - 1], Vec::new());
+        if let Some(packet) = self.viewer.requested(number, store)
+            && self.viewer.write_again(&packet, &mut out)?
+        {
+            self.to_viewer.send(now, &out);
+        }
+        Ok(())
+    }
+
+    /// What is due by the clock. Units of the session are for those who record or mix.
+    fn poll(&mut self, now: u64) -> Done {
+        while let Some(event) = self.session.poll(Ticks(now)) {
+            if let Event::Feedback { packet, .. } | Event::Report { packet } = event {
+                self.to_publisher.send(now, &packet?);
+            }
+        }
+        let waits = self.viewer.wanted() != self.viewer.source();
+        let wanted = self.viewer.wanted().filter(|_| waits);
+        wanted.map_or(Ok(()), |wanted| self.request_keyframe(now, wanted))
+    }
+}
+
+// ---- The simulated publisher ----
+
+struct Layer {
+    ssrc: u32,
+    sender: Sender,
+    sent: History,
+    /// The next frame is a keyframe.
+    keyframe: bool,
+}
+
+impl Layer {
+    fn new(ssrc: u32) -> Result<Layer, Box<dyn Error>> {
+        let place = ssrc as u16;
+        let packetizer = CodecPacketizer::Vp8(Vp8Packetizer::with_picture_id(1_000 * place));
+        let settings = SenderSettings::for_stream(VP8, ssrc, Frequency::NINETY_KHZ);
+        let first_number = 30_000 * place;
+        let stream = Some(retransmissions(RTX_SSRC + ssrc));
+        Ok(Layer {
+            ssrc,
+            sender: Sender::new(
+                packetizer,
+                SenderSettings {
+                    first_number,
+                    ..settings
+                },
+            )?,
+            sent: History::new(HistorySettings {
+                limit: 512,
+                interval: 0,
+                stream,
+            })?,
+            keyframe: true,
+        })
+    }
+
+    /// A frame whose last bytes have the time and the layer.
+    fn send(&mut self, now: u64, way: &mut Way) -> Done {
+        let mut frame = vec![0; FRAME];
+        let tag = u32::from(!self.keyframe) | 1 << 4 | 100 << 5; // shown; a first partition of 100 bytes
+        frame[..3].copy_from_slice(&tag.to_le_bytes()[..3]);
+        if self.keyframe {
+            frame[3..10].copy_from_slice(&[0x9d, 0x01, 0x2a, 0x40, 0x01, 0xf0, 0x00]); // start code, 320 x 240
+        }
+        self.keyframe = false;
+        frame[FRAME - 5..FRAME - 1].copy_from_slice(&(now as u32).to_be_bytes());
+        frame[FRAME - 1] = self.ssrc as u8;
+        self.sender.send(&Sample {
+            rtp_time: MediaTime::from_90khz(90 * now + 777_777 * u64::from(self.ssrc)),
+            bytes: &frame,
+            start_of_talk_spurt: false,
+            ext_vals: ExtensionValues::default(),
+        })?;
+        for datagram in self.sender.datagrams() {
+            self.sent.keep(datagram)?;
+            way.send(now, datagram);
+        }
+        Ok(())
+    }
+
+    fn answer(&mut self, now: u64, rtcp: &[u8], way: &mut Way) -> Done {
+        let mut out = Vec::new();
+        for request in read_requests(CompoundRule::ReducedSize, self.ssrc, rtcp)? {
+            match request {
+                Request::Packet(number) => {
+                    if self.sent.resend(Ticks(now), number, &mut out)? == Resent::Written {
+                        way.send(now, &out);
+                    }
+                }
+                _ => self.keyframe = true,
+            }
+        }
+        Ok(())
+    }
+}
+
+// ---- The simulated viewer ----
+
+/// What the viewer shows.
+#[derive(Default)]
+struct Picture {
+    shown: usize,
+    switches: u32,
+    freezes: u32,
+    /// In milliseconds.
+    frozen: u64,
+    /// When the frame before was shown.
+    before: u64,
+    /// Between the latest frames.
+    intervals: [u64; 30],
+    /// The time and the layer of the frame before.
+    latest: [u8; 5],
+}
+
+impl Picture {
+    /// Counts a frame. Two layers may have one of the same time, which counts once. A freeze is an interval of at least three average
+    /// ones, and of 150 ms more than one (W3C's freezeCount).
+    fn show(&mut self, now: u64, frame: &[u8]) {
+        let end = &frame[FRAME - 5..];
+        let again = self.shown > 0 && end[..4] == self.latest[..4];
+        self.switches += u32::from(self.shown > 0 && end[4] != self.latest[4]);
+        self.latest.copy_from_slice(end);
+        if again {
+            return;
+        }
+        let interval = now - self.before;
+        let average = if self.shown > 30 {
+            self.intervals.iter().sum::<u64>() / 30
+        } else {
+            INTERVAL
+        };
+        if self.shown > 0 && interval >= 3 * average && interval >= average + 150 {
+            self.freezes += 1;
+            self.frozen += interval;
+        }
+        self.intervals[self.shown % 30] = interval;
+        self.shown += 1;
+        self.before = now;
+    }
+}
+
+fn watch(viewer: &mut Session, way: &mut Way, picture: &mut Picture, now: u64) -> Done {
+    while let Some(event) = viewer.poll(Ticks(now)) {
+        match event {
+            Event::Feedback { packet, .. } | Event::Report { packet } => way.send(now, &packet?),
+            Event::Unit { unit, .. } => {
+                let bytes = unit?.bytes;
+                if bytes.len() == FRAME {
+                    picture.show(now, &bytes);
+                }
+            }
+            _ => {}
+        }
+    }
+    Ok(())
+}
+
+// ---- All together ----
+
+fn retransmissions(ssrc: u32) -> RetransmissionStream {
+    RetransmissionStream {
+        ssrc,
+        payload_type: RTX,
+        first_number: 0,
+    }
+}
+
+fn session(own_ssrc: u32, pairs: &[(u32, u32)]) -> Result<Session, Box<dyn Error>> {
+    let spec = CodecSpec {
+        codec: Codec::Vp8,
+        clock_rate: Frequency::NINETY_KHZ,
+        octet_align: false,
+    };
+    let mut settings = SessionSettings::live();
+    settings.formats.push(Format {
+        retransmission: Some(RTX),
+        nack: true,
+        pli: true,
+        ..Format::new(VP8, spec)
+    });
+    settings.pairs = pairs
+        .iter()
+        .map(|&(ssrc, retransmission)| SsrcPair {
+            ssrc,
+            retransmission,
+        })
+        .collect();
+    settings.from_keyframe = FromKeyframe::Drop;
+    settings.feedback = Some(FeedbackSettings::live(own_ssrc, b"sfu".to_vec()));
+    Ok(Session::new(settings)?)
+}
+
+fn sfu(loss: u64) -> Result<Sfu, Box<dyn Error>> {
+    let store = || {
+        History::new(HistorySettings {
+            limit: 2_048,
+            interval: 0,
+            stream: None,
+        })
+    };
+    let viewer = Forwarder::new(ForwardSettings {
+        codec: Codec::Vp8,
+        ssrc: VIEWER,
+        payload_type: VP8,
+        first_number: 0,
+        first_time: 0,
+        retransmissions: Some(retransmissions(VIEWER_RTX)),
+    })?;
+    Ok(Sfu {
+        session: session(SFU, &[(1, RTX_SSRC + 1), (2, RTX_SSRC + 2)])?,
+        stores: [store()?, store()?],
+        next_pli: [0; 2],
+        viewer,
+        to_publisher: Way::new(2 + seed(), loss),
+        to_viewer: Way::new(3 + seed(), loss),
+    })
+}
+
+/// A run at a loss in percent.
+fn run(loss: u64) -> Result<Picture, Box<dyn Error>> {
+    let (mut to_sfu, mut from_viewer) = (Way::new(1 + seed(), loss), Way::new(4 + seed(), loss));
+    let mut layers = [Layer::new(1)?, Layer::new(2)?];
+    let mut sfu = sfu(loss)?;
+    let mut viewer = session(VIEWER + 1, &[(VIEWER, VIEWER_RTX)])?;
+    let mut picture = Picture::default();
+    for now in 0..FRAMES * INTERVAL + 1_000 {
+        while let Some(rtcp) = sfu.to_publisher.arrived(now) {
+            for layer in &mut layers {
+                layer.answer(now, &rtcp, &mut to_sfu)?;
+            }
+        }
+        if now % INTERVAL == 0 && now < FRAMES * INTERVAL {
+            for layer in &mut layers {
+                layer.send(now, &mut to_sfu)?;
+            }
+        }
+        if now % (SWITCH_EVERY * INTERVAL) == 0 {
+            sfu.viewer
+                .want(1 + (now / (SWITCH_EVERY * INTERVAL)) as u32 % 2);
+        }
+        while let Some(datagram) = to_sfu.arrived(now) {
+            sfu.receive(now, &datagram)?;
+        }
+        while let Some(rtcp) = from_viewer.arrived(now) {
+            sfu.answer(now, &rtcp)?;
+        }
+        sfu.poll(now)?;
+        while let Some(datagram) = sfu.to_viewer.arrived(now) {
+            viewer.receive(Ticks(now), &datagram)?;
+        }
+        watch(&mut viewer, &mut from_viewer, &mut picture, now)?;
+    }
+    Ok(picture)
+}
+
+
+static SEED: std::sync::atomic::AtomicU64 = std::sync::atomic::AtomicU64::new(0);
+fn seed() -> u64 { SEED.load(std::sync::atomic::Ordering::Relaxed) }
+fn main() -> Done {
+    for loss in [2, 5, 10] {
+        let (mut sh, mut fz, mut ms, mut sw) = (0, 0, 0, 0);
+        let n = 40;
+        for i in 0..n {
+            SEED.store(i * 1000003, std::sync::atomic::Ordering::Relaxed);
+            let p = run(loss)?;
+            sh += p.shown; fz += p.freezes; ms += p.frozen; sw += p.switches;
+        }
+        println!("{loss} %: shown {:.1}, switches {:.2}, freezes {:.2}, frozen {:.0} ms", sh as f64 / n as f64, sw as f64 / n as f64, fz as f64 / n as f64, ms as f64 / n as f64);
+    }
+    Ok(())
+}
