@@ -4,7 +4,7 @@ use Rattle.std.specs.Prelude.{nat_le, nat_lt, if◌then◌else◌, is_some, slic
 use Rattle.std.specs.Global.{Vec}
 use Rattle.std.specs.List.{position, position_or_len}
 use Rattle.std.proofs.lemmas.List.Folds.{position_or_len-set}
-use Rattle.std.proofs.lemmas.Option.{get_or_from_slice_get}
+use Rattle.std.proofs.lemmas.Option.{get_or_from_slice_get, slice_get-get_or}
 use Rattle.std.specs.declared.alloc.AllocError.{AllocError}
 use Rattle.std.proofs.lemmas.Bool.Decides.{nat_tests}
 use Rattle.codec_payload_base.specs.declared.wire.Ticks.{Ticks}
@@ -20,7 +20,7 @@ use Rattle.codec_payload_session.specs.Arrivals.{Port, has_ssrc}
 use Rattle.codec_payload_session.specs.Idle.{next_of}
 use Rattle.codec_payload_session.specs.Keyframes.{KeyframeLeaves, LeavesFrom, answer_among, answer_of, asked_among, asked_with, asks_keyframe, may_ask}
 use Rattle.codec_payload_session.specs.Polls.{Polls}
-use Rattle.codec_payload_session.specs.Ports.{Session}
+use Rattle.codec_payload_session.specs.Ports.{IsPort, Session, taken_in}
 use Rattle.codec_payload_session.specs.Quiet.{IsBefore}
 use Rattle.codec_payload_session.specs.Reporting.{report_deadline}
 use Rattle.codec_payload_session.specs.Requests.{Asking, Asks, answer_by, answer_when, asked_by, asked_when, is_heard, refreshed, wants_keyframe}
@@ -29,14 +29,17 @@ use Rattle.codec_payload_session.specs.Telephone.{Queue, due_before}
 use Rattle.codec_payload_session.specs.Transports.{transport_deadline}
 use Rattle.codec_payload_session.specs.Turns.{AreQuiet}
 use Rattle.codec_payload_session.specs.Units.{Event}
+use Rattle.codec_payload_session.specs.declared.formats.SessionSettings.{SessionSettings}
 use Rattle.codec_payload_session.specs.declared.keyframe.KeyframeAnswer.{KeyframeAnswer}
 use Rattle.codec_payload_session.specs.declared.keyframe.KeyframeAnswer.TheVariants as answers
+use Rattle.codec_payload_session.specs.declared.session.ArrivalCounts.{ArrivalCounts}
 use Rattle.codec_payload_session.specs.declared.stream.Ending.{Ending}
 use Rattle.codec_payload_session.specs.declared.stream.Ending.TheVariants as endings
 use Rattle.codec_payload_session.specs.declared.stream.Stage.{Stage}
 use Rattle.codec_payload_session.specs.declared.stream.Stage.TheVariants as stages
 use Rattle.codec_payload_session.specs.declared.stream.Step.TheVariants as steps
 use Rattle.codec_payload_session.specs.declared.telephone.TelephonePacket.{TelephonePacket}
+use Rattle.codec_payload_session.proofs.AccountLemmas.{length_set, taken_set}
 use Rattle.codec_payload_session.proofs.DueLemmas.{earlier_both as requests_both}
 use Rattle.codec_payload_session.proofs.IdleLemmas.{Polled, not_come, polled_after, some_step}
 use Rattle.codec_payload_session.proofs.SkipLemmas.{earlier_both, told_none}
@@ -242,11 +245,6 @@ get_set (x ∷ xs) (suc place) s t is = get_set xs place s t is
 found_within : (ss : List StreamState) (place : ℕ) (s d : StreamState) → slice_get ss place ≡ Some s → get_or ss place d ≡ s
 found_within ss place s d is = get_or_from_slice_get ss place s d is
 
-length_set : (ss : List StreamState) (place : ℕ) (t : StreamState) → length (slice_set ss place t) ≡ length ss
-length_set [] place t = refl
-length_set (x ∷ xs) zero t = refl
-length_set (x ∷ xs) (suc place) t = ap suc (length_set xs place t)
-
 -- a stream that keeps its SSRC is found at the same place
 first_set : (ssrc place : ℕ) (ss : List StreamState) (s t : StreamState) → slice_get ss place ≡ Some s → t.ssrc ≡ s.ssrc → position (has_ssrc ssrc) (slice_set ss place t) ≡ position (has_ssrc ssrc) ss
 first_set ssrc place ss s t is same =
@@ -281,3 +279,25 @@ leaves_among (Some place) ssrc t first answered = leaves_of (slice_get t.port.st
 -- a session whose stream was asked for a keyframe
 pub keyframe_leaves : (ssrc : ℕ) (t : Session) → answer_among (position (has_ssrc ssrc) t.port.streams) t.port.streams ≡ answers.Requested → KeyframeLeaves ssrc (asks_keyframe ssrc t)
 keyframe_leaves ssrc t answered = leaves_among (position (has_ssrc ssrc) t.port.streams) ssrc t refl answered
+
+-- ---- every datagram stays accounted for
+
+asked_keeps_of : (x : Option StreamState) (settings : SessionSettings) (c : ArrivalCounts) (place : ℕ) (p : Port) → slice_get p.streams place ≡ x → IsPort settings p c
+    → IsPort settings (record p { streams = asked_with x place p.streams }) c
+asked_keeps_of None settings c place p there kept = kept
+asked_keeps_of (Some s) settings c place p there kept = record {
+  accounted = omega (arith, kept.accounted, taken_set p.streams place s (asked_for s) there, asked_taken s);
+  bounded = omega (arith, kept.bounded, length_set p.streams place (asked_for s));
+}
+
+pub asked_keeps : (o : Option ℕ) (settings : SessionSettings) (c : ArrivalCounts) (p : Port) → IsPort settings p c → IsPort settings (asked_among o p) c
+asked_keeps None settings c p kept = kept
+asked_keeps (Some place) settings c p kept = asked_keeps_of (slice_get p.streams place) settings c place p refl kept
+
+-- ---- the stream at a place, as a function reads it
+
+pub answer_at : (place : ℕ) (ss : List StreamState) (x : StreamState) → place < length ss → x ≡ get_or ss place x → answer_of (slice_get ss place) ≡ answer_for x
+answer_at place ss x within is = ap answer_of (slice_get-get_or ss place x within) ∙ ap answer_for (sym is)
+
+pub asked_at : (place : ℕ) (ss : List StreamState) (x : StreamState) → place < length ss → x ≡ get_or ss place x → asked_with (slice_get ss place) place ss ≡ slice_set ss place (asked_for x)
+asked_at place ss x within is = ap (λ (o : Option StreamState). asked_with o place ss) (slice_get-get_or ss place x within) ∙ ap (λ (s : StreamState). slice_set ss place (asked_for s)) (sym is)
