@@ -322,6 +322,7 @@ static void keyframes_for_others(void) {
     formats[1].pli = true;
     CHECK(cpay_session_settings_feedback(&settings, 77, NAME, sizeof NAME) == CPAY_OK);
     settings.feedback.has_report_interval = false;
+    settings.audio.start = settings.video.start = 0;
     CHECK(cpay_session_new(&session, &settings, formats, 2, NULL, 0, NULL, 0) == CPAY_OK);
     sent(&session, 0, marked, 1, 1, key, sizeof key);
     sent(&session, 0, marked, 1, 2, delta, sizeof delta);
