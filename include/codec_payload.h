@@ -1534,6 +1534,23 @@ CPAY_CHECKED cpay_status cpay_session_add_pair(cpay_session *session, uint32_t s
  * Does not allocate. */
 CPAY_CHECKED cpay_status cpay_session_remove_pair(cpay_session *session, uint32_t ssrc);
 
+/** What a session does with a request for a keyframe. */
+typedef enum {
+    CPAY_KEYFRAME_REQUESTED = 0,     /**< the stream requests a keyframe as soon as its limit allows */
+    CPAY_KEYFRAME_NO_STREAM = 1,     /**< no stream has this SSRC, or the first one that has it is about to end */
+    CPAY_KEYFRAME_NOT_NEGOTIATED = 2 /**< its sender answers no requests for keyframes: the format has no `pli`, or the settings no
+                                          feedback */
+} cpay_keyframe_answer;
+
+/** Asks the sender of the stream with this SSRC for a keyframe, by a PLI (RFC 4585, section 6.3.1), for another receiver that needs one:
+ * a viewer that joins, or that sent a PLI. *answer is what the session does. The PLI is in the stream's next CPAY_EVENT_FEEDBACK, beside
+ * what the session requests itself, and all share one limit: two PLIs of a stream are at least `keyframe_interval` apart, and within
+ * the interval a request waits. cpay_session_next_deadline is at most the time at which it can leave. One PLI answers all requests
+ * before it, and so does a keyframe that a poll reports. A PLI can be lost: call this as often as you like, as long as you need a
+ * keyframe. A stream in probation sends its PLI once it is announced, and a stream whose sender is silent once a datagram arrives. With
+ * two streams of the SSRC, as after a change of format, the first one asks. Does not allocate. */
+CPAY_CHECKED cpay_status cpay_session_request_keyframe(cpay_session *session, uint32_t ssrc, cpay_keyframe_answer *answer);
+
 /* ---- A depacketizer alone, for callers that order packets themselves ---- */
 
 /** Creates a depacketizer in an empty handle. CPAY_INVALID: unsupported codec, or `rate` 0. [m] */

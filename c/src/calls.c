@@ -669,6 +669,11 @@ cpay_status cpay_session_remove_pair(cpay_session *session, uint32_t ssrc) {
     return proved_cpay_session_remove_pair(&session->handle, ssrc);
 }
 
+cpay_status proved_cpay_session_request_keyframe(cpay_handle *session, uint32_t ssrc, cpay_keyframe_answer *answer);
+cpay_status cpay_session_request_keyframe(cpay_session *session, uint32_t ssrc, cpay_keyframe_answer *answer) {
+    return proved_cpay_session_request_keyframe(&session->handle, ssrc, answer);
+}
+
 cpay_status proved_cpay_depacketizer_new(cpay_handle *depacketizer, const cpay_spec *spec);
 cpay_status cpay_depacketizer_new(cpay_depacketizer *depacketizer, const cpay_spec *spec) {
     return proved_cpay_depacketizer_new(&depacketizer->handle, spec);

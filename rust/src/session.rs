@@ -12,6 +12,8 @@ mod dues;
 #[doc(hidden)]
 pub mod formats;
 mod goodbyes;
+#[doc(hidden)]
+pub mod keyframe;
 mod named;
 mod pairs;
 mod reporter;
@@ -33,6 +35,9 @@ pub use checks::SessionSettingsError;
 
 #[doc(inline)]
 pub use formats::{FeedbackSettings, Format, SessionSettings, SsrcPair};
+
+#[doc(inline)]
+pub use keyframe::KeyframeAnswer;
 
 #[doc(inline)]
 pub use reports::SenderClock;

@@ -20,6 +20,7 @@ pub mod Senders
 pub mod SentTransports
 pub mod SessionFaults
 pub mod SessionFormats
+pub mod SessionKeyframes
 pub mod SessionPairs
 pub mod SessionReports
 pub mod SessionStreams

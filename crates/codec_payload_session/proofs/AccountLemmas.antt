@@ -43,12 +43,12 @@ use Rattle.codec_payload_session.specs.declared.stream.StreamState.{StreamState}
 
 -- ---- the datagrams that the streams took, and the number of streams
 
-taken_set : (ss : List StreamState) (i : ℕ) (s t : StreamState) → slice_get ss i ≡ Some s → taken_in (slice_set ss i t) + s.taken ≡ taken_in ss + t.taken
+pub taken_set : (ss : List StreamState) (i : ℕ) (s t : StreamState) → slice_get ss i ≡ Some s → taken_in (slice_set ss i t) + s.taken ≡ taken_in ss + t.taken
 taken_set [] i s t is = absurd (cc)
 taken_set (x ∷ xs) zero s t is = omega (arith, ap taken_of is)
 taken_set (x ∷ xs) (suc i) s t is = omega (arith, taken_set xs i s t is)
 
-length_set : (ss : List StreamState) (i : ℕ) (t : StreamState) → length (slice_set ss i t) ≡ length ss
+pub length_set : (ss : List StreamState) (i : ℕ) (t : StreamState) → length (slice_set ss i t) ≡ length ss
 length_set [] i t = refl
 length_set (x ∷ xs) zero t = refl
 length_set (x ∷ xs) (suc i) t = ap suc (length_set xs i t)

@@ -7,6 +7,7 @@ mod DeadlineLemmas
 mod DueLemmas
 mod GoodbyeLemmas
 mod IdleLemmas
+mod KeyframeLemmas
 mod NamedLemmas
 mod PacketLemmas
 mod PacketsLemmas

@@ -6,6 +6,7 @@ pub mod Checks
 pub mod Dues
 pub mod Formats
 pub mod Idle
+pub mod Keyframes
 pub mod Named
 pub mod Pairs
 pub mod Polls

@@ -19,9 +19,11 @@ use Rattle.codec_payload_receiver.specs.declared.receiver.ReceiveError.{ReceiveE
 use Rattle.codec_payload_receiver.specs.declared.receiver.ReceiveError.TheVariants as errors
 use Rattle.codec_payload_receiver.specs.declared.receiver.Settings.{Settings}
 use Rattle.codec_payload_session.specs.Formats.{HasSettings, is_video, limits_for}
-use Rattle.codec_payload_session.specs.Requests.{Asking, Asks, feedback_by, heard_by, is_heard, number_at, requests_due, round_trip_of, wait_by}
+use Rattle.codec_payload_session.specs.Requests.{Asking, Asks, answer_by, answered_if, asked_by, feedback_by, heard_by, is_heard, number_at, requests_due, round_trip_of, wait_by}
 use Rattle.codec_payload_session.specs.declared.formats.Format.{Format}
 use Rattle.codec_payload_session.specs.declared.formats.SessionSettings.{SessionSettings}
+use Rattle.codec_payload_session.specs.declared.keyframe.KeyframeAnswer.{KeyframeAnswer}
+use Rattle.codec_payload_session.specs.declared.keyframe.KeyframeAnswer.TheVariants as answers
 use Rattle.codec_payload_session.specs.declared.stream.Ending.{Ending}
 use Rattle.codec_payload_session.specs.declared.stream.Ending.TheVariants as endings
 use Rattle.codec_payload_session.specs.declared.stream.Stage.{Stage}
@@ -220,9 +222,17 @@ step_with (Ok (popped.TooLarge unit)) = steps.TooLarge unit
 step_with (Ok (popped.Refused fault)) = steps.Refused fault
 step_with (Err e) = steps.Unit (Err e)
 
+-- the answer is a unit, which the receiver finds to be a keyframe
+abbrev pub is_keyframe : {U : Type 0} → Result (Popped U) AllocError → Receiver → Bool
+is_keyframe (Ok (popped.Unit unit)) r = r.gates.is_keyframe
+is_keyframe (Ok (popped.TooLarge unit)) r = false
+is_keyframe (Ok (popped.Refused fault)) r = false
+is_keyframe (Err e) r = false
+
+-- a keyframe that is released is the one that was asked for
 abbrev pub Follows : Option (Result (Popped Release) AllocError) → ℕ → StreamState → Step → StreamState → Type 0
 Follows None now s answer t = RestsBy s.stage now s answer t
-Follows (Some told) now s answer t = (answer ≡ step_with told) × (t ≡ s)
+Follows (Some told) now s answer t = (answer ≡ step_with told) × (t ≡ record s { feedback = answered_if (is_keyframe told s.receiver) s.feedback })
 
 -- the answer of a pop of the stream's receiver; without a unit, what follows from the receiver after that pop
 pub record Pops (now : Ticks) (s : StreamState) (answer : Step) (t : StreamState) : Type 0 where
@@ -245,6 +255,30 @@ StepsBy false true now idle s answer t = Plays now idle s answer t
 -- the next event of the stream: none in probation, and its beginning before all other events
 abbrev pub Steps : Ticks → ℕ → StreamState → Step → StreamState → Type 0
 Steps now idle s answer t = StepsBy (is_probation s.stage) s.told now idle s answer t
+
+-- ---- a keyframe that the caller asks for
+
+-- the stream leaves or is drained
+abbrev pub is_ending : Stage → Bool
+is_ending stages.Probation = false
+is_ending stages.Playing = false
+is_ending (stages.Leaving why at) = true
+is_ending (stages.Draining why) = true
+
+-- a stream that ends requests nothing more
+abbrev pub asked_unless : (ending : Bool) → StreamState → StreamState
+asked_unless true s = s
+asked_unless false s = record s { feedback = asked_by s.feedback }
+
+abbrev pub asked_for : StreamState → StreamState
+asked_for s = asked_unless (is_ending s.stage) s
+
+abbrev pub answer_unless : (ending : Bool) → StreamState → KeyframeAnswer
+answer_unless true s = answers.NoStream
+answer_unless false s = answer_by s.feedback
+
+abbrev pub answer_for : StreamState → KeyframeAnswer
+answer_for s = answer_unless (is_ending s.stage) s
 
 -- ---- deadlines
 

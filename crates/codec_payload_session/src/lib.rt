@@ -9,6 +9,7 @@ mod compound;
 mod dues;
 pub mod formats;
 mod goodbyes;
+pub mod keyframe;
 mod named;
 mod pairs;
 mod reporter;

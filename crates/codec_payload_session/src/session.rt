@@ -206,7 +206,7 @@ pub(crate) struct ArrivalCounts {
 #[derive(Debug, Drop)]
 pub struct Session {
     settings: SessionSettings,
-    streams: Streams,
+    pub(crate) streams: Streams,
     counts: ArrivalCounts,
     telephone: TelephoneQueue,
     /// When the next report is due. `None`: no report is planned.

@@ -8,7 +8,7 @@ ghost use Rattle.codec_payload_session.specs.Dues.{key_of};
 ghost use Rattle.codec_payload_session.specs.Pairs.{paired_if};
 ghost use Rattle.codec_payload_session.specs.Quiet.{RestsUntil, or_none, time_of};
 ghost use Rattle.codec_payload_session.specs.Requests.{wait_by};
-ghost use Rattle.codec_payload_session.specs.Streams.{Begins, Drains, IsInfo, Pops, RequestsBy, RestsBy, Steps, Takes, due_of, earlier, end_of, heard, heard_unless, is_accepted, is_no_memory, is_of, is_probation, left, left_when, received, step_of, step_with, waiting_for, waiting_if, work_deadline};
+ghost use Rattle.codec_payload_session.specs.Streams.{Begins, Drains, IsInfo, Pops, RequestsBy, RestsBy, Steps, Takes, answer_for, asked_for, due_of, earlier, end_of, heard, heard_unless, is_accepted, is_ending, is_keyframe, is_no_memory, is_of, is_probation, left, left_when, received, step_of, step_with, waiting_for, waiting_if, work_deadline};
 ghost use Rattle.codec_payload_session.specs.Turns.{is_nothing};
 ghost use Rattle.codec_payload_session.specs.Units.{step_to};
 ghost use Rattle.codec_payload_session.specs.Waking.{Sleeps, or_max};
@@ -16,9 +16,12 @@ ghost use Rattle.codec_payload_session.specs.declared.stream.Step.TheVariants as
 
 use crate::changes::{are_alike, takes_turns};
 use crate::formats::{Format, SessionSettings, SsrcPair, retransmission_for};
+use crate::keyframe::KeyframeAnswer;
 use crate::named::NamedReceiver;
 use crate::reports::SenderClock;
-use crate::requests::{Feedback, hear, requests_due, rest_time, round_trip, wait_by};
+use crate::requests::{
+    Feedback, answer_if, ask_keyframe, hear, requests_due, rest_time, round_trip, wait_by,
+};
 use codec_payload_base::error::PacketError;
 use codec_payload_base::wire::Ticks;
 use codec_payload_buffer::buffer::PoppedUnit;
@@ -27,7 +30,7 @@ use codec_payload_jitter::jitter::WaitLimits;
 use codec_payload_jitter::outcome::Outcome;
 use codec_payload_receiver::parsed::ParsedDatagram;
 use codec_payload_receiver::pops::Popped;
-use codec_payload_receiver::receiver::{Counters, ReceiveError};
+use codec_payload_receiver::receiver::{Counters, ReceiveError, Receiver};
 use std::alloc::{AllocError, Global};
 use std::marker::Model;
 
@@ -334,6 +337,18 @@ impl StreamState {
         }
     }
 
+    /// Asks for a keyframe, unless the stream ends or its sender answers no requests for keyframes.
+    pub(crate) fn request_keyframe(&mut self) -> KeyframeAnswer
+        ensures answer { result ≡ answer_for self.old }
+        ensures after { self.new ≡ asked_for self.old }
+    {
+        if is_ending(self.stage) {
+            return KeyframeAnswer::NoStream;
+        }
+        self.quiet_until = 0;
+        ask_keyframe(&mut self.feedback)
+    }
+
     /// Returns why the stream ends now, if it does.
     #[inline(always)]
     fn end_at(&self, now: u64, idle_timeout: u64) -> Option<Ending>
@@ -405,7 +420,11 @@ impl StreamState {
         self.quiet_until = 0;
         let held = self.receiver.inner().held();
         match self.receiver.pop_unit(now, unit) {
-            Some(popped) => step_with(popped),
+            Some(popped) => {
+                let keyframe = is_keyframe(&popped, self.receiver.inner());
+                answer_if(&mut self.feedback, keyframe);
+                step_with(popped)
+            }
             None => {
                 let step = self.rest(now);
                 if is_nothing(&step) && self.receiver.inner().held() == held {
@@ -572,6 +591,22 @@ pub(crate) fn is_playing(stage: Stage) -> bool
     ensures { result ≡ is_playing stage }
 {
     matches!(stage, Stage::Playing)
+}
+
+/// Returns whether a stream at this stage leaves or is drained.
+#[inline(always)]
+fn is_ending(stage: Stage) -> bool
+    ensures { result ≡ is_ending stage }
+{
+    matches!(stage, Stage::Leaving(..) | Stage::Draining(_))
+}
+
+/// Returns whether the answer of a pop is a keyframe.
+#[inline(always)]
+fn is_keyframe(popped: &Result<Popped<()>, AllocError>, receiver: &Receiver) -> bool
+    ensures { result ≡ is_keyframe popped.now receiver.now }
+{
+    matches!(popped, Ok(Popped::Unit(()))) && receiver.unit_is_keyframe()
 }
 
 /// Returns the time. 0 is none.

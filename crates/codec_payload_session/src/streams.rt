@@ -256,7 +256,7 @@ impl Streams {
     }
 
     /// Returns the place of the first stream of this SSRC.
-    fn place_of_ssrc(&self, ssrc: u32) -> Option<usize>
+    pub(crate) fn place_of_ssrc(&self, ssrc: u32) -> Option<usize>
         ensures value { result ≡ position (has_ssrc ssrc) self.now.streams }
         ensures within { IfSome result (λ at. at < length self.now.streams) }
     {

@@ -13,8 +13,8 @@ use Rattle.codec_payload_receiver.specs.declared.receiver.ReceiveError.{ReceiveE
 use Rattle.codec_payload_session.specs.Arrivals.{Arrives, arrival_of}
 use Rattle.codec_payload_session.specs.Formats.{retransmission_for}
 use Rattle.codec_payload_session.specs.Pairs.{paired, paired_when}
-use Rattle.codec_payload_session.specs.Requests.{Asking, heard_by, number_at, wait_by}
-use Rattle.codec_payload_session.specs.Streams.{Drains, Follows, Plays, RequestsBy, RestsBy, Steps, StepsBy, Takes, accepted_after, end_of, heard_unless, is_accepted, is_no_memory, is_probation, left_when, received, stage_after, stage_left, step_of, step_with, waiting_for}
+use Rattle.codec_payload_session.specs.Requests.{Asking, answered_if, heard_by, number_at, wait_by}
+use Rattle.codec_payload_session.specs.Streams.{Drains, Follows, Plays, RequestsBy, RestsBy, Steps, StepsBy, Takes, accepted_after, end_of, heard_unless, is_accepted, is_keyframe, is_no_memory, is_probation, left_when, received, stage_after, stage_left, step_of, step_with, waiting_for}
 use Rattle.codec_payload_session.specs.Turns.{event_of, kept_after}
 use Rattle.codec_payload_session.specs.declared.formats.Format.{Format}
 use Rattle.codec_payload_session.specs.declared.formats.SsrcPair.{SsrcPair}
@@ -425,7 +425,14 @@ followed : (popping : Option (Result (Popped Release) AllocError)) (now : Ticks)
 followed None now m step y got = rests_followed m.stage now m step y got
 followed (Some told) now m step y got =
     subst₂ (λ (st : _) (z : StreamState). Followed now (Some told) m (event_of z st) (λ (rest : List StreamState). kept_after st z rest) z) (sym got.0) (sym got.1)
-    (same_followed now (Some told) m (event_of m (step_with told)) (λ (rest : List StreamState). kept_after (step_with told) m rest) (answer_told now told m))
+    (record {
+      ssrc_is = refl;
+      format = refl;
+      told_is = refl;
+      stage_is = refl;
+      receiver = refl;
+      tells = answer_told now told (record m { feedback = answered_if (is_keyframe told m.receiver) m.feedback });
+    })
 
 plays_stepped : (now : Ticks) (idle : ℕ) (x : StreamState) (step : _) (y : StreamState) → is_probation x.stage ≡ false → x.told ≡ true → Plays now idle x step y
     → Stepped now x (event_of y step) (λ (rest : List StreamState). kept_after step y rest) y

@@ -188,7 +188,7 @@ pub(crate) struct ArrivalCounts {
 #[derive(Debug)]
 pub struct Session {
     settings: SessionSettings,
-    streams: Streams,
+    pub(crate) streams: Streams,
     counts: ArrivalCounts,
     telephone: TelephoneQueue,
     /// When the next report is due. `None`: no report is planned.

@@ -10,12 +10,15 @@ use crate::jitter::outcome::Outcome;
 use crate::memory::AllocError;
 use crate::session::changes::{are_alike, takes_turns};
 use crate::session::formats::{Format, SessionSettings, SsrcPair, retransmission_for};
+use crate::session::keyframe::KeyframeAnswer;
 use crate::session::named::NamedReceiver;
 use crate::session::reports::SenderClock;
-use crate::session::requests::{Feedback, hear, requests_due, rest_time, round_trip, wait_by};
+use crate::session::requests::{
+    Feedback, answer_if, ask_keyframe, hear, requests_due, rest_time, round_trip, wait_by,
+};
 use crate::stream::parsed::ParsedDatagram;
 use crate::stream::pops::Popped;
-use crate::stream::receiver::{Counters, ReceiveError};
+use crate::stream::receiver::{Counters, ReceiveError, Receiver};
 use crate::wire::Ticks;
 use alloc::vec::Vec;
 
@@ -268,6 +271,15 @@ impl StreamState {
         }
     }
 
+    /// Asks for a keyframe, unless the stream ends or its sender answers no requests for keyframes.
+    pub(crate) fn request_keyframe(&mut self) -> KeyframeAnswer {
+        if is_ending(self.stage) {
+            return KeyframeAnswer::NoStream;
+        }
+        self.quiet_until = 0;
+        ask_keyframe(&mut self.feedback)
+    }
+
     /// Returns why the stream ends now, if it does.
     #[inline(always)]
     fn end_at(&self, now: u64, idle_timeout: u64) -> Option<Ending> {
@@ -332,7 +344,11 @@ impl StreamState {
         self.quiet_until = 0;
         let held = self.receiver.inner().held();
         match self.receiver.pop_unit(now, unit) {
-            Some(popped) => step_with(popped),
+            Some(popped) => {
+                let keyframe = is_keyframe(&popped, self.receiver.inner());
+                answer_if(&mut self.feedback, keyframe);
+                step_with(popped)
+            }
             None => {
                 let step = self.rest(now);
                 if is_nothing(&step) && self.receiver.inner().held() == held {
@@ -474,6 +490,18 @@ fn is_probation(stage: Stage) -> bool {
 #[inline(always)]
 pub(crate) fn is_playing(stage: Stage) -> bool {
     matches!(stage, Stage::Playing)
+}
+
+/// Returns whether a stream at this stage leaves or is drained.
+#[inline(always)]
+fn is_ending(stage: Stage) -> bool {
+    matches!(stage, Stage::Leaving(..) | Stage::Draining(_))
+}
+
+/// Returns whether the answer of a pop is a keyframe.
+#[inline(always)]
+fn is_keyframe(popped: &Result<Popped<()>, AllocError>, receiver: &Receiver) -> bool {
+    matches!(popped, Ok(Popped::Unit(()))) && receiver.unit_is_keyframe()
 }
 
 /// Returns the time. 0 is none.

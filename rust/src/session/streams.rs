@@ -201,7 +201,7 @@ impl Streams {
     }
 
     /// Returns the place of the first stream of this SSRC.
-    fn place_of_ssrc(&self, ssrc: u32) -> Option<usize> {
+    pub(crate) fn place_of_ssrc(&self, ssrc: u32) -> Option<usize> {
         self.ssrcs.find(ssrc, 0)
     }
 
