@@ -8,11 +8,13 @@ mod changes;
 #[doc(hidden)]
 pub mod checks;
 mod compound;
+mod events;
 #[doc(hidden)]
 pub mod formats;
 mod goodbyes;
 mod named;
 mod pairs;
+mod renegotiation;
 mod reporter;
 #[doc(hidden)]
 pub mod reports;
