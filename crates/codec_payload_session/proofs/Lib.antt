@@ -12,6 +12,7 @@ mod PacketsLemmas
 mod PairLemmas
 mod PopAgainLemmas
 mod QuietLemmas
+mod RenegotiationLemmas
 mod ReportLemmas
 mod ReporterLemmas
 mod ReportingLemmas

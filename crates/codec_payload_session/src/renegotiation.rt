@@ -1,10 +1,18 @@
 //! Formats that change while a session lives: the streams of formats that are gone end.
 
-ghost use Rattle.std.specs.Prelude.{IsFalse, IsTrue};
+ghost use Rattle.std.specs.Prelude.{◌≡◌, IsFalse, IsTrue};
 ghost use Rattle.codec_payload_session.specs.Renegotiation.{IsAmong, IsGone, StayOrEnd};
 
 use crate::formats::Format;
 use crate::stream::{Ending, StreamState};
+
+/// Returns whether both formats are the same, with all of their fields.
+fn is_same(one: &Format, other: &Format) -> bool
+    ensures same { IsTrue result → one.now ≡ other.now }
+    ensures different { IsFalse result → one.now ≡ other.now → IsTrue result }
+{
+    *one == *other
+}
 
 /// Returns whether one of the formats is this one.
 fn has_format(formats: &[Format], format: &Format) -> bool
@@ -12,7 +20,7 @@ fn has_format(formats: &[Format], format: &Format) -> bool
     ensures gone { IsFalse result → IsGone format.now formats.now }
 {
     for other in formats {
-        if *other == *format {
+        if is_same(other, format) {
             return true;
         }
     }
