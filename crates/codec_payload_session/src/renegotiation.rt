@@ -32,7 +32,8 @@ pub(crate) fn leave_formats(streams: &mut [StreamState], formats: &[Format], at:
     ensures { StayOrEnd formats.now at streams.old streams.new }
 {
     for place in 0..streams.len() {
-        let is_gone = !has_format(formats, &streams[place].format);
-        streams[place].leave_if(is_gone, Ending::Changed, at);
+        let stream = &mut streams[place];
+        let is_gone = !has_format(formats, &stream.format);
+        stream.leave_if(is_gone, Ending::Changed, at);
     }
 }
