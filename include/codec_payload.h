@@ -1390,7 +1390,8 @@ typedef enum {
     CPAY_ENDED_BY_BYE = 0,     /**< its sender left (RFC 3550, section 6.6) */
     CPAY_ENDED_BY_TIMEOUT = 1, /**< no datagram arrived for `idle_timeout` */
     CPAY_ENDED_BY_CALL = 2,    /**< you called cpay_session_end or cpay_session_finish */
-    CPAY_ENDED_BY_CHANGE = 3   /**< its sender continues in another format under the same SSRC */
+    CPAY_ENDED_BY_CHANGE = 3   /**< its sender continues in another format under the same SSRC, or its format is gone
+                                    (cpay_session_set_formats) */
 } cpay_ending;
 
 typedef struct {
@@ -1550,6 +1551,13 @@ typedef enum {
  * keyframe. A stream in probation sends its PLI once it is announced, and a stream whose sender is silent once a datagram arrives. With
  * two streams of the SSRC, as after a change of format, the first one asks. Does not allocate. */
 CPAY_CHECKED cpay_status cpay_session_request_keyframe(cpay_session *session, uint32_t ssrc, cpay_keyframe_answer *answer);
+/** Replaces the payload formats, as a new session description states them. Streams whose format is still there, with all of its
+ * fields, go on. All other streams end at `now`: polls report their complete units, and then CPAY_EVENT_ENDED with
+ * CPAY_ENDED_BY_CHANGE. Media of a new format begin a stream as usual. Datagrams of a payload type that is gone are
+ * CPAY_ARRIVAL_UNKNOWN, also for a stream that ends. All other settings stay. The list is copied. CPAY_INVALID: the formats are
+ * none that cpay_session_new accepts with the other settings, and nothing has changed. CPAY_OUT_OF_MEMORY: nothing has changed. [m] */
+CPAY_CHECKED cpay_status cpay_session_set_formats(cpay_session *session, uint64_t now, const cpay_session_format *formats,
+                                                  size_t formats_len);
 
 /* ---- A depacketizer alone, for callers that order packets themselves ---- */
 

@@ -9,6 +9,7 @@ mod changes;
 pub mod checks;
 mod compound;
 mod dues;
+mod events;
 #[doc(hidden)]
 pub mod formats;
 mod goodbyes;
@@ -16,6 +17,7 @@ mod goodbyes;
 pub mod keyframe;
 mod named;
 mod pairs;
+mod renegotiation;
 mod reporter;
 #[doc(hidden)]
 pub mod reports;

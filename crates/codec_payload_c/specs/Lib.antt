@@ -18,6 +18,7 @@ pub mod Refusals
 pub mod RtpFields
 pub mod Senders
 pub mod SentTransports
+pub mod SessionChanges
 pub mod SessionFaults
 pub mod SessionFormats
 pub mod SessionKeyframes

@@ -26,6 +26,7 @@ mod sent;
 mod session;
 mod session_faults;
 mod session_keyframes;
+mod session_formats;
 mod session_pairs;
 mod session_reports;
 mod session_settings;

@@ -197,14 +197,17 @@ pub(crate) fn is_format_in_range(format: &SessionFormat) -> bool
 }
 
 /// Returns whether the clocks of all formats have rates.
-fn are_in_range(formats: &[SessionFormat]) -> bool
+pub(crate) fn are_in_range(formats: &[SessionFormat]) -> bool
     ensures { result ≡ list_all format_in_range formats.now }
 {
     formats.iter().all(|format| is_format_in_range(format))
 }
 
 /// Converts the formats of C whose clocks have rates.
-fn formats_of(alloc: Global, formats: &[SessionFormat]) -> Result<Vec<Format>, AllocError>
+pub(crate) fn formats_of(
+    alloc: Global,
+    formats: &[SessionFormat],
+) -> Result<Vec<Format>, AllocError>
     ensures { IfOk result (λ list. list.items ≡ filter_map format_given formats.now) }
 {
     formats

@@ -14,6 +14,7 @@ mod PacketsLemmas
 mod PairLemmas
 mod PopAgainLemmas
 mod QuietLemmas
+mod RenegotiationLemmas
 mod ReportLemmas
 mod ReporterLemmas
 mod ReportingLemmas

@@ -12,6 +12,7 @@ pub mod Pairs
 pub mod Polls
 pub mod Ports
 pub mod Quiet
+pub mod Renegotiation
 pub mod Reporting
 pub mod Reports
 pub mod Requests

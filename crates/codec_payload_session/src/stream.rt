@@ -46,7 +46,9 @@ pub enum Ending {
     Timeout,
     /// The caller ended it.
     Told,
-    /// Its sender continues in another format under the same SSRC.
+    /// Its sender continues in another format under the same SSRC, or its format is gone ([`Session::set_formats`]).
+    ///
+    /// [`Session::set_formats`]: crate::session::Session::set_formats
     Changed,
 }
 

@@ -1,6 +1,6 @@
 //! The streams of a session, in the order in which they began.
 
-ghost use Rattle.std.specs.Prelude.{◌≡◌, ◌<◌, IfOk, IfSome, OnErr, OnOk, Option, Result, length, slice_get, true, false};
+ghost use Rattle.std.specs.Prelude.{◌≡◌, ◌<◌, IfOk, IfSome, List, OnErr, OnOk, Option, Result, length, slice_get, true, false};
 ghost use Rattle.std.specs.List.{position};
 ghost use Rattle.std.specs.Option.{is_some};
 ghost use Rattle.codec_payload_base.specs.Answers.{Finds};
@@ -15,7 +15,9 @@ ghost use Rattle.codec_payload_session.specs.declared.stream.Ending.TheVariants 
 ghost use Rattle.codec_payload_session.specs.Pairs.{paired_where, with_pair};
 ghost use Rattle.codec_payload_session.specs.Checks.{can_begin, fault_of};
 ghost use Rattle.codec_payload_session.specs.Changes.{any_left_behind, continued, continues};
+ghost use Rattle.codec_payload_session.specs.Renegotiation.{StayOrEnd};
 ghost use Rattle.codec_payload_session.specs.Units.{event_to, turn_to};
+ghost use Rattle.codec_payload_session.specs.declared.stream.StreamState.{StreamState};
 ghost use Rattle.codec_payload_session.specs.Waking.{FeedsOne, StepsPort};
 
 use crate::changes::{continues, leave_behind};
@@ -23,6 +25,7 @@ use crate::compound::take_packets;
 use crate::dues::Dues;
 use crate::formats::{Format, SessionSettings, SsrcPair};
 use crate::pairs::{pair, with_pair};
+use crate::renegotiation::leave_formats;
 use crate::session::{Arrival, Event};
 use crate::sort::{SortedPacket, sort};
 use crate::stream::{Ending, Step, StreamState, is_no_memory, is_nothing};
@@ -444,6 +447,14 @@ impl Streams {
     {
         self.waking = Waking::unknown();
         leave(&mut self.list, who, why, at);
+    }
+
+    /// Ends the streams at that time whose formats are not among these.
+    pub(crate) fn leave_formats(&mut self, formats: &[Format], at: u64)
+        ensures { (streams : List StreamState) × StayOrEnd formats.now at self.old.streams streams × (self.new ≡ record self.old { streams = streams }) }
+    {
+        self.waking = Waking::unknown();
+        leave_formats(&mut self.list, formats, at);
     }
 
     /// Replaces the wait limits of the stream with this SSRC and payload type.

@@ -35,7 +35,9 @@ pub enum Ending {
     Timeout,
     /// The caller ended it.
     Told,
-    /// Its sender continues in another format under the same SSRC.
+    /// Its sender continues in another format under the same SSRC, or its format is gone ([`Session::set_formats`]).
+    ///
+    /// [`Session::set_formats`]: crate::session::sessions::Session::set_formats
     Changed,
 }
 

@@ -15,6 +15,7 @@ use crate::session::compound::take_packets;
 use crate::session::dues::Dues;
 use crate::session::formats::{Format, SessionSettings, SsrcPair};
 use crate::session::pairs::{pair, with_pair};
+use crate::session::renegotiation::leave_formats;
 use crate::session::sessions::{Arrival, Event};
 use crate::session::sort::{SortedPacket, sort};
 use crate::session::stream::{Ending, Step, StreamState, is_no_memory, is_nothing};
@@ -362,6 +363,12 @@ impl Streams {
     pub(crate) fn leave(&mut self, who: Who, why: Ending, at: u64) {
         self.waking = Waking::unknown();
         leave(&mut self.list, who, why, at);
+    }
+
+    /// Ends the streams at that time whose formats are not among these.
+    pub(crate) fn leave_formats(&mut self, formats: &[Format], at: u64) {
+        self.waking = Waking::unknown();
+        leave_formats(&mut self.list, formats, at);
     }
 
     /// Replaces the wait limits of the stream with this SSRC and payload type.

@@ -9,6 +9,7 @@ mod many;
 mod model;
 mod pairs;
 mod polls_into;
+mod renegotiation;
 mod reporting;
 mod reports;
 mod requests;
