@@ -4,7 +4,7 @@ use Rattle.std.proofs.lemmas.List.{get_or-map, length-map}
 use Rattle.codec_payload_index.specs.Times.{least_of}
 use Rattle.codec_payload_session.specs.Dues.{AreDated, IsDated, key_of, keys_of}
 use Rattle.codec_payload_session.specs.Streams.{StreamState, due_in, due_of, earlier}
-use Rattle.codec_payload_session.specs.Waking.{OneChanged, SaysNothing, or_max}
+use Rattle.codec_payload_session.specs.Waking.{OneChanged, SaysNothing}
 use Rattle.codec_payload_session.specs.declared.dues.Dues.{Dues}
 use Rattle.codec_payload_session.specs.declared.waking.Waking.{Waking}
 
@@ -15,10 +15,6 @@ key_earlier None None = refl
 key_earlier None (Some m) = omega arith
 key_earlier (Some n) None = omega arith
 key_earlier (Some n) (Some m) = omega arith
-
-pub key_early : (a : Option ℕ) (due : ℕ) → due ≡ or_max a → due < 2 ^ 64 - 2 → due ≡ key_of a
-key_early None due is less = absurd (omega (arith, is, less))
-key_early (Some n) due is less = omega (arith, is, less)
 
 pub some_early : (a : Option ℕ) (key : ℕ) → key ≡ key_of a → key < 2 ^ 64 - 2 → Some key ≡ a
 some_early None key is less = absurd (omega (arith, is, less))

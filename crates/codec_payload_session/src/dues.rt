@@ -74,8 +74,7 @@ impl Dues {
         requires within { place < length streams.now }
         ensures { IsDated place self.new streams.now }
     {
-        self.times
-            .set(fed, streams[fed].due_key(self.idle_timeout));
+        self.times.set(fed, streams[fed].due_key(self.idle_timeout));
         self.times.set(place, u64::MAX);
     }
 
@@ -115,12 +114,7 @@ fn due_by(key: u64, streams: &[StreamState], idle_timeout: u64) -> Option<u64>
 }
 
 /// Replaces the times by those of these streams. If memory runs out, it returns `false`.
-fn find_keys(
-    times: &mut Times,
-    alloc: Global,
-    streams: &[StreamState],
-    idle_timeout: u64,
-) -> bool
+fn find_keys(times: &mut Times, alloc: Global, streams: &[StreamState], idle_timeout: u64) -> bool
     ensures { result ≡ true → times.new ≡ keys_of idle_timeout streams.now }
 {
     if times.len() == streams.len() {
@@ -147,11 +141,7 @@ fn set_keys(times: &mut Times, streams: &[StreamState], idle_timeout: u64)
 }
 
 /// Returns the times of these streams.
-fn keys_of(
-    alloc: Global,
-    streams: &[StreamState],
-    idle_timeout: u64,
-) -> Result<Times, AllocError>
+fn keys_of(alloc: Global, streams: &[StreamState], idle_timeout: u64) -> Result<Times, AllocError>
     ensures { IfOk result (λ times. times ≡ keys_of idle_timeout streams.now) }
 {
     let mut keys = Vec::new(alloc);
