@@ -1194,6 +1194,11 @@ typedef struct {
                                    `red_rtx_payload_type` is not checked */
     bool nack;                /**< its sender answers requests for missing packets: a=rtcp-fb with nack (RFC 4585, section 4.2) */
     bool pli;                 /**< its sender answers requests for keyframes: a=rtcp-fb with nack pli */
+    bool fixed_wait;          /**< frames wait as the session's `audio` or `video` says, also with has_longest_wait. Without it, and
+                                   without has_late, waiting follows the round trip if the session has a `longest_wait` */
+    bool has_late;            /**< frames wait by how late missing packets arrive, as by a cpay_adaptive_wait for each stream, 1.9 kB; then
+                                   `fixed_wait` is ignored */
+    cpay_adaptive_wait_settings late; /**< with has_late: within which bounds. Begin with cpay_adaptive_wait_settings_init */
 } cpay_session_format;
 
 /** Two SSRCs of one source, as a=ssrc-group:FID names them (RFC 5576, section 4.2). A session that requests packets also finds

@@ -13,6 +13,7 @@ pub mod formats;
 mod goodbyes;
 #[doc(hidden)]
 pub mod keyframe;
+mod late;
 mod named;
 mod pairs;
 mod reporter;
@@ -33,7 +34,7 @@ mod waking;
 pub use checks::SessionSettingsError;
 
 #[doc(inline)]
-pub use formats::{FeedbackSettings, Format, SessionSettings, SsrcPair};
+pub use formats::{FeedbackSettings, Format, SessionSettings, SsrcPair, Waiting};
 
 #[doc(inline)]
 pub use keyframe::KeyframeAnswer;

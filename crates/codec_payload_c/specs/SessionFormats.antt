@@ -13,7 +13,10 @@ use Rattle.codec_payload_session.specs.declared.formats.FeedbackSettings.{Feedba
 use Rattle.codec_payload_session.specs.declared.formats.Format.{Format}
 use Rattle.codec_payload_session.specs.declared.formats.SessionSettings.{SessionSettings as Settings}
 use Rattle.codec_payload_session.specs.declared.formats.SsrcPair.{SsrcPair as Pair}
+use Rattle.codec_payload_session.specs.declared.formats.Waiting.{Waiting}
+use Rattle.codec_payload_session.specs.declared.formats.Waiting.TheVariants as waitings
 use Rattle.codec_payload_receiver.specs.declared.receiver.RedSettings.{RedSettings}
+use Rattle.codec_payload_c.specs.AdaptiveWaits.{settings_given}
 use Rattle.codec_payload_c.specs.Ids.{ids_given}
 use Rattle.codec_payload_c.specs.Inspect.{given_if}
 use Rattle.codec_payload_c.specs.StreamReceivers.{bound_given, from_keyframe_numbered, wait_limits_given}
@@ -40,6 +43,10 @@ red_given f =
     if f.has_red then Some (record { payload_type = f.red_payload_type; step = f.red_step; retransmission = given_if f.has_red_rtx f.red_rtx_payload_type })
     else None
 
+-- how long frames wait: by how late missing packets arrive, or as the session's limits say, or else by the round trip
+abbrev pub waiting_given : SessionFormat → Waiting
+waiting_given f = if f.has_late then waitings.Late (settings_given f.late) else (if f.fixed_wait then waitings.Fixed else waitings.RoundTrip)
+
 abbrev pub format_with : SessionFormat → Format
 format_with f = record {
   payload_type = f.payload_type;
@@ -48,6 +55,7 @@ format_with f = record {
   retransmission = given_if f.has_rtx f.rtx_payload_type;
   nack = f.nack;
   pli = f.pli;
+  wait = waiting_given f;
 }
 
 -- a format whose clock has a rate

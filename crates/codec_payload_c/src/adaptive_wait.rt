@@ -26,7 +26,7 @@ pub struct AdaptiveWaitSettings {
 }
 
 /// Converts the settings of C.
-fn settings_of(settings: &AdaptiveWaitSettings) -> Settings
+pub(crate) fn settings_of(settings: &AdaptiveWaitSettings) -> Settings
     ensures { result ≡ settings_given settings.now }
 {
     Settings {

@@ -14,6 +14,7 @@ use Rattle.codec_payload_base.specs.declared.wire.CodecSpec.{CodecSpec}
 use Rattle.codec_payload_feedback_requests.specs.declared.nack.NackSettings.{NackSettings}
 use Rattle.codec_payload_session.specs.declared.formats.FeedbackSettings.{FeedbackSettings}
 use Rattle.codec_payload_session.specs.declared.formats.Format.{Format}
+use Rattle.codec_payload_session.specs.declared.formats.Waiting.TheVariants as waitings
 use Rattle.codec_payload_session.specs.declared.formats.Role.{Role}
 use Rattle.codec_payload_session.specs.declared.formats.Role.TheVariants as roles
 use Rattle.codec_payload_session.specs.declared.formats.SessionSettings.{SessionSettings}
@@ -23,7 +24,7 @@ use Rattle.codec_payload_session.specs.declared.formats.SsrcPair.{SsrcPair}
 
 -- a format without RED, retransmissions and requests
 abbrev pub plain_format : ℕ → CodecSpec → Format
-plain_format payload_type spec = record { payload_type = payload_type; spec = spec; red = None; retransmission = None; nack = false; pli = false }
+plain_format payload_type spec = record { payload_type = payload_type; spec = spec; red = None; retransmission = None; nack = false; pli = false; wait = waitings.RoundTrip }
 
 abbrev pub is_type : Option ℕ → ℕ → Bool
 is_type None payload_type = false

@@ -6,6 +6,7 @@ pub mod Checks
 pub mod Formats
 pub mod Idle
 pub mod Keyframes
+pub mod Late
 pub mod Named
 pub mod Pairs
 pub mod Polls

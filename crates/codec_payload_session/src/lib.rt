@@ -9,6 +9,7 @@ mod compound;
 pub mod formats;
 mod goodbyes;
 pub mod keyframe;
+mod late;
 mod named;
 mod pairs;
 mod reporter;

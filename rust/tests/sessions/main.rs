@@ -17,6 +17,7 @@ mod settings;
 mod streams;
 mod telephone;
 mod transport;
+mod waits;
 
 use std::alloc::{GlobalAlloc, Layout, System};
 use std::cell::Cell;
