@@ -138,7 +138,9 @@ fn one_rule_sets_the_limit() -> Result<(), Fail> {
     for number in [1, 2, 4] {
         session.receive(Ticks(0), &vp8(5, number, number == 1))?;
     }
-    polled(&mut session, 10);
+    for now in [0, 10] {
+        polled(&mut session, now);
+    }
     assert_eq!(max_wait(&session, 5, VP8), Some(200));
     let lost = [&[0, 3][..], vp8_frame(false)].concat();
     session.add_pair(5, 50)?;
