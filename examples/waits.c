@@ -3,7 +3,8 @@
  *     cc waits.c $(pkg-config --cflags --libs codec-payload) && ./a.out
  *
  * The rules:
- * - has_late of a format: each of its streams keeps a cpay_adaptive_wait, by each datagram that it takes. `late` has its bounds.
+ * - late_wait of a format: each of its streams keeps a cpay_adaptive_wait, by each datagram that it takes. `late` of the session's
+ *   settings has the bounds.
  * - cpay_session_next_deadline reports when a frame has waited for long enough.
  * The network is simulated: the second of six packets is lost, and its retransmission arrives 64 ms after the third. */
 #include "codec_payload.h"
@@ -52,15 +53,14 @@ static void receive(cpay_session *session, uint64_t now, const uint8_t *datagram
 
 int main(void) {
     static const cpay_ssrc_pair pairs[1] = {{.ssrc = 7, .rtx_ssrc = 9}};
-    cpay_session_format format = {
-        .spec = {.codec = CPAY_PCMU, .rate = 8000}, .rtx_payload_type = RTX, .has_rtx = true, .has_late = true};
+    static const cpay_session_format format = {
+        .spec = {.codec = CPAY_PCMU, .rate = 8000}, .rtx_payload_type = RTX, .has_rtx = true, .late_wait = true};
     cpay_session_settings settings;
     cpay_session session = CPAY_INIT;
     uint8_t datagram[15];
     uint64_t before = 0, after = 0;
     unsigned units = 0;
     cpay_session_settings_init(&settings, CPAY_FOR_LIVE);
-    cpay_adaptive_wait_settings_init(&format.late);
     check(cpay_session_new(&session, &settings, &format, 1, NULL, 0, pairs, 1), "session");
     for (uint8_t number = 0; number < 48; number++) {
         uint64_t now = 20u * number;

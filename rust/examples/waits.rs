@@ -6,13 +6,12 @@
 //!
 //! The rules:
 //! - `wait` of a format says how its streams wait. `Waiting::Late` keeps an `AdaptiveWait` for each stream: which number arrived and
-//!   which are missing, by each datagram that the stream takes.
+//!   which are missing, by each datagram that the stream takes. `late` of the session's settings has its bounds.
 //! - `next_deadline` reports when a frame has waited for long enough.
 //!
 //! The network is simulated: the second of six packets is lost, and its retransmission arrives 64 ms after the third.
 
 use codec_payload::session::Waiting;
-use codec_payload::waiting::AdaptiveWaitSettings;
 use codec_payload::{Event, Session, Ticks, sdp};
 
 type Fail = Box<dyn std::error::Error>;
@@ -27,7 +26,7 @@ const RTX: u8 = 97;
 fn session() -> Result<Session, Fail> {
     let mut settings = sdp::session_settings(&sdp::read(OFFER)?)?;
     for format in &mut settings.formats {
-        format.wait = Waiting::Late(AdaptiveWaitSettings::live());
+        format.wait = Waiting::Late;
     }
     Ok(Session::new(settings)?)
 }

@@ -45,7 +45,7 @@ red_given f =
 
 -- how long frames wait: by how late missing packets arrive, or as the session's limits say, or else by the round trip
 abbrev pub waiting_given : SessionFormat → Waiting
-waiting_given f = if f.has_late then waitings.Late (settings_given f.late) else (if f.fixed_wait then waitings.Fixed else waitings.RoundTrip)
+waiting_given f = if f.late_wait then waitings.Late else (if f.fixed_wait then waitings.Fixed else waitings.RoundTrip)
 
 abbrev pub format_with : SessionFormat → Format
 format_with f = record {
@@ -106,6 +106,7 @@ pub record HasPlainSettings (s : SessionSettings) (t : Settings) : Type 0 where
   pub ids : t.extension_ids ≡ ids_given s.extension_ids
   pub audio : t.audio ≡ wait_limits_given s.audio
   pub video : t.video ≡ wait_limits_given s.video
+  pub late : t.late ≡ settings_given s.late
   pub from_keyframe : t.from_keyframe ≡ from_keyframe_numbered s.from_keyframe
   pub limit : t.limit ≡ s.limit
   pub max_unit : t.max_unit ≡ bound_given s.max_unit

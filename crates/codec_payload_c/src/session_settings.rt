@@ -4,7 +4,7 @@ ghost use Rattle.std.specs.Prelude.{◌≡◌, ◌&&◌, is_some, map, filter_ma
 ghost use Rattle.std.specs.List.{list_all};
 ghost use Rattle.codec_payload_c.specs.SessionFormats.{AreSessionSettings, HasPlainSettings, IsNewSession, MatchFeedback, RefusesSession, can_convert, format_given, format_in_range, is_in_range, no_media_given, pair_given, red_given, session_in_range, telephone_given, transport_given, waiting_given};
 
-use crate::adaptive_wait::{AdaptiveWaitSettings, settings_of};
+use crate::adaptive_wait::{AdaptiveWaitSettings, bounds_of};
 use crate::extension::{ExtensionIds, ids_of};
 use crate::receiver::{WaitLimits, bound_of, from_keyframe_of, waiting_for};
 use codec_payload_core::wire::{CodecSpec, Frequency};
@@ -50,9 +50,7 @@ pub struct SessionFormat {
     /// Whether frames wait as the session's limits say, also with a `longest_wait`.
     pub fixed_wait: bool,
     /// Whether frames wait by how late missing packets arrive. Then `fixed_wait` is ignored.
-    pub has_late: bool,
-    /// With `has_late`: within which bounds.
-    pub late: AdaptiveWaitSettings,
+    pub late_wait: bool,
 }
 
 /// Two SSRCs of one source.
@@ -127,6 +125,8 @@ pub struct SessionSettings {
     pub audio: WaitLimits,
     /// How long frames of video wait for missing packets.
     pub video: WaitLimits,
+    /// Within which bounds frames wait by how late missing packets arrive.
+    pub late: AdaptiveWaitSettings,
     /// A stream ends once this number of ticks has passed since its last datagram.
     pub idle_timeout: u64,
     /// A stream takes packets for this number of ticks after its BYE.
@@ -177,8 +177,8 @@ fn red_of(format: &SessionFormat) -> Option<RedSettings>
 fn waiting_of(format: &SessionFormat) -> Waiting
     ensures { result ≡ waiting_given format.now }
 {
-    if format.has_late {
-        Waiting::Late(settings_of(&format.late))
+    if format.late_wait {
+        Waiting::Late
     } else if format.fixed_wait {
         Waiting::Fixed
     } else {
@@ -372,6 +372,7 @@ fn settings_of(alloc: Global, settings: &SessionSettings) -> Option<Settings>
         extension_ids: ids_of(settings.extension_ids),
         audio: waiting_for(settings.audio),
         video: waiting_for(settings.video),
+        late: bounds_of(&settings.late),
         from_keyframe,
         limit: settings.limit,
         max_unit: bound_of(settings.max_unit),

@@ -153,6 +153,7 @@ pub record IsLive (s : SessionSettings) : Type 0 where
   pub extension_ids : s.extension_ids ≡ no_ids
   pub audio : s.audio ≡ waits_for 1 100
   pub video : s.video ≡ waits_for 2 200
+  pub late : s.late ≡ record { shortest = 20; longest = 400; first = 200; lost_after = 1000 }
   pub from_keyframe : s.from_keyframe ≡ gates.Mark
   pub limit : s.limit ≡ 4096
   pub max_unit : s.max_unit ≡ Some 1048576

@@ -2,6 +2,7 @@
 use Rattle.std.specs.Prelude.{ℕ, if◌then◌else◌, List, [], ◌∷◌, Option, Some, None, Result, Ok, Err}
 use Rattle.std.specs.Global.{Box}
 use Rattle.std.specs.Option.{option_map}
+use Rattle.codec_payload_feedback_wait.specs.declared.adaptive_wait.AdaptiveWaitSettings.{AdaptiveWaitSettings}
 use Rattle.codec_payload_feedback_wait.specs.Waits.{Wait, after_arrival, after_missing, limit_of, new_wait}
 use Rattle.codec_payload_rtp.specs.RtpPackets.{Packet}
 use Rattle.codec_payload_rtp.specs.RtpReading.{rtp_at}
@@ -9,6 +10,7 @@ use Rattle.codec_payload_rtp.specs.declared.rtp.RtpError.{RtpError}
 use Rattle.codec_payload_session.specs.Formats.{resends}
 use Rattle.codec_payload_session.specs.Requests.{original_number}
 use Rattle.codec_payload_session.specs.declared.formats.Format.{Format}
+use Rattle.codec_payload_session.specs.declared.formats.SessionSettings.{SessionSettings}
 use Rattle.codec_payload_session.specs.declared.formats.Waiting.{Waiting}
 use Rattle.codec_payload_session.specs.declared.formats.Waiting.TheVariants as waitings
 
@@ -16,14 +18,14 @@ use Rattle.codec_payload_session.specs.declared.formats.Waiting.TheVariants as w
 abbrev pub unboxed : Option (Box Wait) → Option Wait
 unboxed late = option_map (λ b. b.value) late
 
-abbrev pub late_by : Waiting → Option Wait
-late_by waitings.Fixed = None
-late_by waitings.RoundTrip = None
-late_by (waitings.Late settings) = Some (new_wait settings)
+abbrev pub late_by : Waiting → AdaptiveWaitSettings → Option Wait
+late_by waitings.Fixed bounds = None
+late_by waitings.RoundTrip bounds = None
+late_by waitings.Late bounds = Some (new_wait bounds)
 
 -- the limit of a new stream
-abbrev pub late_for : Format → Option Wait
-late_for f = late_by f.wait
+abbrev pub late_for : SessionSettings → Format → Option Wait
+late_for settings f = late_by f.wait settings.late
 
 -- the number of a packet; a retransmission has its original number
 abbrev pub number_by : Format → Result Packet RtpError → Option ℕ

@@ -55,7 +55,7 @@ is_patient f = f.nack && is_video f.spec.codec
 abbrev pub follows_by : Waiting → Bool
 follows_by waitings.Fixed = false
 follows_by waitings.RoundTrip = true
-follows_by (waitings.Late settings) = false
+follows_by waitings.Late = false
 
 abbrev pub follows_round_trip : Format → Bool
 follows_round_trip f = follows_by f.wait

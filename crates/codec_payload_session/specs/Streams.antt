@@ -69,7 +69,7 @@ pub record Begins (settings : SessionSettings) (ssrc : ℕ) (f : Format) (s : St
   pub accepted : s.accepted ≡ 0
   pub last : s.last ≡ 0
   pub feedback : s.feedback ≡ feedback_by settings.feedback ssrc f (limits_for settings (is_video f.spec.codec)).max_wait
-  pub late : s.late ≡ late_for f
+  pub late : s.late ≡ late_for settings f
   pub sender_clock : s.sender_clock ≡ None
   pub was_reported : s.was_reported ≡ false
   pub depacketizer : DepacketizerState

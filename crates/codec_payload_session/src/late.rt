@@ -4,7 +4,7 @@ ghost use Rattle.std.specs.Prelude.{◌≡◌, IfOk};
 ghost use Rattle.codec_payload_session.specs.Late.{late_after, late_for, limit_by, missing_after, number_at, unboxed};
 ghost use Rattle.codec_payload_jitter.specs.Missing.{missing_numbers};
 
-use crate::formats::{Format, Waiting};
+use crate::formats::{Format, SessionSettings, Waiting};
 use crate::requests::original_number;
 use codec_payload_base::wire::Ticks;
 use codec_payload_feedback_wait::adaptive_wait::AdaptiveWait;
@@ -18,12 +18,13 @@ const MOST: usize = 64;
 /// Returns the limit of a new stream of the format, if waiting follows how late packets arrive.
 pub(crate) fn late_for(
     alloc: Global,
+    settings: &SessionSettings,
     format: &Format,
 ) -> Result<Option<Box<AdaptiveWait>>, AllocError>
-    ensures { IfOk result (λ late. unboxed late ≡ late_for format.now) }
+    ensures { IfOk result (λ late. unboxed late ≡ late_for settings.now format.now) }
 {
     match format.wait {
-        Waiting::Late(settings) => Ok(Some(Box::new(alloc, AdaptiveWait::new(settings))?)),
+        Waiting::Late => Ok(Some(Box::new(alloc, AdaptiveWait::new(settings.late))?)),
         Waiting::Fixed | Waiting::RoundTrip => Ok(None),
     }
 }

@@ -166,7 +166,7 @@ impl StreamState {
         depacketizer.configure_for(&format.spec);
         let max_wait = settings.limits(format).max_wait;
         let feedback = Feedback::begin(alloc, &settings.feedback, ssrc, format, max_wait)?;
-        let late = late_for(alloc, format)?;
+        let late = late_for(alloc, settings, format)?;
         let settings = settings.receiver(alloc, ssrc, format)?;
         let receiver = NamedReceiver::begin(alloc, depacketizer, settings).unwrap();
         Ok(StreamState {

@@ -8,7 +8,12 @@ use codec_payload::*;
 
 /// A session of Opus without requests of its own and of VP8 with them, whose streams wait so.
 fn session(wait: Waiting) -> Session {
+    session_within(wait, AdaptiveWaitSettings::live())
+}
+
+fn session_within(wait: Waiting, late: AdaptiveWaitSettings) -> Session {
     let mut settings = SessionSettings::live();
+    settings.late = late;
     settings.formats = vec![
         Format {
             wait,
@@ -68,10 +73,6 @@ fn limit_after(session: &mut Session, rounds: u16, late: u64) -> Result<Option<u
     Ok(max_wait(session, 7, OPUS))
 }
 
-fn late() -> Waiting {
-    Waiting::Late(AdaptiveWaitSettings::live())
-}
-
 /// 5/4 of the greatest age, at least 200 ms before eight missing packets arrived, and at most 400 ms: as the settings say.
 #[test]
 fn waiting_follows_late_packets() -> Result<(), Fail> {
@@ -82,7 +83,7 @@ fn waiting_follows_late_packets() -> Result<(), Fail> {
         (8, 300, 375),
         (8, 400, 400),
     ] {
-        let mut session = session(late());
+        let mut session = session(Waiting::Late);
         assert_eq!(
             limit_after(&mut session, rounds, late_by)?,
             Some(limit),
@@ -99,7 +100,7 @@ fn packets_that_come_too_late_count() -> Result<(), Fail> {
         first: 0,
         ..AdaptiveWaitSettings::live()
     };
-    let mut session = session(Waiting::Late(settings));
+    let mut session = session_within(Waiting::Late, settings);
     session.receive(Ticks(0), &opus(7, 0))?;
     assert_eq!(max_wait(&session, 7, OPUS), Some(20));
     assert_eq!(limit_after(&mut session, 1, 80)?, Some(100));
@@ -134,7 +135,7 @@ fn the_round_trip_is_the_default() -> Result<(), Fail> {
 /// A round trip that is measured changes nothing where waiting follows late packets.
 #[test]
 fn one_rule_sets_the_limit() -> Result<(), Fail> {
-    let mut session = session(late());
+    let mut session = session(Waiting::Late);
     for number in [1, 2, 4] {
         session.receive(Ticks(0), &vp8(5, number, number == 1))?;
     }
@@ -153,7 +154,7 @@ fn one_rule_sets_the_limit() -> Result<(), Fail> {
 /// The frame behind a gap is released at the limit, which `next_deadline` knows.
 #[test]
 fn frames_wait_for_the_limit() -> Result<(), Fail> {
-    let mut session = session(late());
+    let mut session = session(Waiting::Late);
     limit_after(&mut session, 8, 64)?;
     session.receive(Ticks(8_000), &opus(7, 48))?;
     assert_eq!(polled(&mut session, 8_000), 1);
