@@ -135,5 +135,3 @@ SetsFeedbackIf false ssrc name status s t = (status ≡ 37) × (t ≡ s)
 -- status 37 exactly if the name has no byte, or more than 255; then nothing has changed
 abbrev pub SetsFeedback : ℕ → List ℕ → ℕ → SessionSettings → SessionSettings → Type 0
 SetsFeedback ssrc name status s t = SetsFeedbackIf (name_fits name) ssrc name status s t
-
--- ---- an adaptive wait
