@@ -32,7 +32,7 @@ returns-in-Some c =
     let t : StreamState = record s { feedback = c.answer_if.new.feedback } in
     let unit : Release = c.pop_unit.new.unit in
     let keyframe : c.is_keyframe-keyframe.result ≡ is_keyframe (result_with c.in-Some.popped unit) c.pop_unit.new.self =
-    c.is_keyframe-keyframe.ensures ∙ ap (λ (r : Receiver). is_keyframe c.in-Some.popped r) c.inner.ensures ∙ sym (keyframe_with c.in-Some.popped unit c.pop_unit.new.self) in
+    c.is_keyframe-keyframe.ensures ∙ ap (λ (r : Receiver). is_keyframe c.in-Some.popped r) c.inner-keyframe.ensures ∙ sym (keyframe_with c.in-Some.popped unit c.pop_unit.new.self) in
     let after : t ≡ record s { feedback = answered_if (is_keyframe (result_with c.in-Some.popped unit) c.pop_unit.new.self) s.feedback } =
     ap (λ (o : Option Asking). record s { feedback = o }) (c.answer_if.ensures ∙ ap (λ (b : Bool). answered_if b s.feedback) keyframe) in
     let step_is : step_to c.step_with.result unit ≡ step_with (result_with c.in-Some.popped unit) = ap (λ (x : StepWith ⊤). step_to x unit) c.step_with.ensures ∙ step_pop c.in-Some.popped unit in
