@@ -1194,6 +1194,10 @@ typedef struct {
                                    `red_rtx_payload_type` is not checked */
     bool nack;                /**< its sender answers requests for missing packets: a=rtcp-fb with nack (RFC 4585, section 4.2) */
     bool pli;                 /**< its sender answers requests for keyframes: a=rtcp-fb with nack pli */
+    bool fixed_wait;          /**< frames wait as the session's `audio` or `video` says, also with has_longest_wait. Without it, and
+                                   without late_wait, waiting follows the round trip if the session has a `longest_wait` */
+    bool late_wait;           /**< frames wait by how late missing packets arrive, within the session's `late`, as by a
+                                   cpay_adaptive_wait for each stream, 1.9 kB; then `fixed_wait` is ignored */
 } cpay_session_format;
 
 /** Two SSRCs of one source, as a=ssrc-group:FID names them (RFC 5576, section 4.2). A session that requests packets also finds
@@ -1245,6 +1249,7 @@ typedef struct {
 typedef struct {
     cpay_wait_limits audio;   /**< how long frames of audio wait for missing packets */
     cpay_wait_limits video;   /**< how long frames of VP8, VP9 and AV1 wait for missing packets */
+    cpay_adaptive_wait_settings late; /**< within which bounds frames of formats with late_wait wait */
     uint64_t idle_timeout;    /**< a stream ends once this number of ticks has passed since its last datagram */
     uint64_t bye_wait;        /**< a stream takes packets for this number of ticks after its BYE (RFC 3550, section 6.6), since
                                    packets may arrive after it */

@@ -15,6 +15,7 @@ pub mod formats;
 mod goodbyes;
 #[doc(hidden)]
 pub mod keyframe;
+mod late;
 mod named;
 mod pairs;
 mod renegotiation;
@@ -36,7 +37,7 @@ mod waking;
 pub use checks::SessionSettingsError;
 
 #[doc(inline)]
-pub use formats::{FeedbackSettings, Format, SessionSettings, SsrcPair};
+pub use formats::{FeedbackSettings, Format, SessionSettings, SsrcPair, Waiting};
 
 #[doc(inline)]
 pub use keyframe::KeyframeAnswer;

@@ -1,5 +1,5 @@
 -- The SSRCs of streams: what keeps them, and what the list of them finds.
-use Rattle.std.proofs.Common.{◌≡◌, ◌≢◌, ◌∙◌, ◌<◌, ◌≤◌, ◌||◌, ◌&&◌, ℕ, zero, suc, ◌+◌, ◌-◌, List, [], ◌∷◌, ◌++◌, length, map, set, get_or, Option, Some, None, Bool, true, false, not, ap, refl, sym, subst, arith, inl, inr}
+use Rattle.std.proofs.Common.{◌≡◌, ◌≢◌, ◌∙◌, ◌<◌, ◌≤◌, ◌||◌, ◌&&◌, ℕ, zero, suc, ◌+◌, ◌-◌, List, [], ◌∷◌, ◌++◌, length, map, set, get_or, Option, Some, None, Bool, true, false, not, is_ok, ap, refl, sym, subst, arith, inl, inr}
 use Rattle.std.proofs.lemmas.List.{get_or_default, with_items_is}
 use Rattle.std.specs.Global.{Vec}
 use Rattle.std.specs.Prelude.{IfSome, nat_le, nat_lt, ◌==◌}
@@ -15,10 +15,12 @@ use Rattle.codec_payload_receiver.specs.declared.receiver.ReceiveError.{ReceiveE
 use Rattle.codec_payload_receiver.specs.Sessions.{Session as Receiver}
 use Rattle.std.specs.declared.result.Result.{Result}
 use Rattle.codec_payload_session.specs.Streams.{Drains, RequestsBy, RestsBy, Steps, StepsBy, is_of, Follows, StreamState, Takes, end_of, heard_unless, is_accepted, is_no_memory, is_probation, left_when, received, waiting_for, waiting_when}
+use Rattle.codec_payload_session.specs.Streams.{Drains, Plays, Pops, RequestsBy, RestsBy, Steps, StepsBy, is_of, Follows, StreamState, Takes, end_of, heard_unless, is_accepted, is_no_memory, is_probation, late_followed, late_noted, left_when, received, waiting_for, waiting_when}
 use Rattle.codec_payload_jitter.specs.declared.jitter.WaitLimits.{WaitLimits}
 use Rattle.codec_payload_session.specs.Arrivals.{has_ssrc}
 use Rattle.codec_payload_session.specs.Changes.{any_left_behind, are_alike, continued, is_left_behind, is_playing, left_behind, takes_turns}
 use Rattle.codec_payload_session.specs.Formats.{is_video}
+use Rattle.codec_payload_session.specs.Late.{limit_by}
 use Rattle.codec_payload_session.specs.Pairs.{paired_when}
 use Rattle.codec_payload_session.specs.Reporting.{all_reported, is_chosen, reported_if, room_after}
 use Rattle.codec_payload_session.specs.declared.formats.Format.{Format}
@@ -100,13 +102,19 @@ received_ssrc : (now : ℕ) (bytes : List ℕ) (b : Bool) (r : Receiver) (s : St
 received_ssrc now bytes true r s = waiting_ssrc _ _
 received_ssrc now bytes false r s = refl
 
+late_ssrc : (b : Bool) (now : ℕ) (bytes : List ℕ) (s : StreamState) → (late_followed b now bytes s).ssrc ≡ s.ssrc
+late_ssrc true now bytes s = waiting_ssrc (limit_by (late_noted now bytes s).late) (late_noted now bytes s)
+late_ssrc false now bytes s = refl
+
 heard_ssrc : (b : Bool) (now probation : ℕ) (accepted : Bool) (s : StreamState) → (heard_unless b now probation accepted s).ssrc ≡ s.ssrc
 heard_ssrc true now probation accepted s = refl
 heard_ssrc false now probation accepted s = refl
 
 pub takes_ssrc : (now : Ticks) (probation : ℕ) (bytes : List ℕ) (s : StreamState) (answer : Result Outcome ReceiveError) (t : StreamState) → Takes now probation bytes s answer t → t.ssrc ≡ s.ssrc
 takes_ssrc now probation bytes s answer t got =
-    ap (λ (x : StreamState). x.ssrc) got.2 ∙ heard_ssrc (is_no_memory answer) now.0 probation (is_accepted answer) (received now.0 bytes (is_accepted answer) got.0 s)
+    let r : StreamState = received now.0 bytes (is_accepted answer) got.0 s in
+    ap (λ (x : StreamState). x.ssrc) got.2 ∙ heard_ssrc (is_no_memory answer) now.0 probation (is_accepted answer) (late_followed (is_ok answer) now.0 bytes r)
+    ∙ late_ssrc (is_ok answer) now.0 bytes r
     ∙ received_ssrc now.0 bytes (is_accepted answer) got.0 s
 
 drains_ssrc : (o : Option Ending) (s t : StreamState) → Drains o s t → t.ssrc ≡ s.ssrc

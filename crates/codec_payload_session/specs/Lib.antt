@@ -7,6 +7,7 @@ pub mod Dues
 pub mod Formats
 pub mod Idle
 pub mod Keyframes
+pub mod Late
 pub mod Named
 pub mod Pairs
 pub mod Polls

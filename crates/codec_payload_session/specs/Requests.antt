@@ -14,6 +14,8 @@ use Rattle.codec_payload_receiver.specs.Sessions.{Session as Receiver}
 use Rattle.codec_payload_session.specs.Formats.{is_video, resends}
 use Rattle.codec_payload_session.specs.declared.formats.FeedbackSettings.{FeedbackSettings}
 use Rattle.codec_payload_session.specs.declared.formats.Format.{Format}
+use Rattle.codec_payload_session.specs.declared.formats.Waiting.{Waiting}
+use Rattle.codec_payload_session.specs.declared.formats.Waiting.TheVariants as waitings
 use Rattle.codec_payload_session.specs.declared.keyframe.KeyframeAnswer.{KeyframeAnswer}
 use Rattle.codec_payload_session.specs.declared.keyframe.KeyframeAnswer.TheVariants as answers
 use Rattle.codec_payload_session.specs.declared.requests.WaitRange.{WaitRange}
@@ -49,6 +51,19 @@ range_for f patient max_wait = range_by f.nack.first_wait f.longest_wait patient
 abbrev pub is_patient : Format → Bool
 is_patient f = f.nack && is_video f.spec.codec
 
+-- a format whose streams wait by the round trip
+abbrev pub follows_by : Waiting → Bool
+follows_by waitings.Fixed = false
+follows_by waitings.RoundTrip = true
+follows_by waitings.Late = false
+
+abbrev pub follows_round_trip : Format → Bool
+follows_round_trip f = follows_by f.wait
+
+abbrev pub range_if : Bool → Option WaitRange → Option WaitRange
+range_if true range = range
+range_if false range = None
+
 -- two requests of a number are at least one tick apart, so that a loop of polls at one moment ends
 abbrev pub spaced : NackSettings → NackSettings
 spaced n = record n { retry = max 1 n.retry; shortest_retry = max 1 n.shortest_retry; longest_retry = max 1 n.longest_retry }
@@ -60,7 +75,7 @@ asking_for f ssrc format max_wait = record {
   most = if format.nack then f.nack.capacity else 0;
   pli = format.pli;
   silence = f.silence;
-  waits = range_for f (is_patient format) max_wait;
+  waits = range_if (follows_round_trip format) (range_for f (is_patient format) max_wait);
   asked = false;
 }
 

@@ -1,10 +1,12 @@
 -- One stream of a session: the datagrams and calls that its receiver gets, and when the stream begins and ends.
-use Rattle.std.specs.Prelude.{◌≡◌, ℕ, min, ◌+◌, ◌-◌, ◌%◌, ◌^◌, ◌==◌, ◌&&◌, nat_lt, nat_le, if◌then◌else◌, Bool, true, false, List, [], ◌∷◌, Option, Some, None, Result, Ok, Err, length, map}
+use Rattle.std.specs.Prelude.{◌≡◌, ℕ, min, ◌+◌, ◌-◌, ◌%◌, ◌^◌, ◌==◌, ◌&&◌, nat_lt, nat_le, if◌then◌else◌, is_ok, Bool, true, false, List, [], ◌∷◌, Option, Some, None, Result, Ok, Err, length, map}
 use Rattle.std.specs.Global.{Vec}
 use Rattle.std.specs.declared.alloc.AllocError.{AllocError}
 use Rattle.codec_payload_base.specs.declared.wire.Ticks.{Ticks}
 use Rattle.codec_payload_codec.specs.Depacketizers.{DepacketizerState, configured_depacketizer, depacketizer_state_for}
 use Rattle.codec_payload_buffer.specs.Release.{Release}
+use Rattle.codec_payload_feedback_wait.specs.Waits.{Wait}
+use Rattle.codec_payload_jitter.specs.Missing.{missing_numbers}
 use Rattle.codec_payload_jitter.specs.Receiving.{deadline_of, next}
 use Rattle.codec_payload_jitter.specs.declared.outcome.Outcome.{Outcome}
 use Rattle.codec_payload_jitter.specs.declared.waiting.WaitLimits.{WaitLimits}
@@ -19,6 +21,7 @@ use Rattle.codec_payload_receiver.specs.declared.receiver.ReceiveError.{ReceiveE
 use Rattle.codec_payload_receiver.specs.declared.receiver.ReceiveError.TheVariants as errors
 use Rattle.codec_payload_receiver.specs.declared.receiver.Settings.{Settings}
 use Rattle.codec_payload_session.specs.Formats.{HasSettings, is_video, limits_for}
+use Rattle.codec_payload_session.specs.Late.{late_after, late_for, limit_by, number_at as late_number}
 use Rattle.codec_payload_session.specs.Requests.{Asking, Asks, answer_by, answered_if, asked_by, feedback_by, heard_by, is_heard, number_at, requests_due, round_trip_of, wait_by}
 use Rattle.codec_payload_session.specs.declared.formats.Format.{Format}
 use Rattle.codec_payload_session.specs.declared.formats.SessionSettings.{SessionSettings}
@@ -35,8 +38,8 @@ use Rattle.codec_payload_session.specs.declared.reports.SenderClock.{SenderClock
 use Rattle.codec_payload_session.specs.declared.stream.StreamInfo.{StreamInfo}
 
 -- a stream, as contracts see it: its SSRC and format; its receiver; its stage; whether it was announced; how many datagrams it
--- took, and how many of them were accepted; when the latest one arrived; what it requests; the clock of its sender; whether this
--- round of reports had a block about it
+-- took, and how many of them were accepted; when the latest one arrived; what it requests; how late its missing packets arrive, if
+-- waiting follows that; the clock of its sender; whether this round of reports had a block about it
 pub record StreamState : Type 0 where
   pub ssrc : ℕ
   pub format : Format
@@ -47,6 +50,7 @@ pub record StreamState : Type 0 where
   pub accepted : ℕ
   pub last : ℕ
   pub feedback : Option Asking
+  pub late : Option Wait
   pub sender_clock : Option SenderClock
   pub was_reported : Bool
 
@@ -65,6 +69,7 @@ pub record Begins (settings : SessionSettings) (ssrc : ℕ) (f : Format) (s : St
   pub accepted : s.accepted ≡ 0
   pub last : s.last ≡ 0
   pub feedback : s.feedback ≡ feedback_by settings.feedback ssrc f (limits_for settings (is_video f.spec.codec)).max_wait
+  pub late : s.late ≡ late_for settings f
   pub sender_clock : s.sender_clock ≡ None
   pub was_reported : s.was_reported ≡ false
   pub depacketizer : DepacketizerState
@@ -135,6 +140,14 @@ waiting_for (Some wait) s = record s {
 abbrev pub following : StreamState → StreamState
 following s = waiting_for (wait_by s.feedback) s
 
+-- waiting follows how late missing packets arrive, if the format says so: by each datagram that the receiver accepted or dropped
+abbrev pub late_noted : ℕ → List ℕ → StreamState → StreamState
+late_noted now bytes s = record s { late = late_after now (late_number s.format bytes) (missing_numbers s.receiver.packets 64) s.late }
+
+abbrev pub late_followed : Bool → ℕ → List ℕ → StreamState → StreamState
+late_followed false now bytes s = s
+late_followed true now bytes s = waiting_for (limit_by (late_noted now bytes s).late) (late_noted now bytes s)
+
 -- the number of an accepted packet may answer a request, which measures the round trip
 abbrev pub received : ℕ → List ℕ → Bool → Receiver → StreamState → StreamState
 received now bytes true r s = following (record s { receiver = r; feedback = heard_by now (number_at s.format bytes) s.feedback })
@@ -144,7 +157,7 @@ received now bytes false r s = record s { receiver = r }
 abbrev pub Takes : Ticks → ℕ → List ℕ → StreamState → Result Outcome ReceiveError → StreamState → Type 0
 Takes now probation bytes s answer t =
     (r : Receiver) × ReceivesBytes now bytes s.receiver answer r
-    × (t ≡ heard_unless (is_no_memory answer) now.0 probation (is_accepted answer) (received now.0 bytes (is_accepted answer) r s))
+    × (t ≡ heard_unless (is_no_memory answer) now.0 probation (is_accepted answer) (late_followed (is_ok answer) now.0 bytes (received now.0 bytes (is_accepted answer) r s)))
 
 -- ---- the end
 

@@ -11,6 +11,7 @@ mod events;
 pub mod formats;
 mod goodbyes;
 pub mod keyframe;
+mod late;
 mod named;
 mod pairs;
 mod renegotiation;

@@ -3,9 +3,9 @@
 ghost use Rattle.std.specs.Prelude.{◌≡◌, ◌<◌, ℕ, IfOk, OnOk, Option};
 ghost use Rattle.codec_payload_jitter.specs.Missing.{missing_numbers};
 ghost use Rattle.codec_payload_session.specs.Quiet.{MayRest, is_calm};
-ghost use Rattle.codec_payload_session.specs.Requests.{Asks, Refreshes, after_number, answer_by, answered_if, asked_by, feedback_by, has_requested, heard_by, is_heard, is_patient, number_at, original_number, requests_due, range_for, round_trip_of, source_for, spaced, wait_by, wait_for, wait_of, wait_within, wants_keyframe};
+ghost use Rattle.codec_payload_session.specs.Requests.{Asks, Refreshes, after_number, answer_by, answered_if, asked_by, feedback_by, follows_round_trip, has_requested, heard_by, is_heard, is_patient, number_at, original_number, requests_due, range_for, range_if, round_trip_of, source_for, spaced, wait_by, wait_for, wait_of, wait_within, wants_keyframe};
 
-use crate::formats::{FeedbackSettings, Format, is_video};
+use crate::formats::{FeedbackSettings, Format, Waiting, is_video};
 use crate::keyframe::KeyframeAnswer;
 use codec_payload_base::wire::Ticks;
 use codec_payload_feedback::requests::{FeedbackSource, StreamRequests};
@@ -86,7 +86,7 @@ impl Feedback {
                     most,
                     pli: format.pli,
                     silence: settings.silence,
-                    waits: wait_range(settings, is_patient(format), max_wait),
+                    waits: wait_range(settings, format, max_wait),
                     asked: false,
                     missing: Vec::new(alloc),
                 }))
@@ -286,20 +286,27 @@ fn is_patient(format: &Format) -> bool
     format.nack && is_video(format.spec.codec)
 }
 
+/// Returns whether waiting in streams of the format follows the round trip.
+fn follows_round_trip(format: &Format) -> bool
+    ensures { result ≡ follows_round_trip format.now }
+{
+    matches!(format.wait, Waiting::RoundTrip)
+}
+
 /// Returns how waiting follows the round trip, if it does.
 fn wait_range(
     settings: &FeedbackSettings,
-    is_patient: bool,
+    format: &Format,
     max_wait: Option<u64>,
 ) -> Option<WaitRange>
-    ensures { result ≡ range_for settings.now is_patient max_wait }
+    ensures { result ≡ range_if (follows_round_trip format.now) (range_for settings.now (is_patient format.now) max_wait) }
 {
     match (settings.longest_wait, max_wait) {
-        (Some(most), Some(least)) => Some(WaitRange {
+        (Some(most), Some(least)) if follows_round_trip(format) => Some(WaitRange {
             first: settings.nack.first_wait,
             least,
             most,
-            is_patient,
+            is_patient: is_patient(format),
         }),
         _ => None,
     }

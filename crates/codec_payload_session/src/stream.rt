@@ -8,7 +8,7 @@ ghost use Rattle.codec_payload_session.specs.Dues.{key_of};
 ghost use Rattle.codec_payload_session.specs.Pairs.{paired_if};
 ghost use Rattle.codec_payload_session.specs.Quiet.{RestsUntil, or_none, time_of};
 ghost use Rattle.codec_payload_session.specs.Requests.{wait_by};
-ghost use Rattle.codec_payload_session.specs.Streams.{Begins, Drains, IsInfo, Pops, RequestsBy, RestsBy, Steps, Takes, answer_for, asked_for, due_of, earlier, end_of, heard, heard_unless, is_accepted, is_ending, is_keyframe, is_no_memory, is_of, is_probation, left, left_when, received, step_of, step_with, waiting_for, waiting_if, work_deadline};
+ghost use Rattle.codec_payload_session.specs.Streams.{Begins, Drains, IsInfo, Pops, RequestsBy, RestsBy, Steps, Takes, answer_for, asked_for, due_of, earlier, end_of, heard, heard_unless, is_accepted, is_ending, is_keyframe, is_no_memory, is_of, is_probation, late_followed, left, left_when, received, step_of, step_with, waiting_for, waiting_if, work_deadline};
 ghost use Rattle.codec_payload_session.specs.Turns.{is_nothing};
 ghost use Rattle.codec_payload_session.specs.Units.{step_to};
 ghost use Rattle.codec_payload_session.specs.Waking.{Sleeps, or_max};
@@ -17,6 +17,7 @@ ghost use Rattle.codec_payload_session.specs.declared.stream.Step.TheVariants as
 use crate::changes::{are_alike, takes_turns};
 use crate::formats::{Format, SessionSettings, SsrcPair, retransmission_for};
 use crate::keyframe::KeyframeAnswer;
+use crate::late::{follow, late_for, limit_by};
 use crate::named::NamedReceiver;
 use crate::reports::SenderClock;
 use crate::requests::{
@@ -26,6 +27,7 @@ use codec_payload_base::error::PacketError;
 use codec_payload_base::wire::Ticks;
 use codec_payload_buffer::buffer::PoppedUnit;
 use codec_payload_codec::codec::CodecDepacketizer;
+use codec_payload_feedback_wait::adaptive_wait::AdaptiveWait;
 use codec_payload_jitter::jitter::WaitLimits;
 use codec_payload_jitter::outcome::Outcome;
 use codec_payload_receiver::parsed::ParsedDatagram;
@@ -101,6 +103,8 @@ pub(crate) struct StreamState {
     pub(crate) last: u64,
     /// What it requests. `None`: nothing.
     pub(crate) feedback: Option<Feedback>,
+    /// How late its missing packets arrive, if waiting follows that.
+    late: Option<Box<AdaptiveWait>>,
     /// What the latest sender report says.
     pub(crate) sender_clock: Option<SenderClock>,
     /// Whether this round of reports had a block about it.
@@ -117,6 +121,7 @@ impl Model for StreamState {
     ghost Value = { StreamState };
 
     ghost use Rattle.codec_payload_session.specs.Quiet.{IsQuietUntil, time_of};
+    ghost use Rattle.codec_payload_session.specs.Late.{unboxed};
 
     ghost view = { λ s. record {
       ssrc = s.ssrc;
@@ -128,6 +133,7 @@ impl Model for StreamState {
       accepted = s.accepted;
       last = s.last;
       feedback = s.feedback;
+      late = unboxed s.late;
       sender_clock = s.sender_clock;
       was_reported = s.was_reported;
     } };
@@ -166,6 +172,7 @@ impl StreamState {
         depacketizer.configure_for(&format.spec);
         let max_wait = settings.limits(format).max_wait;
         let feedback = Feedback::begin(alloc, &settings.feedback, ssrc, format, max_wait)?;
+        let late = late_for(alloc, settings, format)?;
         let settings = settings.receiver(alloc, ssrc, format)?;
         let receiver = NamedReceiver::begin(alloc, depacketizer, settings).unwrap();
         Ok(StreamState {
@@ -178,6 +185,7 @@ impl StreamState {
             accepted: 0,
             last: 0,
             feedback,
+            late,
             sender_clock: None,
             was_reported: false,
             quiet_until: 0,
@@ -215,6 +223,7 @@ impl StreamState {
         let accepted = is_accepted(&answer);
         let no_memory = is_no_memory(&answer);
         self.hear_if(accepted, now, datagram);
+        self.follow_if(answer.is_ok(), now, datagram);
         self.note_unless(no_memory, now, probation, accepted);
         answer
     }
@@ -228,6 +237,24 @@ impl StreamState {
             self.quiet_until = 0;
             hear(&mut self.feedback, &self.format, now, datagram);
             self.follow_round_trip();
+        }
+    }
+
+    /// Waits as long as missing packets are late, if waiting follows that, and if the receiver accepted or dropped the datagram.
+    #[inline(always)]
+    fn follow_if(&mut self, received: bool, now: Ticks, datagram: &ParsedDatagram<'_>)
+        ensures { self.new ≡ late_followed received now.0 datagram.now self.old }
+    {
+        if received {
+            self.quiet_until = 0;
+            follow(
+                &mut self.late,
+                &self.format,
+                now,
+                datagram,
+                self.receiver.inner(),
+            );
+            self.wait_for(limit_by(&self.late));
         }
     }
 
@@ -245,7 +272,15 @@ impl StreamState {
     fn follow_round_trip(&mut self)
         ensures { self.new ≡ waiting_for (wait_by self.old.feedback) self.old }
     {
-        if let Some(wait) = wait_by(&self.feedback) {
+        self.wait_for(wait_by(&self.feedback));
+    }
+
+    /// Waits for at most that time. `None`: the wait limits stay.
+    #[inline(always)]
+    fn wait_for(&mut self, wait: Option<u64>)
+        ensures { self.new ≡ waiting_for wait self.old }
+    {
+        if let Some(wait) = wait {
             self.quiet_until = 0;
             let mut limits = self.receiver.inner().wait_limits();
             limits.max_wait = Some(wait);

@@ -1,5 +1,5 @@
 -- Two datagrams begin a stream.
-use Rattle.std.proofs.Common.{◌≡◌, ◌≤◌, ◌∙◌, ◌⊎◌, inl, inr, refl, sym, ap, ap₂, subst, subst₂, ℕ, zero, suc, ◌+◌, ◌-◌, ◌^◌, ◌==◌, ◌&&◌, cond, min, Bool, true, false, List, [], ◌∷◌, ◌++◌, map, length, Option, Some, None, Result, Ok, Err, slice_get, slice_set, arith}
+use Rattle.std.proofs.Common.{◌≡◌, ◌≤◌, ◌∙◌, ◌⊎◌, inl, inr, refl, sym, ap, ap₂, subst, subst₂, ℕ, zero, suc, ◌+◌, ◌-◌, ◌^◌, ◌==◌, ◌&&◌, cond, min, Bool, true, false, List, [], ◌∷◌, ◌++◌, map, length, Option, Some, None, Result, Ok, Err, slice_get, slice_set, arith, is_ok}
 use Rattle.std.specs.Global.{Vec}
 use Rattle.std.specs.List.{position}
 use Rattle.std.specs.Prelude.{IsErr, is_ok, nat_le, nat_lt}
@@ -27,7 +27,7 @@ use Rattle.codec_payload_session.specs.Reports.{noted, noted_at, reported_by}
 use Rattle.codec_payload_session.specs.Reports.{noted_in as clocks_in}
 use Rattle.codec_payload_session.specs.Sorting.{Sorted, sorted_at}
 use Rattle.codec_payload_session.specs.Sorting as sorted
-use Rattle.codec_payload_session.specs.Streams.{Takes, accepted_after, heard_unless, is_accepted, is_no_memory, is_of, is_probation, left_when, received, stage_after, waiting_if, asked_for, asked_unless, is_ending}
+use Rattle.codec_payload_session.specs.Streams.{Takes, accepted_after, heard_unless, is_accepted, is_no_memory, is_of, is_probation, late_followed, left_when, received, stage_after, waiting_if, asked_for, asked_unless, is_ending}
 use Rattle.codec_payload_session.specs.Turns.{AreQuiet, TakesTurn, kept_after}
 use Rattle.codec_payload_session.specs.Units.{Event}
 use Rattle.codec_payload_session.specs.declared.formats.Format.{Format}
@@ -41,7 +41,7 @@ use Rattle.codec_payload_session.specs.declared.stream.Ending.TheVariants as end
 use Rattle.codec_payload_session.specs.declared.stream.Stage.{Stage}
 use Rattle.codec_payload_session.specs.declared.stream.Stage.TheVariants as stages
 use Rattle.codec_payload_session.specs.declared.stream.StreamState.{StreamState}
-use Rattle.codec_payload_session_runs.proofs.EndingCallLemmas.{apart_paired, paired_same, received_same, reported_same, waited_same}
+use Rattle.codec_payload_session_runs.proofs.EndingCallLemmas.{apart_paired, both_same, paired_same, reported_same, waited_same}
 use Rattle.codec_payload_session_runs.proofs.EndingLemmas.{Same, steps_asked}
 use Rattle.codec_payload_session_runs.proofs.FateLemmas.{AreApart, found_none, of_is, of_same}
 use Rattle.codec_payload_session_runs.proofs.ReachedLemmas.{Reached, by_streams, reached, reached_more}
@@ -207,7 +207,8 @@ by_took false false now probation told x z memory is same = record {
 took : (now : Ticks) (datagram : Vec ℕ) (probation : ℕ) (x : StreamState) (told : Result Outcome ReceiveError) (y : StreamState) → Takes now probation datagram.items x told y → Took probation told x y
 took now datagram probation x told y got =
     subst (λ (z : StreamState). Took probation told x z) (sym got.2)
-    (by_took (is_no_memory told) (is_accepted told) now.0 probation told x (received now.0 datagram.items (is_accepted told) got.0 x) refl refl (received_same (is_accepted told) now.0 datagram.items got.0 x))
+    (by_took (is_no_memory told) (is_accepted told) now.0 probation told x (late_followed (is_ok told) now.0 datagram.items (received now.0 datagram.items (is_accepted told) got.0 x)) refl refl
+    (both_same (is_ok told) (is_accepted told) now.0 datagram.items got.0 x))
 
 -- an answer that says that the stream accepted the datagram
 arrival_accepted : (a b s p : ℕ) (told : Result Outcome ReceiveError) → accepted_as a b (Ok (arrival_of s p told)) ≡ true → (is_same a b s p ≡ true) × (is_accepted told ≡ true)

@@ -177,7 +177,7 @@ IsGiven [] = ⊥
 IsGiven (c ∷ cs) = Unit {0}
 
 -- What a call of the session, whose answer shows this of the stream with that SSRC and payload type, makes of the receiver of the
--- stream. A datagram is received at its time. If the stream takes it, `max_wait` may follow the round trip. If it is a retransmission
+-- stream. A datagram is received at its time. If the stream takes it, `max_wait` may follow the round trip, or how late missing packets arrive. If it is a retransmission
 -- whose stream is found, the stream gets its SSRC. A poll pops at its time, and may end the stream first and report it afterwards. A
 -- call for the wait limits or a report is passed on to the stream that it names, and a pair to the streams of its SSRC
 abbrev pub IsMadeAs : (ssrc payload_type : ℕ) → SessionStep → List ReceiverCall → ReceiverCall → Type 0

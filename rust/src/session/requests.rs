@@ -5,7 +5,7 @@
 use crate::feedback::requests::{FeedbackSource, StreamRequests};
 use crate::memory::{AllocError, TryVec};
 use crate::requests::nack::NackSettings;
-use crate::session::formats::{FeedbackSettings, Format, is_video};
+use crate::session::formats::{FeedbackSettings, Format, Waiting, is_video};
 use crate::session::keyframe::KeyframeAnswer;
 use crate::stream::parsed::ParsedDatagram;
 use crate::stream::receiver::Receiver;
@@ -71,7 +71,7 @@ impl Feedback {
                     most,
                     pli: format.pli,
                     silence: settings.silence,
-                    waits: wait_range(settings, is_patient(format), max_wait),
+                    waits: wait_range(settings, format, max_wait),
                     asked: false,
                     missing: Vec::new(),
                 }))
@@ -243,18 +243,23 @@ fn is_patient(format: &Format) -> bool {
     format.nack && is_video(format.spec.codec)
 }
 
+/// Returns whether waiting in streams of the format follows the round trip.
+fn follows_round_trip(format: &Format) -> bool {
+    matches!(format.wait, Waiting::RoundTrip)
+}
+
 /// Returns how waiting follows the round trip, if it does.
 fn wait_range(
     settings: &FeedbackSettings,
-    is_patient: bool,
+    format: &Format,
     max_wait: Option<u64>,
 ) -> Option<WaitRange> {
     match (settings.longest_wait, max_wait) {
-        (Some(most), Some(least)) => Some(WaitRange {
+        (Some(most), Some(least)) if follows_round_trip(format) => Some(WaitRange {
             first: settings.nack.first_wait,
             least,
             most,
-            is_patient,
+            is_patient: is_patient(format),
         }),
         _ => None,
     }

@@ -7,10 +7,11 @@ use crate::codec::CodecDepacketizer;
 use crate::error::PacketError;
 use crate::jitter::jitter_buffer::WaitLimits;
 use crate::jitter::outcome::Outcome;
-use crate::memory::AllocError;
+use crate::memory::{AllocError, One};
 use crate::session::changes::{are_alike, takes_turns};
 use crate::session::formats::{Format, SessionSettings, SsrcPair, retransmission_for};
 use crate::session::keyframe::KeyframeAnswer;
+use crate::session::late::{follow, late_for, limit_by};
 use crate::session::named::NamedReceiver;
 use crate::session::reports::SenderClock;
 use crate::session::requests::{
@@ -19,6 +20,7 @@ use crate::session::requests::{
 use crate::stream::parsed::ParsedDatagram;
 use crate::stream::pops::Popped;
 use crate::stream::receiver::{Counters, ReceiveError, Receiver};
+use crate::waiting::adaptive_wait::AdaptiveWait;
 use crate::wire::Ticks;
 use alloc::vec::Vec;
 
@@ -91,6 +93,8 @@ pub(crate) struct StreamState {
     pub(crate) last: u64,
     /// What it requests. `None`: nothing.
     pub(crate) feedback: Option<Feedback>,
+    /// How late its missing packets arrive, if waiting follows that.
+    late: Option<One<AdaptiveWait>>,
     /// What the latest sender report says.
     pub(crate) sender_clock: Option<SenderClock>,
     /// Whether this round of reports had a block about it.
@@ -128,6 +132,7 @@ impl StreamState {
         depacketizer.configure_for(&format.spec);
         let max_wait = settings.limits(format).max_wait;
         let feedback = Feedback::begin(&settings.feedback, ssrc, format, max_wait)?;
+        let late = late_for(format)?;
         let settings = settings.receiver(ssrc, format)?;
         let receiver = NamedReceiver::begin(depacketizer, settings).unwrap();
         Ok(StreamState {
@@ -140,6 +145,7 @@ impl StreamState {
             accepted: 0,
             last: 0,
             feedback,
+            late,
             sender_clock: None,
             was_reported: false,
             quiet_until: 0,
@@ -171,6 +177,7 @@ impl StreamState {
         let accepted = is_accepted(&answer);
         let no_memory = is_no_memory(&answer);
         self.hear_if(accepted, now, datagram);
+        self.follow_if(answer.is_ok(), now, datagram);
         self.note_unless(no_memory, now, probation, accepted);
         answer
     }
@@ -185,6 +192,22 @@ impl StreamState {
         }
     }
 
+    /// Waits as long as missing packets are late, if waiting follows that, and if the receiver accepted or dropped the datagram.
+    #[inline(always)]
+    fn follow_if(&mut self, received: bool, now: Ticks, datagram: &ParsedDatagram<'_>) {
+        if received {
+            self.quiet_until = 0;
+            follow(
+                &mut self.late,
+                &self.format,
+                now,
+                datagram,
+                self.receiver.inner(),
+            );
+            self.wait_for(limit_by(&self.late));
+        }
+    }
+
     /// Counts one more datagram, unless memory ran out for it.
     #[inline(always)]
     fn note_unless(&mut self, no_memory: bool, now: Ticks, probation: u64, accepted: bool) {
@@ -195,7 +218,13 @@ impl StreamState {
 
     /// Waits for as long as the round trip asks for, if waiting follows it and it is known.
     fn follow_round_trip(&mut self) {
-        if let Some(wait) = wait_by(&self.feedback) {
+        self.wait_for(wait_by(&self.feedback));
+    }
+
+    /// Waits for at most that time. `None`: the wait limits stay.
+    #[inline(always)]
+    fn wait_for(&mut self, wait: Option<u64>) {
+        if let Some(wait) = wait {
             self.quiet_until = 0;
             let mut limits = self.receiver.inner().wait_limits();
             limits.max_wait = Some(wait);

@@ -18,6 +18,7 @@ mod settings;
 mod streams;
 mod telephone;
 mod transport;
+mod waits;
 
 use std::alloc::{GlobalAlloc, Layout, System};
 use std::cell::Cell;
