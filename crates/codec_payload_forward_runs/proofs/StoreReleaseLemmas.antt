@@ -87,7 +87,7 @@ module _ (samples : List Sample) (all_steps : List StoreStep) (sender : Sending)
   again = came.again
 
 pub release_with_store : ReleaseWithStore
-release_with_store samples all_steps sender forwarder receiver store t empty run forwards = record {
+release_with_store samples all_steps sender forwarder receiver store t run empty forwards = record {
   repeats = repeats samples all_steps sender forwarder receiver store t empty run forwards;
   are = again samples all_steps sender forwarder receiver store t empty run forwards;
   released = λ within. releases samples all_steps sender forwarder receiver store t empty run forwards within;

@@ -110,11 +110,12 @@ pub record ReleasesFromStore (samples : List Sample) (all_steps : List StoreStep
       → KeepsPromises (viewer_samples t.hops.forwarder s.hops.wire.sending.stream.clock_rate samples) (store_steps_of samples all_steps t repeats)
       (viewer_wire t.hops.forwarder s.hops.wire) (viewer_wire t.hops.forwarder t.hops.wire)
 
+-- this applies to a run whose store is empty before
 abbrev pub ReleasesWithStore : List Sample → List StoreStep → Stored → Stored → Type 0
-ReleasesWithStore samples all_steps s t = ForwardsStream s.hops.wire.sending s.hops.forwarder → ReleasesFromStore samples all_steps s t
+ReleasesWithStore samples all_steps s t = s.store.packets ≡ [] → ForwardsStream s.hops.wire.sending s.hops.forwarder → ReleasesFromStore samples all_steps s t
 
--- for every run with a forwarder and an empty store
+-- for every run with a forwarder and a store
 abbrev pub ReleaseWithStore : Type 0
 ReleaseWithStore =
-    (samples : List Sample) (all_steps : List StoreStep) (sender : Sending) (forwarder : Forward) (receiver : Session) (store : Past) (t : Stored) → store.packets ≡ []
+    (samples : List Sample) (all_steps : List StoreStep) (sender : Sending) (forwarder : Forward) (receiver : Session) (store : Past) (t : Stored)
     → StoreRuns samples all_steps (begins_with_store sender forwarder receiver store) t → ReleasesWithStore samples all_steps (begins_with_store sender forwarder receiver store) t

@@ -1,7 +1,7 @@
 //! Whole runs over two hops with retransmissions to the viewer: a store keeps the datagrams that come to the forwarder, and the
 //! forwarder answers the viewer's requests from it.
 
-ghost use Rattle.std.specs.Prelude.{◌≡◌, ◌++◌, ℕ, [], List, map, IfOk, IfErr, OnOk, OnErr};
+ghost use Rattle.std.specs.Prelude.{◌≡◌, ◌++◌, ℕ, List, map, IfOk, IfErr, OnOk, OnErr};
 ghost use Rattle.codec_payload_base.specs.declared.error.PacketError.TheVariants.{OutOfMemory};
 ghost use Rattle.codec_payload_payloader.specs.Sending.{sample_of};
 ghost use Rattle.codec_payload_datagram_runs.specs.WireRuns.{bytes_in};
@@ -49,7 +49,7 @@ pub struct StoreLink<P: Packetizer, D: Depacketizer> {
 
 /// Executes the steps in order, as [`run_forwarded`](crate::run::run_forwarded) does, and answers the viewer's requests.
 ///
-/// The store is empty before. It keeps each datagram that comes to the forwarder once ([`History::keep_once`]). A request may name any
+/// The store keeps each datagram that comes to the forwarder once ([`History::keep_once`]). A request may name any
 /// number, any number of times. A packet that was written again is delivered any number of times, at any later moment.
 ///
 /// # Errors
@@ -62,7 +62,6 @@ pub fn run_forwarded_with_store<P: Packetizer, D: Depacketizer>(
     samples: &[ToPayload],
     steps: &[StoreStep],
 ) -> Result<StoreRun, PacketError>
-    requires empty { link.old.store.packets ≡ [] }
     ensures runs { IfOk result (λ run. StoreRuns (map sample_of samples.now) steps.now (begins_with_store link.old.link.sender link.old.link.forwarder link.old.link.receiver link.old.store) (stored_of link.new.link.sender link.new.link.forwarder link.new.link.receiver link.new.store run)) }
     // What is written again, and what the viewer's receiver releases, if all that is delivered to it arrives within its windows.
     ensures units { IfOk result (λ run. ReleasesWithStore (map sample_of samples.now) steps.now (begins_with_store link.old.link.sender link.old.link.forwarder link.old.link.receiver link.old.store) (stored_of link.new.link.sender link.new.link.forwarder link.new.link.receiver link.new.store run)) }

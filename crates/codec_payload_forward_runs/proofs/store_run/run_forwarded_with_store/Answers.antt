@@ -40,6 +40,6 @@ pub returns-clause-units : goal.returns-clause-units
 returns-clause-units g c =
     let end : Stored = stored_of c.loop-step.link.link.sender c.loop-step.link.link.forwarder c.loop-step.link.link.receiver c.loop-step.link.store c.loop-step.run in
     let link = c.args.link.now in
-    release_with_store (map sample_of c.args.samples.now) c.args.steps.now link.link.sender link.link.forwarder link.link.receiver link.store end c.requires
+    release_with_store (map sample_of c.args.samples.now) c.args.steps.now link.link.sender link.link.forwarder link.link.receiver link.store end
     (c.loop-step.invariant.runs end
     (subst (λ (xs : List StoreStep). StoreRuns (map sample_of c.args.samples.now) xs end end) (sym (drop_all c.loop-step.step-index c.args.steps.now c.loop-step-test.false)) refl))
