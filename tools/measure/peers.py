@@ -1,14 +1,16 @@
 #!/usr/bin/env python3
 """Prints what a received packet takes in this library beside other stacks, as Debian has them: libwebrtc, ffmpeg, GStreamer and pion.
 
-  tools/measure/peers.py           instructions of a packet, by callgrind, and the bytes of a stream that got one
-  tools/measure/peers.py --times   nanoseconds of processor time too, as the least of some runs
+  tools/measure/peers.py            instructions of a packet, by callgrind, and the bytes of a stream that got one packet
+  tools/measure/peers.py --times    nanoseconds of processor time too, as the least of some runs
+  tools/measure/peers.py --losses   what each stack gives out after the same losses and restarts
 
-The programs are tools/bench/receive.c and those of tools/measure/peers, each of which says what it calls. Opus packets have 120 bytes
-and come in order, while 64 are held; VP8 has 17 packets of 1,200 bytes a frame. A peer that is not installed has no row:
-apt-get install libtgowt-dev libavformat-dev libgstreamer1.0-dev libunwind-dev gstreamer1.0-plugins-good golang-go
-golang-github-pion-webrtc.v3-dev. Needs make, a C and a C++ compiler, and valgrind, which cannot count pion. Times depend on the machine
-and on what else runs on it; instructions do not.
+The programs are tools/bench/receive.c and those of tools/measure/peers, each of which says what it calls; those of `--losses` are
+in its folder losses, and losses.py makes their packets. Opus packets have 120 bytes and come in order, while 64 are held; VP8 has
+17 packets of 1,200 bytes a frame. A peer that is not installed has no row or column: apt-get install libtgowt-dev libavformat-dev
+libgstreamer1.0-dev gstreamer1.0-plugins-good golang-go golang-github-pion-webrtc.v3-dev. Needs make, a C and a C++ compiler, and
+valgrind, which cannot count pion. Times depend on the machine and on what else runs on it; instructions do not, nor do the
+results of `--losses`, which runs in the time of its packets (GStreamer with real-time priority, as root).
 """
 import glob
 import os
@@ -19,10 +21,15 @@ import tempfile
 
 import receiving
 
+sys.path.append(f"{os.path.dirname(os.path.realpath(__file__))}/peers")
+
+import losses  # noqa: E402  (the folder is known only now)
+
 HERE = f"{os.path.dirname(os.path.realpath(__file__))}/peers"
 FEW, MANY = 2, 12
 KINDS = {"opus": "Opus", "vp8": "VP8"}
 TGOWT = "/usr/lib/x86_64-linux-gnu/libtg_owt.a"
+GSTREAMER = "/usr/include/gstreamer-1.0"
 
 
 def flags(*packages):
@@ -31,38 +38,49 @@ def flags(*packages):
     return ran.stdout.split() if ran.returncode == 0 else None
 
 
-def c_peer(folder, name, *packages):
+def c_peer(folder, name, *packages, more=()):
     found = flags(*packages)
     if found is None:
         return None
     program = f"{folder}/{name}"
-    subprocess.run(["cc", "-O2", "-std=c11", "-D_GNU_SOURCE", f"{HERE}/{name}.c", "-o", program, *found], check=True)
+    subprocess.run(["cc", "-O2", "-std=c11", "-D_GNU_SOURCE", f"{HERE}/{name}.c", "-o", program, *found, *more], check=True)
     return program
 
 
-def libwebrtc(folder):
+def gstreamer(folder, name="gstreamer"):
+    """Without the packages that gstreamer-1.0.pc names for static linking: libunwind-dev excludes that of LLVM."""
+    if not os.path.exists(f"{GSTREAMER}/gst/check/gstharness.h"):
+        return None
+    return c_peer(folder, name, "gobject-2.0", more=(f"-I{GSTREAMER}", "-lgstcheck-1.0", "-lgstreamer-1.0"))
+
+
+def libwebrtc(folder, name="libwebrtc"):
     if not os.path.exists(TGOWT):
         return None
-    program = f"{folder}/libwebrtc"
+    program = f"{folder}/{name}"
     absl = [f"-l{os.path.basename(it)[3:-3]}" for it in sorted(glob.glob(f"{os.path.dirname(TGOWT)}/libabsl_*.so"))]
     libraries = ["-Wl,--start-group", TGOWT, *absl, "-Wl,--end-group", "-lpthread", "-ldl"]
-    subprocess.run(["c++", "-O2", "-std=c++20", "-DWEBRTC_POSIX", "-DWEBRTC_LINUX", "-I/usr/include/tg_owt", f"{HERE}/libwebrtc.cc", "-o", program, *libraries], check=True)
+    subprocess.run(["c++", "-O2", "-std=c++20", "-DWEBRTC_POSIX", "-DWEBRTC_LINUX", "-Wno-deprecated-declarations", "-I/usr/include/tg_owt", f"{HERE}/{name}.cc", "-o", program, *libraries], check=True)
     return program
+
+
+def own_program(folder, name="own"):
+    words = ["cc", "-O2", "-std=c11", "-D_GNU_SOURCE", f"-I{receiving.ROOT}/include", f"{HERE}/{name}.c", f"{receiving.ROOT}/c/out/libcodec_payload.a"]
+    subprocess.run([*words, "-o", f"{folder}/{name}"], check=True)
+    return f"{folder}/{name}"
 
 
 def own_stream(folder):
     """The bytes of a stream of this library that got one packet."""
-    words = ["cc", "-O2", "-std=c11", "-D_GNU_SOURCE", f"-I{receiving.ROOT}/include", f"{HERE}/own.c", f"{receiving.ROOT}/c/out/libcodec_payload.a"]
-    subprocess.run([*words, "-o", f"{folder}/own"], check=True)
-    return printed(f"{folder}/own")
+    return printed(own_program(folder))
 
 
-def pion(folder):
+def pion(folder, source="pion"):
     if not os.path.isdir("/usr/share/gocode/src/github.com/pion/webrtc"):
         return None
     place = f"{folder}/go/src/peer"
     os.makedirs(place)
-    for name, text in ("go.mod", "module peer\n"), ("main.go", open(f"{HERE}/pion.go", encoding="utf-8").read()):
+    for name, text in ("go.mod", "module peer\n"), ("main.go", open(f"{HERE}/{source}.go", encoding="utf-8").read()):
         with open(f"{place}/{name}", "w", encoding="utf-8") as it:
             it.write(text)
     where = {**os.environ, "GO111MODULE": "off", "GOPATH": f"{folder}/go:/usr/share/gocode"}
@@ -90,7 +108,31 @@ def own(program, kind):
     return (counted(program, "time", kind, "64") - counted(program, "receive", kind, "64")) / (MANY - 1) / receiving.ROUNDS
 
 
+def print_losses():
+    """A table with a row for each run. The threads of GStreamer need real-time priority, or they are late in the time of the run."""
+    subprocess.run(["make", "-s", "-C", receiving.ROOT], check=True, stdout=subprocess.DEVNULL)
+    with tempfile.TemporaryDirectory() as folder:
+        os.makedirs(f"{folder}/losses")
+        own = own_program(folder, "losses/own")
+        stacks = {
+            "this library": [own],
+            "the same, from keyframes": [own, "drop"],
+            "libwebrtc": [libwebrtc(folder, "losses/libwebrtc")],
+            "GStreamer": ["chrt", "-f", "10", gstreamer(folder, "losses/gstreamer")],
+            "pion": [pion(folder, "losses/pion")],
+            "ffmpeg": [c_peer(folder, "losses/ffmpeg", "libavformat", "libavcodec", "libavutil")],
+        }
+        stacks = {name: words for name, words in stacks.items() if words[-1]}
+        print("| run | " + " | ".join(stacks) + " |\n" + "|---" * (len(stacks) + 1) + "|")
+        for kind, named in KINDS.items():
+            for run in losses.RUNS:
+                print(f"| {named}, {run} | " + " | ".join(losses.cell(kind, run, words) for words in stacks.values()) + " |", flush=True)
+    return 0
+
+
 def main(words):
+    if words == ["--losses"]:
+        return print_losses()
     if words not in ([], ["--times"]):
         sys.exit(__doc__.strip())
     with tempfile.TemporaryDirectory() as folder:
@@ -98,7 +140,7 @@ def main(words):
         peers = {
             "libwebrtc": libwebrtc(folder),
             "ffmpeg": c_peer(folder, "ffmpeg", "libavformat", "libavcodec", "libavutil"),
-            "GStreamer": c_peer(folder, "gstreamer", "gstreamer-check-1.0"),
+            "GStreamer": gstreamer(folder),
             "pion": pion(folder),
         }
         head = [f"{it}, instructions" for it in KINDS.values()] + ["stream that got one packet, bytes"] + ([f"{it}, ns" for it in KINDS.values()] if words else [])

@@ -48,7 +48,7 @@ fn link_of(codec: Codec) -> Result<ForwardLink<NoBox, NoBox>, Fail> {
 
 /// The frame with that index. Each eighth is a keyframe: bit 0 of its first byte is clear (RFC 6386, section 9.1).
 fn frame_of(index: usize) -> [u8; 3] {
-    [u8::from(index % 8 != 0), 0xa5, index as u8]
+    [u8::from(!index.is_multiple_of(8)), 0xa5, index as u8]
 }
 
 fn samples() -> Vec<ToPayload> {
@@ -89,7 +89,7 @@ impl Schedule {
     fn forward(&mut self, datagram: usize) {
         let now = datagram as u64 * 1_500;
         self.steps.push(ForwardStep::Forward { datagram, now });
-        if self.begun.is_none() && datagram % 16 == 0 {
+        if self.begun.is_none() && datagram.is_multiple_of(16) {
             self.begun = Some(datagram);
         }
         if self.begun.is_some_and(|first| first <= datagram) {
@@ -189,7 +189,10 @@ fn each_written_datagram_is_a_sent_one() -> Result<(), Fail> {
         assert_eq!(got.header.marker, sent.header.marker);
         assert_eq!((got.header.ssrc, got.header.payload_type), (0x7777, 101));
         // The first written packet has the first number and the first time of the settings.
-        let numbers = sent.header.sequence_number.wrapping_sub(first.sequence_number);
+        let numbers = sent
+            .header
+            .sequence_number
+            .wrapping_sub(first.sequence_number);
         assert_eq!(got.header.sequence_number, 65_000_u16.wrapping_add(numbers));
         let times = sent.header.timestamp.wrapping_sub(first.timestamp);
         assert_eq!(got.header.timestamp, (u32::MAX - 5_000).wrapping_add(times));
@@ -203,7 +206,11 @@ fn nothing_is_forwarded_that_is_not_wanted() -> Result<(), Fail> {
     link.forwarder.want(8);
     let run = run_forwarded(&mut link, &samples(), &schedule_of(1, true).steps)?;
     assert!(run.written.is_empty() && run.run.receipts.is_empty());
-    assert!(run.answers.iter().all(|answer| *answer == Forwarded::OtherSource));
+    assert!(
+        run.answers
+            .iter()
+            .all(|answer| *answer == Forwarded::OtherSource)
+    );
     assert!(run.run.pops.iter().all(Option::is_none));
     Ok(())
 }
