@@ -777,7 +777,7 @@ CPAY_CHECKED cpay_status cpay_forwarder_leave_out(cpay_forwarder *forwarder, con
  * CPAY_RESENT_NOT_KEPT: no packet was sent under this number, it is too old, or the store does not have it; then *size is 0, and the
  * output buffer is unchanged. Never CPAY_RESENT_TOO_SOON: limit yourself how often a number is resent, for example once in a round
  * trip. The history does not change. CPAY_TOO_SMALL: the packet needs *size bytes; nothing else has changed. If the call
- * fails, the forwarder is unchanged. CPAY_EMPTY and CPAY_OTHER_KIND also tell of the history. It allocates only if a packet is larger than
+ * fails, the forwarder is unchanged. CPAY_EMPTY and CPAY_OTHER_KIND apply to the history too. It allocates only if a packet is larger than
  * all before it. [m] */
 CPAY_CHECKED cpay_status cpay_forwarder_resend(cpay_forwarder *forwarder, cpay_history *history, uint16_t number, uint8_t *bytes,
                                                size_t bytes_len, size_t *size, cpay_resent *resent);
@@ -1233,7 +1233,7 @@ typedef struct {
 /** How the arrivals of packets are reported to the sender, for its congestion control: transport-wide feedback
  * (draft-holmer-rmcat-transport-wide-cc-extensions-01). cpay_session_settings_init sets all but the id. */
 typedef struct {
-    uint64_t interval;    /**< number of ticks between two feedbacks; 0 counts as 1. 100 to begin with: 50 to 250 ms suit video */
+    uint64_t interval;    /**< number of ticks between two feedbacks; 0 counts as 1. 100 by default: 50 to 250 ms suit video */
     size_t size;          /**< maximum size of the control information of a feedback in bytes; 1100 to begin with. A larger feedback
                                is split */
     size_t window;        /**< number of packets that are remembered, 1 to 32768, 8 bytes each; 2048 to begin with. A packet that comes
@@ -1424,8 +1424,8 @@ CPAY_CHECKED cpay_status cpay_session_next_deadline(cpay_session *session, uint6
  * nothing changes. A later packet of the SSRC begins a new stream. */
 CPAY_CHECKED cpay_status cpay_session_end(cpay_session *session, uint64_t now, uint32_t ssrc);
 
-/** Forgets which packets of the transport arrived. Call it if another peer takes over the transport, or the peer counts anew: without
- * this call, numbers behind the last `window` ones are ignored until they pass the highest one. Without has_transport nothing changes. */
+/** Forgets which packets of the transport arrived. Call it if another peer takes over the transport, or the peer counts from a new number:
+ * without this call, numbers behind the last `window` ones are ignored until they pass the highest one. Without has_transport nothing changes. */
 CPAY_CHECKED cpay_status cpay_session_restart_transport(cpay_session *session);
 
 /** Ends all streams at time `now`, announced or not: polls report their complete units, and then CPAY_EVENT_ENDED for each. From

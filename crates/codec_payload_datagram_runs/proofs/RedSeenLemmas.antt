@@ -196,7 +196,7 @@ module _ (l : RedSide) (jump : ℕ) where
   abbrev packets : List Packet
   packets = packets_of l.c.units
 
-  -- so many packets are within a turn
+  -- this number of packets is within a turn
   abbrev pub most : ℕ
   most = 64 * jump + l.backward + 9
 

@@ -178,7 +178,7 @@ all_turns_on T (turn ∷ here) rest a b = (a.0, all_turns_on T here rest a.1 b)
 abbrev pub Watched : (low high : ℕ) → (Answer → Type 0) → Turn → Type 0
 Watched low high Out turn = HasAll low high turn.stretch.now.held → Out turn.answer ⊎ (HasFrame low high turn.passed ⊎ HasAll low high turn.after.held)
 
--- what becomes of packets that are all held before these turns
+-- where packets that are all held before these turns are after them
 pub data Ends (low high from count : ℕ) (Out : Answer → Type 0) (turns later : List Turn) (end : Stretch) : Type 0 where
   is_out : SomeTurn (λ (turn : Turn). Out turn.answer) turns → Ends low high from count Out turns later end
   is_over : SomeTurn (λ (turn : Turn). HasFrame low high turn.passed) turns → Ends low high from count Out turns later end

@@ -73,7 +73,7 @@ pub record RedWireLog (samples : List Sample) (all_steps : List DatagramStep) (s
 
 -- Premise
 
--- The receiver tells packets apart by their RTP times, and remembers the latest 64. So the packets of 65 deliveries in a row have to be
+-- The receiver distinguishes packets by their RTP times, and remembers the latest 64. So the packets of 65 deliveries in a row have to be
 -- within one turn of the RTP clock, 2^32 ticks: the packets are `step` ticks apart, and each delivered datagram is less than `jump`
 -- above the highest one before it, and at most `backward` below
 pub record StaysInTurn (step backward : ℕ) (ks : List ℕ) : Type 0 where

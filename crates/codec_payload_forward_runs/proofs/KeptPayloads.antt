@@ -1,4 +1,4 @@
--- Payloads that a forwarder keeps: all but those of VP8 with picture ids.
+-- Payloads that a forwarder keeps: all payloads except those of VP8 with picture ids.
 use Rattle.std.proofs.Common.{◌≡◌, ◌∙◌, refl, sym, ap, subst, ℕ, zero, suc, ◌<◌, List, [], ◌∷◌, ◌++◌, Bool, true, false, ltb, Option, Some, None, Result, Ok, Err, length, arith}
 use Rattle.std.specs.Prelude.{slice_index_or}
 use Rattle.std.proofs.lemmas.Bool.{ltb-false, ltb-true}

@@ -76,7 +76,7 @@ pub fn run_forwarded<P: Packetizer, D: Depacketizer>(
     steps: &[ForwardStep],
 ) -> Result<ForwardedRun, PacketError>
     ensures runs { IfOk result (λ run. ForwardRuns (map sample_of samples.now) steps.now (begins_forwarding link.old.sender link.old.forwarder link.old.receiver) (hops_of link.new.sender link.new.forwarder link.new.receiver run)) }
-    // What the forwarder writes: each datagram that it forwards, but for the fields of the viewer's stream.
+    // What the forwarder writes: each datagram that it forwards, except for the fields of the viewer's stream.
     ensures forwards { IfOk result (λ run. ForwardsPackets (map sample_of samples.now) steps.now (begins_forwarding link.old.sender link.old.forwarder link.old.receiver) (hops_of link.new.sender link.new.forwarder link.new.receiver run)) }
     // The units that the viewer's receiver releases, if what is delivered to it arrives within its windows.
     ensures units { IfOk result (λ run. ReleasesForwarded (map sample_of samples.now) steps.now (begins_forwarding link.old.sender link.old.forwarder link.old.receiver) (hops_of link.new.sender link.new.forwarder link.new.receiver run)) }

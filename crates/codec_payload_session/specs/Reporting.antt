@@ -90,7 +90,7 @@ abbrev pub name_length : ℕ → ℕ
 name_length zero = 0
 name_length (suc n) = 12 + 4 * ((suc n + 2) / 4)
 
--- the blocks that fit into so many bytes: receiver reports of 8 bytes and 31 blocks, and one with the rest
+-- the blocks that fit into this number of bytes: receiver reports of 8 bytes and 31 blocks, and one with the rest
 abbrev pub blocks_within : ℕ → ℕ
 blocks_within bytes = 31 * (bytes / 752) + (bytes % 752 - 8) / 24
 
@@ -164,8 +164,8 @@ abbrev pub due_after : Result (Vec ℕ) AllocError → ℕ → ℕ → Option �
 due_after (Ok packet) interval now due = later now (max 1 interval)
 due_after (Err e) interval now due = due
 
--- the packet has the blocks of the streams whose turn it is, and the next one is due one interval later; if memory runs out nothing
--- has changed
+-- the packet has the blocks of the streams whose turn it is, and the next one is due one interval later; if memory runs out,
+-- nothing has changed
 abbrev pub Reports : FeedbackSettings → (interval tick_rate now : ℕ) → Option ℕ → Port → Result (Vec ℕ) AllocError → Option ℕ → Port → Type 0
 Reports f interval tick_rate now due p (Ok packet) next q =
     IsReport f (bytes_of (blocks_of (is_new_round (most_blocks f) p.streams) (most_blocks f) tick_rate now p.streams)) packet.items × (next ≡ later now (max 1 interval))

@@ -394,7 +394,7 @@ impl Session {
         }
     }
 
-    /// Forgets which packets of the transport arrived. Call it if another peer takes over the transport, or the peer counts anew: without
+    /// Forgets which packets of the transport arrived. Call it if another peer takes over the transport, or the peer counts from a new number: without
     /// this call, numbers behind the last 2,048 (`window`) are ignored until they pass the highest one, up to 32,768 packets later.
     /// Without `transport` of the settings nothing changes.
     pub fn restart_transport(&mut self) {
