@@ -1,3 +1,5 @@
 pub mod ForwardReleases
 pub mod ForwardRuns
 pub mod ForwardRunExample
+pub mod StoreReleases
+pub mod StoreRuns
