@@ -52,12 +52,12 @@ pub enum Waiting {
     Fixed,
     /// By the round trip, if there is a [`FeedbackSettings::longest_wait`]. Otherwise as with `Fixed`.
     RoundTrip,
-    /// By how late missing packets arrive, within these bounds: each datagram that the stream takes sets the limit of an
-    /// [`AdaptiveWait`]. It suits senders without retransmissions, whose missing packets come late or never, and retransmissions of
+    /// By how late missing packets arrive, within the bounds of [`SessionSettings::late`]: each datagram that the stream takes sets
+    /// the limit of an [`AdaptiveWait`]. It suits senders without retransmissions, whose missing packets come late or never, and retransmissions of
     /// others than the session. It takes 1.9 kB for each stream.
     ///
     /// [`AdaptiveWait`]: crate::waiting::adaptive_wait::AdaptiveWait
-    Late(AdaptiveWaitSettings),
+    Late,
 }
 
 /// Two SSRCs of one source, as `a=ssrc-group:FID` names them.
@@ -132,6 +132,8 @@ pub struct SessionSettings {
     pub audio: WaitLimits,
     /// How long frames of video wait for missing packets.
     pub video: WaitLimits,
+    /// Within which bounds frames wait, in formats that wait by how late missing packets arrive ([`Waiting::Late`]).
+    pub late: AdaptiveWaitSettings,
     /// What a stream of video does with units that a decoder cannot show. By default they are marked
     /// ([`Session::receiver_of`]).
     ///
@@ -202,7 +204,7 @@ impl FeedbackSettings {
 
 impl SessionSettings {
     /// Returns settings without formats, for live streams and a clock in milliseconds. Frames of audio wait for at most 100 ms,
-    /// and frames of video for at most 200 ms. A session has at most 64 streams of 4,096 packets, and a unit at most
+    /// frames of video for at most 200 ms, and formats that wait by late packets within [`AdaptiveWaitSettings::live`]. A session has at most 64 streams of 4,096 packets, and a unit at most
     /// 1,048,576 bytes. A stream is announced with its second datagram, ends after 30 s without a datagram, and takes packets
     /// for 200 ms after its BYE. Nothing is requested. Does not allocate.
     pub fn live() -> SessionSettings {
@@ -214,6 +216,7 @@ impl SessionSettings {
             extension_ids: ExtensionIds::default(),
             audio: WaitLimits::live(),
             video: WaitLimits::live_video_with_nack(),
+            late: AdaptiveWaitSettings::live(),
             from_keyframe: FromKeyframe::Mark,
             limit: LIMIT,
             max_unit: Some(MAX_UNIT),

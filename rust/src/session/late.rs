@@ -3,7 +3,7 @@
 //! Waiting that follows how late missing packets arrive.
 
 use crate::memory::{AllocError, One};
-use crate::session::formats::{Format, Waiting};
+use crate::session::formats::{Format, SessionSettings, Waiting};
 use crate::session::requests::original_number;
 use crate::stream::parsed::ParsedDatagram;
 use crate::stream::receiver::Receiver;
@@ -14,9 +14,12 @@ use crate::wire::Ticks;
 const MOST: usize = 64;
 
 /// Returns the limit of a new stream of the format, if waiting follows how late packets arrive.
-pub(crate) fn late_for(format: &Format) -> Result<Option<One<AdaptiveWait>>, AllocError> {
+pub(crate) fn late_for(
+    settings: &SessionSettings,
+    format: &Format,
+) -> Result<Option<One<AdaptiveWait>>, AllocError> {
     match format.wait {
-        Waiting::Late(settings) => Ok(Some(One::try_new(AdaptiveWait::new(settings))?)),
+        Waiting::Late => Ok(Some(One::try_new(AdaptiveWait::new(settings.late))?)),
         Waiting::Fixed | Waiting::RoundTrip => Ok(None),
     }
 }

@@ -5,10 +5,15 @@
 use crate::session::formats::Format;
 use crate::session::stream::{Ending, StreamState};
 
+/// Returns whether both formats are the same, with all of their fields.
+fn is_same(one: &Format, other: &Format) -> bool {
+    *one == *other
+}
+
 /// Returns whether one of the formats is this one.
 fn has_format(formats: &[Format], format: &Format) -> bool {
     for other in formats {
-        if *other == *format {
+        if is_same(other, format) {
             return true;
         }
     }
@@ -18,7 +23,8 @@ fn has_format(formats: &[Format], format: &Format) -> bool {
 /// Ends the streams at that time whose formats are not among these.
 pub(crate) fn leave_formats(streams: &mut [StreamState], formats: &[Format], at: u64) {
     for place in 0..streams.len() {
-        let is_gone = !has_format(formats, &streams[place].format);
-        streams[place].leave_if(is_gone, Ending::Changed, at);
+        let stream = &mut streams[place];
+        let is_gone = !has_format(formats, &stream.format);
+        stream.leave_if(is_gone, Ending::Changed, at);
     }
 }

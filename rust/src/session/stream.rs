@@ -132,7 +132,7 @@ impl StreamState {
         depacketizer.configure_for(&format.spec);
         let max_wait = settings.limits(format).max_wait;
         let feedback = Feedback::begin(&settings.feedback, ssrc, format, max_wait)?;
-        let late = late_for(format)?;
+        let late = late_for(settings, format)?;
         let settings = settings.receiver(ssrc, format)?;
         let receiver = NamedReceiver::begin(depacketizer, settings).unwrap();
         Ok(StreamState {
