@@ -1556,6 +1556,7 @@ typedef enum {
  * keyframe. A stream in probation sends its PLI once it is announced, and a stream whose sender is silent once a datagram arrives. With
  * two streams of the SSRC, as after a change of format, the first one asks. Does not allocate. */
 CPAY_CHECKED cpay_status cpay_session_request_keyframe(cpay_session *session, uint32_t ssrc, cpay_keyframe_answer *answer);
+
 /** Replaces the payload formats, as a new session description states them. Streams whose format is still there, with all of its
  * fields, go on. All other streams end at `now`: polls report their complete units, and then CPAY_EVENT_ENDED with
  * CPAY_ENDED_BY_CHANGE. Media of a new format begin a stream as usual. Datagrams of a payload type that is gone are
