@@ -1,5 +1,5 @@
 -- A stream that had nothing to request has nothing to request later.
-use Rattle.std.proofs.Common.{◌≡◌, ◌∙◌, refl, ap, sym, subst, ℕ, zero, suc, ◌&&◌, ◌||◌, not, List, [], ◌∷◌, Bool, true, false, cond, Some, None, Ok, inl, inr, min, take, length, ◌==◌, arith}
+use Rattle.std.proofs.Common.{◌≡◌, ◌∙◌, refl, ap, sym, subst, ℕ, zero, suc, ◌&&◌, not, List, [], ◌∷◌, Bool, true, false, cond, Some, None, Ok, inl, inr, min, take, length, ◌==◌, arith}
 use Rattle.std.proofs.lemmas.Bool.{false≢true}
 use Rattle.codec_payload_feedback.specs.Feedback.{Requests, after_feedback, deadline_of, has_any, is_idle, keyframe_is_due, numbers_due, updated}
 use Rattle.codec_payload_jitter.specs.Missing.{missing_numbers, missing_of}
@@ -36,13 +36,9 @@ both_right : (a b : Bool) → (not a && b) ≡ true → b ≡ true
 both_right true b is = absurd (false≢true is)
 both_right false b is = is
 
-wants_none : (heard pli wants : Bool) → (pli && wants) ≡ false → (heard && pli && wants) ≡ false
-wants_none true true true is = is
-wants_none true true false is = refl
-wants_none true false wants is = refl
-wants_none false true true is = refl
-wants_none false true false is = refl
-wants_none false false wants is = refl
+wants_none : (heard wants : Bool) → wants ≡ false → (heard && wants) ≡ false
+wants_none true wants is = is
+wants_none false wants is = refl
 
 misses_none : (heard : Bool) (r : Receiver) (a : Asking) → is_calm a r ≡ true → missing_numbers r.packets (cond heard a.most 0) ≡ []
 misses_none true r a calm = take_first a.most (missing_of r.packets) (both_right (wants_keyframe a r) (is_none (missing_numbers r.packets (min a.most 1))) calm)
@@ -66,7 +62,7 @@ refreshed_none : (now : ℕ) (heard : Bool) (r : Receiver) (a : Asking) → is_c
 refreshed_none now heard r a calm =
     ap (λ (ns : List ℕ). record a { requests = updated now ns (heard && wants_keyframe a r) a.requests }) (misses_none heard r a calm)
     ∙ (ap (λ (b : Bool). record a { requests = updated now [] b a.requests })
-    (wants_none heard a.pli (r.gates.gate.wants || a.asked) (both_left (wants_keyframe a r) (is_none (missing_numbers r.packets (min a.most 1))) calm))
+    (wants_none heard (wants_keyframe a r) (both_left (wants_keyframe a r) (is_none (missing_numbers r.packets (min a.most 1))) calm))
     ∙ ap (λ (q : Requests). record a { requests = q }) (updated_none now a.requests))
 
 empty_list : (ps : List PendingRequest) → (length ps == 0) ≡ true → ps ≡ []

@@ -95,11 +95,30 @@ dated_fed w v place d ss ts is most dated one = record {
   dated = λ known some. subst (λ (n : ℕ). IsDated n d ts) (sym is) (dated_on place d ss ts one (dated known (omega (arith, some, most))));
 }
 
+set_back : (ts : List ℕ) (i d m : ℕ) → i < length ts → set (set ts i m) i (get_or ts i d) ≡ ts
+set_back [] i d m within = absurd (omega (arith, within))
+set_back (t ∷ ts) zero d m within = refl
+set_back (t ∷ ts) (suc i) d m within = ap (λ (l : List ℕ). t ∷ l) (set_back ts i d m (omega (arith, within)))
+
+-- the time of the stream that was excepted is noted, and another one is excepted
+pub dated_note : (d e : Dues) (fed place key : ℕ) (ss : List StreamState) (x : StreamState) → IsDated fed d ss → place < length ss → x ≡ get_or ss fed x → key ≡ key_of (due_of d.idle_timeout x)
+    → e.times ≡ set (set d.times fed key) place (2 ^ 64 - 1) → e.idle_timeout ≡ d.idle_timeout → IsDated place e ss
+dated_note d e fed place key ss x dated within at is times idle =
+    let keys : List ℕ = keys_of d.idle_timeout ss in
+    let long : fed < length keys = omega (arith, dated.within, length-map ss (λ (s : StreamState). key_of (due_of d.idle_timeout s))) in
+    let own : key ≡ get_or keys fed 0 = is ∙ ap (λ (s : StreamState). key_of (due_of d.idle_timeout s)) at ∙ sym (key_at d.idle_timeout fed ss x 0 dated.within) in
+    let back : set d.times fed key ≡ keys =
+    ap (λ (l : List ℕ). set l fed key) dated.times ∙ ap (λ (k : ℕ). set (set keys fed (2 ^ 64 - 1)) fed k) own ∙ set_back keys fed 0 (2 ^ 64 - 1) long in
+    record {
+      within = within;
+      times = times ∙ ap (λ (l : List ℕ). set l place (2 ^ 64 - 1)) back ∙ ap (λ (i : ℕ). set (keys_of i ss) place (2 ^ 64 - 1)) (sym idle);
+    }
+
 -- a bound that says nothing
 pub none_dated : (w : Waking) (d : Dues) (ss : List StreamState) → SaysNothing w → AreDated w d ss
 none_dated w d ss says = record { dated = λ known some. absurd (omega (arith, some, says.nothing)) }
 
--- ---- all times anew
+-- ---- all times are found again
 
 set_next : (ks ts : List ℕ) (i d : ℕ) → length ts ≡ length ks → i < length ks → set (take i ks ++ drop i ts) i (get_or ks i d) ≡ take (suc i) ks ++ drop (suc i) ts
 set_next [] ts i d same within = absurd (omega (arith, within))

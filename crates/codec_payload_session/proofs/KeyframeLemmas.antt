@@ -1,18 +1,16 @@
 -- Keyframes that the caller asks for: when their requests leave.
-use Rattle.std.proofs.Common.{◌≡◌, ◌∙◌, refl, ap, sym, subst, ℕ, zero, suc, ◌<◌, ◌-◌, ◌==◌, ◌&&◌, ◌||◌, List, [], ◌∷◌, Bool, true, false, Option, Some, None, Result, Ok, Err, length, set, get_or, slice_get, arith}
-use Rattle.std.specs.Prelude.{nat_le, nat_lt, if◌then◌else◌, is_some, slice_set}
+use Rattle.std.proofs.Common.{◌≡◌, ◌∙◌, refl, ap, sym, subst, ℕ, zero, suc, ◌<◌, ◌==◌, ◌&&◌, ◌||◌, List, [], ◌∷◌, Bool, true, false, Option, Some, None, Result, Ok, length, get_or, slice_get, arith}
+use Rattle.std.specs.Prelude.{if◌then◌else◌, is_some, slice_set}
 use Rattle.std.specs.Global.{Vec}
 use Rattle.std.specs.List.{position, position_or_len}
 use Rattle.std.proofs.lemmas.List.Folds.{position_or_len-set}
 use Rattle.std.proofs.lemmas.Option.{get_or_from_slice_get, slice_get-get_or}
 use Rattle.std.specs.declared.alloc.AllocError.{AllocError}
-use Rattle.std.proofs.lemmas.Bool.Decides.{nat_tests}
 use Rattle.codec_payload_base.specs.declared.wire.Ticks.{Ticks}
 use Rattle.codec_payload_buffer.specs.Release.{Release}
-use Rattle.codec_payload_feedback.specs.Feedback.{Requests, deadline_of as deadline_of_requests, has_any, keyframe_is_due, numbers_due}
+use Rattle.codec_payload_feedback.specs.Feedback.{deadline_of as deadline_of_requests, has_any, keyframe_is_due, numbers_due}
 use Rattle.codec_payload_feedback_requests.specs.KeyframeRequests.{deadline_of as keyframe_deadline}
 use Rattle.codec_payload_feedback_requests.specs.NackSchedule.{earliest_of}
-use Rattle.codec_payload_feedback_requests.specs.Requests.{has_come}
 use Rattle.codec_payload_jitter.specs.Receiving.{deadline_of}
 use Rattle.codec_payload_receiver.specs.Sessions.{Session as Receiver}
 use Rattle.codec_payload_receiver.specs.declared.pops.Popped.{Popped}
@@ -20,25 +18,22 @@ use Rattle.codec_payload_session.specs.Arrivals.{Port, has_ssrc}
 use Rattle.codec_payload_session.specs.Idle.{next_of}
 use Rattle.codec_payload_session.specs.Keyframes.{KeyframeLeaves, LeavesFrom, answer_among, answer_of, asked_among, asked_with, asks_keyframe, may_ask}
 use Rattle.codec_payload_session.specs.Polls.{Polls}
-use Rattle.codec_payload_session.specs.Ports.{IsPort, Session, taken_in}
+use Rattle.codec_payload_session.specs.Ports.{IsPort, Session}
 use Rattle.codec_payload_session.specs.Quiet.{IsBefore}
 use Rattle.codec_payload_session.specs.Reporting.{report_deadline}
 use Rattle.codec_payload_session.specs.Requests.{Asking, Asks, answer_by, answer_when, asked_by, asked_when, is_heard, refreshed, wants_keyframe}
-use Rattle.codec_payload_session.specs.Streams.{Drains, Follows, Pops, RequestsBy, RestsBy, Steps, StepsBy, StreamState, answer_for, answer_unless, asked_for, asked_unless, due_by, due_in, due_of, earlier, end_by, end_of, is_ending, is_probation, later as time_after, request_deadline, step_of, step_with, work_deadline}
+use Rattle.codec_payload_session.specs.Streams.{Drains, Follows, Pops, RequestsBy, RestsBy, Steps, StepsBy, StreamState, answer_for, answer_unless, asked_for, asked_unless, due_by, due_in, due_of, earlier, end_of, is_ending, is_probation, later as time_after, request_deadline, work_deadline}
 use Rattle.codec_payload_session.specs.Telephone.{Queue, due_before}
 use Rattle.codec_payload_session.specs.Transports.{transport_deadline}
 use Rattle.codec_payload_session.specs.Turns.{AreQuiet}
 use Rattle.codec_payload_session.specs.Units.{Event}
 use Rattle.codec_payload_session.specs.declared.formats.SessionSettings.{SessionSettings}
-use Rattle.codec_payload_session.specs.declared.keyframe.KeyframeAnswer.{KeyframeAnswer}
 use Rattle.codec_payload_session.specs.declared.keyframe.KeyframeAnswer.TheVariants as answers
 use Rattle.codec_payload_session.specs.declared.session.ArrivalCounts.{ArrivalCounts}
 use Rattle.codec_payload_session.specs.declared.stream.Ending.{Ending}
-use Rattle.codec_payload_session.specs.declared.stream.Ending.TheVariants as endings
 use Rattle.codec_payload_session.specs.declared.stream.Stage.{Stage}
 use Rattle.codec_payload_session.specs.declared.stream.Stage.TheVariants as stages
 use Rattle.codec_payload_session.specs.declared.stream.Step.TheVariants as steps
-use Rattle.codec_payload_session.specs.declared.telephone.TelephonePacket.{TelephonePacket}
 use Rattle.codec_payload_session.proofs.AccountLemmas.{length_set, taken_set}
 use Rattle.codec_payload_session.proofs.DueLemmas.{earlier_both as requests_both}
 use Rattle.codec_payload_session.proofs.IdleLemmas.{Polled, not_come, polled_after, some_step}

@@ -101,7 +101,7 @@ taken_stays fs at (s ∷ ss) (t ∷ ts) h = omega (arith, same_taken fs at s t h
 taken_stays fs at [] (t ∷ ts) h = absurd h
 taken_stays fs at (s ∷ ss) [] h = absurd h
 
-length_stays : (fs : List Format) (at : ℕ) (ss ts : List StreamState) → StayOrEnd fs at ss ts → length ts ≡ length ss
+pub length_stays : (fs : List Format) (at : ℕ) (ss ts : List StreamState) → StayOrEnd fs at ss ts → length ts ≡ length ss
 length_stays fs at [] [] h = refl
 length_stays fs at (s ∷ ss) (t ∷ ts) h = ap suc (length_stays fs at ss ts h.1)
 length_stays fs at [] (t ∷ ts) h = absurd h

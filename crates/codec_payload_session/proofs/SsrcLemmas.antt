@@ -14,7 +14,7 @@ use Rattle.codec_payload_jitter.specs.declared.outcome.Outcome.{Outcome}
 use Rattle.codec_payload_receiver.specs.declared.receiver.ReceiveError.{ReceiveError}
 use Rattle.codec_payload_receiver.specs.Sessions.{Session as Receiver}
 use Rattle.std.specs.declared.result.Result.{Result}
-use Rattle.codec_payload_session.specs.Streams.{Drains, Plays, Pops, RequestsBy, RestsBy, Steps, StepsBy, is_of, Follows, StreamState, Takes, end_of, heard_unless, is_accepted, is_no_memory, is_probation, late_followed, late_noted, left_when, received, waiting_for, waiting_when}
+use Rattle.codec_payload_session.specs.Streams.{Drains, RequestsBy, RestsBy, Steps, StepsBy, is_of, Follows, StreamState, Takes, end_of, heard_unless, is_accepted, is_no_memory, is_probation, late_followed, late_noted, left_when, received, waiting_for, waiting_when}
 use Rattle.codec_payload_jitter.specs.declared.jitter.WaitLimits.{WaitLimits}
 use Rattle.codec_payload_session.specs.Arrivals.{has_ssrc}
 use Rattle.codec_payload_session.specs.Changes.{any_left_behind, are_alike, continued, is_left_behind, is_playing, left_behind, takes_turns}

@@ -1,7 +1,6 @@
 -- Formats that change while a session lives: the streams of formats that are gone end.
 use Rattle.std.specs.Prelude.{◌≡◌, ◌⊎◌, ℕ, List, [], ◌∷◌}
 use Rattle.std.specs.Global.{Vec}
-use Rattle.codec_payload_session.specs.Arrivals.{Port}
 use Rattle.codec_payload_session.specs.Ports.{Session}
 use Rattle.codec_payload_session.specs.Streams.{left}
 use Rattle.codec_payload_session.specs.declared.formats.Format.{Format}

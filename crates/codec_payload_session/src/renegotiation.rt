@@ -5,13 +5,45 @@ ghost use Rattle.codec_payload_session.specs.Renegotiation.{IsAmong, IsGone, Sta
 
 use crate::formats::Format;
 use crate::stream::{Ending, StreamState};
+use codec_payload_base::wire::CodecSpec;
+use codec_payload_receiver::receiver::RedSettings;
 
 /// Returns whether both formats are the same, with all of their fields.
 fn is_same(one: &Format, other: &Format) -> bool
     ensures same { IsTrue result → one.now ≡ other.now }
     ensures different { IsFalse result → one.now ≡ other.now → IsTrue result }
 {
+    is_same_spec(&one.spec, &other.spec)
+        && is_same_red(&one.red, &other.red)
+        && is_same_beside(one, other)
+}
+
+/// Returns whether both media are the same.
+fn is_same_spec(one: &CodecSpec, other: &CodecSpec) -> bool
+    ensures same { IsTrue result → one.now ≡ other.now }
+    ensures different { IsFalse result → one.now ≡ other.now → IsTrue result }
+{
     *one == *other
+}
+
+/// Returns whether RED is the same.
+fn is_same_red(one: &Option<RedSettings>, other: &Option<RedSettings>) -> bool
+    ensures same { IsTrue result → one.now ≡ other.now }
+    ensures different { IsFalse result → one.now ≡ other.now → IsTrue result }
+{
+    *one == *other
+}
+
+/// Returns whether all other fields are the same.
+fn is_same_beside(one: &Format, other: &Format) -> bool
+    ensures same { IsTrue result → one.now ≡ record other.now { spec = one.now.spec; red = one.now.red } }
+    ensures different { IsFalse result → one.now ≡ other.now → IsTrue result }
+{
+    one.payload_type == other.payload_type
+        && one.retransmission == other.retransmission
+        && one.nack == other.nack
+        && one.pli == other.pli
+        && one.wait == other.wait
 }
 
 /// Returns whether one of the formats is this one.

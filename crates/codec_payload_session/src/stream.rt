@@ -254,7 +254,8 @@ impl StreamState {
                 datagram,
                 self.receiver.inner(),
             );
-            self.wait_for(limit_by(&self.late));
+            let limit = limit_by(&self.late);
+            self.wait_for(limit);
         }
     }
 
@@ -272,7 +273,8 @@ impl StreamState {
     fn follow_round_trip(&mut self)
         ensures { self.new ≡ waiting_for (wait_by self.old.feedback) self.old }
     {
-        self.wait_for(wait_by(&self.feedback));
+        let wait = wait_by(&self.feedback);
+        self.wait_for(wait);
     }
 
     /// Waits for at most that time. `None`: the wait limits stay.

@@ -6,7 +6,7 @@ use Rattle.codec_payload_receiver.specs.Sessions.{Session as Receiver}
 use Rattle.codec_payload_session.specs.Requests.{Asking, answered_if}
 use Rattle.codec_payload_session.specs.Streams.{Pops, RestsBy, StreamState, is_keyframe, step_with, work_deadline}
 use Rattle.codec_payload_buffer.specs.Release.{Release}
-use Rattle.codec_payload_session.specs.Units.{Step, result_with, step_to}
+use Rattle.codec_payload_session.specs.Units.{result_with, step_to}
 use Rattle.codec_payload_session.specs.declared.stream.Step.{Step as StepWith}
 use Rattle.codec_payload_session.specs.declared.stream.Step.TheVariants as steps
 use Rattle.codec_payload_session.proofs.QuietLemmas.{nothing_is}
@@ -32,7 +32,7 @@ returns-in-Some c =
     let t : StreamState = record s { feedback = c.answer_if.new.feedback } in
     let unit : Release = c.pop_unit.new.unit in
     let keyframe : c.is_keyframe-keyframe.result ≡ is_keyframe (result_with c.in-Some.popped unit) c.pop_unit.new.self =
-    c.is_keyframe-keyframe.ensures ∙ ap (λ (r : Receiver). is_keyframe c.in-Some.popped r) c.inner-keyframe.ensures ∙ sym (keyframe_with c.in-Some.popped unit c.pop_unit.new.self) in
+    c.is_keyframe-keyframe.ensures ∙ ap (λ (r : Receiver). is_keyframe c.in-Some.popped r) c.inner-in-Some.ensures ∙ sym (keyframe_with c.in-Some.popped unit c.pop_unit.new.self) in
     let after : t ≡ record s { feedback = answered_if (is_keyframe (result_with c.in-Some.popped unit) c.pop_unit.new.self) s.feedback } =
     ap (λ (o : Option Asking). record s { feedback = o }) (c.answer_if.ensures ∙ ap (λ (b : Bool). answered_if b s.feedback) keyframe) in
     let step_is : step_to c.step_with.result unit ≡ step_with (result_with c.in-Some.popped unit) = ap (λ (x : StepWith ⊤). step_to x unit) c.step_with.ensures ∙ step_pop c.in-Some.popped unit in

@@ -19,7 +19,8 @@ returns c =
       c.receive-answer.ensures.received,
       c.note_unless.ensures
           ∙ (ap (λ (x : StreamState). heard_unless no_memory c.args.now.0 c.args.probation accepted x)
-          (c.follow_if.ensures ∙ ap (λ (x : StreamState). late_followed (is_ok c.receive-answer.result) c.args.now.0 c.args.datagram.now x) (c.hear_if.ensures ∙ received_same c.args.now.0 c.args.datagram.now accepted r s))
+          (c.follow_if.ensures ∙ ap (λ (b : Bool). late_followed b c.args.now.0 c.args.datagram.now c.hear_if.new.self) c.is_ok.ensures.value
+          ∙ ap (λ (x : StreamState). late_followed (is_ok c.receive-answer.result) c.args.now.0 c.args.datagram.now x) (c.hear_if.ensures ∙ received_same c.args.now.0 c.args.datagram.now accepted r s))
           ∙ (ap (λ (b : Bool). heard_unless b c.args.now.0 c.args.probation accepted (late_followed (is_ok c.receive-answer.result) c.args.now.0 c.args.datagram.now (received c.args.now.0 c.args.datagram.now accepted r s)))
           c.is_no_memory-no_memory.ensures
           ∙ ap (λ (b : Bool). heard_unless (is_no_memory c.receive-answer.result) c.args.now.0 c.args.probation b (late_followed (is_ok c.receive-answer.result) c.args.now.0 c.args.datagram.now (received c.args.now.0 c.args.datagram.now b r s)))

@@ -1,4 +1,4 @@
-use Rattle.std.proofs.Common.{◌≡◌, ◌≢◌, ◌∙◌, ◌<◌, ℕ, List, Some, None, true, false, length, arith, subst, sym, ap}
+use Rattle.std.proofs.Common.{◌≡◌, ◌≢◌, ◌∙◌, ◌<◌, ℕ, List, Some, None, length, arith, subst, sym, ap}
 use Rattle.std.specs.List.{position}
 use Rattle.codec_payload_index.specs.Ssrcs.{IsFirstFrom, IsPlaceFrom}
 use Rattle.codec_payload_session.specs.Streams.{StreamState, is_of}

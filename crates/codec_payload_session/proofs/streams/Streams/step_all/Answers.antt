@@ -46,7 +46,7 @@ invariant_of-self c =
     record {
       bound = subst (λ (l : List StreamState). IsBound c.of-self-inside.result l) c.deref.ensures.value c.of-self-inside.ensures;
       listed = listed_written c.self.inside.ssrcs c.self.inside.list c.step_first-turn.new.streams c.self.invariant.listed same;
-      dated = subst (λ (l : List StreamState). AreDated c.of-self-inside.result c.find.new.self l) c.deref-2.ensures.value c.find.ensures;
+      dated = subst (λ (l : List StreamState). AreDated c.of-self-inside.result c.find.new.self l) c.deref-then-is_none.ensures.value c.find.ensures;
     }
 
 pub invariant_of-self-else-is_none : goal.invariant_of-self-else-is_none

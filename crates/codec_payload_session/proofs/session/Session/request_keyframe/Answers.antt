@@ -1,11 +1,11 @@
-use Rattle.std.proofs.Common.{◌≡◌, ◌∙◌, ap, subst, sym}
+use Rattle.std.proofs.Common.{◌≡◌, ◌∙◌, subst, sym}
 use Rattle.std.specs.List.{position}
 use Rattle.codec_payload_session.specs.Arrivals.{Port, has_ssrc}
-use Rattle.codec_payload_session.specs.Keyframes.{KeyframeLeaves, answer_among, asks_keyframe}
+use Rattle.codec_payload_session.specs.Keyframes.{KeyframeLeaves, answer_among}
 use Rattle.codec_payload_session.specs.Ports.{IsPort, Session}
 use Rattle.codec_payload_session.specs.declared.keyframe.KeyframeAnswer.TheVariants as answers
 use Rattle.codec_payload_session.proofs.KeyframeLemmas.{asked_keeps, keyframe_leaves}
-use Rattle.codec_payload_session.proofs.keyframe.Session.request_keyframe.Goals as goal
+use Rattle.codec_payload_session.proofs.session.Session.request_keyframe.Goals as goal
 
 pub invariant_of-self : goal.invariant_of-self
 invariant_of-self c =
