@@ -1,11 +1,8 @@
 pub mod ForwardLemmas
 pub mod ForwardRunExamples
-pub mod KeptPayloads
 pub mod PlainSteps
+pub mod KeptPayloads
 pub mod SenderLemmas
 pub mod SourceLemmas
-pub mod StoreLemmas
-pub mod StoreReleaseLemmas
-pub mod StoreViewerRuns
 pub mod ViewerLemmas
 pub mod ViewerRuns

@@ -1,5 +1,3 @@
 pub mod ForwardReleases
 pub mod ForwardRuns
 pub mod ForwardRunExample
-pub mod StoreReleases
-pub mod StoreRuns

@@ -3,5 +3,4 @@
 #![tactic(auto)]
 
 pub mod run;
-pub mod store_run;
 pub mod theorems;

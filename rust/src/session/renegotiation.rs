@@ -4,10 +4,33 @@
 
 use crate::session::formats::Format;
 use crate::session::stream::{Ending, StreamState};
+use crate::stream::receiver::RedSettings;
+use crate::wire::CodecSpec;
 
 /// Returns whether both formats are the same, with all of their fields.
 fn is_same(one: &Format, other: &Format) -> bool {
+    is_same_spec(&one.spec, &other.spec)
+        && is_same_red(&one.red, &other.red)
+        && is_same_beside(one, other)
+}
+
+/// Returns whether both media are the same.
+fn is_same_spec(one: &CodecSpec, other: &CodecSpec) -> bool {
     *one == *other
+}
+
+/// Returns whether RED is the same.
+fn is_same_red(one: &Option<RedSettings>, other: &Option<RedSettings>) -> bool {
+    *one == *other
+}
+
+/// Returns whether all other fields are the same.
+fn is_same_beside(one: &Format, other: &Format) -> bool {
+    one.payload_type == other.payload_type
+        && one.retransmission == other.retransmission
+        && one.nack == other.nack
+        && one.pli == other.pli
+        && one.wait == other.wait
 }
 
 /// Returns whether one of the formats is this one.

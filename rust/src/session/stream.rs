@@ -204,7 +204,8 @@ impl StreamState {
                 datagram,
                 self.receiver.inner(),
             );
-            self.wait_for(limit_by(&self.late));
+            let limit = limit_by(&self.late);
+            self.wait_for(limit);
         }
     }
 
@@ -218,7 +219,8 @@ impl StreamState {
 
     /// Waits for as long as the round trip asks for, if waiting follows it and it is known.
     fn follow_round_trip(&mut self) {
-        self.wait_for(wait_by(&self.feedback));
+        let wait = wait_by(&self.feedback);
+        self.wait_for(wait);
     }
 
     /// Waits for at most that time. `None`: the wait limits stay.

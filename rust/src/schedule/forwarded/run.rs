@@ -66,16 +66,7 @@ pub fn run_forwarded<P: Packetizer, D: Depacketizer>(
     samples: &[ToPayload],
     steps: &[ForwardStep],
 ) -> Result<ForwardedRun, PacketError> {
-    let mut run = no_results();
-    for step in steps {
-        do_forward_step(link, samples, *step, &mut run)?;
-    }
-    Ok(run)
-}
-
-/// The results before any step.
-pub(crate) fn no_results() -> ForwardedRun {
-    ForwardedRun {
+    let mut run = ForwardedRun {
         run: DatagramRun {
             datagrams: Vec::new(),
             sends: Vec::new(),
@@ -84,11 +75,15 @@ pub(crate) fn no_results() -> ForwardedRun {
         },
         written: Vec::new(),
         answers: Vec::new(),
+    };
+    for step in steps {
+        do_forward_step(link, samples, *step, &mut run)?;
     }
+    Ok(run)
 }
 
 /// Executes one step, and records its result.
-pub(crate) fn do_forward_step<P: Packetizer, D: Depacketizer>(
+fn do_forward_step<P: Packetizer, D: Depacketizer>(
     link: &mut ForwardLink<P, D>,
     samples: &[ToPayload],
     step: ForwardStep,
@@ -169,7 +164,7 @@ fn forward(
 /// # Errors
 ///
 /// `OutOfMemory`: memory ran out for the datagram, which then has no receipt.
-pub(crate) fn deliver<D: Depacketizer>(
+fn deliver<D: Depacketizer>(
     receiver: &mut Receiver<D>,
     now: Ticks,
     bytes: &[u8],
