@@ -4,5 +4,6 @@
 
 #[doc(hidden)]
 pub mod ssrcs;
+#[allow(dead_code)]
 #[doc(hidden)]
 pub mod times;

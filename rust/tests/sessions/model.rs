@@ -710,6 +710,9 @@ fn a_session_of_many_streams_is_its_plain_model() {
     (0..20).for_each(|seed| run(seed, 60, 4_000, &mut seen));
     println!("{seen:?}");
     for name in ["begins", "Bye", "Timeout", "Told", "refused", "requested"] {
-        assert!(seen.get(name).is_some_and(|count| *count > 100), "{name}: {seen:?}");
+        assert!(
+            seen.get(name).is_some_and(|count| *count > 100),
+            "{name}: {seen:?}"
+        );
     }
 }
