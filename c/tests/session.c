@@ -270,6 +270,43 @@ static void change_of_format(void) {
     cpay_session_free(&session);
 }
 
+/* A new description: the stream of the format that is gone ends, the other one goes on, and a new format begins a stream. */
+static void formats_that_change(void) {
+    enum { PCMU = 0 };
+    cpay_session_format formats[3] = {
+        {.spec = {.codec = CPAY_OPUS, .rate = 48000}, .payload_type = AUDIO},
+        {.spec = {.codec = CPAY_PCMU, .rate = 8000}, .payload_type = PCMU},
+        {.spec = {.codec = CPAY_PCMA, .rate = 8000}, .payload_type = AUDIO},
+    };
+    cpay_session_settings settings;
+    cpay_session_settings_init(&settings, CPAY_FOR_LIVE);
+    cpay_session session = CPAY_INIT;
+    CHECK(cpay_session_new(&session, &settings, formats, 2, NULL, 0, NULL, 0) == CPAY_OK);
+    opus(&session, 0, 1, 1);
+    opus(&session, 20, 1, 2);
+    for (uint16_t number = 1; number < 3; number++) sent(&session, 20, PCMU, 2, number, "\1", 1);
+    CHECK(happens(&session, 20, "B1:111 U1:1 U1:2 B2:0 U2:1 U2:2 ."));
+    CHECK(cpay_session_set_formats(&session, 30, formats, 3) == CPAY_INVALID);
+    formats[2].spec.rate = 0, formats[2].payload_type = 8;
+    CHECK(cpay_session_set_formats(&session, 30, formats, 3) == CPAY_INVALID);
+    CHECK(cpay_session_set_formats(&session, 30, NULL, 1) == CPAY_INVALID);
+    opus(&session, 40, 1, 3);
+    CHECK(sent(&session, 40, PCMU, 2, 3, "\1", 1).kind == CPAY_ARRIVAL_STREAM);
+    CHECK(happens(&session, 40, "U1:3 U2:3 ."));
+    CHECK(cpay_session_set_formats(&session, 60, formats, 1) == CPAY_OK);
+    CHECK(happens(&session, 60, "E2:3 ."));
+    CHECK(sent(&session, 80, PCMU, 2, 4, "\1", 1).kind == CPAY_ARRIVAL_UNKNOWN);
+    opus(&session, 80, 1, 4);
+    CHECK(happens(&session, 80, "U1:4 ."));
+    CHECK(cpay_session_set_formats(&session, 100, formats, 2) == CPAY_OK);
+    for (uint16_t number = 5; number < 7; number++) sent(&session, 100, PCMU, 2, number, "\1", 1);
+    CHECK(happens(&session, 100, "B2:0 U2:5 U2:6 ."));
+    CHECK(counts_of(&session).unknown == 1);
+    CHECK(cpay_session_set_formats(&session, 120, NULL, 0) == CPAY_OK);
+    CHECK(happens(&session, 120, "E1:3 E2:3 ."));
+    cpay_session_free(&session);
+}
+
 /* Requests (RFC 4585): a NACK 10 ms after a number is first missing, once more after 100 ms, and a PLI for video. */
 static void requests(void) {
     static const uint8_t delta[] = {0x10, 0x11, 0, 0, 1};
@@ -890,6 +927,7 @@ static void handles(void) {
         CHECK(cpay_session_add_pair(&it.session, 1, 9) == status);
         CHECK(cpay_session_remove_pair(&it.session, 1) == status);
         CHECK(cpay_session_request_keyframe(&it.session, 1, &answer) == status && (int)answer == 7);
+        CHECK(cpay_session_set_formats(&it.session, 0, FORMATS, 2) == status);
         CHECK(cpay_session_report(&it.session, 0, 1, AUDIO, &block) == status);
         CHECK(cpay_session_peek_report(&it.session, 0, 1, AUDIO, &block) == status);
         CHECK(cpay_session_sender_clock(&it.session, 1, AUDIO, &clock) == status);
@@ -911,6 +949,7 @@ int main(void) {
     losses();
     pairs();
     change_of_format();
+    formats_that_change();
     requests();
     keyframes_for_others();
     sent_reports();
