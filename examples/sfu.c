@@ -107,9 +107,10 @@ static void receive(sfu *it, uint64_t now, const uint8_t *datagram, size_t size)
     const uint8_t *it_is = repeats ? bytes : datagram;
     cpay_history *store = &it->stores[ssrc - 1];
     check(cpay_history_keep_once(store, it_is, size, &seen), "keep");
+    const uint16_t first = number_of(it_is);
     if (seen != CPAY_KEPT_NEW || !forward(it, now, it_is, size)) return;
     for (uint16_t step = 1; step < 64; step++) { /* packets of the keyframe that came before its first one */
-        check(cpay_history_resend(store, 0, (uint16_t)(number_of(it_is) + step), bytes, ROOM, &size, &found), "find");
+        check(cpay_history_resend(store, 0, (uint16_t)(first + step), bytes, ROOM, &size, &found), "find");
         if (found == CPAY_RESENT_WRITTEN) (void)forward(it, now, bytes, size);
     }
 }
