@@ -6,8 +6,9 @@
  * - A session receives from the publisher, and requests what is missing. A store for each layer keeps each packet once, for all
  *   viewers. A forwarder for each viewer writes its packets.
  * - A retransmission is the packet that it repeats: unwrap it, then treat it like any other.
- * - A forwarder goes over to a layer at its next keyframe. Ask the publisher for one (PLI) when a viewer wants a layer, and when
- *   the viewer itself asks, at most once in 500 ms. Packets of that keyframe may have come before its first one: pass them again.
+ * - A forwarder goes over to a layer at its next keyframe. Ask the session for one as long as a viewer waits for a layer, and when
+ *   the viewer itself asks: it sends a PLI at most once in 500 ms. Packets of that keyframe may have come before its first one:
+ *   pass them again.
  * - Answer a viewer's NACK from the store of the layer that it gets.
  * The network is simulated: 20 ms for a hop, with losses each way on both hops. The status is 0 if the viewer shows what it
  * should. */
@@ -18,7 +19,7 @@
 #include <string.h>
 
 enum { LAYERS = 2, FRAMES = 240, INTERVAL = 50, SWITCH_EVERY = 60, ROOM = 1500, FRAME = 2500, HOP = 20, QUEUE = 256 };
-enum { VP8 = 96, RTX = 97, RTX_SSRC = 10, VIEWER = 99, VIEWER_RTX = 98, SFU = 50, KEYFRAME_INTERVAL = 500 };
+enum { VP8 = 96, RTX = 97, RTX_SSRC = 10, VIEWER = 99, VIEWER_RTX = 98, SFU = 50 };
 
 static void check(cpay_status status, const char *what) {
     if (status == CPAY_OK) return;
@@ -66,28 +67,18 @@ static const uint8_t *arrived(way *from, uint64_t now, size_t *size) {
 
 static way to_sfu, to_publisher, to_viewer, from_viewer;
 
-/* A request for a keyframe (RFC 4585, section 6.3.1). */
-static void send_pli(uint64_t now, uint32_t ssrc) {
-    uint8_t pli[12];
-    put(pli, 0x81ce0002, 4);
-    put(pli + 4, SFU, 4);
-    put(pli + 8, ssrc, 4);
-    send(&to_publisher, now, pli, sizeof pli);
-}
-
 /* ---- The recipe ---- */
 
 typedef struct {
     cpay_session session;        /* receives from the publisher, and requests what is missing */
     cpay_history stores[LAYERS]; /* the latest packets of each layer, for all viewers */
-    uint64_t next_pli[LAYERS];   /* from when on a keyframe may be requested */
     cpay_forwarder viewer;       /* the stream of one viewer */
 } sfu;
 
-static void request_keyframe(sfu *it, uint64_t now, uint32_t ssrc) {
-    if (now < it->next_pli[ssrc - 1]) return;
-    it->next_pli[ssrc - 1] = now + KEYFRAME_INTERVAL;
-    send_pli(now, ssrc);
+/* The session sends a PLI, if no keyframe comes before its limit allows one. */
+static void request_keyframe(sfu *it, uint32_t ssrc) {
+    cpay_keyframe_answer answer = CPAY_KEYFRAME_NO_STREAM;
+    check(cpay_session_request_keyframe(&it->session, ssrc, &answer), "request a keyframe");
 }
 
 /* Passes a packet to the viewer. Returns whether it is the first one of another layer. */
@@ -116,9 +107,10 @@ static void receive(sfu *it, uint64_t now, const uint8_t *datagram, size_t size)
     const uint8_t *it_is = repeats ? bytes : datagram;
     cpay_history *store = &it->stores[ssrc - 1];
     check(cpay_history_keep_once(store, it_is, size, &seen), "keep");
+    const uint16_t first = number_of(it_is);
     if (seen != CPAY_KEPT_NEW || !forward(it, now, it_is, size)) return;
     for (uint16_t step = 1; step < 64; step++) { /* packets of the keyframe that came before its first one */
-        check(cpay_history_resend(store, 0, (uint16_t)(number_of(it_is) + step), bytes, ROOM, &size, &found), "find");
+        check(cpay_history_resend(store, 0, (uint16_t)(first + step), bytes, ROOM, &size, &found), "find");
         if (found == CPAY_RESENT_WRITTEN) (void)forward(it, now, bytes, size);
     }
 }
@@ -138,7 +130,7 @@ static void answer(sfu *it, uint64_t now, const uint8_t *rtcp, size_t rtcp_size)
         check(cpay_forwarder_resend(&it->viewer, &it->stores[source - 1], numbers[i], out, ROOM, &size, &found), "resend");
         if (found == CPAY_RESENT_WRITTEN) send(&to_viewer, now, out, size);
     }
-    if (keyframe) request_keyframe(it, now, source);
+    if (keyframe) request_keyframe(it, source);
 }
 
 /* What is due by the clock. Units of the session are for those who record or mix. */
@@ -146,11 +138,11 @@ static void poll(sfu *it, uint64_t now) {
     static uint8_t bytes[1 << 20];
     static cpay_event event;
     uint32_t source = 0, wanted = 0;
-    while (cpay_session_poll(&it->session, now, &event, bytes, sizeof bytes) == CPAY_OK)
-        if (event.kind == CPAY_EVENT_FEEDBACK || event.kind == CPAY_EVENT_REPORT) send(&to_publisher, now, bytes, event.bytes);
     bool gets = cpay_forwarder_source(&it->viewer, &source) == CPAY_OK;
     bool wants = cpay_forwarder_wanted(&it->viewer, &wanted) == CPAY_OK;
-    if (wants && !(gets && source == wanted)) request_keyframe(it, now, wanted);
+    if (wants && !(gets && source == wanted)) request_keyframe(it, wanted);
+    while (cpay_session_poll(&it->session, now, &event, bytes, sizeof bytes) == CPAY_OK)
+        if (event.kind == CPAY_EVENT_FEEDBACK || event.kind == CPAY_EVENT_REPORT) send(&to_publisher, now, bytes, event.bytes);
 }
 
 /* ---- The simulated publisher ---- */
@@ -291,7 +283,7 @@ static bool run(unsigned loss) {
     static const cpay_ssrc_pair pair = {VIEWER, VIEWER_RTX};
     way *ways[] = {&to_sfu, &to_publisher, &to_viewer, &from_viewer};
     layer layers[LAYERS] = {{CPAY_INIT, CPAY_INIT, true}, {CPAY_INIT, CPAY_INIT, true}};
-    sfu it = {CPAY_INIT, {CPAY_INIT, CPAY_INIT}, {0, 0}, CPAY_INIT};
+    sfu it = {CPAY_INIT, {CPAY_INIT, CPAY_INIT}, CPAY_INIT};
     cpay_session viewer = CPAY_INIT;
     picture seen = {0};
     for (unsigned i = 0; i < 4; i++) {

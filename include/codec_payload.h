@@ -1194,6 +1194,10 @@ typedef struct {
                                    `red_rtx_payload_type` is not checked */
     bool nack;                /**< its sender answers requests for missing packets: a=rtcp-fb with nack (RFC 4585, section 4.2) */
     bool pli;                 /**< its sender answers requests for keyframes: a=rtcp-fb with nack pli */
+    bool fixed_wait;          /**< frames wait as the session's `audio` or `video` says, also with has_longest_wait. Without it, and
+                                   without late_wait, waiting follows the round trip if the session has a `longest_wait` */
+    bool late_wait;           /**< frames wait by how late missing packets arrive, within the session's `late`, as by a
+                                   cpay_adaptive_wait for each stream, 1.9 kB; then `fixed_wait` is ignored */
 } cpay_session_format;
 
 /** Two SSRCs of one source, as a=ssrc-group:FID names them (RFC 5576, section 4.2). A session that requests packets also finds
@@ -1245,6 +1249,7 @@ typedef struct {
 typedef struct {
     cpay_wait_limits audio;   /**< how long frames of audio wait for missing packets */
     cpay_wait_limits video;   /**< how long frames of VP8, VP9 and AV1 wait for missing packets */
+    cpay_adaptive_wait_settings late; /**< within which bounds frames of formats with late_wait wait */
     uint64_t idle_timeout;    /**< a stream ends once this number of ticks has passed since its last datagram */
     uint64_t bye_wait;        /**< a stream takes packets for this number of ticks after its BYE (RFC 3550, section 6.6), since
                                    packets may arrive after it */
@@ -1390,7 +1395,8 @@ typedef enum {
     CPAY_ENDED_BY_BYE = 0,     /**< its sender left (RFC 3550, section 6.6) */
     CPAY_ENDED_BY_TIMEOUT = 1, /**< no datagram arrived for `idle_timeout` */
     CPAY_ENDED_BY_CALL = 2,    /**< you called cpay_session_end or cpay_session_finish */
-    CPAY_ENDED_BY_CHANGE = 3   /**< its sender continues in another format under the same SSRC */
+    CPAY_ENDED_BY_CHANGE = 3   /**< its sender continues in another format under the same SSRC, or its format is gone
+                                    (cpay_session_set_formats) */
 } cpay_ending;
 
 typedef struct {
@@ -1533,6 +1539,31 @@ CPAY_CHECKED cpay_status cpay_session_add_pair(cpay_session *session, uint32_t s
 /** Forgets the SSRC of the retransmissions of `ssrc`. Without such a pair nothing changes. The end of a stream removes no pair.
  * Does not allocate. */
 CPAY_CHECKED cpay_status cpay_session_remove_pair(cpay_session *session, uint32_t ssrc);
+
+/** What a session does with a request for a keyframe. */
+typedef enum {
+    CPAY_KEYFRAME_REQUESTED = 0,     /**< the stream requests a keyframe as soon as its limit allows */
+    CPAY_KEYFRAME_NO_STREAM = 1,     /**< no stream has this SSRC, or the first one that has it is about to end */
+    CPAY_KEYFRAME_NOT_NEGOTIATED = 2 /**< its sender answers no requests for keyframes: the format has no `pli`, or the settings no
+                                          feedback */
+} cpay_keyframe_answer;
+
+/** Asks the sender of the stream with this SSRC for a keyframe, by a PLI (RFC 4585, section 6.3.1), for another receiver that needs one:
+ * a viewer that joins, or that sent a PLI. *answer is what the session does. The PLI is in the stream's next CPAY_EVENT_FEEDBACK, beside
+ * what the session requests itself, and all share one limit: two PLIs of a stream are at least `keyframe_interval` apart, and within
+ * the interval a request waits. cpay_session_next_deadline is at most the time at which it can leave. One PLI answers all requests
+ * before it, and so does a keyframe that a poll reports. A PLI can be lost: call this as often as you like, as long as you need a
+ * keyframe. A stream in probation sends its PLI once it is announced, and a stream whose sender is silent once a datagram arrives. With
+ * two streams of the SSRC, as after a change of format, the first one asks. Does not allocate. */
+CPAY_CHECKED cpay_status cpay_session_request_keyframe(cpay_session *session, uint32_t ssrc, cpay_keyframe_answer *answer);
+
+/** Replaces the payload formats, as a new session description states them. Streams whose format is still there, with all of its
+ * fields, go on. All other streams end at `now`: polls report their complete units, and then CPAY_EVENT_ENDED with
+ * CPAY_ENDED_BY_CHANGE. Media of a new format begin a stream as usual. Datagrams of a payload type that is gone are
+ * CPAY_ARRIVAL_UNKNOWN, also for a stream that ends. All other settings stay. The list is copied. CPAY_INVALID: the formats are
+ * none that cpay_session_new accepts with the other settings, and nothing has changed. CPAY_OUT_OF_MEMORY: nothing has changed. [m] */
+CPAY_CHECKED cpay_status cpay_session_set_formats(cpay_session *session, uint64_t now, const cpay_session_format *formats,
+                                                  size_t formats_len);
 
 /* ---- A depacketizer alone, for callers that order packets themselves ---- */
 

@@ -373,6 +373,14 @@ public:
         return cpay_session_add_pair(get(), ssrc, retransmission);
     }
     [[nodiscard]] cpay_status remove_pair(std::uint32_t ssrc) noexcept { return cpay_session_remove_pair(get(), ssrc); }
+    /** Asks the sender of a stream for a keyframe, within the session's limit. */
+    [[nodiscard]] cpay_status request_keyframe(std::uint32_t ssrc, cpay_keyframe_answer &answer) noexcept {
+        return cpay_session_request_keyframe(get(), ssrc, &answer);
+    }
+    /** Replaces the payload formats: streams of formats that are gone end. */
+    [[nodiscard]] cpay_status set_formats(std::uint64_t now, view<const cpay_session_format> formats) noexcept {
+        return cpay_session_set_formats(get(), now, formats.data(), formats.size());
+    }
 };
 
 /** A frame in, its payloads out. */

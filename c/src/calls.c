@@ -669,6 +669,20 @@ cpay_status cpay_session_remove_pair(cpay_session *session, uint32_t ssrc) {
     return proved_cpay_session_remove_pair(&session->handle, ssrc);
 }
 
+cpay_status proved_cpay_session_request_keyframe(cpay_handle *session, uint32_t ssrc, cpay_keyframe_answer *answer);
+cpay_status cpay_session_request_keyframe(cpay_session *session, uint32_t ssrc, cpay_keyframe_answer *answer) {
+    return proved_cpay_session_request_keyframe(&session->handle, ssrc, answer);
+}
+
+cpay_status proved_cpay_session_set_formats(cpay_handle *session, uint64_t now, const cpay_session_format *formats,
+                                            size_t formats_len);
+cpay_status cpay_session_set_formats(cpay_session *session, uint64_t now, const cpay_session_format *formats,
+                                     size_t formats_len) {
+    if (!formats && formats_len) return CPAY_INVALID;
+    return proved_cpay_session_set_formats(&session->handle, now, formats ? formats : (const cpay_session_format *)nothing,
+                                           formats_len);
+}
+
 cpay_status proved_cpay_depacketizer_new(cpay_handle *depacketizer, const cpay_spec *spec);
 cpay_status cpay_depacketizer_new(cpay_depacketizer *depacketizer, const cpay_spec *spec) {
     return proved_cpay_depacketizer_new(&depacketizer->handle, spec);

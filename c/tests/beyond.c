@@ -277,6 +277,7 @@ static void sessions(size_t size) {
     static const uint8_t digit[4] = {5, 0x8a, 3, 0x20};
     static const uint64_t times[5] = {0, 15, 200, 2000, 30000};
     cpay_session it = CPAY_INIT;
+    cpay_session_format formats[40];
     cpay_arrival arrival;
     cpay_event event;
     new_session(&it, size);
@@ -305,6 +306,9 @@ static void sessions(size_t size) {
     for (size_t i = 0; i < 5; i++)
         while (TOLD(cpay_session_poll(&it, times[i], &event, room, sizeof room)) == CPAY_OK) {
         }
+    for (uint8_t i = 0; i < 40; i++)
+        formats[i] = (cpay_session_format){.spec = {.codec = CPAY_OPUS, .rate = 48000}, .payload_type = i};
+    MADE(cpay_session_set_formats(&it, 30000, formats, least(size, 40)));
     cpay_session_free(&it);
 }
 

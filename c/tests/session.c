@@ -270,6 +270,43 @@ static void change_of_format(void) {
     cpay_session_free(&session);
 }
 
+/* A new description: the stream of the format that is gone ends, the other one goes on, and a new format begins a stream. */
+static void formats_that_change(void) {
+    enum { PCMU = 0 };
+    cpay_session_format formats[3] = {
+        {.spec = {.codec = CPAY_OPUS, .rate = 48000}, .payload_type = AUDIO},
+        {.spec = {.codec = CPAY_PCMU, .rate = 8000}, .payload_type = PCMU},
+        {.spec = {.codec = CPAY_PCMA, .rate = 8000}, .payload_type = AUDIO},
+    };
+    cpay_session_settings settings;
+    cpay_session_settings_init(&settings, CPAY_FOR_LIVE);
+    cpay_session session = CPAY_INIT;
+    CHECK(cpay_session_new(&session, &settings, formats, 2, NULL, 0, NULL, 0) == CPAY_OK);
+    opus(&session, 0, 1, 1);
+    opus(&session, 20, 1, 2);
+    for (uint16_t number = 1; number < 3; number++) sent(&session, 20, PCMU, 2, number, "\1", 1);
+    CHECK(happens(&session, 20, "B1:111 U1:1 U1:2 B2:0 U2:1 U2:2 ."));
+    CHECK(cpay_session_set_formats(&session, 30, formats, 3) == CPAY_INVALID);
+    formats[2].spec.rate = 0, formats[2].payload_type = 8;
+    CHECK(cpay_session_set_formats(&session, 30, formats, 3) == CPAY_INVALID);
+    CHECK(cpay_session_set_formats(&session, 30, NULL, 1) == CPAY_INVALID);
+    opus(&session, 40, 1, 3);
+    CHECK(sent(&session, 40, PCMU, 2, 3, "\1", 1).kind == CPAY_ARRIVAL_STREAM);
+    CHECK(happens(&session, 40, "U1:3 U2:3 ."));
+    CHECK(cpay_session_set_formats(&session, 60, formats, 1) == CPAY_OK);
+    CHECK(happens(&session, 60, "E2:3 ."));
+    CHECK(sent(&session, 80, PCMU, 2, 4, "\1", 1).kind == CPAY_ARRIVAL_UNKNOWN);
+    opus(&session, 80, 1, 4);
+    CHECK(happens(&session, 80, "U1:4 ."));
+    CHECK(cpay_session_set_formats(&session, 100, formats, 2) == CPAY_OK);
+    for (uint16_t number = 5; number < 7; number++) sent(&session, 100, PCMU, 2, number, "\1", 1);
+    CHECK(happens(&session, 100, "B2:0 U2:5 U2:6 ."));
+    CHECK(counts_of(&session).unknown == 1);
+    CHECK(cpay_session_set_formats(&session, 120, NULL, 0) == CPAY_OK);
+    CHECK(happens(&session, 120, "E1:3 E2:3 ."));
+    cpay_session_free(&session);
+}
+
 /* Requests (RFC 4585): a NACK 10 ms after a number is first missing, once more after 100 ms, and a PLI for video. */
 static void requests(void) {
     static const uint8_t delta[] = {0x10, 0x11, 0, 0, 1};
@@ -303,6 +340,45 @@ static void requests(void) {
     while (cpay_session_poll(&session, 510, &event, bytes, 64) == CPAY_OK)
         if (event.kind == CPAY_EVENT_FEEDBACK && event.payload_type == VIDEO) break;
     CHECK(event.payload_type == VIDEO && event.bytes == 12 && same(bytes, (const char *)pli, 12));
+    cpay_session_free(&session);
+}
+
+/* Keyframes that viewers need: one PLI in 500 ms (RFC 4585, section 6.3.1), none after a keyframe, and none without an agreement. */
+static void keyframes_for_others(void) {
+    static const uint8_t delta[] = {0x10, 0x11, 0, 0, 1};
+    static const uint8_t key[] = {0x10, 0x10, 1, 0, 0x9d, 0x01, 0x2a, 16, 0, 16, 0, 1, 2, 3, 4, 5, 6, 7, 8, 9};
+    static const uint8_t pli[] = {0x81, 206, 0, 2, 0, 0, 0, 77, 0, 0, 0, 1};
+    cpay_session_settings settings;
+    cpay_session_settings_init(&settings, CPAY_FOR_LIVE);
+    cpay_session_format formats[2];
+    cpay_session session = CPAY_INIT;
+    cpay_event event = {.kind = 99};
+    cpay_keyframe_answer answer = (cpay_keyframe_answer)99;
+    uint8_t bytes[64], marked = VIDEO | 0x80;
+    memcpy(formats, FORMATS, sizeof formats);
+    formats[1].pli = true;
+    CHECK(cpay_session_settings_feedback(&settings, 77, NAME, sizeof NAME) == CPAY_OK);
+    settings.feedback.has_report_interval = false;
+    settings.audio.start = settings.video.start = 0;
+    CHECK(cpay_session_new(&session, &settings, formats, 2, NULL, 0, NULL, 0) == CPAY_OK);
+    sent(&session, 0, marked, 1, 1, key, sizeof key);
+    sent(&session, 0, marked, 1, 2, delta, sizeof delta);
+    opus(&session, 0, 3, 1);
+    opus(&session, 0, 3, 2);
+    CHECK(happens(&session, 0, "B1:96 U1:1 U1:2 B3:111 U3:1 U3:2 ."));
+    CHECK(cpay_session_request_keyframe(&session, 2, &answer) == CPAY_OK && answer == CPAY_KEYFRAME_NO_STREAM);
+    CHECK(cpay_session_request_keyframe(&session, 3, &answer) == CPAY_OK && answer == CPAY_KEYFRAME_NOT_NEGOTIATED);
+    CHECK(happens(&session, 0, "."));
+    CHECK(cpay_session_request_keyframe(&session, 1, &answer) == CPAY_OK && answer == CPAY_KEYFRAME_REQUESTED);
+    CHECK(deadline(&session) == 0);
+    CHECK(cpay_session_poll(&session, 5, &event, bytes, 64) == CPAY_OK && event.kind == CPAY_EVENT_FEEDBACK && event.ssrc == 1);
+    CHECK(event.bytes == 12 && same(bytes, (const char *)pli, 12) && happens(&session, 5, "."));
+    CHECK(cpay_session_request_keyframe(&session, 1, &answer) == CPAY_OK && answer == CPAY_KEYFRAME_REQUESTED);
+    CHECK(happens(&session, 100, ".") && deadline(&session) == 505);
+    sent(&session, 200, marked, 1, 3, key, sizeof key);
+    CHECK(happens(&session, 200, "U1:3 .") && happens(&session, 505, "."));
+    CHECK(cpay_session_end(&session, 505, 1) == CPAY_OK);
+    CHECK(cpay_session_request_keyframe(&session, 1, &answer) == CPAY_OK && answer == CPAY_KEYFRAME_NO_STREAM);
     cpay_session_free(&session);
 }
 
@@ -832,6 +908,7 @@ static void handles(void) {
     cpay_outcome outcome = (cpay_outcome)7;
     size_t count = 7;
     bool wants = true;
+    cpay_keyframe_answer answer = (cpay_keyframe_answer)7;
     receives.spec = FORMATS[0].spec;
     for (int kind = 0; kind < 2; kind++) {
         cpay_status status = kind == 0 ? CPAY_EMPTY : CPAY_OTHER_KIND;
@@ -849,6 +926,8 @@ static void handles(void) {
         CHECK(cpay_session_set_wait_limits(&it.session, 1, AUDIO, &limits) == status);
         CHECK(cpay_session_add_pair(&it.session, 1, 9) == status);
         CHECK(cpay_session_remove_pair(&it.session, 1) == status);
+        CHECK(cpay_session_request_keyframe(&it.session, 1, &answer) == status && (int)answer == 7);
+        CHECK(cpay_session_set_formats(&it.session, 0, FORMATS, 2) == status);
         CHECK(cpay_session_report(&it.session, 0, 1, AUDIO, &block) == status);
         CHECK(cpay_session_peek_report(&it.session, 0, 1, AUDIO, &block) == status);
         CHECK(cpay_session_sender_clock(&it.session, 1, AUDIO, &clock) == status);
@@ -870,7 +949,9 @@ int main(void) {
     losses();
     pairs();
     change_of_format();
+    formats_that_change();
     requests();
+    keyframes_for_others();
     sent_reports();
     turns();
     transports();

@@ -8,8 +8,9 @@
 //! - A `Session` receives from the publisher, and requests what is missing. A `History` for each layer is a store: it keeps each
 //!   packet once, for all viewers. A `Forwarder` for each viewer writes its packets.
 //! - A retransmission is the packet that it repeats: unwrap it, then treat it like any other.
-//! - A forwarder goes over to a layer at its next keyframe. Ask the publisher for one (PLI) when a viewer wants a layer, and when
-//!   the viewer itself asks, at most once in 500 ms. Packets of that keyframe may have come before its first one: pass them again.
+//! - A forwarder goes over to a layer at its next keyframe. Ask the session for one as long as a viewer waits for a layer, and when
+//!   the viewer itself asks: it sends a PLI at most once in 500 ms. Packets of that keyframe may have come before its first one:
+//!   pass them again.
 //! - Answer a viewer's NACK from the store of the layer that it gets.
 //!
 //! The network is simulated: 20 ms for a hop, with losses each way on both hops.
@@ -17,7 +18,7 @@
 use codec_payload::forward::{ForwardSettings, Forwarded, Forwarder};
 use codec_payload::history::{KeptOnce, OriginalStream, Request, Resent, RetransmissionStream};
 use codec_payload::keyframes::FromKeyframe;
-use codec_payload::rtcp::{CompoundRule, PictureLoss};
+use codec_payload::rtcp::CompoundRule;
 use codec_payload::rtp::{RtpPacket, is_rtcp};
 use codec_payload::{
     Codec, CodecPacketizer, CodecSpec, Event, ExtensionValues, FeedbackSettings, Format, Frequency,
@@ -38,7 +39,6 @@ const RTX_SSRC: u32 = 10;
 const VIEWER: u32 = 99;
 const VIEWER_RTX: u32 = 98;
 const SFU: u32 = 50;
-const KEYFRAME_INTERVAL: u64 = 500;
 
 type Done = Result<(), Box<dyn Error>>;
 
@@ -80,19 +80,6 @@ impl Way {
     }
 }
 
-/// A request for a keyframe.
-fn send_pli(way: &mut Way, now: u64, ssrc: u32) -> Done {
-    let mut pli = Vec::new();
-    let (sender_ssrc, media_ssrc) = (SFU, ssrc);
-    PictureLoss {
-        sender_ssrc,
-        media_ssrc,
-    }
-    .write(&mut pli)?;
-    way.send(now, &pli);
-    Ok(())
-}
-
 /// The stream of a layer.
 fn layer_stream(ssrc: u32) -> OriginalStream {
     let payload_type = VP8;
@@ -106,8 +93,6 @@ struct Sfu {
     session: Session,
     /// The latest packets of each layer, for all viewers.
     stores: [History; 2],
-    /// From when on a keyframe of a layer may be requested.
-    next_pli: [u64; 2],
     /// The stream of one viewer.
     viewer: Forwarder,
     to_publisher: Way,
@@ -115,15 +100,6 @@ struct Sfu {
 }
 
 impl Sfu {
-    fn request_keyframe(&mut self, now: u64, ssrc: u32) -> Done {
-        let next = &mut self.next_pli[ssrc as usize - 1];
-        if now < *next {
-            return Ok(());
-        }
-        *next = now + KEYFRAME_INTERVAL;
-        send_pli(&mut self.to_publisher, now, ssrc)
-    }
-
     /// Passes a packet to the viewer. Returns whether it is the first one of another layer.
     fn forward(&mut self, now: u64, datagram: &[u8]) -> Result<bool, Box<dyn Error>> {
         let (packet, mut out) = (RtpPacket::parse(datagram)?, Vec::new());
@@ -170,7 +146,7 @@ impl Sfu {
         for request in requests {
             match request {
                 Request::Packet(number) => self.resend(now, source, number)?,
-                _ => self.request_keyframe(now, source)?,
+                _ => _ = self.session.request_keyframe(source),
             }
         }
         Ok(())
@@ -188,14 +164,16 @@ impl Sfu {
 
     /// What is due by the clock. Units of the session are for those who record or mix.
     fn poll(&mut self, now: u64) -> Done {
+        let waits = self.viewer.wanted() != self.viewer.source();
+        if let Some(wanted) = self.viewer.wanted().filter(|_| waits) {
+            self.session.request_keyframe(wanted);
+        }
         while let Some(event) = self.session.poll(Ticks(now)) {
             if let Event::Feedback { packet, .. } | Event::Report { packet } = event {
                 self.to_publisher.send(now, &packet?);
             }
         }
-        let waits = self.viewer.wanted() != self.viewer.source();
-        let wanted = self.viewer.wanted().filter(|_| waits);
-        wanted.map_or(Ok(()), |wanted| self.request_keyframe(now, wanted))
+        Ok(())
     }
 }
 
@@ -389,7 +367,6 @@ fn sfu(loss: u64) -> Result<Sfu, Box<dyn Error>> {
     Ok(Sfu {
         session: session(SFU, &[(1, RTX_SSRC + 1), (2, RTX_SSRC + 2)])?,
         stores: [store()?, store()?],
-        next_pli: [0; 2],
         viewer,
         to_publisher: Way::new(2, loss),
         to_viewer: Way::new(3, loss),

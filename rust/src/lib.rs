@@ -66,6 +66,7 @@
 #![warn(missing_debug_implementations)]
 // The sources are written so that a prover follows them. What clippy would write more briefly says the same.
 #![allow(
+    clippy::assign_op_pattern,
     clippy::manual_map,
     clippy::manual_ok_err,
     clippy::manual_is_multiple_of,

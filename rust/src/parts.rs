@@ -50,7 +50,7 @@ pub mod stream {
 /// All streams of one port: what [`Session`](crate::Session) reports beside its events.
 pub mod session {
     #[doc(inline)]
-    pub use crate::session::{SenderClock, SessionCounts, Stage};
+    pub use crate::session::{KeyframeAnswer, SenderClock, SessionCounts, Stage, Waiting};
 
     #[doc(hidden)]
     pub use crate::session::*;

@@ -8,11 +8,17 @@ mod changes;
 #[doc(hidden)]
 pub mod checks;
 mod compound;
+mod dues;
+mod events;
 #[doc(hidden)]
 pub mod formats;
 mod goodbyes;
+#[doc(hidden)]
+pub mod keyframe;
+mod late;
 mod named;
 mod pairs;
+mod renegotiation;
 mod reporter;
 #[doc(hidden)]
 pub mod reports;
@@ -31,7 +37,10 @@ mod waking;
 pub use checks::SessionSettingsError;
 
 #[doc(inline)]
-pub use formats::{FeedbackSettings, Format, SessionSettings, SsrcPair};
+pub use formats::{FeedbackSettings, Format, SessionSettings, SsrcPair, Waiting};
+
+#[doc(inline)]
+pub use keyframe::KeyframeAnswer;
 
 #[doc(inline)]
 pub use reports::SenderClock;

@@ -116,6 +116,22 @@ fn keyframes_are_requested_each_interval_while_one_is_wanted() {
     assert_eq!(moments, [100, 600, 1_100, 2_900]);
 }
 
+/// A keyframe that is needed beside what the receiver reports is due at once, and within the interval once it has passed.
+#[test]
+fn a_keyframe_can_be_needed_for_another_reason() {
+    let mut requests = requests();
+    requests.update(Ticks(0), &[], false).unwrap();
+    assert!(requests.is_idle() && !requests.is_keyframe_due(Ticks(0)));
+    requests.want_keyframe();
+    assert!(!requests.is_idle() && requests.is_keyframe_due(Ticks(0)));
+    assert_eq!(requests.next_deadline(), Some(Ticks(0)));
+    assert_eq!(asked(&due(&mut requests, 30).unwrap()), (vec![], 1));
+    assert_eq!(requests.next_deadline(), Some(Ticks(530)));
+    assert!(!requests.is_keyframe_due(Ticks(529)) && requests.is_keyframe_due(Ticks(530)));
+    requests.update(Ticks(530), &[], false).unwrap();
+    assert!(requests.is_idle() && due(&mut requests, 530).is_none());
+}
+
 #[test]
 fn the_deadline_is_when_the_next_packet_is_due() {
     let mut requests = requests();

@@ -1,12 +1,10 @@
 """The files that name the modules of a crate: hidden modules, and what they hold in the module above them."""
 import re
 
-from layout import KEPT_MODULES, LIBRARY, PLACES, RENAMED_MODULES, UNDOCUMENTED_MODULES, UNNAMED_MODULES
+from layout import KEPT_MODULES, LIBRARY, PARTLY_USED_MODULES, PLACES, RENAMED_MODULES, UNDOCUMENTED_MODULES, UNNAMED_MODULES
 from source import drop_item
 from tokens import OPEN, close, elements, joined, plain, tokens
 
-# How many tokens `#[doc(hidden)]` has.
-HIDDEN_TOKENS = 7
 KINDS = ("struct", "enum", "trait", "fn", "const", "type")
 
 
@@ -62,8 +60,9 @@ def flatten(sources, crate, rel):
             if (crate, name) not in KEPT_MODULES:
                 if (crate, name) not in UNNAMED_MODULES:
                     uses.append((f.ts[i + 2].text, public_names(sources[crate, f"{folder}{name}.rt"])))
-                f.ts[i:i] = hidden(f.ts[i])
-                i += HIDDEN_TOKENS
+                attributes = hidden(f.ts[i], (crate, name) in PARTLY_USED_MODULES)
+                f.ts[i:i] = attributes
+                i += len(attributes)
         i += 1
     lines, named = [], set()
     for name, names in uses:
@@ -77,9 +76,9 @@ def passing_on(module, names):
     return f"\n#[doc(inline)]\npub use {module}::{{{', '.join(sorted(names))}}};\n" if names else ""
 
 
-def hidden(first):
-    """`#[doc(hidden)]` in front of an item."""
-    made = tokens("#[doc(hidden)]\n")[:-1]
+def hidden(first, partly_used):
+    """`#[doc(hidden)]` in front of an item. Of a module that is used in part, the compiler would report the other functions."""
+    made = tokens("#[allow(dead_code)]\n#[doc(hidden)]\n" if partly_used else "#[doc(hidden)]\n")[:-1]
     made[0].pre, first.pre = first.pre, "\n"
     return made
 

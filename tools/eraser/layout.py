@@ -25,7 +25,9 @@ UNDOCUMENTED_FUNCTIONS = {"abs_capture_time_of", "all_fit", "append_report", "au
 # Modules of such crates that stay.
 KEPT_MODULES = {("media", "amr_wb"), ("media", "av1"), ("media", "opus"), ("vpx", "vp8"), ("vpx", "vp9")}
 # Modules of such crates whose names are for the crate alone.
-UNNAMED_MODULES = {("index", "ssrcs"), ("queue", "search"), ("queue", "tiers"), ("vpx", "fields"), ("vpx", "reader"), ("rtp", "writing")}
+UNNAMED_MODULES = {("index", "ssrcs"), ("index", "times"), ("queue", "search"), ("queue", "tiers"), ("vpx", "fields"), ("vpx", "reader"), ("rtp", "writing")}
+# Modules with functions that only callers in Rattle need.
+PARTLY_USED_MODULES = {("index", "times")}
 
 # The program that is written as plain Rust too, and the library of programs over lines.
 PROGRAM = "payload_vectors"

@@ -13,7 +13,6 @@ enum {
     MOST_MISSING = 256,                 /* numbers that are requested: their NACK fits a datagram */
     MOST_KEPT = 2048,                   /* packets of a stream, for viewers that request them */
     MOST_FORWARDED = MOST_DATAGRAM - 2, /* bytes of a packet: a retransmission has two more */
-    KEYFRAME_INTERVAL = 500,            /* ms between two requests for a keyframe */
     REMB_INTERVAL = 1000                /* ms */
 };
 
@@ -25,7 +24,6 @@ typedef struct {
     cpay_report_block_info reported;
     uint64_t frames, bytes, keyframes, faults, requested, keyframes_requested;
     uint64_t waited, longest_wait; /* ms from the first packet of a frame to its release: of all frames, and of one */
-    uint64_t keyframe_asked;       /* ms: when a keyframe was requested last */
 } track;
 
 struct publisher {
@@ -34,7 +32,7 @@ struct publisher {
     track tracks[TRACKS];
     uint32_t ssrc;     /* ours */
     uint32_t red_step; /* ticks of a packet of audio, with RED */
-    uint64_t remb_sent, keyframes_for_viewers;
+    uint64_t remb_sent;
 };
 
 int last_track(const peer *it) { return VIDEO + (it->layers_len > 1 ? it->layers_len - 1 : 0); }
@@ -172,7 +170,6 @@ static void count_requests(track *to, const cpay_event *event, const uint8_t *by
     if (cpay_read_requests(bytes, event->bytes, event->ssrc, false, numbers, 1, &count, &keyframe)) return;
     to->requested += count;
     to->keyframes_requested += keyframe;
-    if (keyframe) to->keyframe_asked = now_ms();
 }
 
 static bool is_recorded(const peer *it, int number) { return number == AUDIO || number == last_track(it); }
@@ -224,14 +221,11 @@ static void send_remb(peer *it) {
         send_rtcp(it, bytes, size);
 }
 
-/* A request for a viewer. Those of the session count too. */
+/* A request for a viewer. The session sends a PLI with its next feedback, within its own limit. */
 void publisher_wants_keyframe(peer *it, int number) {
-    uint8_t bytes[16];
-    track *of = &it->publisher->tracks[number];
-    if (!of->source.arrived || now_ms() - of->keyframe_asked < KEYFRAME_INTERVAL) return;
-    of->keyframe_asked = now_ms();
-    it->publisher->keyframes_for_viewers++;
-    send_rtcp(it, bytes, rtcp_write_pli(bytes, it->publisher->ssrc, of->source.ssrc));
+    cpay_keyframe_answer answer;
+    const track *of = &it->publisher->tracks[number];
+    if (of->source.arrived) (void)!cpay_session_request_keyframe(&it->publisher->session, of->source.ssrc, &answer);
 }
 
 bool publisher_clock(peer *it, int number, cpay_sender_clock_info *clock) {
@@ -289,9 +283,8 @@ void publisher_stats(peer *it, FILE *to) {
     describe(it);
     if (cpay_session_counts(&own->session, &counts)) counts = (cpay_session_counts_info){0};
     fprintf(to,
-            COUNT("received") COUNT("rtcp") COUNT("malformed") COUNT("unknown") COUNT("unassociated")
-                COUNT("keyframesForViewers"),
-            counts.received, counts.rtcp, counts.malformed, counts.unknown, counts.unassociated, own->keyframes_for_viewers);
+            COUNT("received") COUNT("rtcp") COUNT("malformed") COUNT("unknown") COUNT("unassociated"), counts.received, counts.rtcp,
+            counts.malformed, counts.unknown, counts.unassociated);
     record_stats(own->record, to);
     fputs("\"streams\":[", to);
     for (int i = 0; i < TRACKS; i++) {

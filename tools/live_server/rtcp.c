@@ -4,7 +4,7 @@
 #include <libavutil/intreadwrite.h>
 #include <string.h>
 
-enum { HEADER = 8, SENDER_INFO = 20, BLOCK = 24, SENDER_REPORT = 200, RECEIVER_REPORT = 201, DESCRIPTION = 202, FEEDBACK = 206 };
+enum { HEADER = 8, SENDER_INFO = 20, BLOCK = 24, SENDER_REPORT = 200, RECEIVER_REPORT = 201, DESCRIPTION = 202 };
 
 /* The last block about a stream in a compound packet. */
 bool rtcp_read_block(const uint8_t *bytes, size_t size, uint32_t ssrc, report_block *block) {
@@ -22,14 +22,6 @@ bool rtcp_read_block(const uint8_t *bytes, size_t size, uint32_t ssrc, report_bl
         }
     }
     return found;
-}
-
-/* A request for a keyframe (PLI; RFC 4585, section 6.3.1) from one SSRC about another. Returns its size. */
-size_t rtcp_write_pli(uint8_t *to, uint32_t ssrc, uint32_t of) {
-    AV_WB32(to, 0x81000000 | FEEDBACK << 16 | 2);
-    AV_WB32(to + 4, ssrc);
-    AV_WB32(to + 8, of);
-    return 12;
 }
 
 /* A sender report, and a name of at most 255 bytes (RFC 3550, sections 6.4.1 and 6.5). Returns their size, at most 296 bytes. */

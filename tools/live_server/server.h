@@ -172,7 +172,6 @@ typedef struct {
     uint32_t delay; /* since that report, in 1/65536 s */
 } report_block;     /* what a receiver reports about a stream (RFC 3550, section 6.4.1) */
 bool rtcp_read_block(const uint8_t *bytes, size_t size, uint32_t ssrc, report_block *block);
-size_t rtcp_write_pli(uint8_t *to, uint32_t ssrc, uint32_t of);
 size_t rtcp_write_report(uint8_t *to, uint64_t ntp_time, const cpay_sender_report_info *report, const char *name);
 
 /* record.c */

@@ -174,6 +174,7 @@ void *twin_session(uint32_t codec, uint32_t rate, uint32_t flags, const uint64_t
     formats[0].red_rtx_payload_type = 99;
     formats[1].spec = spec_of(CPAY_OPUS, 48000, 0, 0);
     formats[1].payload_type = 100;
+    formats[1].late_wait = true;
     settings.audio.max_wait = settings.video.max_wait = values[0];
     settings.audio.start = settings.video.start = (size_t)values[1];
     settings.limit = (size_t)values[2];
@@ -229,6 +230,12 @@ uint32_t twin_session_report(void *session, uint64_t now, uint32_t ssrc, uint8_t
                          it.delay_since_sender_report };
     for (int place = 0; place < 7; place++) block[place] = told[place];
     return status;
+}
+
+uint32_t twin_session_request_keyframe(void *session, uint32_t ssrc) {
+    cpay_keyframe_answer answer = CPAY_KEYFRAME_NO_STREAM;
+    cpay_status status = cpay_session_request_keyframe(session, ssrc, &answer);
+    return status ? 100 + (uint32_t)status : (uint32_t)answer;
 }
 
 uint32_t twin_session_add_pair(void *session, uint32_t ssrc, uint32_t rtx_ssrc) {

@@ -1,6 +1,6 @@
 -- New sessions: the faults of their settings.
 use Rattle.std.proofs.Common.{◌≡◌, ◌∙◌, ◌&&◌, ℕ, List, Bool, true, false, not, if◌then◌else◌, Option, Some, None, Ok, Err, inl, inr, is_some, ap, refl, sym}
-use Rattle.codec_payload_session.specs.Checks.{fault_of, feedback_fault, name_fault}
+use Rattle.codec_payload_session.specs.Checks.{checked, fault_of, feedback_fault, name_fault}
 use Rattle.codec_payload_session.specs.Ports.{Session, made_of, new_session}
 use Rattle.codec_payload_session.specs.declared.checks.SessionSettingsError.{SessionSettingsError}
 use Rattle.codec_payload_session.specs.declared.formats.FeedbackSettings.{FeedbackSettings}
@@ -41,6 +41,15 @@ made_new (Some fault) t x is = absurd (cc)
 refused_some : (o : Option SessionSettingsError) (t : Settings) (e : SessionSettingsError) → Err e ≡ made_of o t → is_some o ≡ true
 refused_some None t e is = absurd (cc)
 refused_some (Some fault) t e is = refl
+
+-- formats that a session can have, and formats that it cannot have
+pub usable_by : (o : Option SessionSettingsError) (done : Unit {0}) → Ok done ≡ checked o → o ≡ None
+usable_by None done is = refl
+usable_by (Some fault) done is = absurd (cc)
+
+pub faulty_by : (o : Option SessionSettingsError) (e : SessionSettingsError) → Err e ≡ checked o → is_some o ≡ true
+faulty_by None e is = absurd (cc)
+faulty_by (Some fault) e is = refl
 
 pub both_true : (a b : Bool) → a ≡ true → b ≡ true → (a && b) ≡ true
 both_true true true x y = refl

@@ -96,10 +96,15 @@ pub record IsFeedback (f : SessionFeedback) : Type 0 where
   pub has_longest_wait : f.has_longest_wait ≡ true
   pub has_report_interval : f.has_report_interval ≡ true
 
+-- 20 to 400 ms, at first 200 ms; a packet is lost after 1 s
+abbrev pub live_adaptive_wait : AdaptiveWaitSettings
+live_adaptive_wait = record { shortest = 20; longest = 400; first = 200; lost_after = 1000 }
+
 -- the stated numbers of streams, packets, bytes and milliseconds; nothing is requested, and units of video are marked
 pub record IsSessionFor (purpose : ℕ) (s : SessionSettings) : Type 0 where
   pub audio : s.audio ≡ audio_limits purpose
   pub video : s.video ≡ session_video_limits purpose
+  pub late : s.late ≡ live_adaptive_wait
   pub idle_timeout : s.idle_timeout ≡ 30000
   pub bye_wait : s.bye_wait ≡ 200
   pub probation : s.probation ≡ 2
@@ -130,9 +135,3 @@ SetsFeedbackIf false ssrc name status s t = (status ≡ 37) × (t ≡ s)
 -- status 37 exactly if the name has no byte, or more than 255; then nothing has changed
 abbrev pub SetsFeedback : ℕ → List ℕ → ℕ → SessionSettings → SessionSettings → Type 0
 SetsFeedback ssrc name status s t = SetsFeedbackIf (name_fits name) ssrc name status s t
-
--- ---- an adaptive wait
-
--- 20 to 400 ms, at first 200 ms; a packet is lost after 1 s
-abbrev pub live_adaptive_wait : AdaptiveWaitSettings
-live_adaptive_wait = record { shortest = 20; longest = 400; first = 200; lost_after = 1000 }

@@ -18,8 +18,10 @@ pub mod Refusals
 pub mod RtpFields
 pub mod Senders
 pub mod SentTransports
+pub mod SessionChanges
 pub mod SessionFaults
 pub mod SessionFormats
+pub mod SessionKeyframes
 pub mod SessionPairs
 pub mod SessionReports
 pub mod SessionStreams

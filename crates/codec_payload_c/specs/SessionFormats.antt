@@ -13,7 +13,10 @@ use Rattle.codec_payload_session.specs.declared.formats.FeedbackSettings.{Feedba
 use Rattle.codec_payload_session.specs.declared.formats.Format.{Format}
 use Rattle.codec_payload_session.specs.declared.formats.SessionSettings.{SessionSettings as Settings}
 use Rattle.codec_payload_session.specs.declared.formats.SsrcPair.{SsrcPair as Pair}
+use Rattle.codec_payload_session.specs.declared.formats.Waiting.{Waiting}
+use Rattle.codec_payload_session.specs.declared.formats.Waiting.TheVariants as waitings
 use Rattle.codec_payload_receiver.specs.declared.receiver.RedSettings.{RedSettings}
+use Rattle.codec_payload_c.specs.AdaptiveWaits.{settings_given}
 use Rattle.codec_payload_c.specs.Ids.{ids_given}
 use Rattle.codec_payload_c.specs.Inspect.{given_if}
 use Rattle.codec_payload_c.specs.StreamReceivers.{bound_given, from_keyframe_numbered, wait_limits_given}
@@ -40,6 +43,10 @@ red_given f =
     if f.has_red then Some (record { payload_type = f.red_payload_type; step = f.red_step; retransmission = given_if f.has_red_rtx f.red_rtx_payload_type })
     else None
 
+-- how long frames wait: by how late missing packets arrive, or as the session's limits say, or else by the round trip
+abbrev pub waiting_given : SessionFormat → Waiting
+waiting_given f = if f.late_wait then waitings.Late else (if f.fixed_wait then waitings.Fixed else waitings.RoundTrip)
+
 abbrev pub format_with : SessionFormat → Format
 format_with f = record {
   payload_type = f.payload_type;
@@ -48,6 +55,7 @@ format_with f = record {
   retransmission = given_if f.has_rtx f.rtx_payload_type;
   nack = f.nack;
   pli = f.pli;
+  wait = waiting_given f;
 }
 
 -- a format whose clock has a rate
@@ -98,6 +106,7 @@ pub record HasPlainSettings (s : SessionSettings) (t : Settings) : Type 0 where
   pub ids : t.extension_ids ≡ ids_given s.extension_ids
   pub audio : t.audio ≡ wait_limits_given s.audio
   pub video : t.video ≡ wait_limits_given s.video
+  pub late : t.late ≡ settings_given s.late
   pub from_keyframe : t.from_keyframe ≡ from_keyframe_numbered s.from_keyframe
   pub limit : t.limit ≡ s.limit
   pub max_unit : t.max_unit ≡ bound_given s.max_unit

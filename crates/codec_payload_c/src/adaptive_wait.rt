@@ -26,7 +26,7 @@ pub struct AdaptiveWaitSettings {
 }
 
 /// Converts the settings of C.
-fn settings_of(settings: &AdaptiveWaitSettings) -> Settings
+pub(crate) fn bounds_of(settings: &AdaptiveWaitSettings) -> Settings
     ensures { result ≡ settings_given settings.now }
 {
     Settings {
@@ -59,7 +59,7 @@ pub extern "C" fn cpay_adaptive_wait_new(
         handle.put(object);
         return status::FULL;
     }
-    let Ok(wait) = Box::new(alloc, AdaptiveWait::new(settings_of(settings))) else {
+    let Ok(wait) = Box::new(alloc, AdaptiveWait::new(bounds_of(settings))) else {
         return status::OUT_OF_MEMORY;
     };
     match Box::new(alloc, Object::AdaptiveWait(wait)) {

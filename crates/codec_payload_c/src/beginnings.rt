@@ -222,6 +222,7 @@ pub extern "C" fn cpay_session_settings_init(settings: &mut SessionSettings, pur
     *settings = SessionSettings {
         audio: audio_limits(purpose),
         video: session_video_limits(purpose),
+        late: live_adaptive_wait(),
         idle_timeout: 30_000,
         bye_wait: 200,
         probation: 2,
@@ -285,15 +286,22 @@ pub extern "C" fn cpay_session_settings_feedback(
     status::OK
 }
 
+/// Returns how an adaptive wait begins.
+fn live_adaptive_wait() -> AdaptiveWaitSettings
+    ensures { result ≡ live_adaptive_wait }
+{
+    AdaptiveWaitSettings {
+        shortest: 20,
+        longest: 400,
+        first: 200,
+        lost_after: 1_000,
+    }
+}
+
 /// Sets how an adaptive wait begins, for live media and a clock of milliseconds.
 #[unsafe(no_mangle)]
 pub extern "C" fn cpay_adaptive_wait_settings_init(settings: &mut AdaptiveWaitSettings)
     ensures { settings.new ≡ live_adaptive_wait }
 {
-    *settings = AdaptiveWaitSettings {
-        shortest: 20,
-        longest: 400,
-        first: 200,
-        lost_after: 1_000,
-    };
+    *settings = live_adaptive_wait();
 }

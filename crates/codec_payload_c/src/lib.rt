@@ -25,6 +25,8 @@ mod sender;
 mod sent;
 mod session;
 mod session_faults;
+mod session_formats;
+mod session_keyframes;
 mod session_pairs;
 mod session_reports;
 mod session_settings;

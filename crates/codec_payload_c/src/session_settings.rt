@@ -2,8 +2,9 @@
 
 ghost use Rattle.std.specs.Prelude.{◌≡◌, ◌&&◌, is_some, map, filter_map, IfErr, IfOk, IfSome, Option, Bool};
 ghost use Rattle.std.specs.List.{list_all};
-ghost use Rattle.codec_payload_c.specs.SessionFormats.{AreSessionSettings, HasPlainSettings, IsNewSession, MatchFeedback, RefusesSession, can_convert, format_given, format_in_range, is_in_range, no_media_given, pair_given, red_given, session_in_range, telephone_given, transport_given};
+ghost use Rattle.codec_payload_c.specs.SessionFormats.{AreSessionSettings, HasPlainSettings, IsNewSession, MatchFeedback, RefusesSession, can_convert, format_given, format_in_range, is_in_range, no_media_given, pair_given, red_given, session_in_range, telephone_given, transport_given, waiting_given};
 
+use crate::adaptive_wait::{AdaptiveWaitSettings, bounds_of};
 use crate::extension::{ExtensionIds, ids_of};
 use crate::receiver::{WaitLimits, bound_of, from_keyframe_of, waiting_for};
 use codec_payload_core::wire::{CodecSpec, Frequency};
@@ -16,7 +17,7 @@ use codec_payload_handle::slot::TakenPackets;
 use codec_payload_handle::status;
 use codec_payload_receiver::receiver::RedSettings;
 use codec_payload_session::formats::{
-    FeedbackSettings, Format, SessionSettings as Settings, SsrcPair as Pair,
+    FeedbackSettings, Format, SessionSettings as Settings, SsrcPair as Pair, Waiting,
 };
 use codec_payload_session::session::Session;
 use std::alloc::{AllocError, Global};
@@ -46,6 +47,10 @@ pub struct SessionFormat {
     pub nack: bool,
     /// Whether its sender answers requests for keyframes.
     pub pli: bool,
+    /// Whether frames wait as the session's limits say, also with a `longest_wait`.
+    pub fixed_wait: bool,
+    /// Whether frames wait by how late missing packets arrive. Then `fixed_wait` is ignored.
+    pub late_wait: bool,
 }
 
 /// Two SSRCs of one source.
@@ -120,6 +125,8 @@ pub struct SessionSettings {
     pub audio: WaitLimits,
     /// How long frames of video wait for missing packets.
     pub video: WaitLimits,
+    /// Within which bounds frames wait by how late missing packets arrive.
+    pub late: AdaptiveWaitSettings,
     /// A stream ends once this number of ticks has passed since its last datagram.
     pub idle_timeout: u64,
     /// A stream takes packets for this number of ticks after its BYE.
@@ -166,6 +173,19 @@ fn red_of(format: &SessionFormat) -> Option<RedSettings>
     })
 }
 
+/// Returns how long frames of the format wait.
+fn waiting_of(format: &SessionFormat) -> Waiting
+    ensures { result ≡ waiting_given format.now }
+{
+    if format.late_wait {
+        Waiting::Late
+    } else if format.fixed_wait {
+        Waiting::Fixed
+    } else {
+        Waiting::RoundTrip
+    }
+}
+
 /// Converts a format of C. `None`: its clock has no rate.
 fn format_of(format: &SessionFormat) -> Option<Format>
     ensures { result ≡ format_given format.now }
@@ -186,6 +206,7 @@ fn format_of(format: &SessionFormat) -> Option<Format>
         },
         nack: format.nack,
         pli: format.pli,
+        wait: waiting_of(format),
     })
 }
 
@@ -197,14 +218,17 @@ pub(crate) fn is_format_in_range(format: &SessionFormat) -> bool
 }
 
 /// Returns whether the clocks of all formats have rates.
-fn are_in_range(formats: &[SessionFormat]) -> bool
+pub(crate) fn are_in_range(formats: &[SessionFormat]) -> bool
     ensures { result ≡ list_all format_in_range formats.now }
 {
     formats.iter().all(|format| is_format_in_range(format))
 }
 
 /// Converts the formats of C whose clocks have rates.
-fn formats_of(alloc: Global, formats: &[SessionFormat]) -> Result<Vec<Format>, AllocError>
+pub(crate) fn formats_of(
+    alloc: Global,
+    formats: &[SessionFormat],
+) -> Result<Vec<Format>, AllocError>
     ensures { IfOk result (λ list. list.items ≡ filter_map format_given formats.now) }
 {
     formats
@@ -351,6 +375,7 @@ fn settings_of(alloc: Global, settings: &SessionSettings) -> Option<Settings>
         extension_ids: ids_of(settings.extension_ids),
         audio: waiting_for(settings.audio),
         video: waiting_for(settings.video),
+        late: bounds_of(&settings.late),
         from_keyframe,
         limit: settings.limit,
         max_unit: bound_of(settings.max_unit),

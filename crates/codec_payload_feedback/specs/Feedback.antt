@@ -99,6 +99,10 @@ new_requests ssrc settings interval = record { ssrc = ssrc; nack = new_schedule 
 abbrev pub updated : ℕ → List ℕ → Bool → Requests → Requests
 updated now missing wanted r = record r { nack = refreshed now missing r.nack; keyframes = record r.keyframes { wanted = wanted } }
 
+-- a keyframe is needed
+abbrev pub wanting : Requests → Requests
+wanting r = record r { keyframes = record r.keyframes { wanted = true } }
+
 -- what is due: the 16 bits of numbers, and whether a keyframe is
 abbrev pub numbers_due : ℕ → Requests → List ℕ
 numbers_due now r = map low_bits (due_numbers now r.nack)

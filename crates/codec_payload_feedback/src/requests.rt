@@ -6,7 +6,7 @@ ghost use Rattle.codec_payload_feedback_congestion.specs.Packet.{transport_feedb
 ghost use Rattle.std.specs.Option.{option_map};
 ghost use Rattle.codec_payload_feedback_requests.specs.NackSchedule.{requested_by};
 ghost use Rattle.codec_payload_feedback_requests.specs.Requests.{earlier, has_come};
-ghost use Rattle.codec_payload_feedback.specs.Feedback.{AppendsAll, AppendsNack, IsFeedback, after_answered, after_feedback, deadline_of, description_part, has_any, is_idle, keyframe_is_due, keyframe_part, new_requests, numbers_due, report_part, source_by, updated};
+ghost use Rattle.codec_payload_feedback.specs.Feedback.{AppendsAll, AppendsNack, IsFeedback, after_answered, after_feedback, deadline_of, description_part, has_any, is_idle, keyframe_is_due, keyframe_part, new_requests, numbers_due, report_part, source_by, updated, wanting};
 
 use codec_payload_base::wire::Ticks;
 use codec_payload_feedback_congestion::packet::write_transport_packet;
@@ -258,6 +258,22 @@ impl StreamRequests {
         self.nack.count_due(now);
         self.keyframes = keyframes;
         Ok(packet)
+    }
+
+    /// Records that a keyframe is needed, until the next `update` says otherwise. So [`StreamRequests::next_deadline`] is the moment from
+    /// which on it can be requested.
+    pub fn want_keyframe(&mut self)
+        ensures { self.new ≡ wanting self.old }
+    {
+        self.keyframes.set_wanted(true);
+    }
+
+    /// Returns whether the packet that [`StreamRequests::take_due`] would return at this moment requests a keyframe.
+    pub fn is_keyframe_due(&self, now: Ticks) -> bool
+        ensures { result ≡ keyframe_is_due now.0 self.now }
+    {
+        let mut keyframes = self.keyframes;
+        keyframes.take_due(now)
     }
 
     /// Records that a retransmission of this sequence number (16 bits) arrived, which measures the round trip. Call it before the

@@ -1,5 +1,5 @@
 -- The units that a viewer's receiver releases behind a forwarder, from the theorem of runs over one hop.
-use Rattle.std.proofs.Common.{◌≡◌, ◌∙◌, refl, sym, ap, subst, ℕ, zero, suc, ◌+◌, ◌^◌, ◌<◌, List, [], ◌∷◌, ◌++◌, Bool, true, false, cond, ltb, Option, Some, None, length, map, replicate, arith}
+use Rattle.std.proofs.Common.{◌≡◌, ◌∙◌, refl, sym, ap, subst, ℕ, zero, suc, ◌+◌, ◌^◌, ◌<◌, List, [], ◌∷◌, ◌++◌, Bool, true, false, cond, ltb, Option, Some, Ok, None, length, map, replicate, arith}
 use Rattle.std.specs.Prelude.{slice_get, slice_index_or}
 use Rattle.std.specs.Option.{option_map}
 use Rattle.std.proofs.lemmas.Bool.{ltb-true}
@@ -11,13 +11,15 @@ use Rattle.codec_payload_buffer_runs.specs.declared.run.Step.{Step}
 use Rattle.codec_payload_buffer_runs.specs.declared.run.Step.TheVariants as run_steps
 use Rattle.codec_payload_codec.specs.Packetizers.{PacketizerState}
 use Rattle.codec_payload_payloader.specs.Sending.{Sample, rtp_time_at}
-use Rattle.codec_payload_receiver.specs.Sessions.{Session}
+use Rattle.codec_payload_receiver.specs.Sessions.{Session, session_by}
+use Rattle.codec_payload_receiver.specs.declared.receiver.Settings.{Settings}
+use Rattle.codec_payload_codec.specs.Depacketizers.{DepacketizerState}
 use Rattle.codec_payload_sending.specs.Senders.{Sending}
 use Rattle.codec_payload_sending_forward.specs.Forwarding.{Forward}
 use Rattle.codec_payload_sending_forward.specs.Times.{time_as}
 use Rattle.codec_payload_sending_forward.specs.declared.forwarder.Forwarded.{Forwarded}
 use Rattle.codec_payload_datagram_runs.proofs.ReleaseLemmas.{promises_over_datagrams, release_over_datagrams}
-use Rattle.codec_payload_datagram_runs.specs.Releases.{AreTimely, ComeTimely, ComeWithin, IsTimely, IsWithinWindows, ReleasesUnits, delivered, received_steps, sending_steps, sends_after, sent_after, times_of, times_sent}
+use Rattle.codec_payload_datagram_runs.specs.Releases.{AreOfOneStream, AreTimely, ComeTimely, ComeWithin, IsTimely, IsWithinWindows, ReleasesUnits, delivered, received_steps, sending_steps, sends_after, sent_after, times_of, times_sent}
 use Rattle.codec_payload_datagram_runs.specs.WireRuns.{Runs, begins}
 use Rattle.codec_payload_datagram_runs.specs.declared.run.DatagramStep.{DatagramStep}
 use Rattle.codec_payload_datagram_runs.specs.declared.run.DatagramStep.TheVariants as plain
@@ -80,7 +82,7 @@ module _ (f : Forward) (rate : ℕ) where
       → packetizer_after_sample packetizer mtu (slice_get (moved samples) i) ≡ packetizer_after_sample packetizer mtu (slice_get samples i)
   after_at packetizer mtu i samples = ap (packetizer_after_sample packetizer mtu) (slice_get-map (viewer_sample f rate) samples i) ∙ after_same packetizer mtu (slice_get samples i)
 
-  same_units : (packetizer : PacketizerState) (samples : List Sample) (all_steps : List Step) → units_of_run packetizer (moved samples) all_steps ≡ units_of_run packetizer samples all_steps
+  pub same_units : (packetizer : PacketizerState) (samples : List Sample) (all_steps : List Step) → units_of_run packetizer (moved samples) all_steps ≡ units_of_run packetizer samples all_steps
   same_units packetizer samples [] = refl
   same_units packetizer samples (run_steps.Send i mtu ∷ later) =
       ap (λ (us : List (List (List ℕ))). us ++ units_of_run (packetizer_after_sample packetizer mtu (slice_get (moved samples) i)) (moved samples) later) (units_at packetizer mtu i samples)
@@ -205,6 +207,30 @@ module _ (f : Forward) (rate : ℕ) (some : 0 < rate) where
   come_timely times [] small under timely = tt
   come_timely times (k ∷ ks) small under timely = each_timely times k ks small under.0 under.1 timely
 
+-- The premises of a run of the sender are those of a run of the viewer's sender
+
+pub moved_within : (e : Forward) (samples : List Sample) (seen : List DatagramStep) (sender : Sending) (receiver : Session) (sends : List SentSample) (settings : Settings) (depacketizer : DepacketizerState)
+    → 0 < sender.stream.clock_rate → session_by settings depacketizer ≡ Ok receiver → AreOfOneStream (viewer_sender e sender) settings depacketizer → AreReadable sender.packetizer samples
+    → ComeWithin settings.forward settings.backward (delivered (received_steps samples 0 seen sends))
+    → ComeTimely sender.stream.clock_rate (times_sent sender.stream.clock_rate samples seen sends) (delivered (received_steps samples 0 seen sends))
+    → IsWithinWindows (viewer_samples e sender.stream.clock_rate samples) seen (viewer_sender e sender) receiver sends
+moved_within e samples seen sender receiver sends settings depacketizer some new one_stream readable within timely =
+    let rate : ℕ = sender.stream.clock_rate in
+    let same : received_steps (viewer_samples e rate samples) 0 seen sends ≡ received_steps samples 0 seen sends = received_same (viewer_sample e rate) samples 0 seen sends in
+    record {
+      settings = settings;
+      depacketizer = depacketizer;
+      new = new;
+      one_stream = one_stream;
+      readable = same_readable e rate sender.packetizer samples readable;
+      within = subst (λ (ds : List DatagramStep). ComeWithin settings.forward settings.backward (delivered ds)) (sym same) within;
+      timely = subst (λ (ds : List DatagramStep). ComeTimely rate (times_sent rate (viewer_samples e rate samples) seen sends) (delivered ds)) (sym same)
+          (subst (λ (ts : List ℕ). ComeTimely rate ts (delivered (received_steps samples 0 seen sends))) (sym (times_move e rate some samples seen sends))
+          (come_timely e rate some (times_sent rate samples seen sends) (delivered (received_steps samples 0 seen sends))
+          (small rate samples seen sends)
+          (subst (λ (n : ℕ). AllUnder n (delivered (received_steps samples 0 seen sends))) (omega arith) (come_under rate samples 0 seen sends)) timely));
+    }
+
 -- The theorem
 
 module _ (samples : List Sample) (all_steps : List ForwardStep) (sender : Sending) (forwarder : Forward) (receiver : Session) (t : Hops)
@@ -246,23 +272,8 @@ module _ (samples : List Sample) (all_steps : List ForwardStep) (sender : Sendin
     course = subst (λ (rs : List Forwarded). Runs (viewer_samples e rate samples) (viewer_steps samples 0 [] all_steps t.wire.sends rs) (begins (viewer_sender e sender) receiver) (viewer_wire e t.wire)) (sym came.results)
         (subst (λ (es : List SentSample). Runs (viewer_samples e rate samples) (viewer_steps samples 0 [] all_steps es came.more) (begins (viewer_sender e sender) receiver) (viewer_wire e t.wire)) (sym came.sends) (came.course fit))
 
-    same_received : received_steps (viewer_samples e rate samples) 0 seen t.wire.sends ≡ received_steps samples 0 seen t.wire.sends
-    same_received = received_same (viewer_sample e rate) samples 0 seen t.wire.sends
-
     pub is_within : IsWithinWindows (viewer_samples e rate samples) seen (viewer_sender e sender) receiver t.wire.sends
-    is_within = record {
-      settings = within.settings;
-      depacketizer = within.depacketizer;
-      new = within.new;
-      one_stream = within.one_stream;
-      readable = same_readable e rate sender.packetizer samples within.readable;
-      within = subst (λ (ds : List DatagramStep). ComeWithin within.settings.forward within.settings.backward (delivered ds)) (sym same_received) within.within;
-      timely = subst (λ (ds : List DatagramStep). ComeTimely rate (times_sent rate (viewer_samples e rate samples) seen t.wire.sends) (delivered ds)) (sym same_received)
-          (subst (λ (ts : List ℕ). ComeTimely rate ts (delivered (received_steps samples 0 seen t.wire.sends))) (sym (times_move e rate within.widths.clock_rate samples seen t.wire.sends))
-          (come_timely e rate within.widths.clock_rate (times_sent rate samples seen t.wire.sends) (delivered (received_steps samples 0 seen t.wire.sends))
-          (small rate samples seen t.wire.sends)
-          (subst (λ (n : ℕ). AllUnder n (delivered (received_steps samples 0 seen t.wire.sends))) (omega arith) (come_under rate samples 0 seen t.wire.sends)) within.timely));
-    }
+    is_within = moved_within e samples seen sender receiver t.wire.sends within.settings within.depacketizer within.widths.clock_rate within.new within.one_stream within.readable within.within within.timely
 
     pub releases : ReleasesUnits (viewer_samples e rate samples) seen (begins (viewer_sender e sender) receiver) (viewer_wire e t.wire)
     releases = release_over_datagrams (viewer_samples e rate samples) seen (viewer_sender e sender) receiver (viewer_wire e t.wire) course is_within

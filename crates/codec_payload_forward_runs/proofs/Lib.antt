@@ -1,8 +1,12 @@
 pub mod ForwardLemmas
 pub mod ForwardRunExamples
-pub mod PlainSteps
 pub mod KeptPayloads
+pub mod PlainSteps
 pub mod SenderLemmas
 pub mod SourceLemmas
+pub mod StoreLemmas
+pub mod StoreReleaseLemmas
+pub mod StoreRunExamples
+pub mod StoreViewerRuns
 pub mod ViewerLemmas
 pub mod ViewerRuns

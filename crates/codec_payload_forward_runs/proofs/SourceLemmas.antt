@@ -1,5 +1,5 @@
 -- The datagrams of the sender: packets of one source, whose payloads the forwarder keeps.
-use Rattle.std.proofs.Common.{◌≡◌, ◌∙◌, sym, ap, subst, ℕ, zero, suc, ◌<◌, List, [], ◌∷◌, ◌++◌, true, Option, Some, None, MatchOption, Ok, length, arith}
+use Rattle.std.proofs.Common.{◌≡◌, refl, ◌∙◌, sym, ap, subst, ℕ, zero, suc, ◌<◌, List, [], ◌∷◌, ◌++◌, true, Option, Some, None, MatchOption, Ok, length, arith}
 use Rattle.std.specs.Prelude.{slice_get, slice_index_or}
 use Rattle.std.proofs.lemmas.Option.{same_Some}
 use Rattle.codec_payload_base.specs.declared.wire.Codec.{Codec}
@@ -54,6 +54,7 @@ sent_of ssrc rate codec sample s t datagrams is sends =
         source = is.source;
         number = omega arith;
         time = omega arith;
+        padding = refl;
         kept = kept_each codec s.packetizer t.packetizer s.mtu sample.bytes sends.payloads is.keeps sends.packetized i within;
       },
     ))

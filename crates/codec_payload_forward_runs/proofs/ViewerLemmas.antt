@@ -56,6 +56,7 @@ pub record IsOf (ssrc : ℕ) (codec : Codec) (p : Packet) : Type 0 where
   pub source : p.header.ssrc ≡ ssrc
   pub number : p.header.sequence_number < 65536
   pub time : p.header.timestamp < 4294967296
+  pub padding : p.padding ≡ 0
   pub kept : (o : IdOffsets) → payload_for codec o p.payload ≡ p.payload
 
 -- a packet with another payload, number and time that are the same
@@ -75,7 +76,7 @@ begun_packet ssrc now p f of =
     same_under f.settings _ _ _ _ p _ number time (of.kept _)
 
 -- a later packet
-written_packet : (ssrc sent : ℕ) (p : Packet) (f : Forward) → IsOf ssrc f.settings.codec p → f.numbers.left_out ≡ [] → placed f.numbers (number_in f p) true ≡ places.Sent sent
+pub written_packet : (ssrc sent : ℕ) (p : Packet) (f : Forward) → IsOf ssrc f.settings.codec p → f.numbers.left_out ≡ [] → placed f.numbers (number_in f p) true ≡ places.Sent sent
     → next_packet f sent p ≡ viewer_packet f p
 written_packet ssrc sent p f of none is =
     let low : number_in f p % 65536 ≡ p.header.sequence_number % 65536 = low_number f.numbers.highest p.header.sequence_number in

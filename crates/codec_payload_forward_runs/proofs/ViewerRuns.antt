@@ -1,5 +1,5 @@
 -- A run with a forwarder is, for the viewer's receiver, a run over one hop from the sender whose datagrams the viewer gets.
-use Rattle.std.proofs.Common.{◌≡◌, ◌∙◌, refl, sym, ap, subst, ℕ, zero, suc, ◌^◌, ◌<◌, List, [], ◌∷◌, ◌++◌, true, false, ltb, Option, Some, None, MatchOption, Result, Ok, length, map, append_assoc, append-nil}
+use Rattle.std.proofs.Common.{◌≡◌, ◌∙◌, refl, sym, ap, subst, ℕ, zero, suc, ◌^◌, ◌<◌, List, [], ◌∷◌, ◌++◌, Bool, true, false, ltb, Option, Some, None, MatchOption, Result, Ok, length, map, append_assoc, append-nil}
 use Rattle.std.specs.Prelude.{slice_get}
 use Rattle.std.specs.Option.{option_map}
 use Rattle.std.proofs.lemmas.Bool.{le-ltb, lt-ltb}
@@ -14,10 +14,11 @@ use Rattle.codec_payload_rtp.specs.declared.rtp.RtpError.{RtpError}
 use Rattle.codec_payload_sending_forward.specs.Forwarding.{Forward}
 use Rattle.codec_payload_sending_forward.specs.declared.forwarder.Forwarded.{Forwarded}
 use Rattle.codec_payload_sending_forward.specs.declared.forwarder.Forwarded.TheVariants as answers
-use Rattle.codec_payload_datagram_runs.proofs.RepeatLemmas.{Follows, follows, grows, Grows}
+use Rattle.codec_payload_datagram_runs.proofs.RepeatLemmas.{follows, grows, Grows}
 use Rattle.codec_payload_datagram_runs.proofs.StepLemmas.{get_append, past_end}
 use Rattle.codec_payload_datagram_runs.specs.HistoryReleases.{sends_by}
 use Rattle.codec_payload_datagram_runs.specs.WireRuns.{Delivers, DoesStep, Receipt, Runs, Wire}
+use Rattle.codec_payload_datagram_runs.specs.declared.run.DatagramStep.{DatagramStep}
 use Rattle.codec_payload_datagram_runs.specs.declared.run.DatagramStep.TheVariants as plain
 use Rattle.codec_payload_datagram_runs.specs.declared.run.SentSample.{SentSample}
 use Rattle.codec_payload_forward_runs.proofs.SenderLemmas.{sends_step}
@@ -25,8 +26,11 @@ use Rattle.codec_payload_forward_runs.proofs.SourceLemmas.{IsDatagramOf, IsSourc
 use Rattle.codec_payload_forward_runs.proofs.ViewerLemmas.{DoesOne, GoesOn, HasNone, IsOf, does_one, goes_further, goes_nowhere, same_viewer}
 use Rattle.codec_payload_forward_runs.specs.ForwardReleases.{AreForwarded, forwarded_by, forwarded_in, viewer_bytes, viewer_datagram, viewer_packet, viewer_samples, viewer_steps, viewer_wire}
 use Rattle.codec_payload_forward_runs.specs.ForwardRuns.{DoesForwardStep, DoesPlain, ForwardRuns, Hops, packet_in, packet_read, written_by}
+use Rattle.codec_payload_forward_runs.specs.StoreReleases.{store_steps}
 use Rattle.codec_payload_forward_runs.specs.declared.run.ForwardStep.{ForwardStep}
 use Rattle.codec_payload_forward_runs.specs.declared.run.ForwardStep.TheVariants as steps
+use Rattle.codec_payload_forward_runs.specs.declared.store_run.StoreStep.{StoreStep}
+use Rattle.codec_payload_forward_runs.specs.declared.store_run.StoreStep.TheVariants as store
 
 -- What was written
 
@@ -63,7 +67,7 @@ none_at f datagrams (b ∷ bs) (k ∷ ks) zero are none = absurd (cc)
 none_at f datagrams (b ∷ bs) (k ∷ ks) (suc j) are none = none_at f datagrams bs ks j are.1 none
 
 -- the datagrams after a step have those before it in front
-abbrev IsMore : List (List ℕ) → List (List ℕ) → Type 0
+abbrev pub IsMore : List (List ℕ) → List (List ℕ) → Type 0
 IsMore before after = (new : List (List ℕ)) × (after ≡ before ++ new)
 
 forwarded_later : (f : Forward) (before after bs : List (List ℕ)) (ks : List ℕ) → IsMore before after → AreForwarded f before bs ks → AreForwarded f after bs ks
@@ -123,10 +127,10 @@ module _ (ssrc rate : ℕ) (codec : Codec) (samples : List Sample) where
 
   -- The state after a step
 
-  record Stays (s mid : Hops) : Type 0 where
-    at : IsAt ssrc rate codec mid
-    on : GoesOn ssrc s.forwarder mid.forwarder
-    more : IsMore s.wire.datagrams mid.wire.datagrams
+  pub record Stays (s mid : Hops) : Type 0 where
+    pub at : IsAt ssrc rate codec mid
+    pub on : GoesOn ssrc s.forwarder mid.forwarder
+    pub more : IsMore s.wire.datagrams mid.wire.datagrams
 
   -- a step of sender or receiver leaves the forwarder
   plain_stays : (s mid : Hops) (wire : Wire) → mid ≡ record s { wire = wire } → IsAt ssrc rate codec s → IsSource ssrc rate codec wire.sending wire.datagrams → IsMore s.wire.datagrams wire.datagrams
@@ -182,7 +186,7 @@ module _ (ssrc rate : ℕ) (codec : Codec) (samples : List Sample) where
       let g : Grows s.wire does.0 = grows samples (plain.Send i) s.wire does.0 does.1 in
       plain_stays s mid does.0 does.2 at (source_after ssrc rate codec samples i s.wire does.0 at.source does.1) (g.new, g.whole)
 
-  stays : (step : ForwardStep) (s mid : Hops) → IsAt ssrc rate codec s → DoesForwardStep samples step s mid → Stays s mid
+  pub stays : (step : ForwardStep) (s mid : Hops) → IsAt ssrc rate codec s → DoesForwardStep samples step s mid → Stays s mid
   stays (steps.Send i) s mid at does = send_stays i s mid at does
   stays (steps.Forward k now) s mid at does = turn_stays k now s mid at (turns k now s mid at does)
   stays (steps.Deliver j now) s mid at does = deliver_stays (slice_get s.written j) now s mid at does
@@ -202,53 +206,71 @@ module _ (ssrc rate : ℕ) (codec : Codec) (samples : List Sample) where
   abbrev pub Fit : Forward → Type 0
   Fit e = (0 < rate) × (e.settings.payload_type < 128) × (e.settings.ssrc < 2 ^ 32)
 
-  pub record Comes (all_steps : List ForwardStep) (s t : Hops) (forwarded : List ℕ) : Type 0 where
-    pub later : List SentSample
-    pub sends : t.wire.sends ≡ s.wire.sends ++ later
-    pub more : List Forwarded
-    pub results : t.answers ≡ s.answers ++ more
-    pub course : Fit t.forwarder
-        → Runs (viewer_samples t.forwarder rate samples) (viewer_steps samples (length s.wire.datagrams) forwarded all_steps later more) (viewer_wire t.forwarder s.wire) (viewer_wire t.forwarder t.wire)
-    pub written : AreForwarded t.forwarder t.wire.datagrams t.written (forwarded_in samples (length s.wire.datagrams) forwarded all_steps later more)
+  -- One step, as the viewer's receiver sees it under the offsets of a later forwarder. `after` and `rest` are the results of later steps
+  pub record One (e : Forward) (step : ForwardStep) (s mid : Hops) (forwarded : List ℕ) : Type 0 where
+    pub sends : List SentSample → List SentSample
+    pub sends_are : (after : List SentSample) → mid.wire.sends ++ after ≡ s.wire.sends ++ sends after
+    pub results : List Forwarded → List Forwarded
+    pub results_are : (rest : List Forwarded) → mid.answers ++ rest ≡ s.answers ++ results rest
+    pub next : List ℕ
+    pub written : AreForwarded e mid.wire.datagrams mid.written next
+    pub seen : List DatagramStep
+    pub course : Fit e → Runs (viewer_samples e rate samples) seen (viewer_wire e s.wire) (viewer_wire e mid.wire)
+    pub steps_are : (after : List SentSample) (rest : List Forwarded) (later : List ForwardStep)
+        → viewer_steps samples (length s.wire.datagrams) forwarded (step ∷ later) (sends after) (results rest)
+        ≡ seen ++ viewer_steps samples (length mid.wire.datagrams) next later after rest
+    pub next_are : (after : List SentSample) (rest : List Forwarded) (later : List ForwardStep)
+        → forwarded_in samples (length s.wire.datagrams) forwarded (step ∷ later) (sends after) (results rest)
+        ≡ forwarded_in samples (length mid.wire.datagrams) next later after rest
+    pub with_store : (after : List SentSample) (rest : List Forwarded) (later : List StoreStep) (repeated : List ℕ) (found : List Bool) (left : List ℕ)
+        → store_steps samples (length s.wire.datagrams) forwarded repeated (store.Plain step ∷ later) (sends after) (results rest) found left
+        ≡ seen ++ store_steps samples (length mid.wire.datagrams) next repeated later after rest found left
 
-  send_comes : (i : ℕ) (later : List ForwardStep) (s mid t : Hops) (forwarded : List ℕ) → IsAt ssrc rate codec s → DoesPlain samples (plain.Send i) s mid → Comes later mid t forwarded
-      → Comes (steps.Send i ∷ later) s t forwarded
-  send_comes i later s mid t forwarded at does c =
-      let e : Forward = t.forwarder in
+  -- a step is made
+  one_run : (e : Forward) (step : DatagramStep) (s t : Wire) → DoesStep (viewer_samples e rate samples) step s t → Runs (viewer_samples e rate samples) (step ∷ []) s t
+  one_run e step s t does = (t, does, refl)
+
+  send_one : (e : Forward) (i : ℕ) (s mid : Hops) (forwarded : List ℕ) → IsAt ssrc rate codec s → DoesPlain samples (plain.Send i) s mid
+      → AreForwarded e mid.wire.datagrams mid.written forwarded → One e (steps.Send i) s mid forwarded
+  send_one e i s mid forwarded at does written =
       let wire : mid.wire ≡ does.0 = ap (λ (x : Hops). x.wire) does.2 in
       let stepped : DoesStep samples (plain.Send i) s.wire mid.wire = subst (DoesStep samples (plain.Send i) s.wire) (sym wire) does.1 in
-      let f : Follows samples (plain.Send i) s.wire mid.wire c.later = follows samples (plain.Send i) s.wire mid.wire c.later stepped in
       record {
-        later = f.later;
-        sends = c.sends ∙ f.sends;
-        more = c.more;
-        results = c.results ∙ ap (λ (x : Hops). x.answers ++ c.more) does.2;
-        course = λ fit. (
-          viewer_wire e mid.wire,
-          sends_step e fit.1 fit.2 rate samples i s.wire mid.wire at.source.clock fit.0 stepped,
-          subst (λ (n : ℕ). Runs (viewer_samples e rate samples) (viewer_steps samples n forwarded later (sends_by samples (plain.Send i) f.later) c.more) (viewer_wire e mid.wire) (viewer_wire e t.wire)) (sym f.sent)
-              (subst (λ (es : List SentSample). Runs (viewer_samples e rate samples) (viewer_steps samples (length mid.wire.datagrams) forwarded later es c.more) (viewer_wire e mid.wire) (viewer_wire e t.wire)) (sym f.left) (c.course fit)),
-        );
-        written = subst (λ (n : ℕ). AreForwarded e t.wire.datagrams t.written (forwarded_in samples n forwarded later (sends_by samples (plain.Send i) f.later) c.more)) (sym f.sent)
-            (subst (λ (es : List SentSample). AreForwarded e t.wire.datagrams t.written (forwarded_in samples (length mid.wire.datagrams) forwarded later es c.more)) (sym f.left) c.written);
+        sends = λ after. (follows samples (plain.Send i) s.wire mid.wire after stepped).later;
+        sends_are = λ after. (follows samples (plain.Send i) s.wire mid.wire after stepped).sends;
+        results = λ rest. rest;
+        results_are = λ rest. ap (λ (x : Hops). x.answers ++ rest) does.2;
+        next = forwarded;
+        written = written;
+        seen = plain.Send i ∷ [];
+        course = λ fit. one_run e (plain.Send i) (viewer_wire e s.wire) (viewer_wire e mid.wire) (sends_step e fit.1 fit.2 rate samples i s.wire mid.wire at.source.clock fit.0 stepped);
+        steps_are = λ after rest later.
+            let f = follows samples (plain.Send i) s.wire mid.wire after stepped in
+            ap (λ (n : ℕ). plain.Send i ∷ viewer_steps samples n forwarded later (sends_by samples (plain.Send i) f.later) rest) f.sent
+            ∙ ap (λ (es : List SentSample). plain.Send i ∷ viewer_steps samples (length mid.wire.datagrams) forwarded later es rest) f.left;
+        next_are = λ after rest later.
+            let f = follows samples (plain.Send i) s.wire mid.wire after stepped in
+            ap (λ (n : ℕ). forwarded_in samples n forwarded later (sends_by samples (plain.Send i) f.later) rest) f.sent
+            ∙ ap (λ (es : List SentSample). forwarded_in samples (length mid.wire.datagrams) forwarded later es rest) f.left;
+        with_store = λ after rest later repeated found left.
+            let f = follows samples (plain.Send i) s.wire mid.wire after stepped in
+            ap (λ (n : ℕ). plain.Send i ∷ store_steps samples n forwarded repeated later (sends_by samples (plain.Send i) f.later) rest found left) f.sent
+            ∙ ap (λ (es : List SentSample). plain.Send i ∷ store_steps samples (length mid.wire.datagrams) forwarded repeated later es rest found left) f.left;
       }
 
-  same_comes : (later : List ForwardStep) (s mid t : Hops) (forwarded : List ℕ) → mid ≡ s → Comes later mid t forwarded → Comes later s t forwarded
-  same_comes later s mid t forwarded same c = subst (λ (x : Hops). Comes later x t forwarded) same c
-
   -- the packet that a step wrote
-  one_written : (s t : Hops) (k now : ℕ) (mid : Hops) → (a : Answers k now s mid) → GoesOn ssrc a.forwarder t.forwarder
-      → AreForwarded t.forwarder s.wire.datagrams (written_by a.answer a.bytes) (forwarded_by a.answer k)
-  one_written s t k now mid a goes = by a.answer refl
+  one_written : (e : Forward) (s : Hops) (k now : ℕ) (mid : Hops) → (a : Answers k now s mid) → GoesOn ssrc a.forwarder e
+      → AreForwarded e s.wire.datagrams (written_by a.answer a.bytes) (forwarded_by a.answer k)
+  one_written e s k now mid a goes = by a.answer refl
     where
       wrote : (b : List ℕ) → written_by a.answer a.bytes ≡ b ∷ []
-          → (datagram : List ℕ) × (p : Packet) × (slice_get s.wire.datagrams k ≡ Some datagram) × (rtp_at datagram ≡ Ok p) × (b ≡ packet_bytes (viewer_packet t.forwarder p)) × (rtp_at b ≡ Ok (viewer_packet t.forwarder p))
+          → (datagram : List ℕ) × (p : Packet) × (slice_get s.wire.datagrams k ≡ Some datagram) × (rtp_at datagram ≡ Ok p) × (b ≡ packet_bytes (viewer_packet e p)) × (rtp_at b ≡ Ok (viewer_packet e p))
       wrote b is =
           let w = a.one.writes b is in
-          let same : viewer_packet t.forwarder a.packet ≡ viewer_packet a.forwarder a.packet = same_viewer a.forwarder t.forwarder a.packet goes.settings (goes.numbers w.0) (goes.times w.0) in
+          let same : viewer_packet e a.packet ≡ viewer_packet a.forwarder a.packet = same_viewer a.forwarder e a.packet goes.settings (goes.numbers w.0) (goes.times w.0) in
           (a.datagram, a.packet, a.there, a.reads, w.1 ∙ ap packet_bytes (sym same), w.2 ∙ ap (λ (p : Packet). Ok p) (sym same))
 
-      by : (answer : Forwarded) → a.answer ≡ answer → AreForwarded t.forwarder s.wire.datagrams (written_by a.answer a.bytes) (forwarded_by a.answer k)
+      by : (answer : Forwarded) → a.answer ≡ answer → AreForwarded e s.wire.datagrams (written_by a.answer a.bytes) (forwarded_by a.answer k)
       by answers.Began is = rw is (wrote a.bytes (rw is refl), tt)
       by answers.Written is = rw is (wrote a.bytes (rw is refl), tt)
       by answers.NoKeyframe is = rw is tt
@@ -257,117 +279,154 @@ module _ (ssrc rate : ℕ) (codec : Codec) (samples : List Sample) where
       by answers.LeftOut is = rw is tt
       by answers.Filled is = rw is tt
 
-  turn_comes : (k now : ℕ) (later : List ForwardStep) (s mid t : Hops) (forwarded : List ℕ) → Turns k now s mid
-      → ((ks : List ℕ) → AreForwarded t.forwarder mid.wire.datagrams mid.written ks → Comes later mid t ks) → GoesOn ssrc mid.forwarder t.forwarder
-      → AreForwarded t.forwarder s.wire.datagrams s.written forwarded → Comes (steps.Forward k now ∷ later) s t forwarded
-  turn_comes k now later s mid t forwarded (skips none) rest goes written =
+  turn_one : (e : Forward) (k now : ℕ) (s mid : Hops) (forwarded : List ℕ) → Turns k now s mid → GoesOn ssrc mid.forwarder e
+      → AreForwarded e s.wire.datagrams s.written forwarded → One e (steps.Forward k now) s mid forwarded
+  turn_one e k now s mid forwarded (skips none) goes written =
       let past : ltb k (length s.wire.datagrams) ≡ false = le-ltb k (length s.wire.datagrams) (past_end s.wire.datagrams k none.0) in
-      let c : Comes later s t forwarded =
-      same_comes later s mid t forwarded none.1 (rest forwarded (subst (λ (x : Hops). AreForwarded t.forwarder x.wire.datagrams x.written forwarded) (sym none.1) written)) in
-      record {
-        later = c.later;
-        sends = c.sends;
-        more = c.more;
-        results = c.results;
-        course = rw past c.course;
-        written = rw past c.written;
-      }
-  turn_comes k now later s mid t forwarded (answers_one a) rest goes written =
-      let e : Forward = t.forwarder in
+      subst (λ (x : Hops). One e (steps.Forward k now) s x forwarded) (sym none.1)
+      (record {
+        sends = λ after. after;
+        sends_are = λ after. refl;
+        results = λ rest. rest;
+        results_are = λ rest. refl;
+        next = forwarded;
+        written = written;
+        seen = [];
+        course = λ fit. refl;
+        steps_are = λ after rest later. rw past refl;
+        next_are = λ after rest later. rw past refl;
+        with_store = λ after rest later repeated found left. rw past refl;
+      })
+  turn_one e k now s mid forwarded (answers_one a) goes written =
       let within : ltb k (length s.wire.datagrams) ≡ true = lt-ltb k (length s.wire.datagrams) (slice_get_within s.wire.datagrams k a.datagram a.there) in
-      let next : Hops = record s { forwarder = a.forwarder; written = s.written ++ written_by a.answer a.bytes; answers = s.answers ++ a.answer ∷ [] } in
-      let ks : List ℕ = forwarded ++ forwarded_by a.answer k in
-      let one = one_written s t k now mid a (subst (λ (x : Hops). GoesOn ssrc x.forwarder e) a.is goes) in
-      let more : AreForwarded e next.wire.datagrams next.written ks = forwarded_append e s.wire.datagrams s.written forwarded (written_by a.answer a.bytes) (forwarded_by a.answer k) written one in
-      let c : Comes later next t ks =
-      same_comes later next mid t ks a.is (rest ks (subst (λ (x : Hops). AreForwarded e x.wire.datagrams x.written ks) (sym a.is) more)) in
-      record {
-        later = c.later;
-        sends = c.sends;
-        more = a.answer ∷ c.more;
-        results = c.results ∙ append_assoc s.answers (a.answer ∷ []) c.more;
-        course = rw within c.course;
-        written = rw within c.written;
-      }
+      let after_it : Hops = record s { forwarder = a.forwarder; written = s.written ++ written_by a.answer a.bytes; answers = s.answers ++ a.answer ∷ [] } in
+      let one = one_written e s k now mid a (subst (λ (x : Hops). GoesOn ssrc x.forwarder e) a.is goes) in
+      subst (λ (x : Hops). One e (steps.Forward k now) s x forwarded) (sym a.is)
+      (record {
+        sends = λ after. after;
+        sends_are = λ after. refl;
+        results = λ rest. a.answer ∷ rest;
+        results_are = λ rest. append_assoc s.answers (a.answer ∷ []) rest;
+        next = forwarded ++ forwarded_by a.answer k;
+        written = forwarded_append e s.wire.datagrams s.written forwarded (written_by a.answer a.bytes) (forwarded_by a.answer k) written one;
+        seen = [];
+        course = λ fit. refl;
+        steps_are = λ after rest later. rw within refl;
+        next_are = λ after rest later. rw within refl;
+        with_store = λ after rest later repeated found left. rw within refl;
+      })
 
-  deliver_comes : (o : Option (List ℕ)) (j : ℕ) (now : Ticks) (later : List ForwardStep) (s mid t : Hops) (forwarded : List ℕ) → slice_get s.written j ≡ o
+  deliver_one : (e : Forward) (o : Option (List ℕ)) (j : ℕ) (now : Ticks) (s mid : Hops) (forwarded : List ℕ) → slice_get s.written j ≡ o
       → MatchOption o (mid ≡ s) (λ bytes. (receipt : Receipt) × (session : Session) × Delivers now bytes s.wire.session receipt session
       × (mid ≡ record s { wire = record s.wire { session = session; receipts = s.wire.receipts ++ receipt ∷ [] } }))
-      → AreForwarded t.forwarder s.wire.datagrams s.written forwarded
-      → (AreForwarded t.forwarder mid.wire.datagrams mid.written forwarded → Comes later mid t forwarded) → Comes (steps.Deliver j now ∷ later) s t forwarded
-  deliver_comes None j now later s mid t forwarded is same written rest =
-      let c : Comes later s t forwarded =
-      same_comes later s mid t forwarded same (rest (subst (λ (x : Hops). AreForwarded t.forwarder x.wire.datagrams x.written forwarded) (sym same) written)) in
-      let none : slice_get forwarded j ≡ None = none_at t.forwarder s.wire.datagrams s.written forwarded j written is in
-      record {
-        later = c.later;
-        sends = c.sends;
-        more = c.more;
-        results = c.results;
-        course = rw none c.course;
-        written = c.written;
-      }
-  deliver_comes (Some bytes) j now later s mid t forwarded is done written rest =
-      let e : Forward = t.forwarder in
+      → AreForwarded e s.wire.datagrams s.written forwarded → One e (steps.Deliver j now) s mid forwarded
+  deliver_one e None j now s mid forwarded is same written =
+      let none : slice_get forwarded j ≡ None = none_at e s.wire.datagrams s.written forwarded j written is in
+      subst (λ (x : Hops). One e (steps.Deliver j now) s x forwarded) (sym same)
+      (record {
+        sends = λ after. after;
+        sends_are = λ after. refl;
+        results = λ rest. rest;
+        results_are = λ rest. refl;
+        next = forwarded;
+        written = written;
+        seen = [];
+        course = λ fit. refl;
+        steps_are = λ after rest later. rw none refl;
+        next_are = λ after rest later. refl;
+        with_store = λ after rest later repeated found left. rw none refl;
+      })
+  deliver_one e (Some bytes) j now s mid forwarded is done written =
       let next : Hops = record s { wire = record s.wire { session = done.1; receipts = s.wire.receipts ++ done.0 ∷ [] } } in
-      let c : Comes later next t forwarded = same_comes later next mid t forwarded done.3 (rest (subst (λ (x : Hops). AreForwarded e x.wire.datagrams x.written forwarded) (sym done.3) written)) in
       let copy = forwarded_at e s.wire.datagrams s.written forwarded j bytes written is in
       let delivers : DoesStep (viewer_samples e rate samples) (plain.Deliver copy.0 now) (viewer_wire e s.wire) (viewer_wire e next.wire) = rw copy.2 (done.0, done.1, done.2, refl) in
-      record {
-        later = c.later;
-        sends = c.sends;
-        more = c.more;
-        results = c.results;
-        course = λ fit. rw copy.1 (viewer_wire e next.wire, delivers, c.course fit);
-        written = c.written;
-      }
+      subst (λ (x : Hops). One e (steps.Deliver j now) s x forwarded) (sym done.3)
+      (record {
+        sends = λ after. after;
+        sends_are = λ after. refl;
+        results = λ rest. rest;
+        results_are = λ rest. refl;
+        next = forwarded;
+        written = written;
+        seen = plain.Deliver copy.0 now ∷ [];
+        course = λ fit. one_run e (plain.Deliver copy.0 now) (viewer_wire e s.wire) (viewer_wire e next.wire) delivers;
+        steps_are = λ after rest later. rw copy.1 refl;
+        next_are = λ after rest later. refl;
+        with_store = λ after rest later repeated found left. rw copy.1 refl;
+      })
 
   -- a step of the receiver
-  pop_comes : (now : Ticks) (later : List ForwardStep) (s mid t : Hops) (forwarded : List ℕ) → DoesPlain samples (plain.Pop now) s mid → Comes later mid t forwarded
-      → Comes (steps.Pop now ∷ later) s t forwarded
-  pop_comes now later s mid t forwarded does c =
-      let e : Forward = t.forwarder in
-      let wire : mid.wire ≡ does.0 = ap (λ (x : Hops). x.wire) does.2 in
-      let is : mid.wire ≡ record s.wire { session = does.1.1; pops = s.wire.pops ++ does.1.0 ∷ [] } = wire ∙ does.1.4 in
-      let same : mid.wire.datagrams ≡ s.wire.datagrams = ap (λ (x : Wire). x.datagrams) is in
-      record {
-        later = c.later;
-        sends = c.sends ∙ ap (λ (x : Wire). x.sends ++ c.later) is;
-        more = c.more;
-        results = c.results ∙ ap (λ (x : Hops). x.answers ++ c.more) does.2;
-        course = λ fit. (
-          viewer_wire e mid.wire,
-          (does.1.0, does.1.1, does.1.2, does.1.3, ap (viewer_wire e) is),
-          subst (λ (ds : List (List ℕ)). Runs (viewer_samples e rate samples) (viewer_steps samples (length ds) forwarded later c.later c.more) (viewer_wire e mid.wire) (viewer_wire e t.wire)) same (c.course fit),
-        );
-        written = subst (λ (ds : List (List ℕ)). AreForwarded e t.wire.datagrams t.written (forwarded_in samples (length ds) forwarded later c.later c.more)) same c.written;
-      }
+  pop_one : (e : Forward) (now : Ticks) (s mid : Hops) (forwarded : List ℕ) → DoesPlain samples (plain.Pop now) s mid
+      → AreForwarded e s.wire.datagrams s.written forwarded → One e (steps.Pop now) s mid forwarded
+  pop_one e now s mid forwarded does written =
+      let wire : Wire = record s.wire { session = does.1.1; pops = s.wire.pops ++ does.1.0 ∷ [] } in
+      let is : mid ≡ record s { wire = wire } = does.2 ∙ ap (λ (w : Wire). record s { wire = w }) does.1.4 in
+      subst (λ (x : Hops). One e (steps.Pop now) s x forwarded) (sym is)
+      (record {
+        sends = λ after. after;
+        sends_are = λ after. refl;
+        results = λ rest. rest;
+        results_are = λ rest. refl;
+        next = forwarded;
+        written = written;
+        seen = plain.Pop now ∷ [];
+        course = λ fit. one_run e (plain.Pop now) (viewer_wire e s.wire) (viewer_wire e wire) (does.1.0, does.1.1, does.1.2, does.1.3, refl);
+        steps_are = λ after rest later. refl;
+        next_are = λ after rest later. refl;
+        with_store = λ after rest later repeated found left. refl;
+      })
 
-  finish_comes : (later : List ForwardStep) (s mid t : Hops) (forwarded : List ℕ) → DoesPlain samples plain.Finish s mid → Comes later mid t forwarded
-      → Comes (steps.Finish ∷ later) s t forwarded
-  finish_comes later s mid t forwarded does c =
-      let e : Forward = t.forwarder in
-      let wire : mid.wire ≡ does.0 = ap (λ (x : Hops). x.wire) does.2 in
-      let is : mid.wire ≡ record s.wire { session = does.1.0 } = wire ∙ does.1.2 in
-      let same : mid.wire.datagrams ≡ s.wire.datagrams = ap (λ (x : Wire). x.datagrams) is in
-      record {
-        later = c.later;
-        sends = c.sends ∙ ap (λ (x : Wire). x.sends ++ c.later) is;
-        more = c.more;
-        results = c.results ∙ ap (λ (x : Hops). x.answers ++ c.more) does.2;
-        course = λ fit. (
-          viewer_wire e mid.wire,
-          (does.1.0, does.1.1, ap (viewer_wire e) is),
-          subst (λ (ds : List (List ℕ)). Runs (viewer_samples e rate samples) (viewer_steps samples (length ds) forwarded later c.later c.more) (viewer_wire e mid.wire) (viewer_wire e t.wire)) same (c.course fit),
-        );
-        written = subst (λ (ds : List (List ℕ)). AreForwarded e t.wire.datagrams t.written (forwarded_in samples (length ds) forwarded later c.later c.more)) same c.written;
-      }
+  finish_one : (e : Forward) (s mid : Hops) (forwarded : List ℕ) → DoesPlain samples plain.Finish s mid
+      → AreForwarded e s.wire.datagrams s.written forwarded → One e steps.Finish s mid forwarded
+  finish_one e s mid forwarded does written =
+      let wire : Wire = record s.wire { session = does.1.0 } in
+      let is : mid ≡ record s { wire = wire } = does.2 ∙ ap (λ (w : Wire). record s { wire = w }) does.1.2 in
+      subst (λ (x : Hops). One e steps.Finish s x forwarded) (sym is)
+      (record {
+        sends = λ after. after;
+        sends_are = λ after. refl;
+        results = λ rest. rest;
+        results_are = λ rest. refl;
+        next = forwarded;
+        written = written;
+        seen = plain.Finish ∷ [];
+        course = λ fit. one_run e plain.Finish (viewer_wire e s.wire) (viewer_wire e wire) (does.1.0, does.1.1, refl);
+        steps_are = λ after rest later. refl;
+        next_are = λ after rest later. refl;
+        with_store = λ after rest later repeated found left. refl;
+      })
 
-  -- what was written before a step is there after a step of sender or receiver
+  -- what was written before a step is there after a step of the sender
   written_after : (s mid : Hops) (f : Forward) (forwarded : List ℕ) → mid.written ≡ s.written → IsMore s.wire.datagrams mid.wire.datagrams → AreForwarded f s.wire.datagrams s.written forwarded
       → AreForwarded f mid.wire.datagrams mid.written forwarded
   written_after s mid f forwarded same more written =
       subst (λ (bs : List (List ℕ)). AreForwarded f mid.wire.datagrams bs forwarded) (sym same) (forwarded_later f s.wire.datagrams mid.wire.datagrams s.written forwarded more written)
+
+  -- any step
+  pub one_step : (e : Forward) (step : ForwardStep) (s mid : Hops) (forwarded : List ℕ) → IsAt ssrc rate codec s
+      → DoesForwardStep samples step s mid → GoesOn ssrc mid.forwarder e → AreForwarded e s.wire.datagrams s.written forwarded → One e step s mid forwarded
+  one_step e (steps.Send i) s mid forwarded at does goes written =
+      let one = stays (steps.Send i) s mid at does in
+      send_one e i s mid forwarded at does (written_after s mid e forwarded (ap (λ (x : Hops). x.written) does.2) one.more written)
+  one_step e (steps.Forward k now) s mid forwarded at does goes written = turn_one e k now s mid forwarded (turns k now s mid at does) goes written
+  one_step e (steps.Deliver j now) s mid forwarded at does goes written = deliver_one e (slice_get s.written j) j now s mid forwarded refl does written
+  one_step e (steps.Pop now) s mid forwarded at does goes written = pop_one e now s mid forwarded does written
+  one_step e steps.Finish s mid forwarded at does goes written = finish_one e s mid forwarded does written
+
+  -- All steps
+
+  pub runs_append : (all_samples : List Sample) (first later : List DatagramStep) (s mid t : Wire) → Runs all_samples first s mid → Runs all_samples later mid t → Runs all_samples (first ++ later) s t
+  runs_append all_samples [] later s mid t one rest = subst (λ (x : Wire). Runs all_samples later x t) one rest
+  runs_append all_samples (step ∷ first) later s mid t one rest = (one.0, one.1, runs_append all_samples first later one.0 mid t one.2 rest)
+
+  pub record Comes (all_steps : List ForwardStep) (s t : Hops) (forwarded : List ℕ) : Type 0 where
+    pub later : List SentSample
+    pub sends : t.wire.sends ≡ s.wire.sends ++ later
+    pub more : List Forwarded
+    pub results : t.answers ≡ s.answers ++ more
+    pub course : Fit t.forwarder
+        → Runs (viewer_samples t.forwarder rate samples) (viewer_steps samples (length s.wire.datagrams) forwarded all_steps later more) (viewer_wire t.forwarder s.wire) (viewer_wire t.forwarder t.wire)
+    pub written : AreForwarded t.forwarder t.wire.datagrams t.written (forwarded_in samples (length s.wire.datagrams) forwarded all_steps later more)
 
   pub comes : (all_steps : List ForwardStep) (s t : Hops) (forwarded : List ℕ) → IsAt ssrc rate codec s → AreForwarded t.forwarder s.wire.datagrams s.written forwarded → ForwardRuns samples all_steps s t
       → Comes all_steps s t forwarded
@@ -379,21 +438,17 @@ module _ (ssrc rate : ℕ) (codec : Codec) (samples : List Sample) where
     course = λ fit. ap (λ (x : Hops). viewer_wire t.forwarder x.wire) run;
     written = subst (λ (x : Hops). AreForwarded t.forwarder x.wire.datagrams x.written forwarded) (sym run) written;
   }
-  comes (steps.Send i ∷ later) s t forwarded at written run =
-      let one = stays (steps.Send i) s run.0 at run.1 in
-      send_comes i later s run.0 t forwarded at run.1
-      (comes later run.0 t forwarded one.at (written_after s run.0 t.forwarder forwarded (ap (λ (x : Hops). x.written) run.1.2) one.more written) run.2)
-  comes (steps.Forward k now ∷ later) s t forwarded at written run =
-      let one = stays (steps.Forward k now) s run.0 at run.1 in
-      turn_comes k now later s run.0 t forwarded (turns k now s run.0 at run.1) (λ ks more. comes later run.0 t ks one.at more run.2) (ends_on later run.0 t one.at run.2) written
-  comes (steps.Deliver j now ∷ later) s t forwarded at written run =
-      let one = stays (steps.Deliver j now) s run.0 at run.1 in
-      deliver_comes (slice_get s.written j) j now later s run.0 t forwarded refl run.1 written (λ more. comes later run.0 t forwarded one.at more run.2)
-  comes (steps.Pop now ∷ later) s t forwarded at written run =
-      let one = stays (steps.Pop now) s run.0 at run.1 in
-      pop_comes now later s run.0 t forwarded run.1
-      (comes later run.0 t forwarded one.at (written_after s run.0 t.forwarder forwarded (ap (λ (x : Hops). x.written) run.1.2) one.more written) run.2)
-  comes (steps.Finish ∷ later) s t forwarded at written run =
-      let one = stays steps.Finish s run.0 at run.1 in
-      finish_comes later s run.0 t forwarded run.1
-      (comes later run.0 t forwarded one.at (written_after s run.0 t.forwarder forwarded (ap (λ (x : Hops). x.written) run.1.2) one.more written) run.2)
+  comes (step ∷ later) s t forwarded at written run =
+      let next = stays step s run.0 at run.1 in
+      let o : One t.forwarder step s run.0 forwarded = one_step t.forwarder step s run.0 forwarded at run.1 (ends_on later run.0 t next.at run.2) written in
+      let c : Comes later run.0 t o.next = comes later run.0 t o.next next.at o.written run.2 in
+      record {
+        later = o.sends c.later;
+        sends = c.sends ∙ o.sends_are c.later;
+        more = o.results c.more;
+        results = c.results ∙ o.results_are c.more;
+        course = λ fit.
+            subst (λ (ds : List DatagramStep). Runs (viewer_samples t.forwarder rate samples) ds (viewer_wire t.forwarder s.wire) (viewer_wire t.forwarder t.wire)) (sym (o.steps_are c.later c.more later))
+            (runs_append (viewer_samples t.forwarder rate samples) o.seen _ (viewer_wire t.forwarder s.wire) (viewer_wire t.forwarder run.0.wire) (viewer_wire t.forwarder t.wire) (o.course fit) (c.course fit));
+        written = subst (AreForwarded t.forwarder t.wire.datagrams t.written) (sym (o.next_are c.later c.more later)) c.written;
+      }

@@ -3,4 +3,5 @@
 #![tactic(auto)]
 
 pub mod run;
+pub mod store_run;
 pub mod theorems;

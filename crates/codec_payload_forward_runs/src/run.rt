@@ -1,6 +1,6 @@
 //! Whole runs over two hops: a sender's datagrams come to a forwarder, and what the forwarder writes comes to a viewer's receiver.
 
-ghost use Rattle.std.specs.Prelude.{◌≡◌, ◌<◌, ◌^◌, ◌++◌, ℕ, List, length, map, true, IfOk, IfErr, OnOk, OnErr, Result};
+ghost use Rattle.std.specs.Prelude.{◌≡◌, ◌<◌, ◌^◌, ◌++◌, ℕ, [], List, length, map, true, IfOk, IfErr, OnOk, OnErr, Result};
 ghost use Rattle.codec_payload_base.specs.declared.error.PacketError.TheVariants.{OutOfMemory};
 ghost use Rattle.codec_payload_payloader.specs.Sending.{sample_of};
 ghost use Rattle.codec_payload_receiver.specs.declared.receiver.ReceiveError.TheVariants as refusals;
@@ -85,7 +85,23 @@ pub fn run_forwarded<P: Packetizer, D: Depacketizer>(
     ensures stops { OnErr result (ForwardStops (map sample_of samples.now) steps.now (begins_forwarding link.old.sender link.old.forwarder link.old.receiver) link.new.sender link.new.forwarder link.new.receiver) }
     ensures fault { IfErr result (λ fault. fault ≡ OutOfMemory) }
 {
-    let mut run = ForwardedRun {
+    let mut run = no_results(alloc);
+    for step in steps {
+        do_forward_step(alloc, link, samples, *step, &mut run)?;
+    }
+    Ok(run)
+}
+
+/// The results before any step.
+pub(crate) fn no_results(alloc: Global) -> ForwardedRun
+    ensures datagrams { result.run.datagrams.items ≡ [] }
+    ensures sends { result.run.sends.items ≡ [] }
+    ensures receipts { result.run.receipts.items ≡ [] }
+    ensures pops { result.run.pops.items ≡ [] }
+    ensures written { result.written.items ≡ [] }
+    ensures answers { result.answers.items ≡ [] }
+{
+    ForwardedRun {
         run: DatagramRun {
             datagrams: Vec::new(alloc),
             sends: Vec::new(alloc),
@@ -94,15 +110,11 @@ pub fn run_forwarded<P: Packetizer, D: Depacketizer>(
         },
         written: Vec::new(alloc),
         answers: Vec::new(alloc),
-    };
-    for step in steps {
-        do_forward_step(alloc, link, samples, *step, &mut run)?;
     }
-    Ok(run)
 }
 
 /// Executes one step, and records its result.
-fn do_forward_step<P: Packetizer, D: Depacketizer>(
+pub(crate) fn do_forward_step<P: Packetizer, D: Depacketizer>(
     alloc: Global,
     link: &mut ForwardLink<P, D>,
     samples: &[ToPayload],
@@ -223,7 +235,7 @@ fn forward(
 /// # Errors
 ///
 /// `OutOfMemory`: memory ran out for the datagram, which then has no receipt.
-fn deliver<D: Depacketizer>(
+pub(crate) fn deliver<D: Depacketizer>(
     receiver: &mut Receiver<D>,
     now: Ticks,
     bytes: &[u8],

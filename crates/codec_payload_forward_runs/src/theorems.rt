@@ -1,9 +1,16 @@
 //! Theorems on runs over two hops. These functions exist for their proofs and do nothing.
 
 ghost use Rattle.codec_payload_forward_runs.specs.ForwardRunExample.{ForwardingCanBeMet};
+ghost use Rattle.codec_payload_forward_runs.specs.StoreRunExample.{StoreCanBeMet};
 
 /// The premises of a run with a forwarder can be met: datagrams of Opus come to the forwarder in another order, and to the viewer in
 /// another one again. All come on both hops before the stream ends. Frames of VP8 meet them too, whose forwarder begins at a keyframe.
 pub fn forwarding_premises_can_be_met()
     ensures { ForwardingCanBeMet }
+{}
+
+/// The premises of a run with a forwarder and a store can be met: of three frames of Opus the second is lost on the second hop. The
+/// viewer requests the frame's number, and the forwarder writes the packet again, as a retransmission.
+pub fn store_premises_can_be_met()
+    ensures { StoreCanBeMet }
 {}

@@ -1,1 +1,3 @@
 pub mod EntryLemmas
+pub mod HalvedLemmas
+pub mod LevelLemmas

@@ -1,1 +1,2 @@
 pub mod Ssrcs
+pub mod Times

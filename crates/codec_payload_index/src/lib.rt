@@ -1,4 +1,5 @@
-//! A list of the SSRCs of a session's streams, which finds the places of one by a search.
+//! Lists of one value for each stream of a session, with an index: SSRCs, and times.
 #![tactic(auto)]
 
 pub mod ssrcs;
+pub mod times;

@@ -25,8 +25,9 @@ use Rattle.codec_payload_session.proofs.ChangeLemmas.{length_continued, taken_co
 use Rattle.codec_payload_session.specs.Changes.{continues}
 use Rattle.codec_payload_session.specs.Sorting.{Sorted, sorted_at}
 use Rattle.codec_payload_receiver.specs.Sessions.{Session as Receiver}
+use Rattle.codec_payload_session.specs.Late.{limit_by}
 use Rattle.codec_payload_session.specs.Requests.{Asking, heard_by, number_at, wait_by}
-use Rattle.codec_payload_session.specs.Streams.{Drains, Follows, Plays, RequestsBy, RestsBy, Steps, StepsBy, Takes, end_of, heard_unless, is_accepted, is_no_memory, is_of, is_probation, left_when, received, waiting_for, waiting_if, waiting_when, waiting_where}
+use Rattle.codec_payload_session.specs.Streams.{Drains, Follows, Plays, RequestsBy, RestsBy, Steps, StepsBy, Takes, end_of, heard_unless, is_accepted, is_no_memory, is_of, is_probation, late_followed, late_noted, left_when, received, waiting_for, waiting_if, waiting_when, waiting_where}
 use Rattle.codec_payload_session.specs.Turns.{AreQuiet, TakesTurn, ended_after, kept_after}
 use Rattle.codec_payload_session.specs.declared.formats.Format.{Format}
 use Rattle.codec_payload_session.specs.declared.formats.SessionSettings.{SessionSettings}
@@ -43,12 +44,12 @@ use Rattle.codec_payload_session.specs.declared.stream.StreamState.{StreamState}
 
 -- ---- the datagrams that the streams took, and the number of streams
 
-taken_set : (ss : List StreamState) (i : ℕ) (s t : StreamState) → slice_get ss i ≡ Some s → taken_in (slice_set ss i t) + s.taken ≡ taken_in ss + t.taken
+pub taken_set : (ss : List StreamState) (i : ℕ) (s t : StreamState) → slice_get ss i ≡ Some s → taken_in (slice_set ss i t) + s.taken ≡ taken_in ss + t.taken
 taken_set [] i s t is = absurd (cc)
 taken_set (x ∷ xs) zero s t is = omega (arith, ap taken_of is)
 taken_set (x ∷ xs) (suc i) s t is = omega (arith, taken_set xs i s t is)
 
-length_set : (ss : List StreamState) (i : ℕ) (t : StreamState) → length (slice_set ss i t) ≡ length ss
+pub length_set : (ss : List StreamState) (i : ℕ) (t : StreamState) → length (slice_set ss i t) ≡ length ss
 length_set [] i t = refl
 length_set (x ∷ xs) zero t = refl
 length_set (x ∷ xs) (suc i) t = ap suc (length_set xs i t)
@@ -102,14 +103,18 @@ received_taken now bytes true r s =
     waiting_taken (wait_by (heard_by now (number_at s.format bytes) s.feedback)) (record s { receiver = r; feedback = heard_by now (number_at s.format bytes) s.feedback })
 received_taken now bytes false r s = refl
 
+late_taken : (b : Bool) (now : ℕ) (bytes : List ℕ) (s : StreamState) → (late_followed b now bytes s).taken ≡ s.taken
+late_taken true now bytes s = waiting_taken (limit_by (late_noted now bytes s).late) (late_noted now bytes s)
+late_taken false now bytes s = refl
+
 takes_taken : (now : Ticks) (probation : ℕ) (bytes : List ℕ) (s : StreamState) (told : Result Outcome ReceiveError) (t : StreamState) → Takes now probation bytes s told t
     → t.taken ≡ taken_unless (is_no_memory told) s.taken
 takes_taken now probation bytes s told t got = ap (λ (x : StreamState). x.taken) got.2 ∙ by_test (is_no_memory told)
   where
-    same : (received now.0 bytes (is_accepted told) got.0 s).taken ≡ s.taken
-    same = received_taken now.0 bytes (is_accepted told) got.0 s
+    same : (late_followed (is_ok told) now.0 bytes (received now.0 bytes (is_accepted told) got.0 s)).taken ≡ s.taken
+    same = late_taken (is_ok told) now.0 bytes (received now.0 bytes (is_accepted told) got.0 s) ∙ received_taken now.0 bytes (is_accepted told) got.0 s
 
-    by_test : (b : Bool) → (heard_unless b now.0 probation (is_accepted told) (received now.0 bytes (is_accepted told) got.0 s)).taken ≡ taken_unless b s.taken
+    by_test : (b : Bool) → (heard_unless b now.0 probation (is_accepted told) (late_followed (is_ok told) now.0 bytes (received now.0 bytes (is_accepted told) got.0 s))).taken ≡ taken_unless b s.taken
     by_test true = same
     by_test false = ap next same
 

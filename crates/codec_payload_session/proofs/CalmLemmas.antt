@@ -1,14 +1,14 @@
 -- A stream that had nothing to request has nothing to request later.
 use Rattle.std.proofs.Common.{◌≡◌, ◌∙◌, refl, ap, sym, subst, ℕ, zero, suc, ◌&&◌, not, List, [], ◌∷◌, Bool, true, false, cond, Some, None, Ok, inl, inr, min, take, length, ◌==◌, arith}
 use Rattle.std.proofs.lemmas.Bool.{false≢true}
-use Rattle.codec_payload_feedback.specs.Feedback.{Requests, after_feedback, deadline_of, is_idle, updated}
+use Rattle.codec_payload_feedback.specs.Feedback.{Requests, after_feedback, deadline_of, has_any, is_idle, keyframe_is_due, numbers_due, updated}
 use Rattle.codec_payload_jitter.specs.Missing.{missing_numbers, missing_of}
 use Rattle.std.proofs.lemmas.Bool.Decides.{nat_tests}
 use Rattle.codec_payload_feedback_requests.specs.declared.nack.PendingRequest.{PendingRequest}
 use Rattle.codec_payload_feedback_requests.specs.NackSchedule.{refreshed_with}
 use Rattle.codec_payload_receiver.specs.Sessions.{Session as Receiver}
 use Rattle.codec_payload_session.specs.Quiet.{AsksNothing, IsBefore, MayRest, is_calm, is_none}
-use Rattle.codec_payload_session.specs.Requests.{Asking, Asks, Sends, is_heard, refreshed}
+use Rattle.codec_payload_session.specs.Requests.{Asking, Asks, Sends, is_heard, refreshed, wants_keyframe}
 use Rattle.codec_payload_session.proofs.DueLemmas.{nothing_due, nothing_sent, updated_again}
 
 -- ---- nothing is missing
@@ -36,16 +36,12 @@ both_right : (a b : Bool) → (not a && b) ≡ true → b ≡ true
 both_right true b is = absurd (false≢true is)
 both_right false b is = is
 
-wants_none : (heard pli wants : Bool) → (pli && wants) ≡ false → (heard && pli && wants) ≡ false
-wants_none true true true is = is
-wants_none true true false is = refl
-wants_none true false wants is = refl
-wants_none false true true is = refl
-wants_none false true false is = refl
-wants_none false false wants is = refl
+wants_none : (heard wants : Bool) → wants ≡ false → (heard && wants) ≡ false
+wants_none true wants is = is
+wants_none false wants is = refl
 
 misses_none : (heard : Bool) (r : Receiver) (a : Asking) → is_calm a r ≡ true → missing_numbers r.packets (cond heard a.most 0) ≡ []
-misses_none true r a calm = take_first a.most (missing_of r.packets) (both_right (a.pli && r.gates.gate.wants) (is_none (missing_numbers r.packets (min a.most 1))) calm)
+misses_none true r a calm = take_first a.most (missing_of r.packets) (both_right (wants_keyframe a r) (is_none (missing_numbers r.packets (min a.most 1))) calm)
 misses_none false r a calm = refl
 
 -- ---- nothing is requested
@@ -64,9 +60,9 @@ after_none now q = refl
 -- what the receiver misses is nothing
 refreshed_none : (now : ℕ) (heard : Bool) (r : Receiver) (a : Asking) → is_calm a r ≡ true → refreshed now heard r a ≡ record a { requests = emptied a.requests }
 refreshed_none now heard r a calm =
-    ap (λ (ns : List ℕ). record a { requests = updated now ns (heard && a.pli && r.gates.gate.wants) a.requests }) (misses_none heard r a calm)
+    ap (λ (ns : List ℕ). record a { requests = updated now ns (heard && wants_keyframe a r) a.requests }) (misses_none heard r a calm)
     ∙ (ap (λ (b : Bool). record a { requests = updated now [] b a.requests })
-    (wants_none heard a.pli r.gates.gate.wants (both_left (a.pli && r.gates.gate.wants) (is_none (missing_numbers r.packets (min a.most 1))) calm))
+    (wants_none heard (wants_keyframe a r) (both_left (wants_keyframe a r) (is_none (missing_numbers r.packets (min a.most 1))) calm))
     ∙ ap (λ (q : Requests). record a { requests = q }) (updated_none now a.requests))
 
 empty_list : (ps : List PendingRequest) → (length ps == 0) ≡ true → ps ≡ []
@@ -85,20 +81,45 @@ idle_is q is =
     ap (λ (ps : List PendingRequest). record q { nack = record q.nack { pending = ps } }) (empty_list q.nack.pending both.0)
     ∙ ap (λ (b : Bool). record q { nack = record q.nack { pending = [] }; keyframes = record q.keyframes { wanted = b } }) both.1
 
+-- ---- what was asked for stays
+
+and_true : (b : Bool) → (b && true) ≡ b
+and_true true = refl
+and_true false = refl
+
+-- without a packet no keyframe was due
+pub no_keyframe : (ns : List ℕ) (keyframe : Bool) → has_any ns keyframe ≡ false → keyframe ≡ false
+no_keyframe [] keyframe is = is
+no_keyframe (n ∷ ns) keyframe is = absurd (cc)
+
+pub asked_stays : (now : ℕ) (c : Asking) (q : Requests) → keyframe_is_due now c.requests ≡ false
+    → record c { requests = q; asked = c.asked && not (keyframe_is_due now c.requests) } ≡ record c { requests = q }
+asked_stays now c q none =
+    ap (λ (due : Bool). record c { requests = q; asked = c.asked && not due }) none ∙ ap (λ (b : Bool). record c { requests = q; asked = b }) (and_true c.asked)
+
+-- a poll without a packet leaves what was asked for
+after_is : (now : ℕ) (heard : Bool) (r : Receiver) (a b : Asking) → Asks now heard r a (Ok None) b → b ≡ record a { requests = after_feedback now (refreshed now heard r a).requests }
+after_is now heard r a b asks =
+    let c : Asking = refreshed now heard r a in
+    asks.after ∙ asked_stays now c (after_feedback now c.requests) (no_keyframe (numbers_due now c.requests) (keyframe_is_due now c.requests) asks.packet_is)
+
 -- without requests nothing is due
 pub asks_none : (now : ℕ) (heard : Bool) (r : Receiver) (a : Asking) → is_calm a r ≡ true → a.requests ≡ emptied a.requests → Asks now heard r a (Ok None) a
 asks_none now heard r a calm empty =
     subst (λ (x : Asking). Sends now x None a) (sym (refreshed_none now heard r a calm)) (record {
       packet_is = refl;
-      after = ap (λ (q : Requests). record a { requests = q }) (empty ∙ sym (after_none now a.requests));
+      after =
+          ap (λ (q : Requests). record a { requests = q }) (empty ∙ sym (after_none now a.requests))
+          ∙ sym (asked_stays now (record a { requests = emptied a.requests }) (after_feedback now (emptied a.requests)) refl);
     })
 
 -- after a calm poll there are none
 emptied_after : (now : ℕ) (heard : Bool) (r : Receiver) (a b : Asking) → Asks now heard r a (Ok None) b → is_calm b r ≡ true → b.requests ≡ emptied b.requests
 emptied_after now heard r a b asks calm =
-    let same : is_calm b r ≡ is_calm a r = ap (λ (x : Asking). is_calm x r) asks.after in
+    let after : b ≡ record a { requests = after_feedback now (refreshed now heard r a).requests } = after_is now heard r a b asks in
+    let same : is_calm b r ≡ is_calm a r = ap (λ (x : Asking). is_calm x r) after in
     let none : refreshed now heard r a ≡ record a { requests = emptied a.requests } = refreshed_none now heard r a (sym same ∙ calm) in
-    let is : b.requests ≡ emptied a.requests = ap (λ (x : Asking). x.requests) asks.after ∙ (ap (λ (x : Asking). after_feedback now x.requests) none ∙ after_none now a.requests) in
+    let is : b.requests ≡ emptied a.requests = ap (λ (x : Asking). x.requests) after ∙ (ap (λ (x : Asking). after_feedback now x.requests) none ∙ after_none now a.requests) in
     is ∙ sym (ap emptied is)
 
 -- so nothing is requested later
@@ -110,15 +131,19 @@ calm_again now later heard heard_later r a b asks calm = asks_none later heard_l
 pub due_later : (now later : ℕ) (r : Receiver) (a b : Asking) → Asks now true r a (Ok None) b → IsBefore (deadline_of b.requests) later → Asks later true r b (Ok None) b
 due_later now later r a b asks before =
     let missing : List ℕ = missing_numbers r.packets a.most in
-    let wanted : Bool = true && a.pli && r.gates.gate.wants in
+    let wanted : Bool = true && wants_keyframe a r in
+    let after = after_is now true r a b asks in
     let c : Asking = record a { requests = after_feedback now (updated now missing wanted a.requests) } in
     let same : refreshed later true r c ≡ c = ap (λ (q : Requests). record c { requests = q }) (updated_again now later missing wanted a.requests) in
-    let early : IsBefore (deadline_of c.requests) later = subst (λ (x : Asking). IsBefore (deadline_of x.requests) later) asks.after before in
+    let early : IsBefore (deadline_of c.requests) later = subst (λ (x : Asking). IsBefore (deadline_of x.requests) later) after before in
+    let none : has_any (numbers_due later c.requests) (keyframe_is_due later c.requests) ≡ false = nothing_due later c.requests early in
     let sends : Sends later c None c = record {
-      packet_is = nothing_due later c.requests early;
-      after = ap (λ (q : Requests). record c { requests = q }) (sym (nothing_sent later c.requests early));
+      packet_is = none;
+      after =
+          ap (λ (q : Requests). record c { requests = q }) (sym (nothing_sent later c.requests early))
+          ∙ sym (asked_stays later c (after_feedback later c.requests) (no_keyframe (numbers_due later c.requests) (keyframe_is_due later c.requests) none));
     } in
-    subst (λ (x : Asking). Asks later true r x (Ok None) x) (sym asks.after) (subst (λ (x : Asking). Sends later x None c) (sym same) sends)
+    subst (λ (x : Asking). Asks later true r x (Ok None) x) (sym after) (subst (λ (x : Asking). Sends later x None c) (sym same) sends)
 
 heard_again : (now later last : ℕ) (r : Receiver) (a b : Asking) → Asks now (is_heard now last a) r a (Ok None) b → is_heard now last b ≡ true → is_heard later last b ≡ true
     → IsBefore (deadline_of b.requests) later → Asks later (is_heard later last b) r b (Ok None) b

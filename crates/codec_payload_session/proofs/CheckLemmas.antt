@@ -18,7 +18,7 @@ use Rattle.codec_payload_session.specs.Arrivals.{Port}
 use Rattle.codec_payload_session.specs.Associations.{AddsPair, TakesInBy}
 use Rattle.codec_payload_session.specs.Checks.{at_most_127, can_begin, fault_of, feedback_fault, first_of, format_fault, format_fits, formats_fault, is_payload_type, is_named, limit_fault, listed_fault, red_fault, red_fits, red_retransmission_fault, retransmission_fault, step_fault, streams_fault, transport_fault, type_fault, types_fault}
 use Rattle.codec_payload_session.specs.Formats.{HasSettings, backward_for, forward_for, has_type, is_video, resends, retransmission_for, retransmission_of, role_by, role_of, stream_of}
-use Rattle.codec_payload_session.specs.Sorting.{Sorted, sorted_at, sorted_by, sorted_packet, sorted_retransmission, sorted_rtcp, sorted_rtp}
+use Rattle.codec_payload_session.specs.Sorting.{sorted_by, sorted_packet, sorted_retransmission}
 use Rattle.codec_payload_session.specs.declared.checks.SessionSettingsError.{SessionSettingsError}
 use Rattle.codec_payload_session.specs.declared.checks.SessionSettingsError.TheVariants as faults
 use Rattle.codec_payload_session.specs.declared.formats.Format.{Format}

@@ -93,7 +93,7 @@ updated_again now at missing wanted q =
 
 -- ---- before the deadline
 
-earlier_both : (a b : Option ℕ) (now : ℕ) → IsBefore (earlier a b) now → IsBefore a now × IsBefore b now
+pub earlier_both : (a b : Option ℕ) (now : ℕ) → IsBefore (earlier a b) now → IsBefore a now × IsBefore b now
 earlier_both None b now before = (tt, before)
 earlier_both (Some a) None now before = (before, tt)
 earlier_both (Some a) (Some b) now before = by_test (nat_le a b) refl before

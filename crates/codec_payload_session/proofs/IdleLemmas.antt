@@ -196,7 +196,7 @@ record Asked (now : ℕ) (idle : ℕ) (s t : StreamState) : Type 0 where
   goes_on : end_of now idle s ≡ None
   asks : (later : ℕ) → now ≤ later → t.stage ≡ stages.Playing → IsBefore (requests_due t.feedback) later → AsksNone t.feedback later t.last t.receiver
 
-some_step : (told : Result (Popped Release) AllocError) → steps.Nothing ≡ step_with told → ⊥
+pub some_step : (told : Result (Popped Release) AllocError) → steps.Nothing ≡ step_with told → ⊥
 some_step (Ok (popped.Unit unit)) is = absurd (cc)
 some_step (Ok (popped.TooLarge unit)) is = absurd (cc)
 some_step (Ok (popped.Refused fault)) is = absurd (cc)
@@ -417,8 +417,8 @@ not_time true now (Some at) before = grind (arith, nat_tests, before)
 
 -- ---- polls
 
-record Polled (now : Ticks) (s t : Session) : Type 0 where
-  quiet : AreQuiet now s.settings.idle_timeout s.port.streams t.port.streams
+pub record Polled (now : Ticks) (s t : Session) : Type 0 where
+  pub quiet : AreQuiet now s.settings.idle_timeout s.port.streams t.port.streams
   settings : t.settings ≡ s.settings
   waiting : t.telephone.waiting ≡ []
 
@@ -457,7 +457,7 @@ polled_sent : (event : Option Event) (now : Ticks) (s after t : Session) → s.t
 polled_sent None now s after t empty turn got = sent_after now s after t (polled_turn turn.event now s after turn.port empty turn.turn turn.goes_on) got
 polled_sent (Some event) now s after t empty turn got = absurd (some_event event got.0)
 
-polled_after : (ws : List TelephonePacket) (now : Ticks) (s t : Session) → s.telephone.waiting ≡ ws → PollsAfter ws now s None t → Polled now s t
+pub polled_after : (ws : List TelephonePacket) (now : Ticks) (s t : Session) → s.telephone.waiting ≡ ws → PollsAfter ws now s None t → Polled now s t
 polled_after [] now s t is got = polled_sent got.event now s got.after t is got.turn got.sends
 polled_after (w ∷ ws) now s t is got = absurd (some_event _ got.0)
 
@@ -490,7 +490,7 @@ turns_none (Some event) now later s t u port answer it same after few due report
 
 -- ---- the feedback about the transport
 
-not_come : (due : Option ℕ) (now : ℕ) → IsBefore due now → has_come due now ≡ false
+pub not_come : (due : Option ℕ) (now : ℕ) → IsBefore due now → has_come due now ≡ false
 not_come None now before = refl
 not_come (Some at) now before = grind (arith, nat_tests, before)
 

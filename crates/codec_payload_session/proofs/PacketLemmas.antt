@@ -1,7 +1,7 @@
 -- Receiver reports that are written one after another, with blocks in groups.
 use Rattle.std.proofs.Common.{◌≡◌, ◌<◌, ◌≤◌, ◌∙◌, ◌⊎◌, inl, inr, ℕ, suc, max, min, ◌+◌, ◌-◌, ◌*◌, ◌/◌, ◌%◌, List, [], ◌∷◌, ◌++◌, length, map, true, Result, Ok, Err, OnOk, ap, refl, sym, subst, arith, append_assoc, length-append}
 use Rattle.std.proofs.lemmas.Bool.{cases_lt}
-use Rattle.std.proofs.lemmas.List.{append-nil, length-take, map-append}
+use Rattle.std.proofs.lemmas.List.{map-append}
 use Rattle.codec_payload_feedback.specs.Feedback.{AppendsAll, cname_part}
 use Rattle.codec_payload_feedback.proofs.FeedbackLemmas.{both, none_more, one_more}
 use Rattle.codec_payload_rtcp.specs.RtcpItems.{block_bytes}

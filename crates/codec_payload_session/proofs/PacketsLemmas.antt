@@ -1,8 +1,7 @@
 -- A unit that a poll returns has packets.
-use Rattle.std.proofs.Common.{◌≡◌, ◌<◌, ◌≤◌, ◌∙◌, refl, ap, sym, subst, ℕ, ◌+◌, List, [], ◌∷◌, ◌++◌, Bool, true, false, Option, Some, None, Result, Ok, Err, length, arith}
+use Rattle.std.proofs.Common.{◌≡◌, ◌<◌, ◌≤◌, ap, sym, subst, ℕ, List, [], ◌∷◌, ◌++◌, Bool, true, false, Option, Some, None, Result, Ok, Err, length, arith}
 use Rattle.std.proofs.lemmas.Bool.Decides.{nat_tests}
 use Rattle.std.proofs.lemmas.List.{length-map}
-use Rattle.std.specs.Prelude.{⊤}
 use Rattle.std.specs.Global.{Vec}
 use Rattle.std.specs.declared.alloc.AllocError.{AllocError}
 use Rattle.codec_payload_base.specs.Time.{Time}
@@ -23,7 +22,7 @@ use Rattle.codec_payload_session.specs.Arrivals.{Port}
 use Rattle.codec_payload_session.specs.Polls.{GoesOn, Polls, PollsAfter, SendsAfter, TurnsOrReports, report_event, transport_event}
 use Rattle.codec_payload_session.specs.Ports.{Session}
 use Rattle.codec_payload_session.specs.Requests.{Asking}
-use Rattle.codec_payload_session.specs.Streams.{Follows, Pops, RequestsBy, RestsBy, Steps, StepsBy, StreamState, step_of, step_with}
+use Rattle.codec_payload_session.specs.Streams.{Follows, Pops, RequestsBy, RestsBy, StepsBy, StreamState, step_of}
 use Rattle.codec_payload_session.specs.Turns.{TakesTurn, event_of}
 use Rattle.codec_payload_session.specs.Units.{Event, HasPackets, HasUnit, Step}
 use Rattle.codec_payload_session.specs.declared.stream.Stage.{Stage}

@@ -4,7 +4,7 @@ use Rattle.std.specs.Global.{Vec}
 use Rattle.std.specs.declared.alloc.AllocError.{AllocError}
 use Rattle.codec_payload_session.specs.Arrivals.{Port}
 use Rattle.codec_payload_session.specs.Ports.{IsPort, taken_in}
-use Rattle.codec_payload_session.specs.Reporting.{Reports, ReportsBy, ReportsEach, ReportsIf, all_reported, is_chosen, is_new_round, is_report_due, most_blocks, reported_if, room_after}
+use Rattle.codec_payload_session.specs.Reporting.{Reports, ReportsBy, ReportsEach, ReportsIf, all_reported, deadline_if, is_chosen, is_new_round, is_report_due, most_blocks, reported_if, room_after}
 use Rattle.codec_payload_session.specs.declared.formats.FeedbackSettings.{FeedbackSettings}
 use Rattle.codec_payload_session.specs.declared.formats.SessionSettings.{SessionSettings}
 use Rattle.codec_payload_session.specs.declared.session.ArrivalCounts.{ArrivalCounts}
@@ -55,3 +55,8 @@ pub report_keeps : (feedback : Option FeedbackSettings) (settings : SessionSetti
     → ReportsBy feedback tick_rate now due p answer next q → IsPort settings p c → IsPort settings q c
 report_keeps None settings c tick_rate now due p answer next q got kept = none_keeps settings c p q got.2 kept
 report_keeps (Some f) settings c tick_rate now due p answer next q got kept = each_keeps f.report_interval settings c f tick_rate now due p answer next q got kept
+
+-- no report is planned
+pub none_planned : (b : Bool) → None ≡ deadline_if b None
+none_planned true = refl
+none_planned false = refl

@@ -10,6 +10,7 @@ use Rattle.codec_payload_buffer.specs.Release.{Release}
 use Rattle.codec_payload_jitter.specs.Receiving.{Receiving, deadline_of, settled, waiting_at}
 use Rattle.codec_payload_receiver.specs.Pops.{DropsUnits, PopsGated, PopsOnce, none_dropped, one_more, without_unit}
 use Rattle.codec_payload_receiver.specs.Sessions.{Session as Receiver}
+use Rattle.codec_payload_session.specs.Late.{unboxed}
 use Rattle.codec_payload_session.specs.Quiet.{AsksNothing, IsBefore, IsKnown, IsQuiet, IsQuietUntil, MayRest, PopsNothing, Rests, RestsUntil, or_none, time_of}
 use Rattle.codec_payload_session.specs.Requests.{Asking, Asks, is_heard, requests_due}
 use Rattle.codec_payload_session.specs.Streams.{Drains, Plays, Pops, RequestsBy, RestsBy, Steps, StepsBy, StreamState, earlier, end_by, is_probation, request_deadline, step_of, work_deadline}
@@ -187,6 +188,7 @@ seen s = record {
   accepted = s.accepted;
   last = s.last;
   feedback = s.feedback;
+  late = unboxed s.late;
   sender_clock = s.sender_clock;
   was_reported = s.was_reported;
 }

@@ -1,5 +1,5 @@
 -- The SSRCs of streams: what keeps them, and what the list of them finds.
-use Rattle.std.proofs.Common.{◌≡◌, ◌≢◌, ◌∙◌, ◌<◌, ◌≤◌, ◌||◌, ◌&&◌, ℕ, zero, suc, ◌+◌, ◌-◌, List, [], ◌∷◌, ◌++◌, length, map, set, get_or, Option, Some, None, Bool, true, false, not, ap, refl, sym, subst, arith, inl, inr}
+use Rattle.std.proofs.Common.{◌≡◌, ◌≢◌, ◌∙◌, ◌<◌, ◌≤◌, ◌||◌, ◌&&◌, ℕ, zero, suc, ◌+◌, ◌-◌, List, [], ◌∷◌, ◌++◌, length, map, set, get_or, Option, Some, None, Bool, true, false, not, is_ok, ap, refl, sym, subst, arith, inl, inr}
 use Rattle.std.proofs.lemmas.List.{get_or_default, with_items_is}
 use Rattle.std.specs.Global.{Vec}
 use Rattle.std.specs.Prelude.{IfSome, nat_le, nat_lt, ◌==◌}
@@ -14,11 +14,12 @@ use Rattle.codec_payload_jitter.specs.declared.outcome.Outcome.{Outcome}
 use Rattle.codec_payload_receiver.specs.declared.receiver.ReceiveError.{ReceiveError}
 use Rattle.codec_payload_receiver.specs.Sessions.{Session as Receiver}
 use Rattle.std.specs.declared.result.Result.{Result}
-use Rattle.codec_payload_session.specs.Streams.{Drains, Plays, Pops, RequestsBy, RestsBy, Steps, StepsBy, is_of, Follows, StreamState, Takes, end_of, heard_unless, is_accepted, is_no_memory, is_probation, left_when, received, waiting_for, waiting_when}
+use Rattle.codec_payload_session.specs.Streams.{Drains, RequestsBy, RestsBy, Steps, StepsBy, is_of, Follows, StreamState, Takes, end_of, heard_unless, is_accepted, is_no_memory, is_probation, late_followed, late_noted, left_when, received, waiting_for, waiting_when}
 use Rattle.codec_payload_jitter.specs.declared.jitter.WaitLimits.{WaitLimits}
 use Rattle.codec_payload_session.specs.Arrivals.{has_ssrc}
 use Rattle.codec_payload_session.specs.Changes.{any_left_behind, are_alike, continued, is_left_behind, is_playing, left_behind, takes_turns}
 use Rattle.codec_payload_session.specs.Formats.{is_video}
+use Rattle.codec_payload_session.specs.Late.{limit_by}
 use Rattle.codec_payload_session.specs.Pairs.{paired_when}
 use Rattle.codec_payload_session.specs.Reporting.{all_reported, is_chosen, reported_if, room_after}
 use Rattle.codec_payload_session.specs.declared.formats.Format.{Format}
@@ -27,10 +28,13 @@ use Rattle.codec_payload_session.specs.declared.stream.Ending.TheVariants as end
 use Rattle.codec_payload_session.specs.Turns.{AreQuiet, FirstSteps, StepsFirst}
 use Rattle.codec_payload_session.specs.Units.{Step, Turn}
 use Rattle.codec_payload_session.specs.Waking.{IsBound, IsIndexed, SaysNothing, ssrcs_of}
+use Rattle.codec_payload_session.specs.Dues.{AreDated}
+use Rattle.codec_payload_session.specs.declared.dues.Dues.{Dues}
 use Rattle.codec_payload_session.specs.declared.stream.Ending.{Ending}
 use Rattle.codec_payload_session.specs.declared.stream.Stage.{Stage}
 use Rattle.codec_payload_session.specs.declared.stream.Stage.TheVariants as stages
 use Rattle.codec_payload_session.specs.declared.waking.Waking.{Waking}
+use Rattle.codec_payload_session.proofs.DeadlineLemmas.{none_dated}
 
 -- ---- lists
 
@@ -63,18 +67,24 @@ written_is v ts same =
     let long : length ts ≡ length v.items = sym (count_of ts) ∙ ap (λ (l : List ℕ). length l) same ∙ count_of v.items in
     with_items_is v ts (omega (arith, long, v.ok.0))
 
-pub kept : (w : Waking) (ids : List ℕ) (v : Vec StreamState) (ts : List StreamState) → IsBound w ts → ids ≡ ssrcs_of v.items → ssrcs_of ts ≡ ssrcs_of v.items → IsIndexed w ids (with_items v ts).items
-kept w ids v ts bound is same = subst (λ (l : List StreamState). IsIndexed w ids l) (sym (written_is v ts same)) (record { bound = bound; listed = is ∙ sym same })
+pub kept : (w : Waking) (ids : List ℕ) (d : Dues) (v : Vec StreamState) (ts : List StreamState) → IsBound w ts → AreDated w d ts → ids ≡ ssrcs_of v.items → ssrcs_of ts ≡ ssrcs_of v.items
+    → IsIndexed w ids d (with_items v ts).items
+kept w ids d v ts bound dated is same = subst (λ (l : List StreamState). IsIndexed w ids d l) (sym (written_is v ts same)) (record { bound = bound; listed = is ∙ sym same; dated = dated })
+
+-- the same with a bound that says nothing
+pub forgotten : (w : Waking) (ids : List ℕ) (d : Dues) (v : Vec StreamState) (ts : List StreamState) → SaysNothing w → ids ≡ ssrcs_of v.items → ssrcs_of ts ≡ ssrcs_of v.items → IsIndexed w ids d (with_items v ts).items
+forgotten w ids d v ts says is same = kept w ids d v ts (says.bound ts) (none_dated w d ts says) is same
 
 -- the same without a bound
 pub listed_written : (ids : List ℕ) (v : Vec StreamState) (ts : List StreamState) → ids ≡ ssrcs_of v.items → ssrcs_of ts ≡ ssrcs_of v.items → ids ≡ ssrcs_of (with_items v ts).items
 listed_written ids v ts is same = is ∙ sym same ∙ sym (ap ssrcs_of (written_is v ts same))
 
 -- one more stream
-pub grown : (w : Waking) (before ids : List ℕ) (ss ts : List StreamState) (s : StreamState) → IsBound w ts → before ≡ ssrcs_of ss → ids ≡ before ++ s.ssrc ∷ [] → ts ≡ ss ++ s ∷ [] → IsIndexed w ids ts
-grown w before ids ss ts s bound listed more longer = record {
-  bound = bound;
+pub grown : (w : Waking) (before ids : List ℕ) (d : Dues) (ss ts : List StreamState) (s : StreamState) → SaysNothing w → before ≡ ssrcs_of ss → ids ≡ before ++ s.ssrc ∷ [] → ts ≡ ss ++ s ∷ [] → IsIndexed w ids d ts
+grown w before ids d ss ts s says listed more longer = record {
+  bound = says.bound ts;
   listed = more ∙ ap (λ (l : List ℕ). l ++ s.ssrc ∷ []) listed ∙ sym (of_added ss s) ∙ sym (ap ssrcs_of longer);
+  dated = none_dated w d ts says;
 }
 
 -- ---- one stream
@@ -91,13 +101,19 @@ received_ssrc : (now : ℕ) (bytes : List ℕ) (b : Bool) (r : Receiver) (s : St
 received_ssrc now bytes true r s = waiting_ssrc _ _
 received_ssrc now bytes false r s = refl
 
+late_ssrc : (b : Bool) (now : ℕ) (bytes : List ℕ) (s : StreamState) → (late_followed b now bytes s).ssrc ≡ s.ssrc
+late_ssrc true now bytes s = waiting_ssrc (limit_by (late_noted now bytes s).late) (late_noted now bytes s)
+late_ssrc false now bytes s = refl
+
 heard_ssrc : (b : Bool) (now probation : ℕ) (accepted : Bool) (s : StreamState) → (heard_unless b now probation accepted s).ssrc ≡ s.ssrc
 heard_ssrc true now probation accepted s = refl
 heard_ssrc false now probation accepted s = refl
 
 pub takes_ssrc : (now : Ticks) (probation : ℕ) (bytes : List ℕ) (s : StreamState) (answer : Result Outcome ReceiveError) (t : StreamState) → Takes now probation bytes s answer t → t.ssrc ≡ s.ssrc
 takes_ssrc now probation bytes s answer t got =
-    ap (λ (x : StreamState). x.ssrc) got.2 ∙ heard_ssrc (is_no_memory answer) now.0 probation (is_accepted answer) (received now.0 bytes (is_accepted answer) got.0 s)
+    let r : StreamState = received now.0 bytes (is_accepted answer) got.0 s in
+    ap (λ (x : StreamState). x.ssrc) got.2 ∙ heard_ssrc (is_no_memory answer) now.0 probation (is_accepted answer) (late_followed (is_ok answer) now.0 bytes r)
+    ∙ late_ssrc (is_ok answer) now.0 bytes r
     ∙ received_ssrc now.0 bytes (is_accepted answer) got.0 s
 
 drains_ssrc : (o : Option Ending) (s t : StreamState) → Drains o s t → t.ssrc ≡ s.ssrc

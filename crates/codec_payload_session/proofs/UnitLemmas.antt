@@ -1,21 +1,22 @@
 -- Answers whose unit is in memory of the caller, with that unit.
-use Rattle.std.proofs.Common.{◌≡◌, ◌∙◌, refl, ap, sym, subst, ℕ, List, [], ◌∷◌, Option, Some, None, Result, Ok, Err}
+use Rattle.std.proofs.Common.{◌≡◌, ◌∙◌, refl, ap, ℕ, List, [], ◌∷◌, Option, Some, None, Result, Ok, Err}
 use Rattle.std.specs.Prelude.{⊤}
 use Rattle.std.specs.Global.{Vec}
 use Rattle.std.specs.declared.alloc.AllocError.{AllocError}
 use Rattle.codec_payload_buffer.specs.Release.{Release}
 use Rattle.codec_payload_buffer.specs.Steps.{popped_to}
 use Rattle.codec_payload_receiver.specs.Pops.{NamesFault, answer_of, is_too_large}
+use Rattle.codec_payload_receiver.specs.Sessions.{Session as Receiver}
 use Rattle.codec_payload_receiver.specs.declared.pops.Popped.{Popped}
 use Rattle.codec_payload_receiver.specs.declared.pops.Popped.TheVariants as popped
 use Rattle.codec_payload_session.specs.Arrivals.{Port}
 use Rattle.codec_payload_session.specs.Polls.{SendsReport, SendsTransport, report_event, transport_event}
 use Rattle.codec_payload_session.specs.Ports.{Session}
 use Rattle.codec_payload_session.specs.Requests.{Asking}
-use Rattle.codec_payload_session.specs.Streams.{RequestsBy, RestsBy, StreamState, step_of, step_with}
+use Rattle.codec_payload_session.specs.Streams.{RequestsBy, RestsBy, StreamState, is_keyframe, step_of, step_with}
 use Rattle.codec_payload_session.specs.Telephone.{Gives, GivesFrom, Queue}
-use Rattle.codec_payload_session.specs.Turns.{after_step, event_of, is_nothing, told_by}
-use Rattle.codec_payload_session.specs.Units.{event_to, popped_with, result_with, step_to, with_unit}
+use Rattle.codec_payload_session.specs.Turns.{after_step, is_nothing, told_by}
+use Rattle.codec_payload_session.specs.Units.{event_to, popped_with, result_with, step_to}
 use Rattle.codec_payload_session.specs.declared.session.Event.{Event as EventWith}
 use Rattle.codec_payload_session.specs.declared.stream.Stage.{Stage}
 use Rattle.codec_payload_session.specs.declared.stream.Stage.TheVariants as stages
@@ -45,6 +46,14 @@ large_with (Some (Ok (popped.Unit done))) unit = refl
 large_with (Some (Ok (popped.TooLarge done))) unit = refl
 large_with (Some (Ok (popped.Refused fault))) unit = refl
 large_with (Some (Err e)) unit = refl
+
+-- ---- keyframes
+
+pub keyframe_with : (p : Result (Popped ⊤) AllocError) (unit : Release) (r : Receiver) → is_keyframe (result_with p unit) r ≡ is_keyframe p r
+keyframe_with (Ok (popped.Unit done)) unit r = refl
+keyframe_with (Ok (popped.TooLarge done)) unit r = refl
+keyframe_with (Ok (popped.Refused fault)) unit r = refl
+keyframe_with (Err e) unit r = refl
 
 -- ---- steps
 

@@ -14,6 +14,7 @@ use Rattle.codec_payload_base.specs.declared.wire.CodecSpec.{CodecSpec}
 use Rattle.codec_payload_feedback_requests.specs.declared.nack.NackSettings.{NackSettings}
 use Rattle.codec_payload_session.specs.declared.formats.FeedbackSettings.{FeedbackSettings}
 use Rattle.codec_payload_session.specs.declared.formats.Format.{Format}
+use Rattle.codec_payload_session.specs.declared.formats.Waiting.TheVariants as waitings
 use Rattle.codec_payload_session.specs.declared.formats.Role.{Role}
 use Rattle.codec_payload_session.specs.declared.formats.Role.TheVariants as roles
 use Rattle.codec_payload_session.specs.declared.formats.SessionSettings.{SessionSettings}
@@ -23,7 +24,7 @@ use Rattle.codec_payload_session.specs.declared.formats.SsrcPair.{SsrcPair}
 
 -- a format without RED, retransmissions and requests
 abbrev pub plain_format : ℕ → CodecSpec → Format
-plain_format payload_type spec = record { payload_type = payload_type; spec = spec; red = None; retransmission = None; nack = false; pli = false }
+plain_format payload_type spec = record { payload_type = payload_type; spec = spec; red = None; retransmission = None; nack = false; pli = false; wait = waitings.RoundTrip }
 
 abbrev pub is_type : Option ℕ → ℕ → Bool
 is_type None payload_type = false
@@ -152,6 +153,7 @@ pub record IsLive (s : SessionSettings) : Type 0 where
   pub extension_ids : s.extension_ids ≡ no_ids
   pub audio : s.audio ≡ waits_for 1 100
   pub video : s.video ≡ waits_for 2 200
+  pub late : s.late ≡ record { shortest = 20; longest = 400; first = 200; lost_after = 1000 }
   pub from_keyframe : s.from_keyframe ≡ gates.Mark
   pub limit : s.limit ≡ 4096
   pub max_unit : s.max_unit ≡ Some 1048576

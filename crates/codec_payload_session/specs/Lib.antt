@@ -3,13 +3,17 @@ pub mod Arrivals
 pub mod Associations
 pub mod Changes
 pub mod Checks
+pub mod Dues
 pub mod Formats
 pub mod Idle
+pub mod Keyframes
+pub mod Late
 pub mod Named
 pub mod Pairs
 pub mod Polls
 pub mod Ports
 pub mod Quiet
+pub mod Renegotiation
 pub mod Reporting
 pub mod Reports
 pub mod Requests

@@ -3,7 +3,7 @@ use Rattle.std.specs.Prelude.{◌≡◌, ◌⊎◌, ◌<◌, ℕ, zero, suc, min
 use Rattle.codec_payload_jitter.specs.Missing.{missing_numbers}
 use Rattle.codec_payload_jitter.specs.Receiving.{PopsWith, Receiving, deadline_of, settled, waiting_at}
 use Rattle.codec_payload_receiver.specs.Sessions.{Session as Receiver}
-use Rattle.codec_payload_session.specs.Requests.{Asking, Asks, is_heard}
+use Rattle.codec_payload_session.specs.Requests.{Asking, Asks, is_heard, wants_keyframe}
 use Rattle.codec_payload_session.specs.Streams.{StreamState, earlier, request_deadline, work_deadline}
 use Rattle.codec_payload_session.specs.declared.stream.Stage.{Stage}
 use Rattle.codec_payload_session.specs.declared.stream.Stage.TheVariants as stages
@@ -48,9 +48,9 @@ abbrev pub is_none : List ℕ → Bool
 is_none [] = true
 is_none (n ∷ ns) = false
 
--- nothing is missing that is requested
+-- nothing is missing that is requested, and no keyframe is wanted
 abbrev pub is_calm : Asking → Receiver → Bool
-is_calm a r = not (a.pli && r.gates.gate.wants) && is_none (missing_numbers r.packets (min a.most 1))
+is_calm a r = not (wants_keyframe a r) && is_none (missing_numbers r.packets (min a.most 1))
 
 -- the time comes before the deadline, if there is one
 abbrev pub IsBefore : Option ℕ → ℕ → Type 0

@@ -1,9 +1,9 @@
 -- What a stream requests: the packets that its receiver misses, and a keyframe if its receiver needs one.
-use Rattle.std.specs.Prelude.{◌≡◌, ◌⊎◌, ℕ, ◌+◌, ◌-◌, ◌*◌, ◌/◌, ◌&&◌, ◌||◌, nat_le, if◌then◌else◌, max, min, Bool, false, List, ◌∷◌, take, Option, Some, None, Result, Ok, Err}
+use Rattle.std.specs.Prelude.{◌≡◌, ◌⊎◌, ℕ, ◌+◌, ◌-◌, ◌*◌, ◌/◌, ◌&&◌, ◌||◌, not, nat_le, if◌then◌else◌, max, min, Bool, true, false, List, ◌∷◌, take, Option, Some, None, Result, Ok, Err}
 use Rattle.std.specs.Global.{Vec}
 use Rattle.std.specs.Option.{option_map}
 use Rattle.std.specs.declared.alloc.AllocError.{AllocError}
-use Rattle.codec_payload_feedback.specs.Feedback.{IsFeedback, Requests, Source, after_answered, after_feedback, deadline_of, keyframe_is_due, new_requests, numbers_due, updated}
+use Rattle.codec_payload_feedback.specs.Feedback.{IsFeedback, Requests, Source, after_answered, after_feedback, deadline_of, keyframe_is_due, new_requests, numbers_due, updated, wanting}
 use Rattle.codec_payload_jitter.specs.Missing.{missing_numbers}
 use Rattle.codec_payload_feedback_requests.specs.NackSchedule.{requested_by}
 use Rattle.codec_payload_feedback_requests.specs.declared.nack.NackSettings.{NackSettings}
@@ -14,10 +14,15 @@ use Rattle.codec_payload_receiver.specs.Sessions.{Session as Receiver}
 use Rattle.codec_payload_session.specs.Formats.{is_video, resends}
 use Rattle.codec_payload_session.specs.declared.formats.FeedbackSettings.{FeedbackSettings}
 use Rattle.codec_payload_session.specs.declared.formats.Format.{Format}
+use Rattle.codec_payload_session.specs.declared.formats.Waiting.{Waiting}
+use Rattle.codec_payload_session.specs.declared.formats.Waiting.TheVariants as waitings
+use Rattle.codec_payload_session.specs.declared.keyframe.KeyframeAnswer.{KeyframeAnswer}
+use Rattle.codec_payload_session.specs.declared.keyframe.KeyframeAnswer.TheVariants as answers
 use Rattle.codec_payload_session.specs.declared.requests.WaitRange.{WaitRange}
 
 -- who sends the requests of a stream, what is requested when, at most how many packets, whether keyframes are, for how
--- long after the latest datagram, and how waiting follows the round trip
+-- long after the latest datagram, how waiting follows the round trip, and whether the caller asked for a keyframe, of which none was
+-- requested or released since
 pub record Asking : Type 0 where
   pub source : Source
   pub requests : Requests
@@ -25,6 +30,7 @@ pub record Asking : Type 0 where
   pub pli : Bool
   pub silence : ℕ
   pub waits : Option WaitRange
+  pub asked : Bool
 
 -- ---- the requests of a new stream
 
@@ -45,6 +51,19 @@ range_for f patient max_wait = range_by f.nack.first_wait f.longest_wait patient
 abbrev pub is_patient : Format → Bool
 is_patient f = f.nack && is_video f.spec.codec
 
+-- a format whose streams wait by the round trip
+abbrev pub follows_by : Waiting → Bool
+follows_by waitings.Fixed = false
+follows_by waitings.RoundTrip = true
+follows_by waitings.Late = false
+
+abbrev pub follows_round_trip : Format → Bool
+follows_round_trip f = follows_by f.wait
+
+abbrev pub range_if : Bool → Option WaitRange → Option WaitRange
+range_if true range = range
+range_if false range = None
+
 -- two requests of a number are at least one tick apart, so that a loop of polls at one moment ends
 abbrev pub spaced : NackSettings → NackSettings
 spaced n = record n { retry = max 1 n.retry; shortest_retry = max 1 n.shortest_retry; longest_retry = max 1 n.longest_retry }
@@ -56,7 +75,8 @@ asking_for f ssrc format max_wait = record {
   most = if format.nack then f.nack.capacity else 0;
   pli = format.pli;
   silence = f.silence;
-  waits = range_for f (is_patient format) max_wait;
+  waits = range_if (follows_round_trip format) (range_for f (is_patient format) max_wait);
+  asked = false;
 }
 
 -- a stream whose sender answers no requests has none
@@ -99,20 +119,25 @@ heard_by now number (Some a) = Some (after_number now number a)
 abbrev pub is_heard : ℕ → ℕ → Asking → Bool
 is_heard now last a = nat_le (now - last) a.silence
 
--- what is requested is what the receiver misses now: packets, and a keyframe if it needs one. Nothing is requested of a silent
--- sender
+-- a keyframe is wanted: the receiver needs one, or the caller asked for one
+abbrev pub wants_keyframe : Asking → Receiver → Bool
+wants_keyframe a r = a.pli && (r.gates.gate.wants || a.asked)
+
+-- what is requested is what the receiver misses now: packets, and a keyframe if it needs one, or if the caller asked for one.
+-- Nothing is requested of a silent sender
 abbrev pub refreshed : ℕ → Bool → Receiver → Asking → Asking
-refreshed now heard r a = record a { requests = updated now (missing_numbers r.packets (if heard then a.most else 0)) (heard && a.pli && r.gates.gate.wants) a.requests }
+refreshed now heard r a = record a { requests = updated now (missing_numbers r.packets (if heard then a.most else 0)) (heard && wants_keyframe a r) a.requests }
 
 -- if memory runs out, nothing has changed
 abbrev pub Refreshes : ℕ → Bool → Receiver → Asking → Result (Unit {0}) AllocError → Asking → Type 0
 Refreshes now heard r a (Ok done) b = b ≡ refreshed now heard r a
 Refreshes now heard r a (Err e) b = b ≡ a
 
--- a packet with exactly the requests that are due, which count as sent then; without a packet none is due
+-- a packet with exactly the requests that are due, which count as sent then; without a packet none is due. A keyframe that was
+-- requested is no longer asked for
 pub record Sends (now : ℕ) (a : Asking) (packet : Option (List ℕ)) (b : Asking) : Type 0 where
   pub packet_is : IsFeedback a.source a.requests.ssrc (numbers_due now a.requests) (keyframe_is_due now a.requests) packet
-  pub after : b ≡ record a { requests = after_feedback now a.requests }
+  pub after : b ≡ record a { requests = after_feedback now a.requests; asked = a.asked && not (keyframe_is_due now a.requests) }
 
 abbrev pub bytes_of : Option (Vec ℕ) → Option (List ℕ)
 bytes_of None = None
@@ -137,6 +162,30 @@ has_requested number (Some a) = requested_by number a.requests.nack
 abbrev pub round_trip_of : Option Asking → Option ℕ
 round_trip_of None = None
 round_trip_of (Some a) = option_map (λ eighths. eighths / 8) a.requests.nack.round_trip
+
+-- ---- a keyframe that the caller asks for
+
+-- it is asked for, if the sender answers requests for keyframes
+abbrev pub asked_when : (pli : Bool) → Asking → Asking
+asked_when true a = record a { requests = wanting a.requests; asked = true }
+asked_when false a = a
+
+abbrev pub asked_by : Option Asking → Option Asking
+asked_by None = None
+asked_by (Some a) = Some (asked_when a.pli a)
+
+abbrev pub answer_when : (pli : Bool) → KeyframeAnswer
+answer_when true = answers.Requested
+answer_when false = answers.NotNegotiated
+
+abbrev pub answer_by : Option Asking → KeyframeAnswer
+answer_by None = answers.NotNegotiated
+answer_by (Some a) = answer_when a.pli
+
+-- a keyframe that was released is the one that was asked for
+abbrev pub answered_if : (keyframe : Bool) → Option Asking → Option Asking
+answered_if keyframe None = None
+answered_if keyframe (Some a) = Some (record a { asked = a.asked && not keyframe })
 
 -- ---- waiting
 

@@ -1,10 +1,12 @@
 -- One stream of a session: the datagrams and calls that its receiver gets, and when the stream begins and ends.
-use Rattle.std.specs.Prelude.{◌≡◌, ℕ, min, ◌+◌, ◌-◌, ◌%◌, ◌^◌, ◌==◌, ◌&&◌, nat_lt, nat_le, if◌then◌else◌, Bool, true, false, List, [], ◌∷◌, Option, Some, None, Result, Ok, Err, length, map}
+use Rattle.std.specs.Prelude.{◌≡◌, ℕ, min, ◌+◌, ◌-◌, ◌%◌, ◌^◌, ◌==◌, ◌&&◌, nat_lt, nat_le, if◌then◌else◌, is_ok, Bool, true, false, List, [], ◌∷◌, Option, Some, None, Result, Ok, Err, length, map}
 use Rattle.std.specs.Global.{Vec}
 use Rattle.std.specs.declared.alloc.AllocError.{AllocError}
 use Rattle.codec_payload_base.specs.declared.wire.Ticks.{Ticks}
 use Rattle.codec_payload_codec.specs.Depacketizers.{DepacketizerState, configured_depacketizer, depacketizer_state_for}
 use Rattle.codec_payload_buffer.specs.Release.{Release}
+use Rattle.codec_payload_feedback_wait.specs.Waits.{Wait}
+use Rattle.codec_payload_jitter.specs.Missing.{missing_numbers}
 use Rattle.codec_payload_jitter.specs.Receiving.{deadline_of, next}
 use Rattle.codec_payload_jitter.specs.declared.outcome.Outcome.{Outcome}
 use Rattle.codec_payload_jitter.specs.declared.waiting.WaitLimits.{WaitLimits}
@@ -19,9 +21,12 @@ use Rattle.codec_payload_receiver.specs.declared.receiver.ReceiveError.{ReceiveE
 use Rattle.codec_payload_receiver.specs.declared.receiver.ReceiveError.TheVariants as errors
 use Rattle.codec_payload_receiver.specs.declared.receiver.Settings.{Settings}
 use Rattle.codec_payload_session.specs.Formats.{HasSettings, is_video, limits_for}
-use Rattle.codec_payload_session.specs.Requests.{Asking, Asks, feedback_by, heard_by, is_heard, number_at, requests_due, round_trip_of, wait_by}
+use Rattle.codec_payload_session.specs.Late.{late_after, late_for, limit_by, number_at as late_number}
+use Rattle.codec_payload_session.specs.Requests.{Asking, Asks, answer_by, answered_if, asked_by, feedback_by, heard_by, is_heard, number_at, requests_due, round_trip_of, wait_by}
 use Rattle.codec_payload_session.specs.declared.formats.Format.{Format}
 use Rattle.codec_payload_session.specs.declared.formats.SessionSettings.{SessionSettings}
+use Rattle.codec_payload_session.specs.declared.keyframe.KeyframeAnswer.{KeyframeAnswer}
+use Rattle.codec_payload_session.specs.declared.keyframe.KeyframeAnswer.TheVariants as answers
 use Rattle.codec_payload_session.specs.declared.stream.Ending.{Ending}
 use Rattle.codec_payload_session.specs.declared.stream.Ending.TheVariants as endings
 use Rattle.codec_payload_session.specs.declared.stream.Stage.{Stage}
@@ -33,8 +38,8 @@ use Rattle.codec_payload_session.specs.declared.reports.SenderClock.{SenderClock
 use Rattle.codec_payload_session.specs.declared.stream.StreamInfo.{StreamInfo}
 
 -- a stream, as contracts see it: its SSRC and format; its receiver; its stage; whether it was announced; how many datagrams it
--- took, and how many of them were accepted; when the latest one arrived; what it requests; the clock of its sender; whether this
--- round of reports had a block about it
+-- took, and how many of them were accepted; when the latest one arrived; what it requests; how late its missing packets arrive, if
+-- waiting follows that; the clock of its sender; whether this round of reports had a block about it
 pub record StreamState : Type 0 where
   pub ssrc : ℕ
   pub format : Format
@@ -45,6 +50,7 @@ pub record StreamState : Type 0 where
   pub accepted : ℕ
   pub last : ℕ
   pub feedback : Option Asking
+  pub late : Option Wait
   pub sender_clock : Option SenderClock
   pub was_reported : Bool
 
@@ -63,6 +69,7 @@ pub record Begins (settings : SessionSettings) (ssrc : ℕ) (f : Format) (s : St
   pub accepted : s.accepted ≡ 0
   pub last : s.last ≡ 0
   pub feedback : s.feedback ≡ feedback_by settings.feedback ssrc f (limits_for settings (is_video f.spec.codec)).max_wait
+  pub late : s.late ≡ late_for settings f
   pub sender_clock : s.sender_clock ≡ None
   pub was_reported : s.was_reported ≡ false
   pub depacketizer : DepacketizerState
@@ -133,6 +140,14 @@ waiting_for (Some wait) s = record s {
 abbrev pub following : StreamState → StreamState
 following s = waiting_for (wait_by s.feedback) s
 
+-- waiting follows how late missing packets arrive, if the format says so: by each datagram that the receiver accepted or dropped
+abbrev pub late_noted : ℕ → List ℕ → StreamState → StreamState
+late_noted now bytes s = record s { late = late_after now (late_number s.format bytes) (missing_numbers s.receiver.packets 64) s.late }
+
+abbrev pub late_followed : Bool → ℕ → List ℕ → StreamState → StreamState
+late_followed false now bytes s = s
+late_followed true now bytes s = waiting_for (limit_by (late_noted now bytes s).late) (late_noted now bytes s)
+
 -- the number of an accepted packet may answer a request, which measures the round trip
 abbrev pub received : ℕ → List ℕ → Bool → Receiver → StreamState → StreamState
 received now bytes true r s = following (record s { receiver = r; feedback = heard_by now (number_at s.format bytes) s.feedback })
@@ -142,7 +157,7 @@ received now bytes false r s = record s { receiver = r }
 abbrev pub Takes : Ticks → ℕ → List ℕ → StreamState → Result Outcome ReceiveError → StreamState → Type 0
 Takes now probation bytes s answer t =
     (r : Receiver) × ReceivesBytes now bytes s.receiver answer r
-    × (t ≡ heard_unless (is_no_memory answer) now.0 probation (is_accepted answer) (received now.0 bytes (is_accepted answer) r s))
+    × (t ≡ heard_unless (is_no_memory answer) now.0 probation (is_accepted answer) (late_followed (is_ok answer) now.0 bytes (received now.0 bytes (is_accepted answer) r s)))
 
 -- ---- the end
 
@@ -220,9 +235,17 @@ step_with (Ok (popped.TooLarge unit)) = steps.TooLarge unit
 step_with (Ok (popped.Refused fault)) = steps.Refused fault
 step_with (Err e) = steps.Unit (Err e)
 
+-- the answer is a unit, which the receiver finds to be a keyframe
+abbrev pub is_keyframe : {U : Type 0} → Result (Popped U) AllocError → Receiver → Bool
+is_keyframe (Ok (popped.Unit unit)) r = r.gates.is_keyframe
+is_keyframe (Ok (popped.TooLarge unit)) r = false
+is_keyframe (Ok (popped.Refused fault)) r = false
+is_keyframe (Err e) r = false
+
+-- a keyframe that is released is the one that was asked for
 abbrev pub Follows : Option (Result (Popped Release) AllocError) → ℕ → StreamState → Step → StreamState → Type 0
 Follows None now s answer t = RestsBy s.stage now s answer t
-Follows (Some told) now s answer t = (answer ≡ step_with told) × (t ≡ s)
+Follows (Some told) now s answer t = (answer ≡ step_with told) × (t ≡ record s { feedback = answered_if (is_keyframe told s.receiver) s.feedback })
 
 -- the answer of a pop of the stream's receiver; without a unit, what follows from the receiver after that pop
 pub record Pops (now : Ticks) (s : StreamState) (answer : Step) (t : StreamState) : Type 0 where
@@ -245,6 +268,30 @@ StepsBy false true now idle s answer t = Plays now idle s answer t
 -- the next event of the stream: none in probation, and its beginning before all other events
 abbrev pub Steps : Ticks → ℕ → StreamState → Step → StreamState → Type 0
 Steps now idle s answer t = StepsBy (is_probation s.stage) s.told now idle s answer t
+
+-- ---- a keyframe that the caller asks for
+
+-- the stream leaves or is drained
+abbrev pub is_ending : Stage → Bool
+is_ending stages.Probation = false
+is_ending stages.Playing = false
+is_ending (stages.Leaving why at) = true
+is_ending (stages.Draining why) = true
+
+-- a stream that ends requests nothing more
+abbrev pub asked_unless : (ending : Bool) → StreamState → StreamState
+asked_unless true s = s
+asked_unless false s = record s { feedback = asked_by s.feedback }
+
+abbrev pub asked_for : StreamState → StreamState
+asked_for s = asked_unless (is_ending s.stage) s
+
+abbrev pub answer_unless : (ending : Bool) → StreamState → KeyframeAnswer
+answer_unless true s = answers.NoStream
+answer_unless false s = answer_by s.feedback
+
+abbrev pub answer_for : StreamState → KeyframeAnswer
+answer_for s = answer_unless (is_ending s.stage) s
 
 -- ---- deadlines
 

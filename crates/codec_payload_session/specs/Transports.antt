@@ -1,9 +1,7 @@
 -- The feedback for congestion control of a session: which arrivals it records, and when it sends which packet.
-use Rattle.std.specs.Prelude.{◌≡◌, ◌⊎◌, ℕ, Bool, true, false, List, if◌then◌else◌, IsErr, Option, Some, None, Result, Ok, Err}
+use Rattle.std.specs.Prelude.{◌≡◌, ℕ, Bool, true, false, List, if◌then◌else◌, Option, Some, None, Result, Ok, Err}
 use Rattle.std.specs.Global.{Vec}
-use Rattle.std.specs.Option.{is_some}
 use Rattle.std.specs.declared.alloc.AllocError.{AllocError}
-use Rattle.codec_payload_base.specs.declared.wire.Ticks.{Ticks}
 use Rattle.codec_payload_feedback_congestion.specs.declared.arrivals.ArrivalLogError.{ArrivalLogError}
 use Rattle.codec_payload_feedback.specs.Transport.{IsTransportFeedback, Reporter, due_at, noted, reporter_by, restarted}
 use Rattle.codec_payload_feedback.specs.declared.transport.TransportSettings.{TransportSettings}

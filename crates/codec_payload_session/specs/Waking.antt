@@ -5,9 +5,11 @@ use Rattle.codec_payload_base.specs.declared.wire.Ticks.{Ticks}
 use Rattle.codec_payload_jitter.specs.declared.outcome.Outcome.{Outcome}
 use Rattle.codec_payload_receiver.specs.declared.receiver.ReceiveError.{ReceiveError}
 use Rattle.codec_payload_session.specs.Arrivals.{Arrives, Port, arrival_of}
+use Rattle.codec_payload_session.specs.Dues.{AreDated}
 use Rattle.codec_payload_session.specs.Streams.{Steps, StreamState, Takes, is_no_memory}
 use Rattle.codec_payload_session.specs.Turns.{StepsFirst}
 use Rattle.codec_payload_session.specs.declared.session.Arrival.{Arrival}
+use Rattle.codec_payload_session.specs.declared.dues.Dues.{Dues}
 use Rattle.codec_payload_session.specs.declared.stream.Step.TheVariants as steps
 use Rattle.codec_payload_session.specs.Units.{Turn}
 use Rattle.codec_payload_session.specs.declared.waking.Waking.{Waking}
@@ -36,14 +38,24 @@ abbrev pub ssrcs_of : List StreamState → List ℕ
 ssrcs_of [] = []
 ssrcs_of (s ∷ ss) = s.ssrc ∷ ssrcs_of ss
 
--- the bound applies to these streams, and the list has their SSRCs
-pub record IsIndexed (w : Waking) (ssrcs : List ℕ) (ss : List StreamState) : Type 0 where
+-- the bound applies to these streams, the list has their SSRCs, and the times are theirs
+pub record IsIndexed (w : Waking) (ssrcs : List ℕ) (d : Dues) (ss : List StreamState) : Type 0 where
   pub bound : IsBound w ss
   pub listed : ssrcs ≡ ssrcs_of ss
+  pub dated : AreDated w d ss
 
 -- the bound says nothing: it applies to any streams
 pub record SaysNothing (w : Waking) : Type 0 where
   pub bound : (ss : List StreamState) → IsBound w ss
+  pub nothing : w.until ≡ 0
+
+-- no stream has changed except the one at a place
+abbrev pub OneChanged : ℕ → List StreamState → List StreamState → Type 0
+OneChanged place [] [] = Unit {0}
+OneChanged place [] (t ∷ ts) = ⊥
+OneChanged place (s ∷ ss) [] = ⊥
+OneChanged zero (s ∷ ss) (t ∷ ts) = ts ≡ ss
+OneChanged (suc place) (s ∷ ss) (t ∷ ts) = (t ≡ s) × OneChanged place ss ts
 
 -- the time comes before the bound
 pub record Holds (w : Waking) (now : Ticks) (idle : ℕ) : Type 0 where

@@ -7,6 +7,7 @@ ghost use Rattle.codec_payload_receiver.specs.Kinds.{is_among};
 use codec_payload_base::wire::{Codec, CodecSpec, Frequency};
 use codec_payload_feedback::transport::TransportSettings;
 use codec_payload_feedback_requests::nack::NackSettings;
+use codec_payload_feedback_wait::adaptive_wait::AdaptiveWaitSettings;
 use codec_payload_jitter::jitter::WaitLimits;
 use codec_payload_keyframes::unit_gate::FromKeyframe;
 use codec_payload_receiver::receiver::{RedSettings, Retransmission, Settings};
@@ -40,6 +41,24 @@ pub struct Format {
     pub nack: bool,
     /// Whether its sender answers requests for keyframes: `a=rtcp-fb` with `nack pli`.
     pub pli: bool,
+    /// How long frames of its streams wait for missing packets. By default waiting follows the round trip, if `longest_wait` of the
+    /// feedback's settings says so.
+    pub wait: Waiting,
+}
+
+/// How long the frames of a stream wait for missing packets (`max_wait` of its [`WaitLimits`]).
+#[derive(Clone, Copy, Debug, PartialEq, Eq)]
+pub enum Waiting {
+    /// As long as the session's limits for audio or video say.
+    Fixed,
+    /// By the round trip, if there is a [`FeedbackSettings::longest_wait`]. Otherwise as with `Fixed`.
+    RoundTrip,
+    /// By how late missing packets arrive, within the bounds of [`SessionSettings::late`]: each datagram that the stream takes sets
+    /// the limit of an [`AdaptiveWait`]. It suits senders without retransmissions, whose missing packets come late or never, and retransmissions of
+    /// others than the session. It takes 1.9 kB for each stream.
+    ///
+    /// [`AdaptiveWait`]: codec_payload_feedback_wait::adaptive_wait::AdaptiveWait
+    Late,
 }
 
 /// Two SSRCs of one source, as `a=ssrc-group:FID` names them.
@@ -73,7 +92,8 @@ pub struct FeedbackSettings {
     /// the stream's wait limits is `first_wait` of `nack` and four round trips: at least as long as the session's limits for audio
     /// or video say, and at most this number of ticks, unless these limits are above it. Before that answer video with `nack`
     /// waits this number of ticks, so that a first keyframe is not dropped while its packets are on their way; all other streams
-    /// wait as the session's limits say. `None`, or no `max_wait` in the session's limits: the wait limits stay.
+    /// wait as the session's limits say. `None`, or no `max_wait` in the session's limits: the wait limits stay. It applies to formats
+    /// whose [`Format::wait`] is [`Waiting::RoundTrip`], as it is by default.
     pub longest_wait: Option<u64>,
     /// The number of ticks between two receiver reports of the session ([`Event::Report`]); the first one is due this long after
     /// the first stream is announced. 0 counts as 1. `None`: it sends none. RFC 3550, section 6.2, asks for 5 s at least; the
@@ -113,6 +133,8 @@ pub struct SessionSettings {
     pub audio: WaitLimits,
     /// How long frames of video wait for missing packets.
     pub video: WaitLimits,
+    /// Within which bounds frames wait, in formats that wait by how late missing packets arrive ([`Waiting::Late`]).
+    pub late: AdaptiveWaitSettings,
     /// What a stream of video does with units that a decoder cannot show. By default they are marked
     /// ([`Session::receiver_of`]).
     ///
@@ -185,7 +207,7 @@ impl FeedbackSettings {
 
 impl SessionSettings {
     /// Returns settings without formats, for live streams and a clock in milliseconds. Frames of audio wait for at most 100 ms,
-    /// and frames of video for at most 200 ms. A session has at most 64 streams of 4,096 packets, and a unit at most
+    /// frames of video for at most 200 ms, and formats that wait by late packets within [`AdaptiveWaitSettings::live`]. A session has at most 64 streams of 4,096 packets, and a unit at most
     /// 1,048,576 bytes. A stream is announced with its second datagram, ends after 30 s without a datagram, and takes packets
     /// for 200 ms after its BYE. Nothing is requested. Does not allocate.
     pub fn live(alloc: Global) -> SessionSettings
@@ -199,6 +221,7 @@ impl SessionSettings {
             extension_ids: ExtensionIds::default(),
             audio: WaitLimits::live(),
             video: WaitLimits::live_video_with_nack(),
+            late: AdaptiveWaitSettings::live(),
             from_keyframe: FromKeyframe::Mark,
             limit: LIMIT,
             max_unit: Some(MAX_UNIT),
@@ -283,7 +306,7 @@ impl SessionSettings {
 }
 
 impl Format {
-    /// Returns a format without RED, retransmissions and requests.
+    /// Returns a format without RED, retransmissions and requests. Waiting follows the round trip, if the session requests.
     pub fn new(payload_type: u8, spec: CodecSpec) -> Format
         ensures { result ≡ plain_format payload_type spec }
     {
@@ -294,6 +317,7 @@ impl Format {
             retransmission: None,
             nack: false,
             pli: false,
+            wait: Waiting::RoundTrip,
         }
     }
 

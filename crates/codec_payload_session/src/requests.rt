@@ -3,9 +3,10 @@
 ghost use Rattle.std.specs.Prelude.{◌≡◌, ◌<◌, ℕ, IfOk, OnOk, Option};
 ghost use Rattle.codec_payload_jitter.specs.Missing.{missing_numbers};
 ghost use Rattle.codec_payload_session.specs.Quiet.{MayRest, is_calm};
-ghost use Rattle.codec_payload_session.specs.Requests.{Asks, Refreshes, after_number, feedback_by, has_requested, heard_by, is_heard, is_patient, number_at, original_number, requests_due, range_for, round_trip_of, source_for, spaced, wait_by, wait_for, wait_of, wait_within};
+ghost use Rattle.codec_payload_session.specs.Requests.{Asks, Refreshes, after_number, answer_by, answered_if, asked_by, feedback_by, follows_round_trip, has_requested, heard_by, is_heard, is_patient, number_at, original_number, requests_due, range_for, range_if, round_trip_of, source_for, spaced, wait_by, wait_for, wait_of, wait_within, wants_keyframe};
 
-use crate::formats::{FeedbackSettings, Format, is_video};
+use crate::formats::{FeedbackSettings, Format, Waiting, is_video};
+use crate::keyframe::KeyframeAnswer;
 use codec_payload_base::wire::Ticks;
 use codec_payload_feedback::requests::{FeedbackSource, StreamRequests};
 use codec_payload_feedback_requests::nack::NackSettings;
@@ -30,6 +31,8 @@ pub(crate) struct Feedback {
     silence: u64,
     /// How waiting follows the round trip. `None`: it does not.
     waits: Option<WaitRange>,
+    /// Whether the caller asked for a keyframe, and none was requested or released since.
+    asked: bool,
     /// Memory for the missing numbers.
     missing: Vec<u64>,
 }
@@ -50,7 +53,7 @@ impl Model for Feedback {
 
     ghost Value = { Asking };
 
-    ghost view = { λ f. record { source = f.source; requests = f.requests; most = f.most; pli = f.pli; silence = f.silence; waits = f.waits } };
+    ghost view = { λ f. record { source = f.source; requests = f.requests; most = f.most; pli = f.pli; silence = f.silence; waits = f.waits; asked = f.asked } };
 }
 
 impl Feedback {
@@ -83,7 +86,8 @@ impl Feedback {
                     most,
                     pli: format.pli,
                     silence: settings.silence,
-                    waits: wait_range(settings, is_patient(format), max_wait),
+                    waits: wait_range(settings, format, max_wait),
+                    asked: false,
                     missing: Vec::new(alloc),
                 }))
             }
@@ -111,12 +115,19 @@ impl Feedback {
         }
     }
 
-    /// Returns whether the receiver misses nothing that is requested: no packet, and no keyframe.
+    /// Returns whether a keyframe is to be requested: the receiver needs one, or the caller asked for one.
+    #[inline(always)]
+    fn wants_keyframe(&self, receiver: &Receiver) -> bool
+        ensures { result ≡ wants_keyframe self.now receiver.now }
+    {
+        self.pli && (receiver.wants_keyframe() || self.asked)
+    }
+
+    /// Returns whether nothing is to be requested: the receiver misses no packet, and no keyframe is wanted.
     fn is_calm(&self, receiver: &Receiver) -> bool
         ensures { result ≡ is_calm self.now receiver.now }
     {
-        let wants_keyframe = self.pli && receiver.wants_keyframe();
-        !wants_keyframe && receiver.missing(self.most.min(1)).next().is_none()
+        !self.wants_keyframe(receiver) && receiver.missing(self.most.min(1)).next().is_none()
     }
 
     /// Returns until when what is requested changes by no other cause than a request that is due.
@@ -139,7 +150,7 @@ impl Feedback {
     {
         let most = if is_heard { self.most } else { 0 };
         collect_missing(receiver, most, &mut self.missing)?;
-        let wants_keyframe = is_heard && self.pli && receiver.wants_keyframe();
+        let wants_keyframe = is_heard && self.wants_keyframe(receiver);
         self.requests.update(now, &self.missing, wants_keyframe)
     }
 
@@ -158,7 +169,35 @@ impl Feedback {
         }
         let is_heard = now.0.saturating_sub(last) <= self.silence;
         self.refresh(now, is_heard, receiver)?;
-        self.requests.take_due(now, &self.source)
+        let keyframe = self.requests.is_keyframe_due(now);
+        let packet = self.requests.take_due(now, &self.source)?;
+        self.asked = self.asked && !keyframe;
+        Ok(packet)
+    }
+}
+
+/// Asks for a keyframe, if the stream's sender answers requests for keyframes.
+pub(crate) fn ask_keyframe(feedback: &mut Option<Feedback>) -> KeyframeAnswer
+    ensures answer { result ≡ answer_by feedback.old }
+    ensures after { feedback.new ≡ asked_by feedback.old }
+{
+    match feedback {
+        Some(feedback) if feedback.pli => {
+            feedback.asked = true;
+            feedback.requests.want_keyframe();
+            KeyframeAnswer::Requested
+        }
+        _ => KeyframeAnswer::NotNegotiated,
+    }
+}
+
+/// Forgets that the caller asked for a keyframe, if one was released.
+#[inline(always)]
+pub(crate) fn answer_if(feedback: &mut Option<Feedback>, keyframe: bool)
+    ensures { feedback.new ≡ answered_if keyframe feedback.old }
+{
+    if let Some(feedback) = feedback {
+        feedback.asked = feedback.asked && !keyframe;
     }
 }
 
@@ -247,20 +286,27 @@ fn is_patient(format: &Format) -> bool
     format.nack && is_video(format.spec.codec)
 }
 
+/// Returns whether waiting in streams of the format follows the round trip.
+fn follows_round_trip(format: &Format) -> bool
+    ensures { result ≡ follows_round_trip format.now }
+{
+    matches!(format.wait, Waiting::RoundTrip)
+}
+
 /// Returns how waiting follows the round trip, if it does.
 fn wait_range(
     settings: &FeedbackSettings,
-    is_patient: bool,
+    format: &Format,
     max_wait: Option<u64>,
 ) -> Option<WaitRange>
-    ensures { result ≡ range_for settings.now is_patient max_wait }
+    ensures { result ≡ range_if (follows_round_trip format.now) (range_for settings.now (is_patient format.now) max_wait) }
 {
     match (settings.longest_wait, max_wait) {
-        (Some(most), Some(least)) => Some(WaitRange {
+        (Some(most), Some(least)) if follows_round_trip(format) => Some(WaitRange {
             first: settings.nack.first_wait,
             least,
             most,
-            is_patient,
+            is_patient: is_patient(format),
         }),
         _ => None,
     }

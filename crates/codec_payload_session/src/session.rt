@@ -6,18 +6,20 @@ ghost use Rattle.std.specs.Option.{option_map};
 ghost use Rattle.codec_payload_session.specs.Arrivals.{Port};
 ghost use Rattle.codec_payload_session.specs.Accepting.{Accepts, time_for};
 ghost use Rattle.codec_payload_session.specs.Associations.{Associates};
-ghost use Rattle.codec_payload_session.specs.Checks.{fault_of};
+ghost use Rattle.codec_payload_session.specs.Checks.{checked, fault_of};
 ghost use Rattle.codec_payload_session.specs.Idle.{IsIdle, held_in, next_of};
 ghost use Rattle.codec_payload_session.specs.Ports.{IsSum, MatchInfo, ReportsIf, counted, counted_if, ends_all, ends_of, made_of, no_counts, receiver_among, restarts_transport, taken_in, told_counts, waits_of};
 ghost use Rattle.codec_payload_session.specs.Reports.{block_among, clock_among};
-ghost use Rattle.codec_payload_session.specs.Polls.{Polls, SendsReport, SendsTransport, TurnsOrReports, TurnsOrSends, report_event, transport_event};
+ghost use Rattle.codec_payload_session.specs.Polls.{Polls, SendsReport, SendsTransport, TurnsOrReports, TurnsOrSends};
+ghost use Rattle.codec_payload_session.specs.Renegotiation.{SetsFormats, with_formats};
 ghost use Rattle.codec_payload_session.specs.Streams.{is_of};
 ghost use Rattle.codec_payload_session.specs.Pairs.{Pairs, with_pair, without_pair};
-ghost use Rattle.codec_payload_session.specs.Units.{HasUnit, event_to, with_unit};
+ghost use Rattle.codec_payload_session.specs.Units.{HasUnit, event_to};
 
 use crate::association::{add_pair, take_in};
 use crate::checks::SessionSettingsError;
-use crate::formats::{SessionSettings, SsrcPair};
+use crate::events::{report_event, transport_event, with_unit};
+use crate::formats::{Format, SessionSettings, SsrcPair};
 use crate::pairs::remove_pair;
 use crate::reporter::report_deadline;
 use crate::reports::SenderClock;
@@ -25,7 +27,6 @@ use crate::stream::{Ending, StreamInfo, earlier};
 use crate::streams::{Streams, Who};
 use crate::telephone::TelephoneQueue;
 use crate::transport::{note, reporter_for, restart, transport_deadline};
-use crate::waking::due_in;
 use codec_payload_base::error::PacketError;
 use codec_payload_base::wire::Ticks;
 use codec_payload_buffer::buffer::PoppedUnit;
@@ -38,6 +39,7 @@ use codec_payload_receiver::receiver::{ReceiveError, Receiver};
 use codec_payload_rtcp::items::ReportBlock;
 use std::alloc::{AllocError, Global};
 use std::marker::Model;
+use std::mem;
 
 /// What a session did with a datagram.
 #[derive(Clone, Copy, Debug, PartialEq, Eq)]
@@ -207,7 +209,7 @@ pub(crate) struct ArrivalCounts {
 #[derive(Debug, Drop)]
 pub struct Session {
     settings: SessionSettings,
-    streams: Streams,
+    pub(crate) streams: Streams,
     counts: ArrivalCounts,
     telephone: TelephoneQueue,
     /// When the next report is due. `None`: no report is planned.
@@ -435,15 +437,17 @@ impl Session {
     }
 
     /// Returns when a poll may have an event without a datagram: `Ticks(0)` while telephone events wait, else the time of a
-    /// stream, of the next report if a stream is announced, or of the next feedback about the transport. `None`: there is no such time. The cost is one step for each
-    /// stream.
+    /// stream, of the next report if a stream is announced, or of the next feedback about the transport. `None`: there is no such time.
+    ///
+    /// Call it once polls have no event: then its cost does not grow with the streams, unless one of them leaves. Otherwise, and for
+    /// up to 16 streams, it is one step for each stream.
     pub fn next_deadline(&self) -> Option<Ticks>
         ensures { option_map (λ at. at.0) result ≡ next_of self.now }
     {
         if !self.telephone.is_empty() {
             return Some(Ticks(0));
         }
-        let streams = due_in(&self.streams.list, self.settings.idle_timeout);
+        let streams = self.streams.due_in(self.settings.idle_timeout);
         let report = report_deadline(&self.streams.list, self.report_due);
         match earlier(
             earlier(streams, report),
@@ -475,6 +479,39 @@ impl Session {
         ensures { self.new ≡ ends_all now.0 self.old }
     {
         self.streams.finish(now.0);
+    }
+
+    /// Replaces the formats, as a new session description states them: call it when the description changes while the session
+    /// lives. Streams whose format is still there, with all of its fields, go on: they keep their packets, times, counters and
+    /// requests. All other streams end at `now`: polls return their complete units, and then `Ended` with [`Ending::Changed`].
+    /// Media of a new format begin a stream as usual, also under the SSRC of a stream that ends. Retransmissions and media of a
+    /// payload type that is gone are [`Arrival::Unknown`], also for a stream that ends.
+    ///
+    /// All other settings stay: pairs, payload types without media, telephone events. The cost is one step for each stream and
+    /// format, and that of [`SessionSettings::check`]. Allocates nothing.
+    ///
+    /// # Errors
+    ///
+    /// The first setting that no session can meet with these formats ([`SessionSettings::check`]): the session is unchanged.
+    ///
+    /// [`Ending::Changed`]: crate::stream::Ending::Changed
+    /// [`SessionSettings::check`]: crate::formats::SessionSettings::check
+    pub fn set_formats(
+        &mut self,
+        now: Ticks,
+        formats: Vec<Format>,
+    ) -> Result<(), SessionSettingsError>
+        ensures answer { result ≡ checked (fault_of (with_formats formats self.old.settings)) }
+        ensures ok { OnOk result (SetsFormats formats now.0 self.old self.new) }
+        ensures err { OnErr result (self.new ≡ self.old) }
+    {
+        let before = mem::replace(&mut self.settings.formats, formats);
+        if let Some(fault) = self.settings.fault() {
+            self.settings.formats = before;
+            return Err(fault);
+        }
+        self.streams.leave_formats(&self.settings.formats, now.0);
+        Ok(())
     }
 
     /// Changes how long the stream with this SSRC and payload type waits for missing packets. Without such a stream nothing
@@ -634,106 +671,6 @@ impl Session {
             ended: self.streams.ended,
             telephone_dropped: self.telephone.dropped(),
         }
-    }
-}
-
-/// Returns the event of a report, if there is one.
-#[inline(always)]
-fn report_event(packet: Option<Result<Vec<u8>, AllocError>>) -> Option<Event<()>>
-    ensures { result ≡ report_event packet }
-{
-    match packet {
-        Some(packet) => Some(Event::Report { packet }),
-        None => None,
-    }
-}
-
-/// Returns the event of a feedback about the transport, if there is one.
-#[inline(always)]
-fn transport_event(packet: Option<Result<Vec<u8>, AllocError>>) -> Option<Event<()>>
-    ensures { result ≡ transport_event packet }
-{
-    match packet {
-        Some(packet) => Some(Event::TransportFeedback { packet }),
-        None => None,
-    }
-}
-
-/// Returns an event with its unit, if it has one.
-fn with_unit(event: Event<()>, unit: PoppedUnit) -> Event
-    ensures { result ≡ with_unit event unit }
-{
-    match event {
-        Event::Begun { ssrc, payload_type } => Event::Begun { ssrc, payload_type },
-        Event::Unit {
-            ssrc,
-            payload_type,
-            rtp_time,
-            decodable,
-            keyframe,
-            unit: popped,
-        } => Event::Unit {
-            ssrc,
-            payload_type,
-            rtp_time,
-            decodable,
-            keyframe,
-            unit: match popped {
-                Ok(()) => Ok(unit),
-                Err(e) => Err(e),
-            },
-        },
-        Event::TooLarge {
-            ssrc,
-            payload_type,
-            ..
-        } => Event::TooLarge {
-            ssrc,
-            payload_type,
-            unit,
-        },
-        Event::Refused {
-            ssrc,
-            payload_type,
-            fault,
-        } => Event::Refused {
-            ssrc,
-            payload_type,
-            fault,
-        },
-        Event::Feedback {
-            ssrc,
-            payload_type,
-            packet,
-        } => Event::Feedback {
-            ssrc,
-            payload_type,
-            packet,
-        },
-        Event::Telephone {
-            ssrc,
-            payload_type,
-            rtp_time,
-            marker,
-            payload,
-        } => Event::Telephone {
-            ssrc,
-            payload_type,
-            rtp_time,
-            marker,
-            payload,
-        },
-        Event::Report { packet } => Event::Report { packet },
-        Event::TransportFeedback { packet } => Event::TransportFeedback { packet },
-        Event::Ended {
-            ssrc,
-            payload_type,
-            why,
-        } => Event::Ended {
-            ssrc,
-            payload_type,
-            why,
-        },
     }
 }
 

@@ -4,10 +4,11 @@ ghost use Rattle.std.specs.Prelude.{◌≡◌, IfOk, IfSome, true};
 ghost use Rattle.std.specs.Option.{option_map};
 ghost use Rattle.codec_payload_session.specs.Changes.{is_left_behind, is_playing, left_behind, plays};
 ghost use Rattle.codec_payload_session.specs.Checks.{can_begin};
+ghost use Rattle.codec_payload_session.specs.Dues.{key_of};
 ghost use Rattle.codec_payload_session.specs.Pairs.{paired_if};
 ghost use Rattle.codec_payload_session.specs.Quiet.{RestsUntil, or_none, time_of};
 ghost use Rattle.codec_payload_session.specs.Requests.{wait_by};
-ghost use Rattle.codec_payload_session.specs.Streams.{Begins, Drains, IsInfo, Pops, RequestsBy, RestsBy, Steps, Takes, due_of, earlier, end_of, heard, heard_unless, is_accepted, is_no_memory, is_of, is_probation, left, left_when, received, step_of, step_with, waiting_for, waiting_if, work_deadline};
+ghost use Rattle.codec_payload_session.specs.Streams.{Begins, Drains, IsInfo, Pops, RequestsBy, RestsBy, Steps, Takes, answer_for, asked_for, due_of, earlier, end_of, heard, heard_unless, is_accepted, is_ending, is_keyframe, is_no_memory, is_of, is_probation, late_followed, left, left_when, received, step_of, step_with, waiting_for, waiting_if, work_deadline};
 ghost use Rattle.codec_payload_session.specs.Turns.{is_nothing};
 ghost use Rattle.codec_payload_session.specs.Units.{step_to};
 ghost use Rattle.codec_payload_session.specs.Waking.{Sleeps, or_max};
@@ -15,20 +16,28 @@ ghost use Rattle.codec_payload_session.specs.declared.stream.Step.TheVariants as
 
 use crate::changes::{are_alike, takes_turns};
 use crate::formats::{Format, SessionSettings, SsrcPair, retransmission_for};
+use crate::keyframe::KeyframeAnswer;
+use crate::late::{follow, late_for, limit_by};
 use crate::named::NamedReceiver;
 use crate::reports::SenderClock;
-use crate::requests::{Feedback, hear, requests_due, rest_time, round_trip, wait_by};
+use crate::requests::{
+    Feedback, answer_if, ask_keyframe, hear, requests_due, rest_time, round_trip, wait_by,
+};
 use codec_payload_base::error::PacketError;
 use codec_payload_base::wire::Ticks;
 use codec_payload_buffer::buffer::PoppedUnit;
 use codec_payload_codec::codec::CodecDepacketizer;
+use codec_payload_feedback_wait::adaptive_wait::AdaptiveWait;
 use codec_payload_jitter::jitter::WaitLimits;
 use codec_payload_jitter::outcome::Outcome;
 use codec_payload_receiver::parsed::ParsedDatagram;
 use codec_payload_receiver::pops::Popped;
-use codec_payload_receiver::receiver::{Counters, ReceiveError};
+use codec_payload_receiver::receiver::{Counters, ReceiveError, Receiver};
 use std::alloc::{AllocError, Global};
 use std::marker::Model;
+
+/// The two last times in a list of times.
+pub(crate) const LAST_KEY: u64 = u64::MAX - 1;
 
 /// Why a stream ended.
 #[derive(Clone, Copy, Debug, PartialEq, Eq)]
@@ -39,7 +48,9 @@ pub enum Ending {
     Timeout,
     /// The caller ended it.
     Told,
-    /// Its sender continues in another format under the same SSRC.
+    /// Its sender continues in another format under the same SSRC, or its format is gone ([`Session::set_formats`]).
+    ///
+    /// [`Session::set_formats`]: crate::session::Session::set_formats
     Changed,
 }
 
@@ -92,6 +103,8 @@ pub(crate) struct StreamState {
     pub(crate) last: u64,
     /// What it requests. `None`: nothing.
     pub(crate) feedback: Option<Feedback>,
+    /// How late its missing packets arrive, if waiting follows that.
+    late: Option<Box<AdaptiveWait>>,
     /// What the latest sender report says.
     pub(crate) sender_clock: Option<SenderClock>,
     /// Whether this round of reports had a block about it.
@@ -108,6 +121,7 @@ impl Model for StreamState {
     ghost Value = { StreamState };
 
     ghost use Rattle.codec_payload_session.specs.Quiet.{IsQuietUntil, time_of};
+    ghost use Rattle.codec_payload_session.specs.Late.{unboxed};
 
     ghost view = { λ s. record {
       ssrc = s.ssrc;
@@ -119,6 +133,7 @@ impl Model for StreamState {
       accepted = s.accepted;
       last = s.last;
       feedback = s.feedback;
+      late = unboxed s.late;
       sender_clock = s.sender_clock;
       was_reported = s.was_reported;
     } };
@@ -157,6 +172,7 @@ impl StreamState {
         depacketizer.configure_for(&format.spec);
         let max_wait = settings.limits(format).max_wait;
         let feedback = Feedback::begin(alloc, &settings.feedback, ssrc, format, max_wait)?;
+        let late = late_for(alloc, settings, format)?;
         let settings = settings.receiver(alloc, ssrc, format)?;
         let receiver = NamedReceiver::begin(alloc, depacketizer, settings).unwrap();
         Ok(StreamState {
@@ -169,6 +185,7 @@ impl StreamState {
             accepted: 0,
             last: 0,
             feedback,
+            late,
             sender_clock: None,
             was_reported: false,
             quiet_until: 0,
@@ -206,6 +223,7 @@ impl StreamState {
         let accepted = is_accepted(&answer);
         let no_memory = is_no_memory(&answer);
         self.hear_if(accepted, now, datagram);
+        self.follow_if(answer.is_ok(), now, datagram);
         self.note_unless(no_memory, now, probation, accepted);
         answer
     }
@@ -219,6 +237,25 @@ impl StreamState {
             self.quiet_until = 0;
             hear(&mut self.feedback, &self.format, now, datagram);
             self.follow_round_trip();
+        }
+    }
+
+    /// Waits as long as missing packets are late, if waiting follows that, and if the receiver accepted or dropped the datagram.
+    #[inline(always)]
+    fn follow_if(&mut self, received: bool, now: Ticks, datagram: &ParsedDatagram<'_>)
+        ensures { self.new ≡ late_followed received now.0 datagram.now self.old }
+    {
+        if received {
+            self.quiet_until = 0;
+            follow(
+                &mut self.late,
+                &self.format,
+                now,
+                datagram,
+                self.receiver.inner(),
+            );
+            let limit = limit_by(&self.late);
+            self.wait_for(limit);
         }
     }
 
@@ -236,7 +273,16 @@ impl StreamState {
     fn follow_round_trip(&mut self)
         ensures { self.new ≡ waiting_for (wait_by self.old.feedback) self.old }
     {
-        if let Some(wait) = wait_by(&self.feedback) {
+        let wait = wait_by(&self.feedback);
+        self.wait_for(wait);
+    }
+
+    /// Waits for at most that time. `None`: the wait limits stay.
+    #[inline(always)]
+    fn wait_for(&mut self, wait: Option<u64>)
+        ensures { self.new ≡ waiting_for wait self.old }
+    {
+        if let Some(wait) = wait {
             self.quiet_until = 0;
             let mut limits = self.receiver.inner().wait_limits();
             limits.max_wait = Some(wait);
@@ -330,6 +376,18 @@ impl StreamState {
         }
     }
 
+    /// Asks for a keyframe, unless the stream ends or its sender answers no requests for keyframes.
+    pub(crate) fn request_keyframe(&mut self) -> KeyframeAnswer
+        ensures answer { result ≡ answer_for self.old }
+        ensures after { self.new ≡ asked_for self.old }
+    {
+        if is_ending(self.stage) {
+            return KeyframeAnswer::NoStream;
+        }
+        self.quiet_until = 0;
+        ask_keyframe(&mut self.feedback)
+    }
+
     /// Returns why the stream ends now, if it does.
     #[inline(always)]
     fn end_at(&self, now: u64, idle_timeout: u64) -> Option<Ending>
@@ -401,7 +459,11 @@ impl StreamState {
         self.quiet_until = 0;
         let held = self.receiver.inner().held();
         match self.receiver.pop_unit(now, unit) {
-            Some(popped) => step_with(popped),
+            Some(popped) => {
+                let keyframe = is_keyframe(&popped, self.receiver.inner());
+                answer_if(&mut self.feedback, keyframe);
+                step_with(popped)
+            }
             None => {
                 let step = self.rest(now);
                 if is_nothing(&step) && self.receiver.inner().held() == held {
@@ -513,6 +575,19 @@ impl StreamState {
         }
     }
 
+    /// Returns the same time as a number of a list of times: 2^64 - 1 is none, and 2^64 - 2 is one of the two last times.
+    #[inline(always)]
+    pub(crate) fn due_key(&self, idle_timeout: u64) -> u64
+        ensures { result ≡ key_of (due_of idle_timeout self.now) }
+    {
+        let due = self.due_or_max(idle_timeout);
+        if due < LAST_KEY {
+            due
+        } else {
+            key_of(self.due(idle_timeout))
+        }
+    }
+
     /// Returns until when the stream has no event, and when its latest datagram arrived. A stream in probation has none.
     pub(crate) fn asleep(&self) -> (u64, u64)
         ensures { Sleeps result.0 result.1 self.now }
@@ -557,6 +632,22 @@ pub(crate) fn is_playing(stage: Stage) -> bool
     matches!(stage, Stage::Playing)
 }
 
+/// Returns whether a stream at this stage leaves or is drained.
+#[inline(always)]
+fn is_ending(stage: Stage) -> bool
+    ensures { result ≡ is_ending stage }
+{
+    matches!(stage, Stage::Leaving(..) | Stage::Draining(_))
+}
+
+/// Returns whether the answer of a pop is a keyframe.
+#[inline(always)]
+fn is_keyframe(popped: &Result<Popped<()>, AllocError>, receiver: &Receiver) -> bool
+    ensures { result ≡ is_keyframe popped.now receiver.now }
+{
+    matches!(popped, Ok(Popped::Unit(()))) && receiver.unit_is_keyframe()
+}
+
 /// Returns the time. 0 is none.
 fn time_of(at: u64) -> Option<u64>
     ensures { result ≡ time_of at }
@@ -576,6 +667,16 @@ fn or_max(time: Option<u64>) -> u64
     ensures { result ≡ or_max time }
 {
     time.unwrap_or(u64::MAX)
+}
+
+/// Returns the time as a number of a list of times.
+fn key_of(time: Option<u64>) -> u64
+    ensures { result ≡ key_of time }
+{
+    match time {
+        Some(at) => at.min(LAST_KEY),
+        None => u64::MAX,
+    }
 }
 
 /// Returns whether a step has no event.

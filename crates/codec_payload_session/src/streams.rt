@@ -1,13 +1,13 @@
 //! The streams of a session, in the order in which they began.
 
-ghost use Rattle.std.specs.Prelude.{◌≡◌, ◌<◌, IfOk, IfSome, OnErr, OnOk, Option, Result, length, slice_get, true, false};
+ghost use Rattle.std.specs.Prelude.{◌≡◌, ◌<◌, IfOk, IfSome, List, OnErr, OnOk, Option, Result, length, slice_get, true, false};
 ghost use Rattle.std.specs.List.{position};
 ghost use Rattle.std.specs.Option.{is_some};
 ghost use Rattle.codec_payload_base.specs.Answers.{Finds};
 ghost use Rattle.codec_payload_rtcp.specs.RtcpReading.{compound_at, packets_left};
 ghost use Rattle.codec_payload_session.specs.Reports.{noted_where};
 ghost use Rattle.codec_payload_session.specs.Sorting.{sorted_packet, sorted_rtcp};
-ghost use Rattle.codec_payload_session.specs.Streams.{is_of, waiting_if, waiting_where};
+ghost use Rattle.codec_payload_session.specs.Streams.{due_in, is_of, waiting_if, waiting_where};
 ghost use Rattle.codec_payload_session.specs.Turns.{StepsFirst, TakesTurn, after_step, told_by};
 ghost use Rattle.codec_payload_session.specs.Arrivals.{BeginsIf, BeginsOrFeeds, Feeds, TakesIn, TakesInAs, added, arrival_of, has_place, has_ssrc, includes, leaving, left_if, left_where, on_probation, removed, say_goodbye, TakesMedia};
 ghost use Rattle.codec_payload_session.specs.Ports.{ReportsIf, ReportsOn, everyone, no_port};
@@ -15,13 +15,17 @@ ghost use Rattle.codec_payload_session.specs.declared.stream.Ending.TheVariants 
 ghost use Rattle.codec_payload_session.specs.Pairs.{paired_where, with_pair};
 ghost use Rattle.codec_payload_session.specs.Checks.{can_begin, fault_of};
 ghost use Rattle.codec_payload_session.specs.Changes.{any_left_behind, continued, continues};
+ghost use Rattle.codec_payload_session.specs.Renegotiation.{StayOrEnd};
 ghost use Rattle.codec_payload_session.specs.Units.{event_to, turn_to};
+ghost use Rattle.codec_payload_session.specs.declared.stream.StreamState.{StreamState};
 ghost use Rattle.codec_payload_session.specs.Waking.{FeedsOne, StepsPort};
 
 use crate::changes::{continues, leave_behind};
 use crate::compound::take_packets;
+use crate::dues::Dues;
 use crate::formats::{Format, SessionSettings, SsrcPair};
 use crate::pairs::{pair, with_pair};
+use crate::renegotiation::leave_formats;
 use crate::session::{Arrival, Event};
 use crate::sort::{SortedPacket, sort};
 use crate::stream::{Ending, Step, StreamState, is_no_memory, is_nothing};
@@ -52,6 +56,8 @@ pub(crate) struct Streams {
     pub(crate) ended: u64,
     /// Until when the streams have no event.
     pub(crate) waking: Waking,
+    /// When each of them may have an event.
+    pub(crate) dues: Dues,
 }
 
 /// The step of the stream at a place.
@@ -78,7 +84,7 @@ impl Model for Streams {
 
     ghost view = { λ s. record { streams = s.list.items; finished = s.finished; ended = s.ended } };
 
-    ghost invariant = { λ s. IsIndexed s.waking s.ssrcs s.list.items };
+    ghost invariant = { λ s. IsIndexed s.waking s.ssrcs s.dues s.list.items };
 }
 
 impl Streams {
@@ -93,6 +99,7 @@ impl Streams {
             finished: false,
             ended: 0,
             waking: Waking::unknown(),
+            dues: Dues::unknown(alloc),
         }
     }
 
@@ -252,7 +259,7 @@ impl Streams {
     }
 
     /// Returns the place of the first stream of this SSRC.
-    fn place_of_ssrc(&self, ssrc: u32) -> Option<usize>
+    pub(crate) fn place_of_ssrc(&self, ssrc: u32) -> Option<usize>
         ensures value { result ≡ position (has_ssrc ssrc) self.now.streams }
         ensures within { IfSome result (λ at. at < length self.now.streams) }
     {
@@ -271,6 +278,7 @@ impl Streams {
         requires { place < length self.old.streams }
         ensures { Feeds probation place now datagram.now self.old result self.new }
     {
+        self.dues.except(self.waking, place, &self.list);
         self.waking = self.waking.except(place, &self.list);
         let stream = &mut self.list[place];
         feed_one(stream, probation, now, datagram)
@@ -370,6 +378,8 @@ impl Streams {
         let turn = step_first(&mut self.list, now, idle_timeout, unit);
         if turn.is_none() {
             self.waking = Waking::of(&self.list);
+            self.dues
+                .find(self.alloc, self.waking, &self.list, idle_timeout);
         }
         turn
     }
@@ -423,12 +433,28 @@ impl Streams {
         }
     }
 
+    /// Returns when a stream may have an event without a datagram.
+    #[inline(always)]
+    pub(crate) fn due_in(&self, idle_timeout: u64) -> Option<u64>
+        ensures { result ≡ due_in idle_timeout self.now.streams }
+    {
+        self.dues.due_in(self.waking, &self.list, idle_timeout)
+    }
+
     /// Ends these streams at that time.
     pub(crate) fn leave(&mut self, who: Who, why: Ending, at: u64)
         ensures { self.new ≡ record self.old { streams = left_where (includes who) why at self.old.streams } }
     {
         self.waking = Waking::unknown();
         leave(&mut self.list, who, why, at);
+    }
+
+    /// Ends the streams at that time whose formats are not among these.
+    pub(crate) fn leave_formats(&mut self, formats: &[Format], at: u64)
+        ensures { (streams : List StreamState) × StayOrEnd formats.now at self.old.streams streams × (self.new ≡ record self.old { streams = streams }) }
+    {
+        self.waking = Waking::unknown();
+        leave_formats(&mut self.list, formats, at);
     }
 
     /// Replaces the wait limits of the stream with this SSRC and payload type.

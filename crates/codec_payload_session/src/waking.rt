@@ -1,10 +1,10 @@
 //! Until when the streams of a session have no event, so that a poll asks only the stream that got a datagram.
 
-ghost use Rattle.std.specs.Prelude.{◌≡◌, ◌-◌, ◌<◌, true};
+ghost use Rattle.std.specs.Prelude.{◌≡◌, ◌-◌, ◌<◌, ◌≤◌, true};
 ghost use Rattle.codec_payload_session.specs.Streams.{due_in, earlier};
 ghost use Rattle.codec_payload_session.specs.Turns.{StepsFirst};
 ghost use Rattle.codec_payload_session.specs.Units.{turn_to};
-ghost use Rattle.codec_payload_session.specs.Waking.{AllSleep, Holds, IsBound, SaysNothing, or_max};
+ghost use Rattle.codec_payload_session.specs.Waking.{AllSleep, Holds, IsBound, OneChanged, SaysNothing, or_max};
 
 use crate::stream::{StreamState, earlier, is_nothing};
 use crate::streams::Turn;
@@ -66,6 +66,7 @@ impl Waking {
         requires { IsBound self streams.now }
         ensures bound { IsBound result streams.now }
         ensures place { result.fed ≡ place }
+        ensures until { result.until ≤ self.until }
     {
         if self.fed == place {
             return self;
@@ -81,7 +82,8 @@ impl Waking {
     /// Returns the bound of all streams.
     fn with_fed(self, streams: &[StreamState]) -> (u64, u64)
         requires { IsBound self streams.now }
-        ensures { AllSleep result.0 result.1 streams.now }
+        ensures sleep { AllSleep result.0 result.1 streams.now }
+        ensures until { result.0 ≤ self.until }
     {
         if self.fed >= streams.len() {
             return (self.until, self.since);
@@ -104,6 +106,7 @@ pub(crate) fn step_excepted(
     requires holds { Holds waking now idle_timeout }
     ensures first { StepsFirst now idle_timeout streams.old (turn_to result unit.new) streams.new }
     ensures bound { IsBound waking streams.new }
+    ensures others { OneChanged waking.fed streams.old streams.new }
 {
     let place = waking.fed;
     if place >= streams.len() {

@@ -1,5 +1,5 @@
 -- Two datagrams begin a stream.
-use Rattle.std.proofs.Common.{◌≡◌, ◌≤◌, ◌∙◌, ◌⊎◌, inl, inr, refl, sym, ap, ap₂, subst, subst₂, ℕ, zero, suc, ◌+◌, ◌-◌, ◌^◌, ◌==◌, ◌&&◌, cond, min, Bool, true, false, List, [], ◌∷◌, ◌++◌, map, length, Option, Some, None, Result, Ok, Err, slice_get, slice_set, arith}
+use Rattle.std.proofs.Common.{◌≡◌, ◌≤◌, ◌∙◌, ◌⊎◌, inl, inr, refl, sym, ap, ap₂, subst, subst₂, ℕ, zero, suc, ◌+◌, ◌-◌, ◌^◌, ◌==◌, ◌&&◌, cond, min, Bool, true, false, List, [], ◌∷◌, ◌++◌, map, length, Option, Some, None, Result, Ok, Err, slice_get, slice_set, arith, is_ok}
 use Rattle.std.specs.Global.{Vec}
 use Rattle.std.specs.List.{position}
 use Rattle.std.specs.Prelude.{IsErr, is_ok, nat_le, nat_lt}
@@ -13,8 +13,9 @@ use Rattle.codec_payload_receiver.specs.declared.receiver.ReceiveError.{ReceiveE
 use Rattle.codec_payload_rtcp.specs.RtcpPackets.{Packet}
 use Rattle.codec_payload_rtcp.specs.RtcpReading.{compound_at}
 use Rattle.codec_payload_rtcp.specs.declared.packet.RtcpError.{RtcpError}
+use Rattle.codec_payload_session.specs.Keyframes.{asked_among, asked_with}
 use Rattle.codec_payload_session.specs.Accepting.{Accepts, noted_in, time_for}
-use Rattle.codec_payload_session.specs.Arrivals.{Arrives, BeginsIf, BeginsOrFeeds, BeginsWith, Feeds, FeedsIf, Port, TakesInAs, TakesMedia, arrival_of, goodbye_at, has_place, left_if, left_where, on_probation, without}
+use Rattle.codec_payload_session.specs.Arrivals.{Arrives, BeginsIf, BeginsOrFeeds, BeginsWith, Feeds, FeedsIf, Port, TakesInAs, TakesMedia, arrival_of, goodbye_at, has_place, left_if, left_where, on_probation, without, has_ssrc}
 use Rattle.codec_payload_session.specs.Associations.{AssociatesBy, pair_at}
 use Rattle.codec_payload_session.specs.Changes.{continued, continues, is_left_behind}
 use Rattle.codec_payload_session.specs.Pairs.{Pairs, paired_if, paired_where, with_pair}
@@ -26,7 +27,7 @@ use Rattle.codec_payload_session.specs.Reports.{noted, noted_at, reported_by}
 use Rattle.codec_payload_session.specs.Reports.{noted_in as clocks_in}
 use Rattle.codec_payload_session.specs.Sorting.{Sorted, sorted_at}
 use Rattle.codec_payload_session.specs.Sorting as sorted
-use Rattle.codec_payload_session.specs.Streams.{Takes, accepted_after, heard_unless, is_accepted, is_no_memory, is_of, is_probation, left_when, received, stage_after, waiting_if}
+use Rattle.codec_payload_session.specs.Streams.{Takes, accepted_after, heard_unless, is_accepted, is_no_memory, is_of, is_probation, late_followed, left_when, received, stage_after, waiting_if, asked_for, asked_unless, is_ending}
 use Rattle.codec_payload_session.specs.Turns.{AreQuiet, TakesTurn, kept_after}
 use Rattle.codec_payload_session.specs.Units.{Event}
 use Rattle.codec_payload_session.specs.declared.formats.Format.{Format}
@@ -40,7 +41,7 @@ use Rattle.codec_payload_session.specs.declared.stream.Ending.TheVariants as end
 use Rattle.codec_payload_session.specs.declared.stream.Stage.{Stage}
 use Rattle.codec_payload_session.specs.declared.stream.Stage.TheVariants as stages
 use Rattle.codec_payload_session.specs.declared.stream.StreamState.{StreamState}
-use Rattle.codec_payload_session_runs.proofs.EndingCallLemmas.{apart_paired, paired_same, received_same, reported_same, waited_same}
+use Rattle.codec_payload_session_runs.proofs.EndingCallLemmas.{apart_paired, both_same, paired_same, reported_same, waited_same}
 use Rattle.codec_payload_session_runs.proofs.EndingLemmas.{Same, steps_asked}
 use Rattle.codec_payload_session_runs.proofs.FateLemmas.{AreApart, found_none, of_is, of_same}
 use Rattle.codec_payload_session_runs.proofs.ReachedLemmas.{Reached, by_streams, reached, reached_more}
@@ -206,7 +207,8 @@ by_took false false now probation told x z memory is same = record {
 took : (now : Ticks) (datagram : Vec ℕ) (probation : ℕ) (x : StreamState) (told : Result Outcome ReceiveError) (y : StreamState) → Takes now probation datagram.items x told y → Took probation told x y
 took now datagram probation x told y got =
     subst (λ (z : StreamState). Took probation told x z) (sym got.2)
-    (by_took (is_no_memory told) (is_accepted told) now.0 probation told x (received now.0 datagram.items (is_accepted told) got.0 x) refl refl (received_same (is_accepted told) now.0 datagram.items got.0 x))
+    (by_took (is_no_memory told) (is_accepted told) now.0 probation told x (late_followed (is_ok told) now.0 datagram.items (received now.0 datagram.items (is_accepted told) got.0 x)) refl refl
+    (both_same (is_ok told) (is_accepted told) now.0 datagram.items got.0 x))
 
 -- an answer that says that the stream accepted the datagram
 arrival_accepted : (a b s p : ℕ) (told : Result Outcome ReceiveError) → accepted_as a b (Ok (arrival_of s p told)) ≡ true → (is_same a b s p ≡ true) × (is_accepted told ≡ true)
@@ -518,6 +520,19 @@ reports_has (Some place) a b tick_rate now p block q got has =
     (has_kept a b p.streams (slice_set p.streams place (reported_by got.stream))
     (set_kept p.streams place got.stream (reported_by got.stream) got.there (record { ssrc_is = refl; format = refl; some = λ one. one })) has)
 
+asked_kept : (ending : Bool) (s : StreamState) → Kept s (asked_unless ending s)
+asked_kept true s = record { ssrc_is = refl; format = refl; some = λ one. one }
+asked_kept false s = record { ssrc_is = refl; format = refl; some = λ one. one }
+
+asked_has : (x : Option StreamState) (a b place : ℕ) (ss : List StreamState) → slice_get ss place ≡ x → HasWaiting a b ss → HasWaiting a b (asked_with x place ss)
+asked_has None a b place ss there has = has
+asked_has (Some s) a b place ss there has =
+    has_kept a b ss (slice_set ss place (asked_for s)) (set_kept ss place s (asked_for s) there (asked_kept (is_ending s.stage) s)) has
+
+keyframe_has : (o : Option ℕ) (a b : ℕ) (p : Port) → HasWaiting a b p.streams → HasWaiting a b (asked_among o p).streams
+keyframe_has None a b p has = has
+keyframe_has (Some place) a b p has = asked_has (slice_get p.streams place) a b place p.streams refl has
+
 stays : (step : SessionStep) (answer : StepAnswer) (a b probation : ℕ) (s t : Session) → s.settings.probation ≡ probation → HasRoom s → is_end_of a b answer ≡ false → Does step s answer t → HasWaiting a b s.port.streams
     → HasWaiting a b t.port.streams
 stays (calls.Receive now micros datagram) answer a b probation s t is room none got has = (accepts a b probation now micros datagram s got.0 t is room got.2).keep has
@@ -534,6 +549,8 @@ stays (calls.Report now ssrc payload_type) answer a b probation s t is room none
     subst (λ (z : Session). HasWaiting a b z.port.streams) (sym got.2.left) (reports_has (position (is_of ssrc payload_type) s.port.streams) a b s.settings.tick_rate now.0 s.port got.0 got.2.port got.2.reports has)
 stays (calls.AddPair ssrc retransmission) answer a b probation s t is room none got has = added_has a b ssrc retransmission s got.0 t got.2 has
 stays calls.RestartTransport answer a b probation s t is room none got has = subst (λ (z : Session). HasWaiting a b z.port.streams) (sym got.1) has
+stays (calls.RequestKeyframe ssrc) answer a b probation s t is room none got has =
+    subst (λ (z : Session). HasWaiting a b z.port.streams) (sym got.1) (keyframe_has (position (has_ssrc ssrc) s.port.streams) a b s.port has)
 stays (calls.RemovePair ssrc) answer a b probation s t is room none got has = pairs_has a b ssrc _ s t got.1 has
 
 -- the call gave the stream a datagram that it accepted
@@ -550,6 +567,7 @@ accepting (calls.SetWaitLimits ssrc payload_type limits) answer a b probation s 
 accepting (calls.Report now ssrc payload_type) answer a b probation s t is room accepted got = let no : false ≡ true = ap (λ (r : StepAnswer). is_accepted_by a b r) (sym got.1) ∙ accepted in absurd (cc)
 accepting (calls.AddPair ssrc retransmission) answer a b probation s t is room accepted got = let no : false ≡ true = ap (λ (r : StepAnswer). is_accepted_by a b r) (sym got.1) ∙ accepted in absurd (cc)
 accepting calls.RestartTransport answer a b probation s t is room accepted got = let no : false ≡ true = ap (λ (r : StepAnswer). is_accepted_by a b r) (sym got.0) ∙ accepted in absurd (cc)
+accepting (calls.RequestKeyframe ssrc) answer a b probation s t is room accepted got = let no : false ≡ true = ap (λ (r : StepAnswer). is_accepted_by a b r) (sym got.0) ∙ accepted in absurd (cc)
 accepting (calls.RemovePair ssrc) answer a b probation s t is room accepted got = let no : false ≡ true = ap (λ (r : StepAnswer). is_accepted_by a b r) (sym got.0) ∙ accepted in absurd (cc)
 
 -- ---- whole runs

@@ -17,6 +17,8 @@ use Rattle.codec_payload_rtp.specs.RtpReading.{rtp_at}
 use Rattle.codec_payload_rtp.specs.declared.rtp.RtpError.{RtpError}
 use Rattle.codec_payload_receiver.specs.Kinds.{is_among}
 use Rattle.codec_payload_receiver.specs.declared.receiver.ReceiveError.{ReceiveError}
+use Rattle.codec_payload_session.specs.Keyframes.{asked_among, asked_with}
+use Rattle.codec_payload_session.specs.declared.keyframe.KeyframeAnswer.{KeyframeAnswer}
 use Rattle.codec_payload_session.specs.Arrivals.{Arrives, BeginsIf, BeginsOrFeeds, BeginsWith, Feeds, FeedsIf, Port, TakesIn, TakesInAs, TakesMedia, arrival_of, goodbye_at, has_place, has_ssrc, left_if, on_probation, without}
 use Rattle.codec_payload_session.specs.Changes.{continued, continues, is_left_behind, left_behind}
 use Rattle.codec_payload_session.specs.Pairs.{paired_if, paired_when}
@@ -25,7 +27,7 @@ use Rattle.codec_payload_session.specs.Reporting.{all_reported, is_chosen, repor
 use Rattle.codec_payload_session.specs.Reports.{noted, noted_at, noted_in, reported_by}
 use Rattle.codec_payload_session.specs.Formats.{has_type, resends, retransmission_for, role_by, stream_of}
 use Rattle.codec_payload_session.specs.Sorting.{sorted_by, sorted_retransmission, sorted_rtcp, sorted_rtp}
-use Rattle.codec_payload_session.specs.Streams.{Begins, is_no_memory, is_of, is_probation, waiting_if, waiting_when}
+use Rattle.codec_payload_session.specs.Streams.{Begins, is_no_memory, is_of, is_probation, waiting_if, waiting_when, asked_for, asked_unless, is_ending}
 use Rattle.codec_payload_session.specs.Turns.{AreQuiet, TakesTurn, kept_after}
 use Rattle.codec_payload_session.specs.declared.formats.Format.{Format}
 use Rattle.codec_payload_session.specs.declared.formats.SessionSettings.{SessionSettings}
@@ -495,3 +497,37 @@ report_evolves (Some place) given now ssrc payload_type tick_rate p block q apar
     (evolves_all given c p.streams (slice_set p.streams place (reported_by got.stream)) (λ s t. refl)
     (one_goes c p.streams place got.stream (reported_by got.stream) got.there apart (one_reported now ssrc payload_type block got.stream is)
     (λ (z : StreamState) (other : is_same z.ssrc z.format.payload_type got.stream.ssrc got.stream.format.payload_type ≡ false). silent_goes c z refl refl)))
+
+-- ---- a keyframe that is asked for
+
+abbrev keyframe_call : ℕ → KeyframeAnswer → Call
+keyframe_call ssrc asked = plain_call (calls.RequestKeyframe ssrc) (answers.KeyframeAsked asked)
+
+-- its receiver stays as it is
+asked_goes : (ssrc : ℕ) (asked : KeyframeAnswer) (ending : Bool) (s : StreamState) → Goes (keyframe_call ssrc asked) s (asked_unless ending s)
+asked_goes ssrc asked true s = silent_goes (keyframe_call ssrc asked) s refl refl
+asked_goes ssrc asked false s = record {
+  has = record {
+    ssrc_is = refl;
+    format = refl;
+    part = [];
+    alone = refl;
+    is_part = record { made = tt; one_pop = omega arith; one_end = omega arith; pair_first = tt; shows = refl };
+  };
+  tells = refl;
+  known = λ known. known;
+}
+
+asked_evolves : (x : Option StreamState) (given : SessionSettings) (ssrc place : ℕ) (asked : KeyframeAnswer) (ss : List StreamState) → AreApart ss → slice_get ss place ≡ x
+    → Evolves given (keyframe_call ssrc asked) ss (asked_with x place ss)
+asked_evolves None given ssrc place asked ss apart there = evolves_same given (keyframe_call ssrc asked) ss (λ s t. refl) (λ s t. refl)
+asked_evolves (Some s) given ssrc place asked ss apart there =
+    let c : Call = keyframe_call ssrc asked in
+    evolves_all given c ss (slice_set ss place (asked_for s)) (λ s t. refl)
+    (one_goes c ss place s (asked_for s) there apart (asked_goes ssrc asked (is_ending s.stage) s)
+    (λ (z : StreamState) (other : is_same z.ssrc z.format.payload_type s.ssrc s.format.payload_type ≡ false). silent_goes c z refl refl))
+
+pub keyframe_evolves : (o : Option ℕ) (given : SessionSettings) (ssrc : ℕ) (asked : KeyframeAnswer) (p : Port) → AreApart p.streams
+    → Evolves given (keyframe_call ssrc asked) p.streams (asked_among o p).streams
+keyframe_evolves None given ssrc asked p apart = evolves_same given (keyframe_call ssrc asked) p.streams (λ s t. refl) (λ s t. refl)
+keyframe_evolves (Some place) given ssrc asked p apart = asked_evolves (slice_get p.streams place) given ssrc place asked p.streams apart refl

@@ -5,7 +5,10 @@ use Rattle.std.specs.Global.{Vec}
 use Rattle.std.specs.declared.alloc.AllocError.{AllocError}
 use Rattle.codec_payload_base.specs.declared.wire.Ticks.{Ticks}
 use Rattle.codec_payload_jitter.specs.Receiving.{next}
-use Rattle.codec_payload_session.specs.Arrivals.{Port}
+use Rattle.std.specs.List.{position}
+use Rattle.codec_payload_session.specs.declared.keyframe.KeyframeAnswer.{KeyframeAnswer}
+use Rattle.codec_payload_session.specs.Keyframes.{answer_among}
+use Rattle.codec_payload_session.specs.Arrivals.{Port, has_ssrc}
 use Rattle.codec_payload_session.specs.Accepting.{Accepts, noted_in, time_for}
 use Rattle.codec_payload_session.specs.Associations.{AssociatesBy, pair_at}
 use Rattle.codec_payload_session.specs.Polls.{GoesOn, PollsAfter, SendsAfter, TurnsOrReports}
@@ -239,6 +242,10 @@ tally_more cs (calls.AddPair ssrc retransmission) answer s t got does =
 tally_more cs calls.RestartTransport answer s t got does =
     subst (λ (a : StepAnswer). Tally (cs ++ record { step = calls.RestartTransport; answer = a } ∷ []) t) (sym does.0)
     (still_tally cs (record { step = calls.RestartTransport; answer = answers.Done }) s t got (ap (λ (z : Session). z.counts) does.1) (λ kind. refl))
+tally_more cs (calls.RequestKeyframe ssrc) answer s t got does =
+    let asked : KeyframeAnswer = answer_among (position (has_ssrc ssrc) s.port.streams) s.port.streams in
+    subst (λ (a : StepAnswer). Tally (cs ++ record { step = calls.RequestKeyframe ssrc; answer = a } ∷ []) t) (sym does.0)
+    (still_tally cs (record { step = calls.RequestKeyframe ssrc; answer = answers.KeyframeAsked asked }) s t got (ap (λ (z : Session). z.counts) does.1) (λ kind. refl))
 tally_more cs (calls.RemovePair ssrc) answer s t got does =
     subst (λ (a : StepAnswer). Tally (cs ++ record { step = calls.RemovePair ssrc; answer = a } ∷ []) t) (sym does.0)
     (still_tally cs (record { step = calls.RemovePair ssrc; answer = answers.Done }) s t got (ap (λ (z : Session). z.counts) does.1.left) (λ kind. refl))

@@ -1,5 +1,5 @@
 -- Each call of a session, and why its streams end.
-use Rattle.std.proofs.Common.{◌≡◌, ◌∙◌, ◌⊎◌, inl, inr, refl, sym, ap, ap₂, subst, subst₂, ℕ, zero, suc, ◌+◌, ◌-◌, ◌^◌, ◌==◌, ◌&&◌, not, cond, min, Bool, true, false, List, [], ◌∷◌, ◌++◌, Option, Some, None, is_some, Result, Ok, Err, append_assoc, append-nil, slice_get, slice_set, eqb-true}
+use Rattle.std.proofs.Common.{◌≡◌, ◌∙◌, ◌⊎◌, inl, inr, refl, sym, ap, ap₂, subst, subst₂, ℕ, zero, suc, ◌+◌, ◌-◌, ◌^◌, ◌==◌, ◌&&◌, not, cond, min, Bool, true, false, List, [], ◌∷◌, ◌++◌, Option, Some, None, is_some, Result, Ok, Err, append_assoc, append-nil, slice_get, slice_set, eqb-true, is_ok}
 use Rattle.std.specs.Global.{Vec}
 use Rattle.std.specs.List.{position, position_from}
 use Rattle.std.specs.Prelude.{IsErr, is_ok, nat_le}
@@ -15,8 +15,10 @@ use Rattle.codec_payload_receiver.specs.declared.receiver.ReceiveError.{ReceiveE
 use Rattle.codec_payload_rtcp.specs.RtcpPackets.{Packet}
 use Rattle.codec_payload_rtcp.specs.RtcpReading.{compound_at}
 use Rattle.codec_payload_rtcp.specs.declared.packet.RtcpError.{RtcpError}
+use Rattle.codec_payload_session.specs.Late.{limit_by}
+use Rattle.codec_payload_session.specs.Keyframes.{asked_among, asked_with}
 use Rattle.codec_payload_session.specs.Accepting.{Accepts, noted_in, time_for}
-use Rattle.codec_payload_session.specs.Arrivals.{Arrives, BeginsIf, BeginsOrFeeds, BeginsWith, Feeds, FeedsIf, Port, TakesInAs, TakesMedia, arrival_of, goodbye_at, has_place, leaving, left_where, without}
+use Rattle.codec_payload_session.specs.Arrivals.{Arrives, BeginsIf, BeginsOrFeeds, BeginsWith, Feeds, FeedsIf, Port, TakesInAs, TakesMedia, arrival_of, goodbye_at, has_place, leaving, left_where, without, has_ssrc}
 use Rattle.codec_payload_session.specs.Associations.{AssociatesBy, pair_at}
 use Rattle.codec_payload_session.specs.Changes.{continued, continues, is_left_behind, is_playing, plays, takes_turns}
 use Rattle.codec_payload_session.specs.Pairs.{Pairs, paired_if, paired_when, paired_where, with_pair}
@@ -29,7 +31,7 @@ use Rattle.codec_payload_session.specs.Reports.{noted_in as clocks_in}
 use Rattle.codec_payload_session.specs.Requests.{heard_by, number_at, wait_by}
 use Rattle.codec_payload_session.specs.Sorting.{Sorted, sorted_at}
 use Rattle.codec_payload_session.specs.Sorting as sorted
-use Rattle.codec_payload_session.specs.Streams.{Takes, accepted_after, heard_unless, is_accepted, is_no_memory, is_of, received, stage_after, waiting_for, waiting_if, waiting_when}
+use Rattle.codec_payload_session.specs.Streams.{Takes, accepted_after, heard_unless, is_accepted, is_no_memory, is_of, late_followed, late_noted, received, stage_after, waiting_for, waiting_if, waiting_when, asked_for, asked_unless, is_ending}
 use Rattle.codec_payload_session.specs.Telephone.{event_of as telephone_event}
 use Rattle.codec_payload_session.specs.Turns.{AreQuiet, TakesTurn, event_of, kept_after}
 use Rattle.codec_payload_session.specs.Units.{Event, Step}
@@ -70,6 +72,24 @@ received_same true now bytes r s =
     let w = waiting_same (wait_by (heard_by now (number_at s.format bytes) s.feedback)) (record s { receiver = r; feedback = heard_by now (number_at s.format bytes) s.feedback }) in
     record { ssrc_is = w.ssrc_is; format = w.format; last = w.last; stage = w.stage; accepted = w.accepted }
 received_same false now bytes r s = record { ssrc_is = refl; format = refl; last = refl; stage = refl; accepted = refl }
+
+pub late_same : (b : Bool) (now : ℕ) (bytes : List ℕ) (s : StreamState) → Same s (late_followed b now bytes s)
+late_same true now bytes s =
+    let w = waiting_same (limit_by (late_noted now bytes s).late) (late_noted now bytes s) in
+    record { ssrc_is = w.ssrc_is; format = w.format; last = w.last; stage = w.stage; accepted = w.accepted }
+late_same false now bytes s = itself s
+
+pub both_same : (b accepted : Bool) (now : ℕ) (bytes : List ℕ) (r : Receiver) (s : StreamState) → Same s (late_followed b now bytes (received now bytes accepted r s))
+both_same b accepted now bytes r s =
+    let one = received_same accepted now bytes r s in
+    let two = late_same b now bytes (received now bytes accepted r s) in
+    record {
+      ssrc_is = two.ssrc_is ∙ one.ssrc_is;
+      format = two.format ∙ one.format;
+      last = two.last ∙ one.last;
+      stage = two.stage ∙ one.stage;
+      accepted = two.accepted ∙ one.accepted;
+    }
 
 by_probation : (b : Bool) (why : Ending) → ending_of (cond b stages.Playing stages.Probation) ≡ Some why → None ≡ Some why
 by_probation true why is = is
@@ -121,8 +141,8 @@ fed : (now : Ticks) (micros : Option ℕ) (datagram : Vec ℕ) (probation : ℕ)
     → Takes now probation datagram.items x told y → Arrives (is_no_memory told) (arrival_of x.ssrc x.format.payload_type told) answer → Fed now micros datagram answer x y
 fed now micros datagram probation x told y answer got arrives =
     subst (λ (z : StreamState). Fed now micros datagram answer x z) (sym got.2)
-    (by_memory (is_no_memory told) now micros datagram probation (is_accepted told) x (received now.0 datagram.items (is_accepted told) got.0 x) told answer arrives
-    (received_same (is_accepted told) now.0 datagram.items got.0 x))
+    (by_memory (is_no_memory told) now micros datagram probation (is_accepted told) x (late_followed (is_ok told) now.0 datagram.items (received now.0 datagram.items (is_accepted told) got.0 x)) told answer arrives
+    (both_same (is_ok told) (is_accepted told) now.0 datagram.items got.0 x))
 
 -- ---- calls that give no stream a datagram
 
@@ -585,6 +605,18 @@ reports_justify (Some place) g cs c tick_rate now p block q none js got =
     (set_same g (cs ++ c ∷ []) p.streams place got.stream (reported_by got.stream) got.there (record { ssrc_is = refl; format = refl; last = refl; stage = refl; accepted = refl })
     (all_more g cs c p.streams p.streams js (all_silent g c p.streams none)))
 
+asked_same : (ending : Bool) (s : StreamState) → Same s (asked_unless ending s)
+asked_same true s = itself s
+asked_same false s = record { ssrc_is = refl; format = refl; last = refl; stage = refl; accepted = refl }
+
+asked_justified : (x : Option StreamState) (g : SessionSettings) (cs : List Call) (ss : List StreamState) (place : ℕ) → slice_get ss place ≡ x → AllJustified g cs ss → AllJustified g cs (asked_with x place ss)
+asked_justified None g cs ss place there js = js
+asked_justified (Some s) g cs ss place there js = set_same g cs ss place s (asked_for s) there (asked_same (is_ending s.stage) s) js
+
+keyframe_justified : (o : Option ℕ) (g : SessionSettings) (cs : List Call) (p : Port) → AllJustified g cs p.streams → AllJustified g cs (asked_among o p).streams
+keyframe_justified None g cs p js = js
+keyframe_justified (Some place) g cs p js = asked_justified (slice_get p.streams place) g cs p.streams place refl js
+
 justifies : (step : SessionStep) (answer : StepAnswer) (g : SessionSettings) (cs : List Call) (s t : Session) → Runs cs (new_session g) s → s.settings.idle_timeout ≡ g.idle_timeout → AreApart s.port.streams → AllJustified g cs s.port.streams → Does step s answer t
     → AllJustified g (cs ++ plain step answer ∷ []) t.port.streams
 justifies (calls.Receive now micros datagram) answer g cs s t run is apart js got =
@@ -610,6 +642,11 @@ justifies (calls.Report now ssrc payload_type) answer g cs s t run is apart js g
 justifies (calls.AddPair ssrc retransmission) answer g cs s t run is apart js got =
     subst (λ (a : StepAnswer). AllJustified g (cs ++ plain (calls.AddPair ssrc retransmission) a ∷ []) t.port.streams) (sym got.1) (added_justify g cs ssrc retransmission s got.0 t js got.2)
 justifies calls.RestartTransport answer g cs s t run is apart js got = stays g cs (plain calls.RestartTransport answer) s.port t.port (λ a b. refl) js (ap (λ (z : Session). z.port) got.1)
+justifies (calls.RequestKeyframe ssrc) answer g cs s t run is apart js got =
+    let c : Call = plain (calls.RequestKeyframe ssrc) answer in
+    subst (λ (z : Session). AllJustified g (cs ++ c ∷ []) z.port.streams) (sym got.1)
+    (keyframe_justified (position (has_ssrc ssrc) s.port.streams) g (cs ++ c ∷ []) s.port
+    (all_more g cs c s.port.streams s.port.streams js (all_silent g c s.port.streams (λ a b. refl))))
 justifies (calls.RemovePair ssrc) answer g cs s t run is apart js got = pairs_justify g cs (plain (calls.RemovePair ssrc) answer) ssrc _ s t (λ a b. refl) js got.1
 
 -- ---- whole runs

@@ -7,8 +7,8 @@ use Rattle.codec_payload_base.specs.declared.wire.Ticks.{Ticks}
 use Rattle.codec_payload_buffer.specs.Release.{Release}
 use Rattle.codec_payload_receiver.specs.declared.pops.Popped.{Popped}
 use Rattle.codec_payload_receiver.specs.declared.pops.Popped.TheVariants as popped
-use Rattle.codec_payload_session.specs.Requests.{Asking}
-use Rattle.codec_payload_session.specs.Streams.{Drains, Follows, Plays, RequestsBy, RestsBy, Steps, StepsBy, end_by, end_of, is_probation, left_when, stage_left, step_of, step_with}
+use Rattle.codec_payload_session.specs.Requests.{Asking, answered_if}
+use Rattle.codec_payload_session.specs.Streams.{Drains, Follows, Plays, RequestsBy, RestsBy, Steps, StepsBy, end_by, end_of, is_keyframe, is_probation, left_when, stage_left, step_of, step_with}
 use Rattle.codec_payload_session.specs.declared.formats.Format.{Format}
 use Rattle.codec_payload_session.specs.declared.formats.SessionSettings.{SessionSettings}
 use Rattle.codec_payload_session.specs.declared.stream.Ending.{Ending}
@@ -128,7 +128,8 @@ rests_follow (stages.Draining own) now m answer t at got =
 
 follows_follow : (o : Option (Result (Popped Release) AllocError)) (now : ℕ) (m : StreamState) (answer : Step) (t : StreamState) → Follows o now m answer t → Followed m answer t
 follows_follow None now m answer t got = rests_follow m.stage now m answer t refl got
-follows_follow (Some told) now m answer t got = followed m answer (step_with told) t m got.0 got.1 (here m) refl (λ why is. popped_ends told m why is)
+follows_follow (Some told) now m answer t got =
+    followed m answer (step_with told) t (record m { feedback = answered_if (is_keyframe told m.receiver) m.feedback }) got.0 got.1 (record { ssrc_is = refl; format = refl; last = refl; accepted = refl }) refl (λ why is. popped_ends told m why is)
 
 -- what a poll makes of a stream that it asks
 pub record Asked (now idle : ℕ) (s : StreamState) (answer : Step) (t : StreamState) : Type 0 where

@@ -4,7 +4,8 @@ use Rattle.std.specs.List.{position}
 use Rattle.std.specs.Global.{Vec}
 use Rattle.std.specs.declared.alloc.AllocError.{AllocError}
 use Rattle.codec_payload_base.specs.declared.wire.Ticks.{Ticks}
-use Rattle.codec_payload_session.specs.Arrivals.{Port}
+use Rattle.codec_payload_session.specs.Keyframes.{answer_among}
+use Rattle.codec_payload_session.specs.Arrivals.{Port, has_ssrc}
 use Rattle.codec_payload_session.specs.Accepting.{Accepts, noted_in, time_for}
 use Rattle.codec_payload_session.specs.Associations.{AssociatesBy, pair_at}
 use Rattle.codec_payload_session.specs.Pairs.{Pairs, paired_where, with_pair}
@@ -25,7 +26,7 @@ use Rattle.codec_payload_session.specs.declared.stream.Ending.{Ending}
 use Rattle.codec_payload_session.specs.declared.stream.StreamState.{StreamState}
 use Rattle.codec_payload_session_runs.proofs.AloneLemmas.{events_more, one_append, order_append, projects_more, projects_shown, runs_append}
 use Rattle.codec_payload_session_runs.proofs.AssociationLemmas.{IsFound, added_pair, failed_paired, found_pair, paired_evolves, removed_pair}
-use Rattle.codec_payload_session_runs.proofs.CallLemmas.{end_evolves, failed_evolves, finish_evolves, pairs_evolve, quiet_evolves, receive_evolves, report_evolves, reported_evolves, tells_evolve, waits_evolve}
+use Rattle.codec_payload_session_runs.proofs.CallLemmas.{end_evolves, failed_evolves, finish_evolves, pairs_evolve, quiet_evolves, receive_evolves, report_evolves, reported_evolves, tells_evolve, waits_evolve, keyframe_evolves}
 use Rattle.codec_payload_session_runs.proofs.FateLemmas.{AreApart, AreFates, AreFresh, AreKnown, BeginsNow, Evolves, IsFate, apart_fates, apart_more, absent_fates, evolves_same, known_fates, known_more, of_is, order_evolves, present, same_sym}
 use Rattle.codec_payload_session_runs.proofs.RunLemmas.{runs_more}
 use Rattle.codec_payload_session_runs.proofs.StreamLemmas.{HasPart, same_is}
@@ -226,6 +227,12 @@ moves (calls.AddPair ssrc retransmission) answer s t apart known got =
 moves calls.RestartTransport answer s t apart known got =
     subst₂ (λ (a : StepAnswer) (z : Session). Moves (call_of calls.RestartTransport a) s z) (sym got.0) (sym got.1)
     (record { evolves = evolves_same s.settings _ s.port.streams (λ a b. refl) (λ a b. refl); others = refl })
+moves (calls.RequestKeyframe ssrc) answer s t apart known got =
+    subst₂ (λ (a : StepAnswer) (z : Session). Moves (call_of (calls.RequestKeyframe ssrc) a) s z) (sym got.0) (sym got.1)
+    (record {
+      evolves = keyframe_evolves (position (has_ssrc ssrc) s.port.streams) s.settings ssrc (answer_among (position (has_ssrc ssrc) s.port.streams) s.port.streams) s.port apart;
+      others = refl;
+    })
 moves (calls.RemovePair ssrc) answer s t apart known got =
     subst (λ (a : StepAnswer). Moves (call_of (calls.RemovePair ssrc) a) s t) (sym got.0)
     (pair_moves (calls.RemovePair ssrc) answers.Done ssrc _ s t

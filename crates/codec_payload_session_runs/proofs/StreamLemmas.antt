@@ -1,10 +1,11 @@
 -- One call of a session, and one stream.
-use Rattle.std.proofs.Common.{◌≡◌, ◌≤◌, ◌∙◌, ◌⊎◌, inl, inr, refl, sym, ap, subst, subst₂, ℕ, ◌==◌, ◌&&◌, not, Bool, true, false, List, [], ◌∷◌, ◌++◌, Option, Some, None, Result, Ok, Err, arith}
+use Rattle.std.proofs.Common.{◌≡◌, ◌≤◌, ◌∙◌, ◌⊎◌, inl, inr, refl, sym, ap, subst, subst₂, ℕ, ◌==◌, ◌&&◌, not, Bool, true, false, List, [], ◌∷◌, ◌++◌, Option, Some, None, Result, Ok, Err, arith, is_ok}
 use Rattle.std.specs.Global.{Vec}
 use Rattle.std.specs.declared.alloc.AllocError.{AllocError}
 use Rattle.std.proofs.lemmas.Bool.Decides.{nat_tests}
 use Rattle.codec_payload_base.specs.declared.wire.Ticks.{Ticks}
 use Rattle.codec_payload_buffer.specs.Release.{Release}
+use Rattle.codec_payload_feedback_wait.specs.Waits.{Wait}
 use Rattle.codec_payload_jitter.specs.declared.outcome.Outcome.{Outcome}
 use Rattle.codec_payload_receiver.specs.Sessions.{Session as Receiver}
 use Rattle.codec_payload_receiver.specs.declared.pops.Popped.{Popped}
@@ -12,9 +13,10 @@ use Rattle.codec_payload_receiver.specs.declared.pops.Popped.TheVariants as popp
 use Rattle.codec_payload_receiver.specs.declared.receiver.ReceiveError.{ReceiveError}
 use Rattle.codec_payload_session.specs.Arrivals.{Arrives, arrival_of}
 use Rattle.codec_payload_session.specs.Formats.{retransmission_for}
+use Rattle.codec_payload_session.specs.Late.{limit_by}
 use Rattle.codec_payload_session.specs.Pairs.{paired, paired_when}
-use Rattle.codec_payload_session.specs.Requests.{Asking, heard_by, number_at, wait_by}
-use Rattle.codec_payload_session.specs.Streams.{Drains, Follows, Plays, RequestsBy, RestsBy, Steps, StepsBy, Takes, accepted_after, end_of, heard_unless, is_accepted, is_no_memory, is_probation, left_when, received, stage_after, stage_left, step_of, step_with, waiting_for}
+use Rattle.codec_payload_session.specs.Requests.{Asking, answered_if, heard_by, number_at, wait_by}
+use Rattle.codec_payload_session.specs.Streams.{Drains, Follows, Plays, RequestsBy, RestsBy, Steps, StepsBy, Takes, accepted_after, end_of, heard_unless, is_accepted, is_keyframe, is_no_memory, is_probation, late_followed, late_noted, left_when, received, stage_after, stage_left, step_of, step_with, waiting_for}
 use Rattle.codec_payload_session.specs.Turns.{event_of, kept_after}
 use Rattle.codec_payload_session.specs.declared.formats.Format.{Format}
 use Rattle.codec_payload_session.specs.declared.formats.SsrcPair.{SsrcPair}
@@ -26,7 +28,7 @@ use Rattle.codec_payload_session.specs.declared.stream.Stage.{Stage}
 use Rattle.codec_payload_session.specs.declared.stream.Stage.TheVariants as stages
 use Rattle.codec_payload_session.specs.declared.stream.StreamState.{StreamState}
 use Rattle.codec_payload_session_runs.proofs.AloneLemmas.{finishes_append, made_append, poll_of, pops_append, runs_append, shown_append}
-use Rattle.codec_payload_session_runs.specs.Lives.{AreMadeBy, AreOfOne, HasNoPair, HasSsrcOf, IsGiven, IsPart, ReceiverCall, RunsAlone, events_by, events_in, finishes, follows, given_by, is_same, many_finishes, many_pops, one_call, one_event, pairs, pops, receives, released_by, shown, shown_in, with_shown}
+use Rattle.codec_payload_session_runs.specs.Lives.{AreMadeBy, AreOfOne, HasNoPair, HasSsrcOf, IsGiven, IsPart, ReceiverCall, RunsAlone, events_by, events_in, finishes, follows, given_by, is_same, many_finishes, many_pops, one_call, one_event, pairs, pops, receives, released_by, reports, shown, shown_in, waits, with_shown}
 use Rattle.codec_payload_session_runs.specs.SessionRuns.{Call}
 use Rattle.codec_payload_session_runs.specs.declared.run.SessionStep.TheVariants as calls
 use Rattle.codec_payload_session_runs.specs.declared.run.StepAnswer.TheVariants as answers
@@ -97,46 +99,102 @@ same_is ssrc payload_type =
     let b : (payload_type == payload_type) ≡ true = grind (arith, nat_tests) in
     ap (λ (x : Bool). x && (payload_type == payload_type)) a ∙ b
 
--- after a datagram that the stream accepted, its waits may follow the round trip
-abbrev IsMore : Bool → List ReceiverCall → Type 0
-IsMore accepted more = (more ≡ []) ⊎ ((accepted ≡ true) × (wait : ℕ) × (more ≡ follows wait ∷ []))
+-- after a datagram that the stream was given, its waits may follow the round trip, or how late missing packets arrive
+abbrev AllFollow : (given : Bool) → List ReceiverCall → Type 0
+AllFollow given [] = Unit {0}
+AllFollow given (receives now bytes answer ∷ cs) = ⊥
+AllFollow given (pops now answer ∷ cs) = ⊥
+AllFollow given (finishes ∷ cs) = ⊥
+AllFollow given (waits limits ∷ cs) = ⊥
+AllFollow given (follows wait ∷ cs) = (given ≡ true) × AllFollow given cs
+AllFollow given (pairs retransmission ∷ cs) = ⊥
+AllFollow given (reports ∷ cs) = ⊥
+
+-- what such calls are not
+record IsFollowing (more : List ReceiverCall) : Type 0 where
+  no_pop : many_pops more ≡ 0
+  no_end : many_finishes more ≡ 0
+  no_pair : HasNoPair more
+  hidden : shown more ≡ []
+
+following : (given : Bool) (more : List ReceiverCall) → AllFollow given more → IsFollowing more
+following given [] all = record { no_pop = refl; no_end = refl; no_pair = tt; hidden = refl }
+following given (receives now bytes answer ∷ cs) all = absurd all
+following given (pops now answer ∷ cs) all = absurd all
+following given (finishes ∷ cs) all = absurd all
+following given (waits limits ∷ cs) all = absurd all
+following given (follows wait ∷ cs) all =
+    let rest = following given cs all.1 in
+    record { no_pop = rest.no_pop; no_end = rest.no_end; no_pair = (refl, rest.no_pair); hidden = rest.hidden }
+following given (pairs retransmission ∷ cs) all = absurd all
+following given (reports ∷ cs) all = absurd all
+
+one_follows : (given : Bool) (more : List ReceiverCall) (wait : ℕ) → given ≡ true → AllFollow given more → AllFollow given (more ++ follows wait ∷ [])
+one_follows given [] wait is all = (is, tt)
+one_follows given (receives now bytes answer ∷ cs) wait is all = absurd all
+one_follows given (pops now answer ∷ cs) wait is all = absurd all
+one_follows given (finishes ∷ cs) wait is all = absurd all
+one_follows given (waits limits ∷ cs) wait is all = absurd all
+one_follows given (follows other ∷ cs) wait is all = (all.0, one_follows given cs wait is all.1)
+one_follows given (pairs retransmission ∷ cs) wait is all = absurd all
+one_follows given (reports ∷ cs) wait is all = absurd all
 
 -- what a datagram makes of a stream, after its receiver received it
-record Heard (accepted : Bool) (ssrc : ℕ) (f : Format) (told : Bool) (stage : Stage) (r : Receiver) (y : StreamState) : Type 0 where
+record Heard (given : Bool) (ssrc : ℕ) (f : Format) (told : Bool) (stage : Stage) (r : Receiver) (y : StreamState) : Type 0 where
   ssrc_is : y.ssrc ≡ ssrc
   format : y.format ≡ f
   told_is : y.told ≡ told
   stage_is : is_probation stage ≡ false → is_probation y.stage ≡ false
   more : List ReceiverCall
   run : RunsAlone more r y.receiver
-  is_more : IsMore accepted more
-  no_pop : many_pops more ≡ 0
-  no_end : many_finishes more ≡ 0
-  no_pair : HasNoPair more
-  hidden : shown more ≡ []
+  all : AllFollow given more
 
-waiting_heard : (o : Option ℕ) (s : StreamState) → Heard true s.ssrc s.format s.told s.stage s.receiver (waiting_for o s)
-waiting_heard None s = record { ssrc_is = refl; format = refl; told_is = refl; stage_is = λ is. is; more = []; run = refl; is_more = inl refl; no_pop = refl; no_end = refl; no_pair = tt; hidden = refl }
-waiting_heard (Some wait) s = record {
+waiting_heard : (given : Bool) (o : Option ℕ) (s : StreamState) → given ≡ true → Heard given s.ssrc s.format s.told s.stage s.receiver (waiting_for o s)
+waiting_heard given None s is = record { ssrc_is = refl; format = refl; told_is = refl; stage_is = λ is. is; more = []; run = refl; all = tt }
+waiting_heard given (Some wait) s is = record {
   ssrc_is = refl;
   format = refl;
   told_is = refl;
   stage_is = λ is. is;
   more = follows wait ∷ [];
   run = ((waiting_for (Some wait) s).receiver, refl, refl);
-  is_more = inr (refl, wait, refl);
-  no_pop = refl;
-  no_end = refl;
-  no_pair = (refl, tt);
-  hidden = refl;
+  all = (is, tt);
 }
 
-received_heard : (accepted : Bool) (now : Ticks) (datagram : Vec ℕ) (r : Receiver) (s : StreamState)
-    → Heard accepted s.ssrc s.format s.told s.stage r (received now.0 datagram.items accepted r s)
-received_heard true now datagram r s =
-    waiting_heard (wait_by (heard_by now.0 (number_at s.format datagram.items) s.feedback))
-    (record s { receiver = r; feedback = heard_by now.0 (number_at s.format datagram.items) s.feedback })
-received_heard false now datagram r s = record { ssrc_is = refl; format = refl; told_is = refl; stage_is = λ is. is; more = []; run = refl; is_more = inl refl; no_pop = refl; no_end = refl; no_pair = tt; hidden = refl }
+received_heard : (given accepted : Bool) (now : Ticks) (datagram : Vec ℕ) (r : Receiver) (s : StreamState) → (accepted ≡ true → given ≡ true)
+    → Heard given s.ssrc s.format s.told s.stage r (received now.0 datagram.items accepted r s)
+received_heard given true now datagram r s is =
+    waiting_heard given (wait_by (heard_by now.0 (number_at s.format datagram.items) s.feedback))
+    (record s { receiver = r; feedback = heard_by now.0 (number_at s.format datagram.items) s.feedback }) (is refl)
+received_heard given false now datagram r s is = record { ssrc_is = refl; format = refl; told_is = refl; stage_is = λ is. is; more = []; run = refl; all = tt }
+
+-- the wait may follow how late missing packets arrive
+limit_heard : (given : Bool) (o : Option ℕ) (late : Option Wait) (ssrc : ℕ) (f : Format) (told : Bool) (stage : Stage) (r : Receiver) (y : StreamState) → given ≡ true → Heard given ssrc f told stage r y
+    → Heard given ssrc f told stage r (waiting_for o (record y { late = late }))
+limit_heard given None late ssrc f told stage r y is got = record {
+  ssrc_is = got.ssrc_is;
+  format = got.format;
+  told_is = got.told_is;
+  stage_is = got.stage_is;
+  more = got.more;
+  run = got.run;
+  all = got.all;
+}
+limit_heard given (Some wait) late ssrc f told stage r y is got = record {
+  ssrc_is = got.ssrc_is;
+  format = got.format;
+  told_is = got.told_is;
+  stage_is = got.stage_is;
+  more = got.more ++ follows wait ∷ [];
+  run = runs_append got.more (follows wait ∷ []) r y.receiver (waiting_for (Some wait) y).receiver got.run ((waiting_for (Some wait) y).receiver, refl, refl);
+  all = one_follows given got.more wait is got.all;
+}
+
+late_heard : (b given : Bool) (now : Ticks) (datagram : Vec ℕ) (ssrc : ℕ) (f : Format) (told : Bool) (stage : Stage) (r : Receiver) (y : StreamState) → (b ≡ true → given ≡ true)
+    → Heard given ssrc f told stage r y → Heard given ssrc f told stage r (late_followed b now.0 datagram.items y)
+late_heard true given now datagram ssrc f told stage r y is got =
+    limit_heard given (limit_by (late_noted now.0 datagram.items y).late) (late_noted now.0 datagram.items y).late ssrc f told stage r y (is refl) got
+late_heard false given now datagram ssrc f told stage r y is got = got
 
 stage_after_is : (probation accepted : ℕ) (stage : Stage) → is_probation stage ≡ false → is_probation (stage_after probation accepted stage) ≡ false
 stage_after_is probation accepted stages.Probation is = absurd (cc)
@@ -144,29 +202,31 @@ stage_after_is probation accepted stages.Playing is = refl
 stage_after_is probation accepted (stages.Leaving why at) is = refl
 stage_after_is probation accepted (stages.Draining why) is = refl
 
-unless_heard : (b : Bool) (now : Ticks) (probation : ℕ) (accepted : Bool) (ssrc : ℕ) (f : Format) (told : Bool) (stage : Stage) (r : Receiver) (s : StreamState)
-    → Heard accepted ssrc f told stage r s → Heard accepted ssrc f told stage r (heard_unless b now.0 probation accepted s)
-unless_heard true now probation accepted ssrc f told stage r s got = got
-unless_heard false now probation accepted ssrc f told stage r s got = record {
+unless_heard : (b given : Bool) (now : Ticks) (probation : ℕ) (accepted : Bool) (ssrc : ℕ) (f : Format) (told : Bool) (stage : Stage) (r : Receiver) (s : StreamState)
+    → Heard given ssrc f told stage r s → Heard given ssrc f told stage r (heard_unless b now.0 probation accepted s)
+unless_heard true given now probation accepted ssrc f told stage r s got = got
+unless_heard false given now probation accepted ssrc f told stage r s got = record {
   ssrc_is = got.ssrc_is;
   format = got.format;
   told_is = got.told_is;
   stage_is = λ is. stage_after_is probation (accepted_after accepted s.accepted) s.stage (got.stage_is is);
   more = got.more;
   run = got.run;
-  is_more = got.is_more;
-  no_pop = got.no_pop;
-  no_end = got.no_end;
-  no_pair = got.no_pair;
-  hidden = got.hidden;
+  all = got.all;
 }
 
+accepted_given : (told : Result Outcome ReceiveError) → is_accepted told ≡ true → is_ok told ≡ true
+accepted_given (Ok outcome) is = refl
+accepted_given (Err e) is = absurd (cc)
+
 takes_heard : (now : Ticks) (datagram : Vec ℕ) (probation : ℕ) (x : StreamState) (told : Result Outcome ReceiveError) (y : StreamState) → (got : Takes now probation datagram.items x told y)
-    → Heard (is_accepted told) x.ssrc x.format x.told x.stage got.0 y
+    → Heard (is_ok told) x.ssrc x.format x.told x.stage got.0 y
 takes_heard now datagram probation x told y got =
-    subst (λ (z : StreamState). Heard (is_accepted told) x.ssrc x.format x.told x.stage got.0 z) (sym got.2)
-    (unless_heard (is_no_memory told) now probation (is_accepted told) x.ssrc x.format x.told x.stage got.0 (received now.0 datagram.items (is_accepted told) got.0 x)
-    (received_heard (is_accepted told) now datagram got.0 x))
+    let r : StreamState = received now.0 datagram.items (is_accepted told) got.0 x in
+    subst (λ (z : StreamState). Heard (is_ok told) x.ssrc x.format x.told x.stage got.0 z) (sym got.2)
+    (unless_heard (is_no_memory told) (is_ok told) now probation (is_accepted told) x.ssrc x.format x.told x.stage got.0 (late_followed (is_ok told) now.0 datagram.items r)
+    (late_heard (is_ok told) (is_ok told) now datagram x.ssrc x.format x.told x.stage got.0 r (λ is. is)
+    (received_heard (is_ok told) (is_accepted told) now datagram got.0 x (accepted_given told))))
 
 abbrev pub call_of : Ticks → Option ℕ → Vec ℕ → Result Arrival AllocError → Call
 call_of now micros datagram answer = record { step = calls.Receive now micros datagram; answer = answers.Received answer }
@@ -186,33 +246,38 @@ given_is false now bytes ssrc payload_type told answer is =
 given_is true now bytes ssrc payload_type told (Ok arrival) is = absurd (cc)
 given_is true now bytes ssrc payload_type told (Err e) is = refl
 
--- the answer names a stream that accepted the datagram
-accepted_memory : (told : Result Outcome ReceiveError) → is_accepted told ≡ true → is_no_memory told ≡ false
-accepted_memory (Ok outcome) is = refl
-accepted_memory (Err e) is = absurd (cc)
+-- the answer names a stream that was given the datagram
+given_memory : (told : Result Outcome ReceiveError) → is_ok told ≡ true → is_no_memory told ≡ false
+given_memory (Ok outcome) is = refl
+given_memory (Err e) is = absurd (cc)
 
 given_there : (b : Bool) (c : ReceiverCall) (given : List ReceiverCall) → b ≡ false → with_shown (not b) c [] ≡ given → IsGiven given
 given_there true c given is same = absurd (cc)
 given_there false c given is same = subst IsGiven same tt
 
-more_made : (accepted : Bool) (ssrc payload_type : ℕ) (now : Ticks) (micros : Option ℕ) (datagram : Vec ℕ) (answer : Result Arrival AllocError) (more : List ReceiverCall)
-    → (accepted ≡ true → IsGiven (shown_in ssrc payload_type (call_of now micros datagram answer))) → IsMore accepted more → AreMadeBy ssrc payload_type (call_of now micros datagram answer) more
-more_made accepted ssrc payload_type now micros datagram answer more given (inl none) =
-    subst (λ (cs : List ReceiverCall). AreMadeBy ssrc payload_type (call_of now micros datagram answer) cs) (sym none) tt
-more_made accepted ssrc payload_type now micros datagram answer more given (inr one) =
-    subst (λ (cs : List ReceiverCall). AreMadeBy ssrc payload_type (call_of now micros datagram answer) cs) (sym one.2) (given one.0, tt)
+more_made : (told_given : Bool) (ssrc payload_type : ℕ) (now : Ticks) (micros : Option ℕ) (datagram : Vec ℕ) (answer : Result Arrival AllocError) (more : List ReceiverCall)
+    → (told_given ≡ true → IsGiven (shown_in ssrc payload_type (call_of now micros datagram answer))) → AllFollow told_given more → AreMadeBy ssrc payload_type (call_of now micros datagram answer) more
+more_made told_given ssrc payload_type now micros datagram answer [] given all = tt
+more_made told_given ssrc payload_type now micros datagram answer (receives at bytes own ∷ cs) given all = absurd all
+more_made told_given ssrc payload_type now micros datagram answer (pops at own ∷ cs) given all = absurd all
+more_made told_given ssrc payload_type now micros datagram answer (finishes ∷ cs) given all = absurd all
+more_made told_given ssrc payload_type now micros datagram answer (waits limits ∷ cs) given all = absurd all
+more_made told_given ssrc payload_type now micros datagram answer (follows wait ∷ cs) given all = (given all.0, more_made told_given ssrc payload_type now micros datagram answer cs given all.1)
+more_made told_given ssrc payload_type now micros datagram answer (pairs retransmission ∷ cs) given all = absurd all
+more_made told_given ssrc payload_type now micros datagram answer (reports ∷ cs) given all = absurd all
 
 heard_made : (now : Ticks) (micros : Option ℕ) (datagram : Vec ℕ) (ssrc payload_type : ℕ) (told : Result Outcome ReceiveError) (answer : Result Arrival AllocError) (more : List ReceiverCall)
-    → IsMore (is_accepted told) more → Arrives (is_no_memory told) (arrival_of ssrc payload_type told) answer → AreMadeBy ssrc payload_type (call_of now micros datagram answer) more
-heard_made now micros datagram ssrc payload_type told answer more is arrives =
-    more_made (is_accepted told) ssrc payload_type now micros datagram answer more
-    (λ accepted. given_there (is_no_memory told) (receives now datagram.items told) (given_by ssrc payload_type now datagram.items answer) (accepted_memory told accepted)
-    (given_is (is_no_memory told) now datagram.items ssrc payload_type told answer arrives)) is
+    → AllFollow (is_ok told) more → Arrives (is_no_memory told) (arrival_of ssrc payload_type told) answer → AreMadeBy ssrc payload_type (call_of now micros datagram answer) more
+heard_made now micros datagram ssrc payload_type told answer more all arrives =
+    more_made (is_ok told) ssrc payload_type now micros datagram answer more
+    (λ is. given_there (is_no_memory told) (receives now datagram.items told) (given_by ssrc payload_type now datagram.items answer) (given_memory told is)
+    (given_is (is_no_memory told) now datagram.items ssrc payload_type told answer arrives)) all
 
 pub fed_goes : (now : Ticks) (micros : Option ℕ) (datagram : Vec ℕ) (probation : ℕ) (x : StreamState) (told : Result Outcome ReceiveError) (y : StreamState) (answer : Result Arrival AllocError)
     → Takes now probation datagram.items x told y → Arrives (is_no_memory told) (arrival_of x.ssrc x.format.payload_type told) answer → Goes (call_of now micros datagram answer) x y
 fed_goes now micros datagram probation x told y answer got arrives =
-    let h : Heard (is_accepted told) x.ssrc x.format x.told x.stage got.0 y = takes_heard now datagram probation x told y got in
+    let h : Heard (is_ok told) x.ssrc x.format x.told x.stage got.0 y = takes_heard now datagram probation x told y got in
+    let f : IsFollowing h.more = following (is_ok told) h.more h.all in
     record {
       has = record {
         ssrc_is = h.ssrc_is;
@@ -220,11 +285,11 @@ fed_goes now micros datagram probation x told y answer got arrives =
         part = receives now datagram.items told ∷ h.more;
         alone = (got.0, got.1, h.run);
         is_part = record {
-          made = ((refl, refl), heard_made now micros datagram x.ssrc x.format.payload_type told answer h.more h.is_more arrives);
-          one_pop = omega (arith, h.no_pop);
-          one_end = omega (arith, h.no_end);
-          pair_first = h.no_pair;
-          shows = ap (λ (cs : List ReceiverCall). with_shown (not (is_no_memory told)) (receives now datagram.items told) cs) h.hidden
+          made = ((refl, refl), heard_made now micros datagram x.ssrc x.format.payload_type told answer h.more h.all arrives);
+          one_pop = omega (arith, f.no_pop);
+          one_end = omega (arith, f.no_end);
+          pair_first = f.no_pair;
+          shows = ap (λ (cs : List ReceiverCall). with_shown (not (is_no_memory told)) (receives now datagram.items told) cs) f.hidden
               ∙ given_is (is_no_memory told) now datagram.items x.ssrc x.format.payload_type told answer arrives;
         };
       };
@@ -239,7 +304,8 @@ pub paired_fed_goes : (now : Ticks) (micros : Option ℕ) (datagram : Vec ℕ) (
 paired_fed_goes now micros datagram probation named false x told y answer names got arrives = fed_goes now micros datagram probation x told y answer got arrives
 paired_fed_goes now micros datagram probation named true x told y answer names got arrives =
     let z : StreamState = paired named x in
-    let h : Heard (is_accepted told) x.ssrc x.format x.told x.stage got.0 y = takes_heard now datagram probation z told y got in
+    let h : Heard (is_ok told) x.ssrc x.format x.told x.stage got.0 y = takes_heard now datagram probation z told y got in
+    let f : IsFollowing h.more = following (is_ok told) h.more h.all in
     record {
       has = record {
         ssrc_is = h.ssrc_is;
@@ -247,11 +313,11 @@ paired_fed_goes now micros datagram probation named true x told y answer names g
         part = pairs z.receiver.stream.retransmission ∷ receives now datagram.items told ∷ h.more;
         alone = (z.receiver, refl, (got.0, got.1, h.run));
         is_part = record {
-          made = (names refl, ((refl, refl), heard_made now micros datagram x.ssrc x.format.payload_type told answer h.more h.is_more arrives));
-          one_pop = omega (arith, h.no_pop);
-          one_end = omega (arith, h.no_end);
-          pair_first = (refl, h.no_pair);
-          shows = ap (λ (cs : List ReceiverCall). with_shown (not (is_no_memory told)) (receives now datagram.items told) cs) h.hidden
+          made = (names refl, ((refl, refl), heard_made now micros datagram x.ssrc x.format.payload_type told answer h.more h.all arrives));
+          one_pop = omega (arith, f.no_pop);
+          one_end = omega (arith, f.no_end);
+          pair_first = (refl, f.no_pair);
+          shows = ap (λ (cs : List ReceiverCall). with_shown (not (is_no_memory told)) (receives now datagram.items told) cs) f.hidden
               ∙ given_is (is_no_memory told) now datagram.items x.ssrc x.format.payload_type told answer arrives;
         };
       };
@@ -425,7 +491,14 @@ followed : (popping : Option (Result (Popped Release) AllocError)) (now : Ticks)
 followed None now m step y got = rests_followed m.stage now m step y got
 followed (Some told) now m step y got =
     subst₂ (λ (st : _) (z : StreamState). Followed now (Some told) m (event_of z st) (λ (rest : List StreamState). kept_after st z rest) z) (sym got.0) (sym got.1)
-    (same_followed now (Some told) m (event_of m (step_with told)) (λ (rest : List StreamState). kept_after (step_with told) m rest) (answer_told now told m))
+    (record {
+      ssrc_is = refl;
+      format = refl;
+      told_is = refl;
+      stage_is = refl;
+      receiver = refl;
+      tells = answer_told now told (record m { feedback = answered_if (is_keyframe told m.receiver) m.feedback });
+    })
 
 plays_stepped : (now : Ticks) (idle : ℕ) (x : StreamState) (step : _) (y : StreamState) → is_probation x.stage ≡ false → x.told ≡ true → Plays now idle x step y
     → Stepped now x (event_of y step) (λ (rest : List StreamState). kept_after step y rest) y

@@ -18,6 +18,7 @@ answered_with kind (answers.Received arrival) = arrived_if kind arrival
 answered_with kind (answers.Polled event) = false
 answered_with kind (answers.Reported block) = false
 answered_with kind (answers.PairAdded added) = false
+answered_with kind (answers.KeyframeAsked asked) = false
 answered_with kind answers.Done = false
 
 abbrev pub one_if : Bool → ℕ

@@ -39,6 +39,7 @@ time_answered ssrc payload_type now (answers.Received arrival) = time_named ssrc
 time_answered ssrc payload_type now (answers.Polled event) = None
 time_answered ssrc payload_type now (answers.Reported block) = None
 time_answered ssrc payload_type now (answers.PairAdded added) = None
+time_answered ssrc payload_type now (answers.KeyframeAsked asked) = None
 time_answered ssrc payload_type now answers.Done = None
 
 abbrev pub time_by : (ssrc payload_type : ℕ) → SessionStep → StepAnswer → Option ℕ
@@ -50,6 +51,7 @@ time_by ssrc payload_type (steps.SetWaitLimits s p limits) answer = None
 time_by ssrc payload_type (steps.Report now s p) answer = None
 time_by ssrc payload_type (steps.AddPair s retransmission) answer = None
 time_by ssrc payload_type (steps.RemovePair s) answer = None
+time_by ssrc payload_type (steps.RequestKeyframe s) answer = None
 time_by ssrc payload_type steps.RestartTransport answer = None
 
 -- the time of the call, if it gave the stream with this SSRC and payload type a datagram
@@ -149,6 +151,7 @@ is_accepted_by ssrc payload_type (answers.Received arrival) = accepted_as ssrc p
 is_accepted_by ssrc payload_type (answers.Polled event) = false
 is_accepted_by ssrc payload_type (answers.Reported block) = false
 is_accepted_by ssrc payload_type (answers.PairAdded added) = false
+is_accepted_by ssrc payload_type (answers.KeyframeAsked asked) = false
 is_accepted_by ssrc payload_type answers.Done = false
 
 -- a place is free
@@ -177,6 +180,7 @@ is_end_of ssrc payload_type (answers.Polled event) = ends_it ssrc payload_type e
 is_end_of ssrc payload_type (answers.Received arrival) = false
 is_end_of ssrc payload_type (answers.Reported block) = false
 is_end_of ssrc payload_type (answers.PairAdded added) = false
+is_end_of ssrc payload_type (answers.KeyframeAsked asked) = false
 is_end_of ssrc payload_type answers.Done = false
 
 -- no event says that the stream ended

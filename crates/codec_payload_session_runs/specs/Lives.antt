@@ -81,6 +81,7 @@ given_as ssrc payload_type now bytes (answers.Received arrival) = given_by ssrc 
 given_as ssrc payload_type now bytes (answers.Polled event) = []
 given_as ssrc payload_type now bytes (answers.Reported block) = []
 given_as ssrc payload_type now bytes (answers.PairAdded added) = []
+given_as ssrc payload_type now bytes (answers.KeyframeAsked asked) = []
 given_as ssrc payload_type now bytes answers.Done = []
 
 -- the answer of a pop with a unit, or without memory for one
@@ -105,6 +106,7 @@ released_as ssrc payload_type now (answers.Polled event) = released_by ssrc payl
 released_as ssrc payload_type now (answers.Received arrival) = []
 released_as ssrc payload_type now (answers.Reported block) = []
 released_as ssrc payload_type now (answers.PairAdded added) = []
+released_as ssrc payload_type now (answers.KeyframeAsked asked) = []
 released_as ssrc payload_type now answers.Done = []
 
 abbrev pub shown_by : (ssrc payload_type : ℕ) → SessionStep → StepAnswer → List ReceiverCall
@@ -116,6 +118,7 @@ shown_by ssrc payload_type (steps.SetWaitLimits s p limits) answer = []
 shown_by ssrc payload_type (steps.Report now s p) answer = []
 shown_by ssrc payload_type (steps.AddPair s retransmission) answer = []
 shown_by ssrc payload_type (steps.RemovePair s) answer = []
+shown_by ssrc payload_type (steps.RequestKeyframe s) answer = []
 shown_by ssrc payload_type steps.RestartTransport answer = []
 
 -- what the answer of a call shows of the stream: the datagram that it took, or the unit or refused frame that left it
@@ -174,7 +177,7 @@ IsGiven [] = ⊥
 IsGiven (c ∷ cs) = Unit {0}
 
 -- What a call of the session, whose answer shows this of the stream with that SSRC and payload type, makes of the receiver of the
--- stream. A datagram is received at its time. If the stream takes it, `max_wait` may follow the round trip. If it is a retransmission
+-- stream. A datagram is received at its time. If the stream takes it, `max_wait` may follow the round trip, or how late missing packets arrive. If it is a retransmission
 -- whose stream is found, the stream gets its SSRC. A poll pops at its time, and may end the stream first and report it afterwards. A
 -- call for the wait limits or a report is passed on to the stream that it names, and a pair to the streams of its SSRC
 abbrev pub IsMadeAs : (ssrc payload_type : ℕ) → SessionStep → List ReceiverCall → ReceiverCall → Type 0
@@ -283,6 +286,7 @@ events_in ssrc payload_type (answers.Polled event) = events_by ssrc payload_type
 events_in ssrc payload_type (answers.Received arrival) = []
 events_in ssrc payload_type (answers.Reported block) = []
 events_in ssrc payload_type (answers.PairAdded added) = []
+events_in ssrc payload_type (answers.KeyframeAsked asked) = []
 events_in ssrc payload_type answers.Done = []
 
 -- the events of the streams with this SSRC and payload type

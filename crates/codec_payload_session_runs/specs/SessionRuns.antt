@@ -4,7 +4,8 @@ use Rattle.std.specs.List.{position}
 use Rattle.std.specs.declared.alloc.AllocError.{AllocError}
 use Rattle.codec_payload_rtcp.specs.declared.items.ReportBlock.{ReportBlock}
 use Rattle.codec_payload_session.specs.Accepting.{Accepts, time_for}
-use Rattle.codec_payload_session.specs.Arrivals.{Port}
+use Rattle.codec_payload_session.specs.Arrivals.{Port, has_ssrc}
+use Rattle.codec_payload_session.specs.Keyframes.{answer_among, asks_keyframe}
 use Rattle.codec_payload_session.specs.Pairs.{Pairs, with_pair, without_pair}
 use Rattle.codec_payload_session.specs.Polls.{Polls}
 use Rattle.codec_payload_session.specs.Ports.{ReportsIf, Session, ends_all, ends_of, restarts_transport, waits_of}
@@ -52,6 +53,8 @@ Does (steps.SetWaitLimits ssrc payload_type limits) s answer t = (answer ≡ ans
 Does (steps.Report now ssrc payload_type) s answer t = (block : Option ReportBlock) × (answer ≡ answers.Reported block) × Reports now.0 ssrc payload_type s block t
 Does (steps.AddPair ssrc retransmission) s answer t = (added : Result Unit AllocError) × (answer ≡ answers.PairAdded added) × AddsPair ssrc retransmission s added t
 Does steps.RestartTransport s answer t = (answer ≡ answers.Done) × (t ≡ restarts_transport s)
+Does (steps.RequestKeyframe ssrc) s answer t =
+    (answer ≡ answers.KeyframeAsked (answer_among (position (has_ssrc ssrc) s.port.streams) s.port.streams)) × (t ≡ asks_keyframe ssrc s)
 Does (steps.RemovePair ssrc) s answer t = (answer ≡ answers.Done) × Pairs ssrc (without_pair ssrc s.settings.pairs.items) s t
 
 -- the calls in order, and nothing else

@@ -15,6 +15,7 @@ use codec_payload_jitter::waiting::WaitLimits;
 use codec_payload_rtcp::items::ReportBlock;
 use codec_payload_session::checks::SessionSettingsError;
 use codec_payload_session::formats::SessionSettings;
+use codec_payload_session::keyframe::KeyframeAnswer;
 use codec_payload_session::session::{Arrival, Event, Session, SessionCounts};
 use std::alloc::{AllocError, Global};
 use thiserror::Error;
@@ -64,6 +65,10 @@ pub enum SessionStep {
     RemovePair {
         ssrc: u32,
     },
+    /// [`Session::request_keyframe`].
+    RequestKeyframe {
+        ssrc: u32,
+    },
 }
 
 /// The answer of a call of a session.
@@ -77,6 +82,8 @@ pub enum StepAnswer {
     Reported(Option<ReportBlock>),
     /// The answer of [`Session::add_pair`].
     PairAdded(Result<(), AllocError>),
+    /// The answer of [`Session::request_keyframe`].
+    KeyframeAsked(KeyframeAnswer),
     /// A call without an answer: [`Session::end`], [`Session::finish`], [`Session::set_wait_limits`],
     /// [`Session::restart_transport`] or [`Session::remove_pair`].
     Done,
@@ -231,6 +238,9 @@ fn do_step(session: &mut Session, step: &SessionStep) -> StepAnswer
         SessionStep::RemovePair { ssrc } => {
             session.remove_pair(*ssrc);
             StepAnswer::Done
+        }
+        SessionStep::RequestKeyframe { ssrc } => {
+            StepAnswer::KeyframeAsked(session.request_keyframe(*ssrc))
         }
     }
 }

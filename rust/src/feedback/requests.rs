@@ -197,6 +197,18 @@ impl StreamRequests {
         Ok(packet)
     }
 
+    /// Records that a keyframe is needed, until the next `update` says otherwise. So [`StreamRequests::next_deadline`] is the moment from
+    /// which on it can be requested.
+    pub fn want_keyframe(&mut self) {
+        self.keyframes.set_wanted(true);
+    }
+
+    /// Returns whether the packet that [`StreamRequests::take_due`] would return at this moment requests a keyframe.
+    pub fn is_keyframe_due(&self, now: Ticks) -> bool {
+        let mut keyframes = self.keyframes;
+        keyframes.take_due(now)
+    }
+
     /// Records that a retransmission of this sequence number (16 bits) arrived, which measures the round trip. Call it before the
     /// `update` after that datagram.
     pub fn answered(&mut self, now: Ticks, number: u16) {

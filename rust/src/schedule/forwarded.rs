@@ -5,6 +5,11 @@
 
 #[doc(hidden)]
 pub mod run;
+#[doc(hidden)]
+pub mod store_run;
 
 #[doc(inline)]
 pub use run::{ForwardLink, ForwardStep, ForwardedRun, run_forwarded};
+
+#[doc(inline)]
+pub use store_run::{StoreLink, StoreRun, StoreStep, run_forwarded_with_store};

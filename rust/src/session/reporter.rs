@@ -108,7 +108,14 @@ impl StreamState {
 
 /// Returns when the next report is due, if a stream is announced.
 pub(crate) fn report_deadline(streams: &[StreamState], due: Option<u64>) -> Option<u64> {
-    if any_announced(streams) { due } else { None }
+    let Some(at) = due else {
+        return None;
+    };
+    if any_announced(streams) {
+        Some(at)
+    } else {
+        None
+    }
 }
 
 /// Returns whether a report is due: its time has come, and a stream is announced.

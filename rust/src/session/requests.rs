@@ -5,7 +5,8 @@
 use crate::feedback::requests::{FeedbackSource, StreamRequests};
 use crate::memory::{AllocError, TryVec};
 use crate::requests::nack::NackSettings;
-use crate::session::formats::{FeedbackSettings, Format, is_video};
+use crate::session::formats::{FeedbackSettings, Format, Waiting, is_video};
+use crate::session::keyframe::KeyframeAnswer;
 use crate::stream::parsed::ParsedDatagram;
 use crate::stream::receiver::Receiver;
 use crate::wire::Ticks;
@@ -27,6 +28,8 @@ pub(crate) struct Feedback {
     silence: u64,
     /// How waiting follows the round trip. `None`: it does not.
     waits: Option<WaitRange>,
+    /// Whether the caller asked for a keyframe, and none was requested or released since.
+    asked: bool,
     /// Memory for the missing numbers.
     missing: Vec<u64>,
 }
@@ -68,7 +71,8 @@ impl Feedback {
                     most,
                     pli: format.pli,
                     silence: settings.silence,
-                    waits: wait_range(settings, is_patient(format), max_wait),
+                    waits: wait_range(settings, format, max_wait),
+                    asked: false,
                     missing: Vec::new(),
                 }))
             }
@@ -92,10 +96,15 @@ impl Feedback {
         }
     }
 
-    /// Returns whether the receiver misses nothing that is requested: no packet, and no keyframe.
+    /// Returns whether a keyframe is to be requested: the receiver needs one, or the caller asked for one.
+    #[inline(always)]
+    fn wants_keyframe(&self, receiver: &Receiver) -> bool {
+        self.pli && (receiver.wants_keyframe() || self.asked)
+    }
+
+    /// Returns whether nothing is to be requested: the receiver misses no packet, and no keyframe is wanted.
     fn is_calm(&self, receiver: &Receiver) -> bool {
-        let wants_keyframe = self.pli && receiver.wants_keyframe();
-        !wants_keyframe && receiver.missing(self.most.min(1)).next().is_none()
+        !self.wants_keyframe(receiver) && receiver.missing(self.most.min(1)).next().is_none()
     }
 
     /// Returns until when what is requested changes by no other cause than a request that is due.
@@ -119,7 +128,7 @@ impl Feedback {
     ) -> Result<(), AllocError> {
         let most = if is_heard { self.most } else { 0 };
         collect_missing(receiver, most, &mut self.missing)?;
-        let wants_keyframe = is_heard && self.pli && receiver.wants_keyframe();
+        let wants_keyframe = is_heard && self.wants_keyframe(receiver);
         self.requests.update(now, &self.missing, wants_keyframe)
     }
 
@@ -136,7 +145,30 @@ impl Feedback {
         }
         let is_heard = now.0.saturating_sub(last) <= self.silence;
         self.refresh(now, is_heard, receiver)?;
-        self.requests.take_due(now, &self.source)
+        let keyframe = self.requests.is_keyframe_due(now);
+        let packet = self.requests.take_due(now, &self.source)?;
+        self.asked = self.asked && !keyframe;
+        Ok(packet)
+    }
+}
+
+/// Asks for a keyframe, if the stream's sender answers requests for keyframes.
+pub(crate) fn ask_keyframe(feedback: &mut Option<Feedback>) -> KeyframeAnswer {
+    match feedback {
+        Some(feedback) if feedback.pli => {
+            feedback.asked = true;
+            feedback.requests.want_keyframe();
+            KeyframeAnswer::Requested
+        }
+        _ => KeyframeAnswer::NotNegotiated,
+    }
+}
+
+/// Forgets that the caller asked for a keyframe, if one was released.
+#[inline(always)]
+pub(crate) fn answer_if(feedback: &mut Option<Feedback>, keyframe: bool) {
+    if let Some(feedback) = feedback {
+        feedback.asked = feedback.asked && !keyframe;
     }
 }
 
@@ -211,18 +243,23 @@ fn is_patient(format: &Format) -> bool {
     format.nack && is_video(format.spec.codec)
 }
 
+/// Returns whether waiting in streams of the format follows the round trip.
+fn follows_round_trip(format: &Format) -> bool {
+    matches!(format.wait, Waiting::RoundTrip)
+}
+
 /// Returns how waiting follows the round trip, if it does.
 fn wait_range(
     settings: &FeedbackSettings,
-    is_patient: bool,
+    format: &Format,
     max_wait: Option<u64>,
 ) -> Option<WaitRange> {
     match (settings.longest_wait, max_wait) {
-        (Some(most), Some(least)) => Some(WaitRange {
+        (Some(most), Some(least)) if follows_round_trip(format) => Some(WaitRange {
             first: settings.nack.first_wait,
             least,
             most,
-            is_patient,
+            is_patient: is_patient(format),
         }),
         _ => None,
     }

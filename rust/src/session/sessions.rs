@@ -12,7 +12,8 @@ use crate::memory::AllocError;
 use crate::rtcp::items::ReportBlock;
 use crate::session::association::{add_pair, take_in};
 use crate::session::checks::SessionSettingsError;
-use crate::session::formats::{SessionSettings, SsrcPair};
+use crate::session::events::{report_event, transport_event, with_unit};
+use crate::session::formats::{Format, SessionSettings, SsrcPair};
 use crate::session::pairs::remove_pair;
 use crate::session::reporter::report_deadline;
 use crate::session::reports::SenderClock;
@@ -20,11 +21,11 @@ use crate::session::stream::{Ending, StreamInfo, earlier};
 use crate::session::streams::{Streams, Who};
 use crate::session::telephone::TelephoneQueue;
 use crate::session::transport::{note, reporter_for, restart, transport_deadline};
-use crate::session::waking::due_in;
 use crate::stream::parsed::ParsedDatagram;
 use crate::stream::receiver::{ReceiveError, Receiver};
 use crate::wire::Ticks;
 use alloc::vec::Vec;
+use core::mem;
 
 /// What a session did with a datagram.
 #[derive(Clone, Copy, Debug, PartialEq, Eq)]
@@ -189,7 +190,7 @@ pub(crate) struct ArrivalCounts {
 #[derive(Debug)]
 pub struct Session {
     settings: SessionSettings,
-    streams: Streams,
+    pub(crate) streams: Streams,
     counts: ArrivalCounts,
     telephone: TelephoneQueue,
     /// When the next report is due. `None`: no report is planned.
@@ -377,13 +378,15 @@ impl Session {
     }
 
     /// Returns when a poll may have an event without a datagram: `Ticks(0)` while telephone events wait, else the time of a
-    /// stream, of the next report if a stream is announced, or of the next feedback about the transport. `None`: there is no such time. The cost is one step for each
-    /// stream.
+    /// stream, of the next report if a stream is announced, or of the next feedback about the transport. `None`: there is no such time.
+    ///
+    /// Call it once polls have no event: then its cost does not grow with the streams, unless one of them leaves. Otherwise, and for
+    /// up to 16 streams, it is one step for each stream.
     pub fn next_deadline(&self) -> Option<Ticks> {
         if !self.telephone.is_empty() {
             return Some(Ticks(0));
         }
-        let streams = due_in(&self.streams.list, self.settings.idle_timeout);
+        let streams = self.streams.due_in(self.settings.idle_timeout);
         let report = report_deadline(&self.streams.list, self.report_due);
         match earlier(
             earlier(streams, report),
@@ -409,6 +412,35 @@ impl Session {
     /// Ends all streams, announced or not. From now on no stream begins.
     pub fn finish(&mut self, now: Ticks) {
         self.streams.finish(now.0);
+    }
+
+    /// Replaces the formats, as a new session description states them: call it when the description changes while the session
+    /// lives. Streams whose format is still there, with all of its fields, go on: they keep their packets, times, counters and
+    /// requests. All other streams end at `now`: polls return their complete units, and then `Ended` with [`Ending::Changed`].
+    /// Media of a new format begin a stream as usual, also under the SSRC of a stream that ends. Retransmissions and media of a
+    /// payload type that is gone are [`Arrival::Unknown`], also for a stream that ends.
+    ///
+    /// All other settings stay: pairs, payload types without media, telephone events. The cost is one step for each stream and
+    /// format, and that of [`SessionSettings::check`]. Allocates nothing.
+    ///
+    /// # Errors
+    ///
+    /// The first setting that no session can meet with these formats ([`SessionSettings::check`]): the session is unchanged.
+    ///
+    /// [`Ending::Changed`]: crate::session::stream::Ending::Changed
+    /// [`SessionSettings::check`]: crate::session::formats::SessionSettings::check
+    pub fn set_formats(
+        &mut self,
+        now: Ticks,
+        formats: Vec<Format>,
+    ) -> Result<(), SessionSettingsError> {
+        let before = mem::replace(&mut self.settings.formats, formats);
+        if let Some(fault) = self.settings.fault() {
+            self.settings.formats = before;
+            return Err(fault);
+        }
+        self.streams.leave_formats(&self.settings.formats, now.0);
+        Ok(())
     }
 
     /// Changes how long the stream with this SSRC and payload type waits for missing packets. Without such a stream nothing
@@ -539,98 +571,6 @@ impl Session {
             ended: self.streams.ended,
             telephone_dropped: self.telephone.dropped(),
         }
-    }
-}
-
-/// Returns the event of a report, if there is one.
-#[inline(always)]
-fn report_event(packet: Option<Result<Vec<u8>, AllocError>>) -> Option<Event<()>> {
-    match packet {
-        Some(packet) => Some(Event::Report { packet }),
-        None => None,
-    }
-}
-
-/// Returns the event of a feedback about the transport, if there is one.
-#[inline(always)]
-fn transport_event(packet: Option<Result<Vec<u8>, AllocError>>) -> Option<Event<()>> {
-    match packet {
-        Some(packet) => Some(Event::TransportFeedback { packet }),
-        None => None,
-    }
-}
-
-/// Returns an event with its unit, if it has one.
-fn with_unit(event: Event<()>, unit: PoppedUnit) -> Event {
-    match event {
-        Event::Begun { ssrc, payload_type } => Event::Begun { ssrc, payload_type },
-        Event::Unit {
-            ssrc,
-            payload_type,
-            rtp_time,
-            decodable,
-            keyframe,
-            unit: popped,
-        } => Event::Unit {
-            ssrc,
-            payload_type,
-            rtp_time,
-            decodable,
-            keyframe,
-            unit: match popped {
-                Ok(()) => Ok(unit),
-                Err(e) => Err(e),
-            },
-        },
-        Event::TooLarge {
-            ssrc, payload_type, ..
-        } => Event::TooLarge {
-            ssrc,
-            payload_type,
-            unit,
-        },
-        Event::Refused {
-            ssrc,
-            payload_type,
-            fault,
-        } => Event::Refused {
-            ssrc,
-            payload_type,
-            fault,
-        },
-        Event::Feedback {
-            ssrc,
-            payload_type,
-            packet,
-        } => Event::Feedback {
-            ssrc,
-            payload_type,
-            packet,
-        },
-        Event::Telephone {
-            ssrc,
-            payload_type,
-            rtp_time,
-            marker,
-            payload,
-        } => Event::Telephone {
-            ssrc,
-            payload_type,
-            rtp_time,
-            marker,
-            payload,
-        },
-        Event::Report { packet } => Event::Report { packet },
-        Event::TransportFeedback { packet } => Event::TransportFeedback { packet },
-        Event::Ended {
-            ssrc,
-            payload_type,
-            why,
-        } => Event::Ended {
-            ssrc,
-            payload_type,
-            why,
-        },
     }
 }
 

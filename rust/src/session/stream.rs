@@ -7,17 +7,25 @@ use crate::codec::CodecDepacketizer;
 use crate::error::PacketError;
 use crate::jitter::jitter_buffer::WaitLimits;
 use crate::jitter::outcome::Outcome;
-use crate::memory::AllocError;
+use crate::memory::{AllocError, One};
 use crate::session::changes::{are_alike, takes_turns};
 use crate::session::formats::{Format, SessionSettings, SsrcPair, retransmission_for};
+use crate::session::keyframe::KeyframeAnswer;
+use crate::session::late::{follow, late_for, limit_by};
 use crate::session::named::NamedReceiver;
 use crate::session::reports::SenderClock;
-use crate::session::requests::{Feedback, hear, requests_due, rest_time, round_trip, wait_by};
+use crate::session::requests::{
+    Feedback, answer_if, ask_keyframe, hear, requests_due, rest_time, round_trip, wait_by,
+};
 use crate::stream::parsed::ParsedDatagram;
 use crate::stream::pops::Popped;
-use crate::stream::receiver::{Counters, ReceiveError};
+use crate::stream::receiver::{Counters, ReceiveError, Receiver};
+use crate::waiting::adaptive_wait::AdaptiveWait;
 use crate::wire::Ticks;
 use alloc::vec::Vec;
+
+/// The two last times in a list of times.
+pub(crate) const LAST_KEY: u64 = u64::MAX - 1;
 
 /// Why a stream ended.
 #[derive(Clone, Copy, Debug, PartialEq, Eq)]
@@ -29,7 +37,9 @@ pub enum Ending {
     Timeout,
     /// The caller ended it.
     Told,
-    /// Its sender continues in another format under the same SSRC.
+    /// Its sender continues in another format under the same SSRC, or its format is gone ([`Session::set_formats`]).
+    ///
+    /// [`Session::set_formats`]: crate::session::sessions::Session::set_formats
     Changed,
 }
 
@@ -83,6 +93,8 @@ pub(crate) struct StreamState {
     pub(crate) last: u64,
     /// What it requests. `None`: nothing.
     pub(crate) feedback: Option<Feedback>,
+    /// How late its missing packets arrive, if waiting follows that.
+    late: Option<One<AdaptiveWait>>,
     /// What the latest sender report says.
     pub(crate) sender_clock: Option<SenderClock>,
     /// Whether this round of reports had a block about it.
@@ -120,6 +132,7 @@ impl StreamState {
         depacketizer.configure_for(&format.spec);
         let max_wait = settings.limits(format).max_wait;
         let feedback = Feedback::begin(&settings.feedback, ssrc, format, max_wait)?;
+        let late = late_for(settings, format)?;
         let settings = settings.receiver(ssrc, format)?;
         let receiver = NamedReceiver::begin(depacketizer, settings).unwrap();
         Ok(StreamState {
@@ -132,6 +145,7 @@ impl StreamState {
             accepted: 0,
             last: 0,
             feedback,
+            late,
             sender_clock: None,
             was_reported: false,
             quiet_until: 0,
@@ -163,6 +177,7 @@ impl StreamState {
         let accepted = is_accepted(&answer);
         let no_memory = is_no_memory(&answer);
         self.hear_if(accepted, now, datagram);
+        self.follow_if(answer.is_ok(), now, datagram);
         self.note_unless(no_memory, now, probation, accepted);
         answer
     }
@@ -177,6 +192,23 @@ impl StreamState {
         }
     }
 
+    /// Waits as long as missing packets are late, if waiting follows that, and if the receiver accepted or dropped the datagram.
+    #[inline(always)]
+    fn follow_if(&mut self, received: bool, now: Ticks, datagram: &ParsedDatagram<'_>) {
+        if received {
+            self.quiet_until = 0;
+            follow(
+                &mut self.late,
+                &self.format,
+                now,
+                datagram,
+                self.receiver.inner(),
+            );
+            let limit = limit_by(&self.late);
+            self.wait_for(limit);
+        }
+    }
+
     /// Counts one more datagram, unless memory ran out for it.
     #[inline(always)]
     fn note_unless(&mut self, no_memory: bool, now: Ticks, probation: u64, accepted: bool) {
@@ -187,7 +219,14 @@ impl StreamState {
 
     /// Waits for as long as the round trip asks for, if waiting follows it and it is known.
     fn follow_round_trip(&mut self) {
-        if let Some(wait) = wait_by(&self.feedback) {
+        let wait = wait_by(&self.feedback);
+        self.wait_for(wait);
+    }
+
+    /// Waits for at most that time. `None`: the wait limits stay.
+    #[inline(always)]
+    fn wait_for(&mut self, wait: Option<u64>) {
+        if let Some(wait) = wait {
             self.quiet_until = 0;
             let mut limits = self.receiver.inner().wait_limits();
             limits.max_wait = Some(wait);
@@ -265,6 +304,15 @@ impl StreamState {
         }
     }
 
+    /// Asks for a keyframe, unless the stream ends or its sender answers no requests for keyframes.
+    pub(crate) fn request_keyframe(&mut self) -> KeyframeAnswer {
+        if is_ending(self.stage) {
+            return KeyframeAnswer::NoStream;
+        }
+        self.quiet_until = 0;
+        ask_keyframe(&mut self.feedback)
+    }
+
     /// Returns why the stream ends now, if it does.
     #[inline(always)]
     fn end_at(&self, now: u64, idle_timeout: u64) -> Option<Ending> {
@@ -329,7 +377,11 @@ impl StreamState {
         self.quiet_until = 0;
         let held = self.receiver.inner().held();
         match self.receiver.pop_unit(now, unit) {
-            Some(popped) => step_with(popped),
+            Some(popped) => {
+                let keyframe = is_keyframe(&popped, self.receiver.inner());
+                answer_if(&mut self.feedback, keyframe);
+                step_with(popped)
+            }
             None => {
                 let step = self.rest(now);
                 if is_nothing(&step) && self.receiver.inner().held() == held {
@@ -426,6 +478,17 @@ impl StreamState {
         }
     }
 
+    /// Returns the same time as a number of a list of times: 2^64 - 1 is none, and 2^64 - 2 is one of the two last times.
+    #[inline(always)]
+    pub(crate) fn due_key(&self, idle_timeout: u64) -> u64 {
+        let due = self.due_or_max(idle_timeout);
+        if due < LAST_KEY {
+            due
+        } else {
+            key_of(self.due(idle_timeout))
+        }
+    }
+
     /// Returns until when the stream has no event, and when its latest datagram arrived. A stream in probation has none.
     pub(crate) fn asleep(&self) -> (u64, u64) {
         if is_probation(self.stage) {
@@ -462,6 +525,18 @@ pub(crate) fn is_playing(stage: Stage) -> bool {
     matches!(stage, Stage::Playing)
 }
 
+/// Returns whether a stream at this stage leaves or is drained.
+#[inline(always)]
+fn is_ending(stage: Stage) -> bool {
+    matches!(stage, Stage::Leaving(..) | Stage::Draining(_))
+}
+
+/// Returns whether the answer of a pop is a keyframe.
+#[inline(always)]
+fn is_keyframe(popped: &Result<Popped<()>, AllocError>, receiver: &Receiver) -> bool {
+    matches!(popped, Ok(Popped::Unit(()))) && receiver.unit_is_keyframe()
+}
+
 /// Returns the time. 0 is none.
 fn time_of(at: u64) -> Option<u64> {
     if at == 0 { None } else { Some(at) }
@@ -475,6 +550,14 @@ fn or_none(time: Option<u64>) -> u64 {
 /// Returns the time, or 2^64 - 1 without one.
 fn or_max(time: Option<u64>) -> u64 {
     time.unwrap_or(u64::MAX)
+}
+
+/// Returns the time as a number of a list of times.
+fn key_of(time: Option<u64>) -> u64 {
+    match time {
+        Some(at) => at.min(LAST_KEY),
+        None => u64::MAX,
+    }
 }
 
 /// Returns whether a step has no event.

@@ -12,8 +12,10 @@ use crate::rtcp::items::ReportBlock;
 use crate::rtp::packet::PacketHeader;
 use crate::session::changes::{continues, leave_behind};
 use crate::session::compound::take_packets;
+use crate::session::dues::Dues;
 use crate::session::formats::{Format, SessionSettings, SsrcPair};
 use crate::session::pairs::{pair, with_pair};
+use crate::session::renegotiation::leave_formats;
 use crate::session::sessions::{Arrival, Event};
 use crate::session::sort::{SortedPacket, sort};
 use crate::session::stream::{Ending, Step, StreamState, is_no_memory, is_nothing};
@@ -35,6 +37,8 @@ pub(crate) struct Streams {
     pub(crate) ended: u64,
     /// Until when the streams have no event.
     pub(crate) waking: Waking,
+    /// When each of them may have an event.
+    pub(crate) dues: Dues,
 }
 
 /// The step of the stream at a place.
@@ -61,6 +65,7 @@ impl Streams {
             finished: false,
             ended: 0,
             waking: Waking::unknown(),
+            dues: Dues::unknown(),
         }
     }
 
@@ -197,7 +202,7 @@ impl Streams {
     }
 
     /// Returns the place of the first stream of this SSRC.
-    fn place_of_ssrc(&self, ssrc: u32) -> Option<usize> {
+    pub(crate) fn place_of_ssrc(&self, ssrc: u32) -> Option<usize> {
         self.ssrcs.find(ssrc, 0)
     }
 
@@ -210,6 +215,7 @@ impl Streams {
         now: Ticks,
         datagram: &ParsedDatagram<'_>,
     ) -> Result<Arrival, AllocError> {
+        self.dues.except(self.waking, place, &self.list);
         self.waking = self.waking.except(place, &self.list);
         let stream = &mut self.list[place];
         feed_one(stream, probation, now, datagram)
@@ -297,6 +303,7 @@ impl Streams {
         let turn = step_first(&mut self.list, now, idle_timeout, unit);
         if turn.is_none() {
             self.waking = Waking::of(&self.list);
+            self.dues.find(self.waking, &self.list, idle_timeout);
         }
         turn
     }
@@ -346,10 +353,22 @@ impl Streams {
         }
     }
 
+    /// Returns when a stream may have an event without a datagram.
+    #[inline(always)]
+    pub(crate) fn due_in(&self, idle_timeout: u64) -> Option<u64> {
+        self.dues.due_in(self.waking, &self.list, idle_timeout)
+    }
+
     /// Ends these streams at that time.
     pub(crate) fn leave(&mut self, who: Who, why: Ending, at: u64) {
         self.waking = Waking::unknown();
         leave(&mut self.list, who, why, at);
+    }
+
+    /// Ends the streams at that time whose formats are not among these.
+    pub(crate) fn leave_formats(&mut self, formats: &[Format], at: u64) {
+        self.waking = Waking::unknown();
+        leave_formats(&mut self.list, formats, at);
     }
 
     /// Replaces the wait limits of the stream with this SSRC and payload type.

@@ -496,9 +496,14 @@ fn number(dice: &mut Dice, latest: &mut u16) -> u16 {
     *latest
 }
 
+/// The SSRC of one of the senders.
+fn sender(dice: &mut Dice, latest: &[u16]) -> u32 {
+    1 + dice.below(latest.len() as u32 - 1)
+}
+
 /// A packet of telephone events.
-fn telephone(dice: &mut Dice, latest: &mut [u16; 6]) -> (Sent, Vec<u8>) {
-    let ssrc = 1 + dice.below(5);
+fn telephone(dice: &mut Dice, latest: &mut [u16]) -> (Sent, Vec<u8>) {
+    let ssrc = sender(dice, latest);
     let number = number(dice, &mut latest[ssrc as usize]);
     let time = 960 * u32::from(number);
     let bytes = packet(EVENTS, ssrc, number, time, &[1, 2, 3, 4]);
@@ -506,8 +511,8 @@ fn telephone(dice: &mut Dice, latest: &mut [u16; 6]) -> (Sent, Vec<u8>) {
 }
 
 /// A retransmission of a late packet of VP8. Seldom its RTP time is another one.
-fn again(dice: &mut Dice, latest: &[u16; 6]) -> (Sent, Vec<u8>) {
-    let of = 1 + dice.below(5);
+fn again(dice: &mut Dice, latest: &[u16]) -> (Sent, Vec<u8>) {
+    let of = sender(dice, latest);
     let original = latest[of as usize].wrapping_sub(dice.below(6) as u16);
     let payload = [&original.to_be_bytes(), vp8_frame(false)].concat();
     let from = [2, 3, 12, 13, 14][dice.below(5) as usize];
@@ -520,8 +525,8 @@ fn again(dice: &mut Dice, latest: &[u16; 6]) -> (Sent, Vec<u8>) {
 }
 
 /// A datagram, and what it is. SSRC 2 retransmits what SSRC 1 sends, if the pair is named.
-fn datagram(dice: &mut Dice, latest: &mut [u16; 6]) -> (Sent, Vec<u8>) {
-    let ssrc = 1 + dice.below(5);
+fn datagram(dice: &mut Dice, latest: &mut [u16]) -> (Sent, Vec<u8>) {
+    let ssrc = sender(dice, latest);
     let mut rtp = |payload_type, payload: &[u8], dice: &mut Dice| {
         let number = number(dice, &mut latest[ssrc as usize]);
         packet(payload_type, ssrc, number, 960 * u32::from(number), payload)
@@ -584,14 +589,15 @@ struct Both {
     session: Session,
     model: Model,
     dice: Dice,
-    latest: [u16; 6],
+    /// The latest number of each SSRC.
+    latest: Vec<u16>,
     now: u64,
 }
 
 impl Both {
-    fn new(mut dice: Dice) -> Both {
+    fn new(mut dice: Dice, senders: u32) -> Both {
         let rules = Rules {
-            max_streams: 1 + dice.below(8) as usize,
+            max_streams: 1 + dice.below(2 * senders - 2) as usize,
             probation: dice.below(4).into(),
             idle_timeout: (100 + dice.below(2_000)).into(),
             bye_wait: dice.below(300).into(),
@@ -602,7 +608,7 @@ impl Both {
             session: session(rules),
             model: Model::new(rules),
             dice,
-            latest: [65_000; 6],
+            latest: vec![65_000; senders as usize + 1],
             now: 0,
         }
     }
@@ -612,7 +618,7 @@ impl Both {
         self.now += u64::from(self.dice.below(10));
         match self.dice.below(200) {
             0 => {
-                let ssrc = 1 + self.dice.below(5);
+                let ssrc = sender(&mut self.dice, &self.latest);
                 self.session.end(Ticks(self.now), ssrc);
                 self.model.leave(&[ssrc], Ending::Told, self.now);
             }
@@ -656,8 +662,8 @@ impl Both {
 }
 
 /// Runs a session and its model for this many steps. Their events and answers are counted in `seen`.
-fn run(seed: u32, steps: u32, seen: &mut BTreeMap<String, u64>) {
-    let mut both = Both::new(Dice(seed));
+fn run(seed: u32, senders: u32, steps: u32, seen: &mut BTreeMap<String, u64>) {
+    let mut both = Both::new(Dice(seed), senders);
     for step in 0..steps {
         both.act();
         if step + 100 == steps {
@@ -673,7 +679,7 @@ fn run(seed: u32, steps: u32, seen: &mut BTreeMap<String, u64>) {
 #[test]
 fn a_session_is_its_plain_model() {
     let mut seen = BTreeMap::new();
-    (0..50).for_each(|seed| run(seed, 2_000, &mut seen));
+    (0..50).for_each(|seed| run(seed, 5, 2_000, &mut seen));
     println!("{seen:?}");
     let frequent = [
         "begins",
@@ -692,6 +698,20 @@ fn a_session_is_its_plain_model() {
         let least = if name == "associated" { 50 } else { 300 };
         assert!(
             seen.get(name).is_some_and(|count| *count > least),
+            "{name}: {seen:?}"
+        );
+    }
+}
+
+/// With many streams the next deadline is found in another way.
+#[test]
+fn a_session_of_many_streams_is_its_plain_model() {
+    let mut seen = BTreeMap::new();
+    (0..20).for_each(|seed| run(seed, 60, 4_000, &mut seen));
+    println!("{seen:?}");
+    for name in ["begins", "Bye", "Timeout", "Told", "refused", "requested"] {
+        assert!(
+            seen.get(name).is_some_and(|count| *count > 100),
             "{name}: {seen:?}"
         );
     }

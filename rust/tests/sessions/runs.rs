@@ -161,6 +161,7 @@ fn every_call() -> Result<(), Fail> {
             payload_type: OPUS,
         },
         SessionStep::RemovePair { ssrc: 1 },
+        SessionStep::RequestKeyframe { ssrc: 1 },
         SessionStep::Finish { now: Ticks(10) },
         poll(10),
         poll(10),
@@ -170,6 +171,10 @@ fn every_call() -> Result<(), Fail> {
     let run = run_session(&mut session, &steps)?;
     assert!(matches!(run.answers[1], StepAnswer::PairAdded(Ok(()))));
     assert!(matches!(run.answers[2], StepAnswer::Reported(Some(block)) if block.ssrc == 1));
+    assert!(matches!(
+        run.answers[4],
+        StepAnswer::KeyframeAsked(KeyframeAnswer::NotNegotiated)
+    ));
     assert_eq!(lines(1, &run), ["begun", "unit [1, 7]", "ended Told"]);
     assert_eq!((run.counts.received, run.counts.ended), (1, 1));
     Ok(())

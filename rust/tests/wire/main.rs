@@ -1,6 +1,7 @@
 //! Whole runs of a sender and a receiver whose datagrams are lost, duplicated or reordered: the popped units are the sent ones.
 
 mod forwarded;
+mod forwarded_again;
 mod losses;
 mod own_codec;
 mod red;

@@ -38,6 +38,7 @@ unsafe extern "C" {
         block: *mut u32,
     ) -> u32;
     fn twin_session_add_pair(it: *mut c_void, ssrc: u32, rtx_ssrc: u32) -> u32;
+    fn twin_session_request_keyframe(it: *mut c_void, ssrc: u32) -> u32;
     fn twin_session_counts(it: *mut c_void, counts: *mut u64) -> u32;
     fn twin_session_free(it: *mut c_void);
 }
@@ -118,6 +119,11 @@ impl Session {
 
     pub fn add_pair(&mut self, ssrc: u32, rtx_ssrc: u32) {
         assert_eq!(unsafe { twin_session_add_pair(self.0, ssrc, rtx_ssrc) }, 0);
+    }
+
+    /// The number of the answer.
+    pub fn request_keyframe(&mut self, ssrc: u32) -> u32 {
+        unsafe { twin_session_request_keyframe(self.0, ssrc) }
     }
 
     /// Received, RTCP, malformed, unknown, refused, unassociated, ended, streams, dropped telephone events.

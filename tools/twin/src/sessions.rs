@@ -5,12 +5,12 @@ use super::{Compared, OUT_OF_MEMORY, codec, proved_session};
 use codec_payload::jitter::Outcome;
 use codec_payload::keyframes::FromKeyframe;
 use codec_payload::session::{
-    Arrival, Ending, Event, FeedbackSettings, Format, Session, SessionSettings, SsrcPair,
+    Arrival, Ending, Event, FeedbackSettings, Format, Session, SessionSettings, SsrcPair, Waiting,
 };
 use codec_payload::stream::{ReceiveError, RedSettings};
 use codec_payload::{Codec, CodecSpec, Frequency, Ticks};
 
-/// The formats of the port: this one with RED and retransmissions, and Opus.
+/// The formats of the port: this one with RED and retransmissions, and Opus, which waits as long as packets are late.
 fn formats(spec: CodecSpec) -> Vec<Format> {
     let opus = CodecSpec {
         codec: Codec::Opus,
@@ -18,22 +18,20 @@ fn formats(spec: CodecSpec) -> Vec<Format> {
         octet_align: false,
     };
     let format = |payload_type, spec, red, retransmission| Format {
-        payload_type,
-        spec,
         red,
         retransmission,
         nack: true,
         pli: true,
+        ..Format::new(payload_type, spec)
     };
     let red = RedSettings {
         payload_type: 63,
         step: 90,
         retransmission: Some(99),
     };
-    vec![
-        format(96, spec, Some(red), Some(98)),
-        format(100, opus, None, None),
-    ]
+    let mut second = format(100, opus, None, None);
+    second.wait = Waiting::Late;
+    vec![format(96, spec, Some(red), Some(98)), second]
 }
 
 /// Settings, and the same as values of shim.c.
@@ -295,6 +293,11 @@ pub fn sessions(input: &mut Input, compared: &mut Compared) {
                 let (ssrc, rtx_ssrc) = (u32::from(input.byte() % 4), u32::from(input.byte() % 8));
                 ours.add_pair(ssrc, rtx_ssrc).expect("there is memory");
                 theirs.add_pair(ssrc, rtx_ssrc);
+            }
+            4 if how & 7 == 6 => {
+                let ssrc = u32::from(input.byte() % 4);
+                let answer = ours.request_keyframe(ssrc) as u32;
+                assert_eq!(answer, theirs.request_keyframe(ssrc));
             }
             4 => now += u64::from(input.byte()),
             5 if how & 4 != 0 => {

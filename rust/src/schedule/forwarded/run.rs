@@ -66,7 +66,16 @@ pub fn run_forwarded<P: Packetizer, D: Depacketizer>(
     samples: &[ToPayload],
     steps: &[ForwardStep],
 ) -> Result<ForwardedRun, PacketError> {
-    let mut run = ForwardedRun {
+    let mut run = no_results();
+    for step in steps {
+        do_forward_step(link, samples, *step, &mut run)?;
+    }
+    Ok(run)
+}
+
+/// The results before any step.
+pub(crate) fn no_results() -> ForwardedRun {
+    ForwardedRun {
         run: DatagramRun {
             datagrams: Vec::new(),
             sends: Vec::new(),
@@ -75,15 +84,11 @@ pub fn run_forwarded<P: Packetizer, D: Depacketizer>(
         },
         written: Vec::new(),
         answers: Vec::new(),
-    };
-    for step in steps {
-        do_forward_step(link, samples, *step, &mut run)?;
     }
-    Ok(run)
 }
 
 /// Executes one step, and records its result.
-fn do_forward_step<P: Packetizer, D: Depacketizer>(
+pub(crate) fn do_forward_step<P: Packetizer, D: Depacketizer>(
     link: &mut ForwardLink<P, D>,
     samples: &[ToPayload],
     step: ForwardStep,
@@ -164,7 +169,7 @@ fn forward(
 /// # Errors
 ///
 /// `OutOfMemory`: memory ran out for the datagram, which then has no receipt.
-fn deliver<D: Depacketizer>(
+pub(crate) fn deliver<D: Depacketizer>(
     receiver: &mut Receiver<D>,
     now: Ticks,
     bytes: &[u8],

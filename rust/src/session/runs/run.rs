@@ -7,6 +7,7 @@ use crate::memory::{AllocError, TryVec};
 use crate::rtcp::items::ReportBlock;
 use crate::session::checks::SessionSettingsError;
 use crate::session::formats::SessionSettings;
+use crate::session::keyframe::KeyframeAnswer;
 use crate::session::sessions::{Arrival, Event, Session, SessionCounts};
 use crate::wire::Ticks;
 use alloc::vec::Vec;
@@ -45,6 +46,8 @@ pub enum SessionStep {
     RestartTransport,
     /// [`Session::remove_pair`].
     RemovePair { ssrc: u32 },
+    /// [`Session::request_keyframe`].
+    RequestKeyframe { ssrc: u32 },
 }
 
 /// The answer of a call of a session.
@@ -58,6 +61,8 @@ pub enum StepAnswer {
     Reported(Option<ReportBlock>),
     /// The answer of [`Session::add_pair`].
     PairAdded(Result<(), AllocError>),
+    /// The answer of [`Session::request_keyframe`].
+    KeyframeAsked(KeyframeAnswer),
     /// A call without an answer: [`Session::end`], [`Session::finish`], [`Session::set_wait_limits`],
     /// [`Session::restart_transport`] or [`Session::remove_pair`].
     Done,
@@ -184,6 +189,9 @@ fn do_step(session: &mut Session, step: &SessionStep) -> StepAnswer {
         SessionStep::RemovePair { ssrc } => {
             session.remove_pair(*ssrc);
             StepAnswer::Done
+        }
+        SessionStep::RequestKeyframe { ssrc } => {
+            StepAnswer::KeyframeAsked(session.request_keyframe(*ssrc))
         }
     }
 }

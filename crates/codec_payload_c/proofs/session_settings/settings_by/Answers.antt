@@ -13,6 +13,7 @@ returns-clause-ok c =
         ids = plain.ids;
         audio = plain.audio;
         video = plain.video;
+        late = plain.late;
         from_keyframe = plain.from_keyframe;
         limit = plain.limit;
         max_unit = plain.max_unit;

@@ -1,4 +1,4 @@
-use Rattle.std.proofs.Common.{◌≡◌, arith, length, refl, rules, set}
+use Rattle.std.proofs.Common.{arith, refl, rules, set}
 use Rattle.std.proofs.lemmas.List.{length-set}
 use Rattle.codec_payload_session.specs.Reporting.{all_reported}
 use Rattle.codec_payload_session.proofs.ReporterLemmas.{all_mixed, fraction_more}

@@ -1,6 +1,7 @@
 use Rattle.std.proofs.Common.{◌≡◌, ◌∙◌, arith, false, refl, sym, true}
 use Rattle.codec_payload_session.specs.Turns.{is_nothing}
 use Rattle.codec_payload_session.specs.Units.{step_to}
+use Rattle.codec_payload_session.proofs.DeadlineLemmas.{one_same, one_set}
 use Rattle.codec_payload_session.proofs.UnitLemmas.{nothing_to}
 use Rattle.codec_payload_session.proofs.WakingLemmas.{bound_set, fed_steps, none_steps, nothing_steps}
 use Rattle.codec_payload_session.proofs.waking.step_excepted.Goals as goal
@@ -25,3 +26,12 @@ returns-else-is_nothing-clause-first c =
 
 pub returns-else-is_nothing-clause-bound : goal.returns-else-is_nothing-clause-bound
 returns-else-is_nothing-clause-bound c = bound_set c.args.waking c.args.waking.fed c.args.streams.now c.step-step.new.self refl c.requires.bound
+
+pub returns-then-place-streams-clause-others : goal.returns-then-place-streams-clause-others
+returns-then-place-streams-clause-others c = one_same c.args.waking.fed c.args.streams.now
+
+pub returns-then-is_nothing-clause-others : goal.returns-then-is_nothing-clause-others
+returns-then-is_nothing-clause-others c = one_set c.args.waking.fed c.args.streams.now c.step-step.new.self
+
+pub returns-else-is_nothing-clause-others : goal.returns-else-is_nothing-clause-others
+returns-else-is_nothing-clause-others c = one_set c.args.waking.fed c.args.streams.now c.step-step.new.self

@@ -1,4 +1,4 @@
-use Rattle.std.proofs.Common.{◌≡◌, Option, None, Some, ap, subst}
+use Rattle.std.proofs.Common.{Option, None, Some, ap, subst}
 use Rattle.std.specs.Prelude.{⊤}
 use Rattle.codec_payload_buffer.specs.Release.{Release}
 use Rattle.codec_payload_session.specs.Polls.{Polls}

@@ -1,15 +1,17 @@
-use Rattle.std.proofs.Common.{◌≡◌, ◌∙◌, None, Some, ap, arith, length, refl, subst, sym}
+use Rattle.std.proofs.Common.{◌≡◌, ◌∙◌, Bool, Option, None, Some, ap, arith, length, refl, subst, sym}
 use Rattle.std.specs.Prelude.{⊤}
 use Rattle.std.proofs.lemmas.Bool.Decides.{nat_tests}
 use Rattle.codec_payload_session.specs.Quiet.{RestsUntil}
-use Rattle.codec_payload_session.specs.Streams.{Pops, RestsBy, StreamState, step_with, work_deadline}
+use Rattle.codec_payload_receiver.specs.Sessions.{Session as Receiver}
+use Rattle.codec_payload_session.specs.Requests.{Asking, answered_if}
+use Rattle.codec_payload_session.specs.Streams.{Pops, RestsBy, StreamState, is_keyframe, step_with, work_deadline}
 use Rattle.codec_payload_buffer.specs.Release.{Release}
-use Rattle.codec_payload_session.specs.Units.{Step, result_with, step_to}
+use Rattle.codec_payload_session.specs.Units.{result_with, step_to}
 use Rattle.codec_payload_session.specs.declared.stream.Step.{Step as StepWith}
 use Rattle.codec_payload_session.specs.declared.stream.Step.TheVariants as steps
 use Rattle.codec_payload_session.proofs.QuietLemmas.{nothing_is}
 use Rattle.codec_payload_session.proofs.SkipLemmas.{rests_until, seen}
-use Rattle.codec_payload_session.proofs.UnitLemmas.{rests_to, step_pop}
+use Rattle.codec_payload_session.proofs.UnitLemmas.{keyframe_with, rests_to, step_pop}
 use Rattle.codec_payload_session.proofs.stream.StreamState.pop.Goals as goal
 
 pub invariant_of-self-then-held : goal.invariant_of-self-then-held
@@ -26,11 +28,16 @@ invariant_of-self-then-held c =
 
 pub returns-in-Some : goal.returns-in-Some
 returns-in-Some c =
-    let t : StreamState = record (seen c.self.inside) { receiver = c.pop_unit.new.self } in
+    let s : StreamState = record (seen c.self.inside) { receiver = c.pop_unit.new.self } in
+    let t : StreamState = record s { feedback = c.answer_if.new.feedback } in
     let unit : Release = c.pop_unit.new.unit in
+    let keyframe : c.is_keyframe-keyframe.result ≡ is_keyframe (result_with c.in-Some.popped unit) c.pop_unit.new.self =
+    c.is_keyframe-keyframe.ensures ∙ ap (λ (r : Receiver). is_keyframe c.in-Some.popped r) c.inner-in-Some.ensures ∙ sym (keyframe_with c.in-Some.popped unit c.pop_unit.new.self) in
+    let after : t ≡ record s { feedback = answered_if (is_keyframe (result_with c.in-Some.popped unit) c.pop_unit.new.self) s.feedback } =
+    ap (λ (o : Option Asking). record s { feedback = o }) (c.answer_if.ensures ∙ ap (λ (b : Bool). answered_if b s.feedback) keyframe) in
     let step_is : step_to c.step_with.result unit ≡ step_with (result_with c.in-Some.popped unit) = ap (λ (x : StepWith ⊤). step_to x unit) c.step_with.ensures ∙ step_pop c.in-Some.popped unit in
     subst (λ (s : StreamState). Pops c.args.now s (step_to c.step_with.result unit) t) c.self.view_is
-    (record { told = Some (result_with c.in-Some.popped unit); receiver = c.pop_unit.new.self; pops = c.in-Some.ensures.pops; refused = c.in-Some.ensures.refused; large = c.in-Some.ensures.large; follows = (step_is, refl) })
+    (record { told = Some (result_with c.in-Some.popped unit); receiver = c.pop_unit.new.self; pops = c.in-Some.ensures.pops; refused = c.in-Some.ensures.refused; large = c.in-Some.ensures.large; follows = (step_is, after) })
 
 pub returns-then-held : goal.returns-then-held
 returns-then-held c =

@@ -1,6 +1,6 @@
-use Rattle.std.proofs.Common.{◌≡◌, ◌∙◌, ℕ, List, Bool, true, false, ap, refl, subst}
+use Rattle.std.proofs.Common.{◌≡◌, ◌∙◌, ℕ, List, Bool, true, false, is_ok, ap, refl, subst}
 use Rattle.codec_payload_receiver.specs.Sessions.{Session as Receiver}
-use Rattle.codec_payload_session.specs.Streams.{StreamState, Takes, heard_unless, is_no_memory, received}
+use Rattle.codec_payload_session.specs.Streams.{StreamState, Takes, heard_unless, is_no_memory, late_followed, received}
 use Rattle.codec_payload_session.proofs.SkipLemmas.{seen}
 use Rattle.codec_payload_session.proofs.stream.StreamState.take.Goals as goal
 
@@ -18,7 +18,11 @@ returns c =
       r,
       c.receive-answer.ensures.received,
       c.note_unless.ensures
-          ∙ (ap (λ (x : StreamState). heard_unless no_memory c.args.now.0 c.args.probation accepted x) (c.hear_if.ensures ∙ received_same c.args.now.0 c.args.datagram.now accepted r s)
-          ∙ (ap (λ (b : Bool). heard_unless b c.args.now.0 c.args.probation accepted (received c.args.now.0 c.args.datagram.now accepted r s)) c.is_no_memory-no_memory.ensures
-          ∙ ap (λ (b : Bool). heard_unless (is_no_memory c.receive-answer.result) c.args.now.0 c.args.probation b (received c.args.now.0 c.args.datagram.now b r s)) c.is_accepted-accepted.ensures)),
+          ∙ (ap (λ (x : StreamState). heard_unless no_memory c.args.now.0 c.args.probation accepted x)
+          (c.follow_if.ensures ∙ ap (λ (b : Bool). late_followed b c.args.now.0 c.args.datagram.now c.hear_if.new.self) c.is_ok.ensures.value
+          ∙ ap (λ (x : StreamState). late_followed (is_ok c.receive-answer.result) c.args.now.0 c.args.datagram.now x) (c.hear_if.ensures ∙ received_same c.args.now.0 c.args.datagram.now accepted r s))
+          ∙ (ap (λ (b : Bool). heard_unless b c.args.now.0 c.args.probation accepted (late_followed (is_ok c.receive-answer.result) c.args.now.0 c.args.datagram.now (received c.args.now.0 c.args.datagram.now accepted r s)))
+          c.is_no_memory-no_memory.ensures
+          ∙ ap (λ (b : Bool). heard_unless (is_no_memory c.receive-answer.result) c.args.now.0 c.args.probation b (late_followed (is_ok c.receive-answer.result) c.args.now.0 c.args.datagram.now (received c.args.now.0 c.args.datagram.now b r s)))
+          c.is_accepted-accepted.ensures)),
     )

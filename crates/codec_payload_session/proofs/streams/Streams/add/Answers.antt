@@ -7,12 +7,12 @@ pub invariant_of-self-in-Some : goal.invariant_of-self-in-Some
 invariant_of-self-in-Some c =
     let longer : c.push-2.new.self.items ≡ c.self.inside.list.items ++ c.args.stream ∷ [] = (rw c.unwrap.ensures at c.push-2.ensures.items) ∙ ap (λ (l : List StreamState). l ++ c.args.stream ∷ []) c.in_ok-reserve.ensures.items in
     let more : c.push.new.self ≡ c.self.inside.ssrcs ++ c.args.stream.ssrc ∷ [] = c.in_ok-push.ensures.ok ∙ ap (λ (s : StreamState). c.self.inside.ssrcs ++ s.ssrc ∷ []) c.stream.view_is in
-    grown c.unknown-self-inside.result c.self.inside.ssrcs c.push.new.self c.self.inside.list.items c.push-2.new.self.items c.args.stream
-    (c.unknown-self-inside.ensures.bound c.push-2.new.self.items) c.self.invariant.listed more longer
+    grown c.unknown-self-inside.result c.self.inside.ssrcs c.push.new.self c.self.inside.dues c.self.inside.list.items c.push-2.new.self.items c.args.stream
+    c.unknown-self-inside.ensures c.self.invariant.listed more longer
 
 pub invariant_of-self-in_default : goal.invariant_of-self-in_default
 invariant_of-self-in_default c =
     let longer : c.push-2.new.self.items ≡ c.self.inside.list.items ++ c.args.stream ∷ [] = (rw c.unwrap.ensures at c.push-2.ensures.items) ∙ ap (λ (l : List StreamState). l ++ c.args.stream ∷ []) c.in_ok-reserve.ensures.items in
     let more : c.push.new.self ≡ c.self.inside.ssrcs ++ c.args.stream.ssrc ∷ [] = c.in_ok-push.ensures.ok ∙ ap (λ (s : StreamState). c.self.inside.ssrcs ++ s.ssrc ∷ []) c.stream.view_is in
-    grown c.unknown-self-inside.result c.self.inside.ssrcs c.push.new.self c.self.inside.list.items c.push-2.new.self.items c.args.stream
-    (c.unknown-self-inside.ensures.bound c.push-2.new.self.items) c.self.invariant.listed more longer
+    grown c.unknown-self-inside.result c.self.inside.ssrcs c.push.new.self c.self.inside.dues c.self.inside.list.items c.push-2.new.self.items c.args.stream
+    c.unknown-self-inside.ensures c.self.invariant.listed more longer

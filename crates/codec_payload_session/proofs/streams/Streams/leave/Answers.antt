@@ -1,10 +1,10 @@
 use Rattle.std.proofs.Common.{◌∙◌, ap}
 use Rattle.codec_payload_session.specs.Waking.{ssrcs_of}
 use Rattle.codec_payload_session.specs.Arrivals.{includes, left_if}
-use Rattle.codec_payload_session.proofs.SsrcLemmas.{kept, left_ssrc, same_mapped}
+use Rattle.codec_payload_session.proofs.SsrcLemmas.{forgotten, left_ssrc, same_mapped}
 use Rattle.codec_payload_session.proofs.streams.Streams.leave.Goals as goal
 
 pub invariant_of-self : goal.invariant_of-self
 invariant_of-self c =
     let same = ap ssrcs_of c.leave.ensures ∙ same_mapped (left_if (includes c.args.who) c.args.why c.args.at) c.deref_mut.result.now (λ s. left_ssrc (includes c.args.who s.ssrc) c.args.why c.args.at s) ∙ ap ssrcs_of c.deref_mut.ensures.value in
-    kept c.unknown-self-inside.result c.self.inside.ssrcs c.self.inside.list c.leave.new.streams (c.unknown-self-inside.ensures.bound c.leave.new.streams) c.self.invariant.listed same
+    forgotten c.unknown-self-inside.result c.self.inside.ssrcs c.self.inside.dues c.self.inside.list c.leave.new.streams c.unknown-self-inside.ensures c.self.invariant.listed same

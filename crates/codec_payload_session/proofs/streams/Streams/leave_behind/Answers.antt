@@ -3,7 +3,7 @@ use Rattle.codec_payload_session.specs.Changes.{any_left_behind, continues}
 use Rattle.codec_payload_session.specs.declared.stream.StreamState.{StreamState}
 use Rattle.codec_payload_session.specs.Waking.{ssrcs_of}
 use Rattle.codec_payload_session.proofs.ChangeLemmas.{none_left}
-use Rattle.codec_payload_session.proofs.SsrcLemmas.{kept, same_continued}
+use Rattle.codec_payload_session.proofs.SsrcLemmas.{forgotten, same_continued}
 use Rattle.codec_payload_session.proofs.streams.Streams.leave_behind.Goals as goal
 
 pub returns-then-not-has_left_behind : goal.returns-then-not-has_left_behind
@@ -15,4 +15,4 @@ returns-then-not-has_left_behind c =
 pub invariant_of-self : goal.invariant_of-self
 invariant_of-self c =
     let same = ap ssrcs_of c.leave_behind.ensures ∙ same_continued true c.args.now c.args.wait c.args.ssrc c.args.format.now c.deref_mut.result.now ∙ ap ssrcs_of c.deref_mut.ensures.value in
-    kept c.unknown-self-inside.result c.self.inside.ssrcs c.self.inside.list c.leave_behind.new.streams (c.unknown-self-inside.ensures.bound c.leave_behind.new.streams) c.self.invariant.listed same
+    forgotten c.unknown-self-inside.result c.self.inside.ssrcs c.self.inside.dues c.self.inside.list c.leave_behind.new.streams c.unknown-self-inside.ensures c.self.invariant.listed same

@@ -2,10 +2,10 @@ use Rattle.std.proofs.Common.{◌∙◌, ap}
 use Rattle.codec_payload_session.specs.Waking.{ssrcs_of}
 use Rattle.std.specs.Prelude.{◌==◌}
 use Rattle.codec_payload_session.specs.Pairs.{paired_if}
-use Rattle.codec_payload_session.proofs.SsrcLemmas.{kept, paired_when_ssrc, same_mapped}
+use Rattle.codec_payload_session.proofs.SsrcLemmas.{forgotten, paired_when_ssrc, same_mapped}
 use Rattle.codec_payload_session.proofs.streams.Streams.pair.Goals as goal
 
 pub invariant_of-self : goal.invariant_of-self
 invariant_of-self c =
     let same = ap ssrcs_of c.pair.ensures ∙ same_mapped (paired_if c.args.ssrc c.args.pairs.now) c.deref_mut.result.now (λ s. paired_when_ssrc (s.ssrc == c.args.ssrc) c.args.pairs.now s) ∙ ap ssrcs_of c.deref_mut.ensures.value in
-    kept c.unknown-self-inside.result c.self.inside.ssrcs c.self.inside.list c.pair.new.streams (c.unknown-self-inside.ensures.bound c.pair.new.streams) c.self.invariant.listed same
+    forgotten c.unknown-self-inside.result c.self.inside.ssrcs c.self.inside.dues c.self.inside.list c.pair.new.streams c.unknown-self-inside.ensures c.self.invariant.listed same

@@ -1,6 +1,5 @@
-use Rattle.std.proofs.Common.{◌≡◌, ◌≢◌, ◌∙◌, ◌<◌, ◌≤◌, ◌+◌, ◌&&◌, ℕ, List, Option, Some, None, Bool, true, false, length, get_or, arith, subst, sym, ap}
-use Rattle.std.specs.Prelude.{◌==◌}
-use Rattle.std.specs.List.{AllWithin, position}
+use Rattle.std.proofs.Common.{◌≡◌, ◌≢◌, ◌∙◌, ◌<◌, ℕ, List, Some, None, length, arith, subst, sym, ap}
+use Rattle.std.specs.List.{position}
 use Rattle.codec_payload_index.specs.Ssrcs.{IsFirstFrom, IsPlaceFrom}
 use Rattle.codec_payload_session.specs.Streams.{StreamState, is_of}
 use Rattle.codec_payload_session.specs.Arrivals.{Port}

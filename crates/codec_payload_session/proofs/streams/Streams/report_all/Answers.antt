@@ -2,7 +2,7 @@ use Rattle.std.proofs.Common.{◌≡◌, ◌∙◌, arith, rules, ap, length, Li
 use Rattle.codec_payload_session.specs.Reporting.{blocks_of, bytes_of}
 use Rattle.codec_payload_session.proofs.PacketLemmas.{blocks_length, whole_blocks}
 use Rattle.codec_payload_session.proofs.ReporterLemmas.{few_blocks}
-use Rattle.codec_payload_session.proofs.SsrcLemmas.{kept, same_reported}
+use Rattle.codec_payload_session.proofs.SsrcLemmas.{forgotten, same_reported}
 use Rattle.codec_payload_session.specs.Waking.{ssrcs_of}
 use Rattle.codec_payload_session.proofs.streams.Streams.report_all.Goals as goal
 
@@ -20,4 +20,4 @@ pub invariant_of-self : goal.invariant_of-self
 invariant_of-self c =
     let round = c.next_round-round.result in
     let same = ap ssrcs_of c.start_fractions.ensures ∙ same_reported round.is_new round.room c.deref_mut.result.now ∙ ap ssrcs_of c.deref_mut.ensures.value in
-    kept c.unknown-self-inside.result c.self.inside.ssrcs c.self.inside.list c.start_fractions.new.streams (c.unknown-self-inside.ensures.bound c.start_fractions.new.streams) c.self.invariant.listed same
+    forgotten c.unknown-self-inside.result c.self.inside.ssrcs c.self.inside.dues c.self.inside.list c.start_fractions.new.streams c.unknown-self-inside.ensures c.self.invariant.listed same

@@ -2,11 +2,12 @@ use Rattle.std.proofs.Common.{◌≡◌, ◌∙◌, List, Option, ap, length, re
 use Rattle.std.proofs.lemmas.List.{with_items_is}
 use Rattle.std.specs.Vec.{with_items}
 use Rattle.codec_payload_session.specs.Arrivals.{Port}
+use Rattle.codec_payload_session.specs.Dues.{AreDated}
 use Rattle.codec_payload_session.specs.Turns.{StepsFirst}
 use Rattle.codec_payload_session.specs.Units.{Turn, turn_to}
 use Rattle.codec_payload_session.specs.Waking.{IsBound, StepsPort, ssrcs_of}
 use Rattle.codec_payload_session.specs.declared.stream.StreamState.{StreamState}
-use Rattle.codec_payload_session.proofs.SsrcLemmas.{kept, listed_written, step_ssrcs}
+use Rattle.codec_payload_session.proofs.SsrcLemmas.{forgotten, listed_written, step_ssrcs}
 use Rattle.codec_payload_session.proofs.WakingLemmas.{steps_length, steps_port}
 use Rattle.codec_payload_session.proofs.streams.Streams.step_all.Goals as goal
 
@@ -45,10 +46,11 @@ invariant_of-self c =
     record {
       bound = subst (λ (l : List StreamState). IsBound c.of-self-inside.result l) c.deref.ensures.value c.of-self-inside.ensures;
       listed = listed_written c.self.inside.ssrcs c.self.inside.list c.step_first-turn.new.streams c.self.invariant.listed same;
+      dated = subst (λ (l : List StreamState). AreDated c.of-self-inside.result c.find.new.self l) c.deref-then-is_none.ensures.value c.find.ensures;
     }
 
 pub invariant_of-self-else-is_none : goal.invariant_of-self-else-is_none
 invariant_of-self-else-is_none c =
     let turn : Option Turn = turn_to c.step_first-turn.result c.step_first-turn.new.unit in
     let same = step_ssrcs c.args.now c.args.idle_timeout c.deref_mut.result.now turn c.step_first-turn.new.streams c.step_first-turn.ensures ∙ ap ssrcs_of c.deref_mut.ensures.value in
-    kept c.unknown-self-inside.result c.self.inside.ssrcs c.self.inside.list c.step_first-turn.new.streams (c.unknown-self-inside.ensures.bound c.step_first-turn.new.streams) c.self.invariant.listed same
+    forgotten c.unknown-self-inside.result c.self.inside.ssrcs c.self.inside.dues c.self.inside.list c.step_first-turn.new.streams c.unknown-self-inside.ensures c.self.invariant.listed same

@@ -1,0 +1,98 @@
+-- The units that a viewer's receiver releases behind a forwarder that writes packets again, from the theorem of runs over one hop.
+use Rattle.std.proofs.Common.{◌≡◌, ◌∙◌, refl, sym, subst, ℕ, ◌^◌, ◌<◌, List, [], Bool}
+use Rattle.codec_payload_base.specs.declared.wire.Codec.{Codec}
+use Rattle.codec_payload_payloader.specs.Sending.{Sample}
+use Rattle.codec_payload_receiver.specs.Sessions.{Session}
+use Rattle.codec_payload_sending.specs.Senders.{Sending}
+use Rattle.codec_payload_sending_forward.specs.Forwarding.{Forward}
+use Rattle.codec_payload_sending_forward.specs.declared.forwarder.Forwarded.{Forwarded}
+use Rattle.codec_payload_sending_history.specs.Packets.{Past}
+use Rattle.codec_payload_datagram_runs.proofs.Courses.{Proceeds}
+use Rattle.codec_payload_datagram_runs.proofs.ReleaseLemmas.{keeps_promises, releases_all}
+use Rattle.codec_payload_datagram_runs.specs.HistoryReleases.{AreHeard}
+use Rattle.codec_payload_datagram_runs.specs.Releases.{IsWithinWindows, ReleasesUnits, sending_steps}
+use Rattle.codec_payload_datagram_runs.specs.WireLogs.{KeepsPromises}
+use Rattle.codec_payload_datagram_runs.specs.WireRuns.{begins}
+use Rattle.codec_payload_datagram_runs.specs.declared.run.DatagramStep.{DatagramStep}
+use Rattle.codec_payload_datagram_runs.specs.declared.run.SentSample.{SentSample}
+use Rattle.codec_payload_forward_runs.proofs.ForwardLemmas.{moved_within, same_units}
+use Rattle.codec_payload_forward_runs.proofs.StoreLemmas.{AllIn, none_in}
+use Rattle.codec_payload_forward_runs.proofs.StoreViewerRuns.{StoreComes, store_comes, store_ends_on}
+use Rattle.codec_payload_forward_runs.proofs.ViewerLemmas.{GoesOn}
+use Rattle.codec_payload_forward_runs.proofs.ViewerRuns.{Fit, IsAt}
+use Rattle.codec_payload_forward_runs.specs.ForwardReleases.{ForwardsStream, viewer_samples, viewer_sender, viewer_wire}
+use Rattle.codec_payload_forward_runs.specs.StoreReleases.{AreAgain, IsStoredWithinWindows, ReleaseWithStore, store_steps, store_steps_of}
+use Rattle.codec_payload_forward_runs.specs.StoreRuns.{StoreRuns, Stored, begins_with_store}
+use Rattle.codec_payload_forward_runs.specs.declared.store_run.StoreStep.{StoreStep}
+
+module _ (samples : List Sample) (all_steps : List StoreStep) (sender : Sending) (forwarder : Forward) (receiver : Session) (store : Past) (t : Stored) (empty : store.packets ≡ [])
+    (run : StoreRuns samples all_steps (begins_with_store sender forwarder receiver store) t) (forwards : ForwardsStream sender forwarder) where
+  abbrev e : Forward
+  e = t.hops.forwarder
+
+  abbrev rate : ℕ
+  rate = sender.stream.clock_rate
+
+  abbrev codec : Codec
+  codec = forwarder.settings.codec
+
+  abbrev before : Stored
+  before = begins_with_store sender forwarder receiver store
+
+  pub begun : IsAt sender.stream.ssrc rate codec before.hops
+  begun = record { source = record { source = refl; clock = refl; keeps = forwards.keeps; all = tt }; codec_is = refl; none = forwards.none_left_out }
+
+  pub nothing_kept : AllIn [] store.packets
+  nothing_kept = subst (AllIn []) (sym empty) (none_in [])
+
+  pub came : StoreComes sender.stream.ssrc rate codec samples e all_steps before t [] []
+  came = store_comes sender.stream.ssrc rate codec samples all_steps before t [] [] begun nothing_kept tt tt run
+
+  pub on : GoesOn sender.stream.ssrc forwarder e
+  on = store_ends_on sender.stream.ssrc rate codec samples all_steps before t begun nothing_kept run
+
+  abbrev repeats : List ℕ
+  repeats = came.left
+
+  abbrev seen : List DatagramStep
+  seen = store_steps_of samples all_steps t repeats
+
+  module _ (within : IsStoredWithinWindows samples all_steps before t repeats) where
+    fit : Fit sender.stream.ssrc rate codec samples e
+    fit = (
+      within.widths.clock_rate,
+      subst (λ (s : _). s.payload_type < 128) (sym on.settings) within.widths.payload_type,
+      subst (λ (s : _). s.ssrc < 2 ^ 32) (sym on.settings) within.widths.ssrc,
+    )
+
+    course : Proceeds e.settings.retransmissions (viewer_samples e rate samples) seen (begins (viewer_sender e sender) receiver) (viewer_wire e t.hops.wire)
+    course = subst (λ (fs : List Bool). Proceeds e.settings.retransmissions (viewer_samples e rate samples) (store_steps samples 0 [] [] all_steps t.hops.wire.sends t.hops.answers fs repeats) (begins (viewer_sender e sender) receiver) (viewer_wire e t.hops.wire)) (sym came.founds)
+        (subst (λ (rs : List Forwarded). Proceeds e.settings.retransmissions (viewer_samples e rate samples) (store_steps samples 0 [] [] all_steps t.hops.wire.sends rs came.found repeats) (begins (viewer_sender e sender) receiver) (viewer_wire e t.hops.wire)) (sym came.results)
+        (subst (λ (es : List SentSample). Proceeds e.settings.retransmissions (viewer_samples e rate samples) (store_steps samples 0 [] [] all_steps es came.more came.found repeats) (begins (viewer_sender e sender) receiver) (viewer_wire e t.hops.wire)) (sym came.sends) (came.course fit)))
+
+    hears : AreHeard e.settings.retransmissions receiver.stream.retransmission
+    hears = subst (λ (s : _). AreHeard s.retransmissions receiver.stream.retransmission) (sym on.settings) within.heard
+
+    is_within : IsWithinWindows (viewer_samples e rate samples) seen (viewer_sender e sender) receiver t.hops.wire.sends
+    is_within = moved_within e samples seen sender receiver t.hops.wire.sends within.settings within.depacketizer within.widths.clock_rate within.new within.one_stream within.readable within.within within.timely
+
+    pub releases : ReleasesUnits (viewer_samples e rate samples) seen (begins (viewer_sender e sender) receiver) (viewer_wire e t.hops.wire)
+    releases = releases_all e.settings.retransmissions (viewer_samples e rate samples) seen (viewer_sender e sender) receiver (viewer_wire e t.hops.wire) course hears is_within
+
+    pub keeps : KeepsPromises (viewer_samples e rate samples) seen (begins (viewer_sender e sender) receiver) (viewer_wire e t.hops.wire)
+    keeps = keeps_promises e.settings.retransmissions (viewer_samples e rate samples) seen (viewer_sender e sender) receiver (viewer_wire e t.hops.wire) course hears is_within
+
+  pub again : AreAgain e t.hops.wire.datagrams t.again repeats
+  again = came.again
+
+pub release_with_store : ReleaseWithStore
+release_with_store samples all_steps sender forwarder receiver store t run empty forwards = record {
+  repeats = repeats samples all_steps sender forwarder receiver store t empty run forwards;
+  are = again samples all_steps sender forwarder receiver store t empty run forwards;
+  released = λ within. releases samples all_steps sender forwarder receiver store t empty run forwards within;
+  canonical = λ within.
+      (releases samples all_steps sender forwarder receiver store t empty run forwards within).canonical
+      ∙ same_units t.hops.forwarder sender.stream.clock_rate sender.packetizer samples
+      (sending_steps sender.mtu (store_steps_of samples all_steps t (repeats samples all_steps sender forwarder receiver store t empty run forwards)));
+  promises = λ within. keeps samples all_steps sender forwarder receiver store t empty run forwards within;
+}
