@@ -77,7 +77,7 @@ def passing_on(module, names):
 
 
 def hidden(first, partly_used):
-    """`#[doc(hidden)]` in front of an item. Of a module that is used in part, the compiler would report the other functions."""
+    """`#[doc(hidden)]` in front of an item. In a module that is used in part, the compiler would report the unused functions."""
     made = tokens("#[allow(dead_code)]\n#[doc(hidden)]\n" if partly_used else "#[doc(hidden)]\n")[:-1]
     made[0].pre, first.pre = first.pre, "\n"
     return made
