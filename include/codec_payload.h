@@ -745,8 +745,8 @@ typedef enum {
 /** Writes a packet that arrived, of any source, as the viewer's stream has it, its size to *size, and what was done to *forwarded. Call
  * it before SRTP encrypts the packet. With CPAY_FORWARDED_BEGAN and CPAY_FORWARDED_WRITTEN the packet is in the output buffer: it has the
  * viewer's SSRC and payload type, a number and a time of the viewer's stream, and marker, payload and padding of the packet that
- * arrived; CSRCs and header extensions are left out, and in VP8 PictureID and TL0PICIDX are those of the viewer's stream. With any other
- * answer *size is 0, and the output buffer is unchanged. `now` is the time of your clock in ticks of the RTP clock: at a switch the time
+ * arrived; CSRCs and header extensions are left out, and in VP8 and VP9 PictureID and TL0PICIDX are those of the viewer's stream, in
+ * the widths that arrived. With any other answer *size is 0, and the output buffer is unchanged. `now` is the time of your clock in ticks of the RTP clock: at a switch the time
  * goes on by the ticks since the packet with the highest number was written, at least 1, at most 2^31 - 1. A viewer begins with:
  * - CPAY_VP8: the first packet of a keyframe (RFC 7741, section 4.2);
  * - CPAY_VP9: the first packet of the lowest spatial layer of a picture that refers to no other: P is clear, B is set, and L is
@@ -765,7 +765,7 @@ CPAY_CHECKED cpay_status cpay_forwarder_write(cpay_forwarder *forwarder, uint64_
  * that comes late a packet of padding, 13 bytes, is written under its number: CPAY_FORWARDED_FILLED. With any other answer *size is 0,
  * and the output buffer is unchanged. Before the source has begun the answer is CPAY_FORWARDED_OTHER_SOURCE. CPAY_TOO_SMALL: the output
  * buffer has fewer than 13 bytes, which *size says; nothing else has changed. In VP8 PictureIDs close up behind each picture that is
- * left out: leave out all packets of a picture, or none. The last 4096 packets and, in VP8, pictures that were left out are
+ * left out: leave out all packets of a picture, or none. PictureIDs of VP9 keep their gaps. The last 4096 packets and, in VP8, pictures that were left out are
  * remembered, 8 bytes each. CPAY_RTP_HEADER_TOO_SHORT to CPAY_RTP_PADDING_TOO_LONG: not an RTP packet. If the call fails, the forwarder
  * is unchanged. [m] */
 CPAY_CHECKED cpay_status cpay_forwarder_leave_out(cpay_forwarder *forwarder, const uint8_t *datagram, size_t datagram_len,
@@ -811,8 +811,8 @@ CPAY_CHECKED cpay_status cpay_forwarder_report(cpay_forwarder *forwarder, uint32
 /** For a receiver or a session: a unit may have any number of bytes. */
 #define CPAY_NO_MAX_UNIT SIZE_MAX
 
-/** What a receiver of video does with units that a decoder cannot show. A decoder can show a keyframe, and a contiguous unit after
- * a unit that it can show. A unit is a keyframe by its frame header. Audio and custom codecs are never inspected. */
+/** What a receiver of video does with units that a decoder cannot show. A decoder can show a keyframe; a unit of VP8 with PictureID and
+ * TL0PICIDX if it can show all to which that may refer (RFC 7741, section 4.2); any other contiguous unit after one that it can show. A unit is a keyframe by its frame header. Audio and custom codecs are never inspected. */
 enum {
     CPAY_KEYFRAME_OFF = 0,  /**< units are not inspected: `decodable` is true, `keyframe` is false */
     CPAY_KEYFRAME_MARK = 1, /**< each unit is released, and `decodable` says whether a decoder can show it; all initialisers set
@@ -937,7 +937,8 @@ CPAY_CHECKED cpay_status cpay_receiver_pop(cpay_receiver *receiver, uint64_t now
 CPAY_CHECKED cpay_status cpay_receiver_values(cpay_receiver *receiver, cpay_extension_values *values);
 
 /** Reports whether to request a keyframe (by PLI, RFC 4585, section 6.3.1, or FIR, RFC 5104, section 4.3.1). True from one of
- * these events until a pop returns a keyframe: a pop found a unit that a decoder cannot show; a pop gave a refused frame or a unit
+ * these events until a pop returns a keyframe: a pop found a unit that a decoder cannot show (but for one of VP8 above the base layer
+ * whose base unit it can show, and a unit of that base layer that it can show ends it too); a pop gave a refused frame or a unit
  * above `max_unit`; a pop returned CPAY_NONE and discarded complete frames, as after a backward jump of picture ids; you called
  * cpay_receiver_restart. False for audio, and with CPAY_KEYFRAME_OFF. Does not allocate. */
 CPAY_CHECKED cpay_status cpay_receiver_wants_keyframe(cpay_receiver *receiver, bool *wants);
@@ -1245,6 +1246,14 @@ typedef struct {
     uint8_t extension_id; /**< id of the header extension with the transport-wide number (`a=extmap`), 1 to 255 */
 } cpay_session_transport;
 
+/** Ids of the header extensions that name streams (RFC 8285, section 5), 1 to 255; 0 means not negotiated, which is the default.
+ * Two equal ids read the same element. */
+typedef struct {
+    uint8_t mid;          /**< `urn:ietf:params:rtp-hdrext:sdes:mid` (RFC 8843, section 15) */
+    uint8_t rid;          /**< `urn:ietf:params:rtp-hdrext:sdes:rtp-stream-id` (RFC 8852, section 3) */
+    uint8_t repaired_rid; /**< `urn:ietf:params:rtp-hdrext:sdes:repaired-rtp-stream-id` (RFC 8852, section 3) */
+} cpay_stream_name_ids;
+
 /** Begin with cpay_session_settings_init. */
 typedef struct {
     cpay_wait_limits audio;   /**< how long frames of audio wait for missing packets */
@@ -1270,6 +1279,7 @@ typedef struct {
     cpay_session_feedback feedback;   /**< with has_feedback: see cpay_session_settings_feedback */
     cpay_extension_ids extension_ids; /**< for cpay_session_values; two equal ids read the same element */
     cpay_session_transport transport; /**< with has_transport */
+    cpay_stream_name_ids name_ids;    /**< for cpay_session_names */
 } cpay_session_settings;
 
 /** Sets how a session begins, for a purpose (CPAY_FOR_LIVE and so on) and a clock of milliseconds. Audio waits as the purpose says,
@@ -1525,6 +1535,24 @@ typedef struct {
  * report about it arrived since it began. */
 CPAY_CHECKED cpay_status cpay_session_sender_clock(cpay_session *session, uint32_t ssrc, uint8_t payload_type,
                                                    cpay_sender_clock_info *clock);
+
+/** The names of a stream. A length of 0: no packet of the stream had the name so far. A name can have any bytes, so check them before
+ * you print it; zeros follow them, but no zero follows a name of 32 bytes. */
+typedef struct {
+    uint8_t mid[32];          /**< which media description (`a=mid`) the stream belongs to */
+    uint8_t rid[32];          /**< which of the streams of a simulcast (`a=rid`) it is */
+    uint8_t repaired_rid[32]; /**< RID that retransmissions of the stream have */
+    uint8_t mid_len;          /**< number of bytes of `mid`, 0 to 32 */
+    uint8_t rid_len;
+    uint8_t repaired_rid_len;
+} cpay_stream_names;
+
+/** Reports the names of the stream with this SSRC and payload type. Call it at CPAY_EVENT_BEGUN: so a server that receives a simulcast
+ * knows which stream is which before any SSRC was signalled. A stream takes names from the packets that it accepts, under `name_ids` of
+ * the settings: of media, of retransmissions, and without media. The latest value of each name is kept; a value without a byte, or of
+ * more than 32, is ignored. Senders stop sending names once they know that they arrived, so a stream in another format under the same
+ * SSRC can lack them: the earlier stream still has them. CPAY_NONE: there is no such stream. Does not allocate. */
+CPAY_CHECKED cpay_status cpay_session_names(cpay_session *session, uint32_t ssrc, uint8_t payload_type, cpay_stream_names *names);
 
 /** Replaces the wait limits of the stream with this SSRC and payload type: see cpay_receiver_set_wait_limits. CPAY_NONE: there is
  * no such stream. */

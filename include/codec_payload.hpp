@@ -361,6 +361,9 @@ public:
                                           cpay_report_block_info &block) noexcept {
         return cpay_session_peek_report(get(), now, ssrc, payload_type, &block);
     }
+    [[nodiscard]] cpay_status names(std::uint32_t ssrc, std::uint8_t payload_type, cpay_stream_names &names) noexcept {
+        return cpay_session_names(get(), ssrc, payload_type, &names);
+    }
     [[nodiscard]] cpay_status sender_clock(std::uint32_t ssrc, std::uint8_t payload_type,
                                            cpay_sender_clock_info &clock) noexcept {
         return cpay_session_sender_clock(get(), ssrc, payload_type, &clock);

@@ -168,7 +168,8 @@ typedef struct {
  *   packets or keyframes of it are requested only if both agree on that. If RED that names no payload type would be over two
  *   formats, it is over the first.
  * - `no_media`: comfort noise, error correction, and telephone events, whose packets polls report.
- * - Pairs of SSRCs (`a=ssrc-group:FID`), and ids of header extensions, of all sections.
+ * - Pairs of SSRCs (`a=ssrc-group:FID`), and ids of header extensions, of all sections: those of values, and those of MID, RID and
+ *   repaired RID (`name_ids`).
  * - Wait limits: for live audio and video, with retransmission if a format of the kind has `nack`.
  * - Transport: the id of transport-wide-cc, if a section has its `a=extmap` and a format of media has `transport-cc`. So pass the
  *   description that both sides agreed on, or the offer if you accept both.

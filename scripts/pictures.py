@@ -219,7 +219,7 @@ LAYERS = (
     (("receiving", "receiver jitter keyframes/buffer queue index"),
      ("feedback", "feedback feedback_requests feedback_transport/feedback_wait feedback_congestion feedback_ccfb"),
      ("sending", "payloader sending sending_red/sending_history sending_forward")),
-    (("payload formats", "codec audio vp8 vp9 av1"), ("repetition", "red"), ("what frames say", "media vpx"), ("packets", "rtp rtcp")),
+    (("payload formats", "codec audio vp8 vp9 av1"), ("repetition", "red"), ("what frames say", "media vpx descriptor"), ("packets", "rtp rtcp")),
     (("what all share", "base"),),
 )
 # Pixels: of the picture's width, of a letter, of a crate's box, between things.

@@ -652,6 +652,11 @@ cpay_status cpay_session_sender_clock(cpay_session *session, uint32_t ssrc, uint
     return proved_cpay_session_sender_clock(&session->handle, ssrc, payload_type, clock);
 }
 
+cpay_status proved_cpay_session_names(cpay_handle *session, uint32_t ssrc, uint8_t payload_type, cpay_stream_names *names);
+cpay_status cpay_session_names(cpay_session *session, uint32_t ssrc, uint8_t payload_type, cpay_stream_names *names) {
+    return proved_cpay_session_names(&session->handle, ssrc, payload_type, names);
+}
+
 cpay_status proved_cpay_session_set_wait_limits(cpay_handle *session, uint32_t ssrc, uint8_t payload_type,
                                                 const cpay_wait_limits *wait_limits);
 cpay_status cpay_session_set_wait_limits(cpay_session *session, uint32_t ssrc, uint8_t payload_type,

@@ -646,6 +646,11 @@ static cpay_extension_ids extension_ids_of(const uint8_t ids[EXTENSIONS]) {
                                 .video_timing = ids[3], .layers_allocation = ids[4], .audio_level = ids[5]};
 }
 
+/* The ids of the extensions that name streams. */
+static cpay_stream_name_ids name_ids_of(const uint8_t ids[EXTENSIONS]) {
+    return (cpay_stream_name_ids){.mid = ids[6], .rid = ids[7], .repaired_rid = ids[8]};
+}
+
 /* Whether no format of media precedes this one in its section. */
 static bool is_first_media(const cpay_sdp_media *media, const cpay_sdp_format *format) {
     for (const cpay_sdp_format *it = media->formats; it != format; it++)
@@ -815,6 +820,7 @@ cpay_status cpay_sdp_session(const cpay_sdp_media *media, size_t media_len, cpay
         return CPAY_INVALID;
     }
     found.settings.extension_ids = extension_ids_of(it.ids);
+    found.settings.name_ids = name_ids_of(it.ids);
     set_transport(&found.settings, &it);
     set_wait_limits(&found);
     *session = found;

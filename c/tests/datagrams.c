@@ -802,6 +802,38 @@ static void keyframes(uint8_t from_keyframe, const char *marks, const char *deco
     cpay_receiver_free(&receiver);
 }
 
+/* Pictures of VP8 in the layers 0 1 0 1 .., with both ids (RFC 7741, section 4.2); 1 and 9 refer to the base layer alone (Y), and packet
+ * 3 is lost. So 5 and 7 may refer to a lost picture, although nothing is missing in front of them. */
+static void temporal_layers(void) {
+    static const uint8_t key[] = {0x10, 0, 0, 0x9d, 0x01, 0x2a, 0x10, 0, 0x10, 0}, delta[] = {0x11, 0, 0};
+    cpay_spec spec = {.codec = CPAY_VP8, .rate = 90000};
+    cpay_receiver_settings settings = settings_of(spec);
+    cpay_receiver receiver = receiver_of(&settings);
+    cpay_unit unit = {0};
+    uint8_t bytes[40], taken[16];
+    cpay_outcome outcome = (cpay_outcome)99;
+    bool wants = true;
+    for (uint16_t number = 0; number < 12; number++) {
+        uint8_t layer = number % 2, sync = number == 1 || number == 9;
+        const uint8_t descriptor[] = {0x90, 0xe0, 0x80, (uint8_t)(7 + number), (uint8_t)(number / 2), (uint8_t)(layer << 6 | sync << 5)};
+        size_t size = number == 0 ? sizeof key : sizeof delta;
+        packet(bytes, 0x80 | TYPE, number, (uint32_t)number * 3000, 0);
+        memcpy(bytes + 12, descriptor, sizeof descriptor);
+        memcpy(bytes + 12 + sizeof descriptor, number == 0 ? key : delta, size);
+        size += 12 + sizeof descriptor;
+        if (number != 3) CHECK(cpay_receiver_receive(&receiver, 0, bytes, size, &outcome) == CPAY_OK && outcome == CPAY_HELD);
+    }
+    CHECK(cpay_receiver_finish(&receiver) == CPAY_OK);
+    for (uint64_t number = 0; number < 12; number++) {
+        if (number == 3) continue;
+        CHECK(cpay_receiver_pop(&receiver, 0, &unit, taken, sizeof taken) == CPAY_OK && unit.first % 65536 == number);
+        CHECK(unit.contiguous && unit.decodable == (number != 5 && number != 7));
+        CHECK(cpay_receiver_wants_keyframe(&receiver, &wants) == CPAY_OK && !wants);
+    }
+    CHECK(cpay_receiver_pop(&receiver, 0, &unit, taken, sizeof taken) == CPAY_NONE && counts_of(&receiver).undecodable == 2);
+    cpay_receiver_free(&receiver);
+}
+
 int main(void) {
     packets();
     settings();
@@ -830,6 +862,7 @@ int main(void) {
     missing();
     refused_frame();
     large_unit();
+    temporal_layers();
     keyframes(CPAY_KEYFRAME_MARK, "124567", "dd--dd", "k---k-", 2);
     keyframes(CPAY_KEYFRAME_DROP, "1267", "dddd", "k-k-", 2);
     keyframes(CPAY_KEYFRAME_OFF, "124567", "dddddd", "------", 0);

@@ -99,13 +99,14 @@ static void print_session_format(const cpay_session_format *it) {
     printf("%s%s\n", it->nack ? ", nack" : "", it->pli ? ", pli" : "");
 }
 
-static void print_session_ids(const cpay_extension_ids *it) {
+static void print_session_ids(const cpay_extension_ids *it, const cpay_stream_name_ids *names) {
     const struct {
         const char *name;
         uint8_t id;
     } ids[] = {{"capture-time", it->abs_capture_time}, {"orientation", it->video_orientation},
                {"content-type", it->video_content_type}, {"timing", it->video_timing},
-               {"layers", it->layers_allocation}, {"level", it->audio_level}};
+               {"layers", it->layers_allocation}, {"level", it->audio_level}, {"mid", names->mid},
+               {"rid", names->rid}, {"repaired-rid", names->repaired_rid}};
     printf("session ids:");
     for (size_t i = 0; i < sizeof ids / sizeof *ids; i++)
         if (ids[i].id) printf(" %s %u", ids[i].name, ids[i].id);
@@ -139,7 +140,7 @@ static void print_session(size_t count) {
         printf(" %u%s", session.no_media[i] % CPAY_TELEPHONE, is_telephone ? " (events)" : "");
     }
     printf("\n");
-    print_session_ids(&session.settings.extension_ids);
+    print_session_ids(&session.settings.extension_ids, &session.settings.name_ids);
     for (size_t i = 0; i < session.pairs_len; i++) printf("pair %u %u\n", session.pairs[i].ssrc, session.pairs[i].rtx_ssrc);
 }
 

@@ -129,6 +129,8 @@ void over_a_port() {
     cpay_sender_clock_info clock = {};
     CHECK(to.report(100, 7, 96, block) == CPAY_OK && block.ssrc == 7 && to.report(100, 8, 96, block) == CPAY_NONE);
     CHECK(to.sender_clock(7, 96, clock) == CPAY_NONE);
+    cpay_stream_names names = {};
+    CHECK(to.names(7, 96, names) == CPAY_OK && names.rid_len == 0 && to.names(8, 96, names) == CPAY_NONE);
     cpay_session_stream stream = {};
     cpay_session_counts_info counts = {};
     CHECK(to.stream_at(0, stream) == CPAY_OK && stream.counts.units == 1 && to.stream_at(1, stream) == CPAY_NONE);

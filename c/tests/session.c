@@ -565,6 +565,38 @@ static void video(void) {
     cpay_session_free(&session);
 }
 
+/* A packet of VP8 with MID `v` and this RID in its header extension (RFC 8285, section 4.2), stored by the stream of that SSRC. */
+static void layer(cpay_session *session, uint8_t ssrc, uint16_t number, const char *rid) {
+    const uint8_t extended[14] = {0xbe, 0xde, 0, 2, 0x30, 'v', 0x41, (uint8_t)rid[0], (uint8_t)rid[1], 0, 0, 0, 0x10, 0x11};
+    uint8_t bytes[64];
+    cpay_arrival arrival = {.kind = 99};
+    size_t size = packet(bytes, VIDEO, ssrc, number, extended, sizeof extended);
+    bytes[0] |= 0x10;
+    CHECK(cpay_session_receive(session, 0, bytes, size, &arrival) == CPAY_OK && arrival.kind == CPAY_ARRIVAL_STREAM);
+    CHECK(arrival.ssrc == ssrc && arrival.status == CPAY_OK && arrival.outcome == CPAY_HELD);
+}
+
+/* Two layers of a simulcast have two RIDs; a stream without names has lengths of 0. */
+static void names(void) {
+    cpay_session_settings settings;
+    cpay_stream_names told = {.mid = "x", .mid_len = 99};
+    const cpay_stream_names none = {.mid_len = 0};
+    cpay_session_settings_init(&settings, CPAY_FOR_LIVE);
+    CHECK(settings.name_ids.mid == 0 && settings.name_ids.rid == 0 && settings.name_ids.repaired_rid == 0);
+    settings.name_ids = (cpay_stream_name_ids){.mid = 3, .rid = 4, .repaired_rid = 5};
+    cpay_session session = session_of(&settings);
+    CHECK(cpay_session_names(&session, 1, VIDEO, &told) == CPAY_NONE && told.mid[0] == 'x' && told.mid_len == 99);
+    layer(&session, 1, 10, "hi");
+    layer(&session, 2, 10, "lo");
+    CHECK(cpay_session_names(&session, 1, VIDEO, &told) == CPAY_OK && told.mid_len == 1 && told.mid[0] == 'v');
+    CHECK(told.rid_len == 2 && same(told.rid, "hi\0", 3) && told.repaired_rid_len == 0);
+    CHECK(cpay_session_names(&session, 2, VIDEO, &told) == CPAY_OK && told.rid_len == 2 && same(told.rid, "lo", 2));
+    CHECK(cpay_session_names(&session, 1, AUDIO, &told) == CPAY_NONE && same(told.rid, "lo", 2));
+    opus(&session, 0, 1, 10);
+    CHECK(cpay_session_names(&session, 1, AUDIO, &told) == CPAY_OK && !memcmp(&told, &none, sizeof told));
+    cpay_session_free(&session);
+}
+
 /* Figure 2 of RFC 3550: a sender report of 46,853.125 s arrives, and 5.250 s later a block is made. */
 static void reports(void) {
     static const uint8_t sender_report[28] = {0x80, 200, 0, 6, 0, 0, 0, 1, 0xb4, 0x4d, 0xb7, 0x05, 0x20, 0, 0, 0, 0, 0, 0x1e, 0x61};
@@ -903,6 +935,7 @@ static void handles(void) {
     cpay_wait_limits limits = {.hold_back = 1};
     cpay_report_block_info block = {.ssrc = 7};
     cpay_sender_clock_info clock = {.rtp_time = 7};
+    cpay_stream_names told = {.mid_len = 7};
     uint8_t bytes[4] = {7, 7, 7, 7};
     uint64_t at = 7, numbers[1] = {7};
     cpay_outcome outcome = (cpay_outcome)7;
@@ -931,7 +964,9 @@ static void handles(void) {
         CHECK(cpay_session_report(&it.session, 0, 1, AUDIO, &block) == status);
         CHECK(cpay_session_peek_report(&it.session, 0, 1, AUDIO, &block) == status);
         CHECK(cpay_session_sender_clock(&it.session, 1, AUDIO, &clock) == status);
+        CHECK(cpay_session_names(&it.session, 1, AUDIO, &told) == status);
     }
+    CHECK(told.mid_len == 7);
     CHECK(block.ssrc == 7 && clock.rtp_time == 7);
     CHECK(arrival.kind == 7 && event.kind == 7 && values.audio_level == 7 && at == 7 && counts.rtcp == 7 && stream.ssrc == 7);
     CHECK(same(bytes, "\7\7\7\7", 4) && numbers[0] == 7 && count == 7 && wants);
@@ -959,6 +994,7 @@ int main(void) {
     redundant_again();
     telephone();
     video();
+    names();
     reports();
     small_buffers();
     values_and_places();

@@ -52,9 +52,9 @@ impl Peer {
     fn poll(&mut self, now: Ticks, out: &mut impl Write) -> Result<(), Failure> {
         while let Some(event) = self.session.poll(now) {
             match event {
-                Event::Begun { ssrc, payload_type } => {
-                    writeln!(out, "begun {ssrc} {payload_type}")?
-                }
+                Event::Begun {
+                    ssrc, payload_type, ..
+                } => writeln!(out, "begun {ssrc} {payload_type}")?,
                 Event::Unit {
                     ssrc,
                     payload_type,

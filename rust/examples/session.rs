@@ -87,7 +87,9 @@ impl Network {
 fn drain(session: &mut Session, now: u64, units: &mut BTreeMap<u32, u64>) {
     while let Some(event) = session.poll(Ticks(now)) {
         match event {
-            Event::Begun { ssrc, payload_type } => {
+            Event::Begun {
+                ssrc, payload_type, ..
+            } => {
                 println!("{now:5} ms: stream {ssrc} of payload type {payload_type} begins");
             }
             Event::Unit { ssrc, unit, .. } => {

@@ -9,11 +9,14 @@ pub mod counts;
 #[doc(hidden)]
 pub mod forwarder;
 #[doc(hidden)]
+pub mod ids;
+mod payloads;
+#[doc(hidden)]
 pub mod renumbering;
 #[doc(hidden)]
 pub mod times;
-#[doc(hidden)]
-pub mod vp8_ids;
+mod vp8_ids;
+mod vp9_ids;
 
 #[doc(inline)]
 pub use counts::ForwardCounts;
@@ -22,10 +25,10 @@ pub use counts::ForwardCounts;
 pub use forwarder::{ForwardError, ForwardSettings, Forwarded, Forwarder, forwarded_size};
 
 #[doc(inline)]
+pub use ids::{ForwardedIds, IdOffsets, PayloadIds};
+
+#[doc(inline)]
 pub use renumbering::{MAX_LEFT_OUT, Placed, Renumbering};
 
 #[doc(inline)]
 pub use times::Retiming;
-
-#[doc(inline)]
-pub use vp8_ids::{IdOffsets, Vp8Ids};

@@ -5,10 +5,20 @@
 #[doc(hidden)]
 pub mod gate;
 #[doc(hidden)]
+pub mod references;
+#[doc(hidden)]
 pub mod unit_gate;
+#[doc(hidden)]
+pub mod vp8_layers;
 
 #[doc(inline)]
 pub use gate::{KeyframeGate, is_keyframe, is_video};
 
 #[doc(inline)]
+pub use references::{References, Referring};
+
+#[doc(inline)]
 pub use unit_gate::{FromKeyframe, UnitGate};
+
+#[doc(inline)]
+pub use vp8_layers::{Vp8Layers, Vp8Picture};

@@ -120,6 +120,8 @@ pub mod contiguity;
 #[doc(hidden)]
 pub mod described;
 #[doc(hidden)]
+pub mod descriptor;
+#[doc(hidden)]
 pub mod error;
 #[doc(hidden)]
 pub mod feedback;

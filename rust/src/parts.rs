@@ -18,6 +18,7 @@
 //! | [`congestion`] | when packets arrived, as congestion control needs it: transport-wide feedback, and REMB |
 //! | [`transport`] | the sending side of that: the numbers and times of sent packets, and what feedback reports about them |
 //! | [`ccfb`] | congestion control feedback of RFC 8888 |
+//! | [`descriptor`] | the dependency descriptor: which frames a frame of video refers to |
 //! | [`waiting`] | a limit of waiting that follows how late missing packets arrive |
 //! | [`media`] | what frames say: keyframe, size, duration; OBUs, superframes, `av1C`, the Opus header |
 //! | [`codec`], [`interface`], [`buffer`], [`error`] | the payload layer: packetizers, depacketizers, what they say of a packet, the buffer, and their faults |
@@ -184,6 +185,18 @@ pub mod ccfb {
 
     #[doc(hidden)]
     pub use crate::ccfb::*;
+}
+
+/// The dependency descriptor of a frame of video: its layer, and which frames it refers to (AV1 RTP specification, appendix A).
+pub mod descriptor {
+    #[doc(inline)]
+    pub use crate::descriptor::{
+        DependencyDescriptor, DescriptorError, DescriptorFault, DescriptorReader, Layer, Numbers,
+        TemplateStructure,
+    };
+
+    #[doc(hidden)]
+    pub use crate::descriptor::*;
 }
 
 /// A limit of waiting that follows how late missing packets arrive.

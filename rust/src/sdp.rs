@@ -98,7 +98,10 @@ pub struct Source {
     pub retransmission: Option<u32>,
 }
 
-/// Ids of header extensions that this crate neither reads nor writes. `None` if absent.
+/// Ids of further header extensions: of names of streams ([`SessionSettings::name_ids`]), of the transport, and of times that this
+/// crate neither reads nor writes. `None` if absent.
+///
+/// [`SessionSettings::name_ids`]: crate::session::SessionSettings::name_ids
 #[derive(Clone, Copy, Debug, Default, PartialEq, Eq)]
 pub struct OtherIds {
     /// `sdes:mid` (RFC 9143).

@@ -12,11 +12,14 @@ mod dues;
 mod events;
 #[doc(hidden)]
 pub mod formats;
+mod former;
 mod goodbyes;
 #[doc(hidden)]
 pub mod keyframe;
 mod late;
 mod named;
+#[doc(hidden)]
+pub mod names;
 mod pairs;
 mod renegotiation;
 mod reporter;
@@ -41,6 +44,9 @@ pub use formats::{FeedbackSettings, Format, SessionSettings, SsrcPair, Waiting};
 
 #[doc(inline)]
 pub use keyframe::KeyframeAnswer;
+
+#[doc(inline)]
+pub use names::{StreamName, StreamNameIds, StreamNames};
 
 #[doc(inline)]
 pub use reports::SenderClock;

@@ -378,6 +378,22 @@ fn a_viewer_gets_whole_frames() -> Outcome {
     Ok(())
 }
 
+/// The payload that `forwarder` writes for a packet of `ssrc`, which the viewer wants from now on.
+fn written(
+    forwarder: &mut Forwarder,
+    ssrc: u32,
+    number: u16,
+    payload: &[u8],
+) -> Result<Vec<u8>, Box<dyn Error>> {
+    if forwarder.source() != Some(ssrc) {
+        forwarder.want(ssrc);
+    }
+    let datagram = packet(number, 0, ssrc, payload);
+    let mut out = Vec::new();
+    forwarder.write(0, &RtpPacket::parse(&datagram)?, &mut out)?;
+    Ok(out.get(12..).unwrap_or_default().to_vec())
+}
+
 /// The packet of a VP8 payload with a PictureID of 15 bits and TL0PICIDX, TID 1 (RFC 7741, section 4.2).
 fn vp8(id: u16, tl0: u8, frame: &[u8]) -> Vec<u8> {
     let [high, low] = id.to_be_bytes();
@@ -389,15 +405,8 @@ fn vp8(id: u16, tl0: u8, frame: &[u8]) -> Vec<u8> {
 #[test]
 fn ids_of_vp8_go_on() -> Outcome {
     let mut forwarder = Forwarder::new(settings(Codec::Vp8))?;
-    let mut out = Vec::new();
-    let mut write = |ssrc: u32, number: u16, payload: &[u8]| -> Result<Vec<u8>, Box<dyn Error>> {
-        if forwarder.source() != Some(ssrc) {
-            forwarder.want(ssrc);
-        }
-        let datagram = packet(number, 0, ssrc, payload);
-        forwarder.write(0, &RtpPacket::parse(&datagram)?, &mut out)?;
-        Ok(out.get(12..).unwrap_or_default().to_vec())
-    };
+    let mut write =
+        |ssrc: u32, number: u16, payload: &[u8]| written(&mut forwarder, ssrc, number, payload);
     // The first picture gets 0 and 0, whatever it had.
     assert_eq!(write(1, 10, &vp8(500, 77, &[0, 9]))?, vp8(0, 0, &[0, 9]));
     // Offsets stay, with gaps and late packets.
@@ -418,6 +427,243 @@ fn ids_of_vp8_go_on() -> Outcome {
     );
     assert_eq!(write(3, 7, &[0x90, 0x80, 0, 1, 9])?, [0x90, 0x80, 8, 1, 9]);
     assert_eq!(write(4, 1, &[0x10, 0, 9])?, [0x10, 0, 9]);
+    Ok(())
+}
+
+/// The payload of VP9 with a PictureID, of 15 bits or of 7 (RFC 9628, section 4.2). In the non-flexible mode it has TID 1 and
+/// TL0PICIDX; in the flexible mode P_DIFF 1 unless the picture is a keyframe.
+fn vp9(is_flexible: bool, is_long: bool, id: u16, tl0: u8, is_key: bool) -> Vec<u8> {
+    // I L, F in the flexible mode, P unless a keyframe; B and E.
+    let mut payload = vec![0xac];
+    if is_flexible {
+        payload[0] |= 0x10;
+    }
+    if !is_key {
+        payload[0] |= 0x40;
+    }
+    if is_long {
+        payload.extend((0x8000 | (id % 32_768)).to_be_bytes());
+    } else {
+        payload.push((id % 128) as u8);
+    }
+    payload.push(0x20);
+    if !is_flexible {
+        payload.push(tl0);
+    } else if !is_key {
+        payload.push(1 << 1);
+    }
+    payload.extend([0x82, tl0, 0x55]);
+    payload
+}
+
+#[test]
+fn ids_of_vp9_go_on() -> Outcome {
+    let mut forwarder = Forwarder::new(settings(Codec::Vp9))?;
+    let mut write =
+        |ssrc: u32, number: u16, payload: &[u8]| written(&mut forwarder, ssrc, number, payload);
+    // The first picture gets 0 and 0. Offsets stay, with gaps and late packets. Bytes after the ids stay.
+    let start = [0x8a, 0x81, 0xf4, 0x18, 3, 4];
+    assert_eq!(write(1, 10, &start)?, [0x8a, 0x80, 0, 0x18, 3, 4]);
+    let layered = [0xe5, 0x81, 0xf7, 0x32, 200, 9];
+    assert_eq!(write(1, 13, &layered)?, [0xe5, 0x80, 3, 0x32, 200, 9]);
+    let late = [0x81, 0x81, 0xf5, 7];
+    assert_eq!(write(1, 11, &late)?, [0x81, 0x80, 1, 7]);
+    // Another source, in the non-flexible mode with layers, follows the last ids that were sent.
+    let next = [0xa8, 0xff, 0xff, 0x10, 250, 9];
+    assert_eq!(write(2, 99, &next)?, [0xa8, 0x80, 4, 0x10, 201, 9]);
+    let wrapped = [0xe5, 0x80, 0x00, 0x32, 0, 9];
+    assert_eq!(write(2, 100, &wrapped)?, [0xe5, 0x80, 5, 0x32, 207, 9]);
+    // The flexible mode has no TL0PICIDX: the byte after the layers is P_DIFF, which stays.
+    let flexible = [0xf5, 0x80, 0x01, 0x20, 0x02, 9];
+    assert_eq!(write(2, 101, &flexible)?, [0xf5, 0x80, 6, 0x20, 0x02, 9]);
+    // Ids of 7 bits keep their width, and go on modulo 2^7; with one of 15 bits they go on from there.
+    let short = [0xa8, 126, 0x10, 9, 9];
+    assert_eq!(write(3, 5, &short)?, [0xa8, 7, 0x10, 208, 9]);
+    assert_eq!(write(3, 6, &[0x8c, 127, 9])?, [0x8c, 8, 9]);
+    assert_eq!(write(3, 7, &[0x8c, 0, 9])?, [0x8c, 9, 9]);
+    let long = [0x88, 0x80, 77, 9];
+    assert_eq!(write(4, 1, &long)?, [0x88, 0x80, 10, 9]);
+    // Without ids, and cut off before the end of the ids: as received.
+    for (number, payload) in [
+        &[0x04, 9][..],
+        &[0xa0],
+        &[0xa0, 0x80],
+        &[0xa0, 5, 0x10],
+        &[],
+    ]
+    .into_iter()
+    .enumerate()
+    {
+        assert_eq!(write(4, 2 + number as u16, payload)?, payload);
+    }
+    Ok(())
+}
+
+/// A picture of VP9 that is left out leaves a gap in the picture ids: a difference of the flexible mode counts ids, and a group of
+/// pictures names a picture by its id.
+#[test]
+fn picture_ids_of_vp9_keep_gaps() -> Outcome {
+    for (is_flexible, is_long) in [(false, true), (true, true), (false, false), (true, false)] {
+        let mut forwarder = Forwarder::new(settings(Codec::Vp9))?;
+        let mut out = Vec::new();
+        forwarder.want(1);
+        for number in 0..300_u16 {
+            let payload = vp9(is_flexible, is_long, 500 + number, 7, number == 0);
+            let datagram = packet(number, 0, 1, &payload);
+            let read = RtpPacket::parse(&datagram)?;
+            if number % 2 == 1 {
+                assert_eq!(forwarder.leave_out(&read, &mut out)?, Forwarded::LeftOut);
+            } else {
+                forwarder.write(0, &read, &mut out)?;
+                assert_eq!(out[2..4], 65_530_u16.wrapping_add(number / 2).to_be_bytes());
+                assert_eq!(
+                    out[12..],
+                    vp9(is_flexible, is_long, number, 7, number == 0)
+                        .iter()
+                        .enumerate()
+                        .map(|(at, byte)| {
+                            let tl0 = if is_long { 4 } else { 3 };
+                            if at == tl0 && !is_flexible { 0 } else { *byte }
+                        })
+                        .collect::<Vec<u8>>()
+                );
+            }
+        }
+    }
+    Ok(())
+}
+
+/// The ids of a picture of one of three sources of VP9, by number.
+struct Vp9Source {
+    is_flexible: bool,
+    is_long: bool,
+    first_id: u64,
+    first_tl0: u64,
+}
+
+impl Vp9Source {
+    /// The payload of the packet with this number, two packets a picture. Every hundredth picture is a keyframe.
+    fn payload(&self, number: u64, id: u64, tl0: u64) -> Vec<u8> {
+        let picture = number / 2;
+        let mut payload = vp9(
+            self.is_flexible,
+            self.is_long,
+            (id % 32_768) as u16,
+            (tl0 % 256) as u8,
+            picture.is_multiple_of(100),
+        );
+        if number % 2 == 1 {
+            payload[0] &= !0x08;
+        }
+        let end = payload.len() - 2;
+        payload[end] = picture as u8;
+        payload
+    }
+
+    fn received(&self, number: u64) -> Vec<u8> {
+        self.payload(
+            number,
+            self.first_id + number / 2,
+            self.first_tl0 + number / 4,
+        )
+    }
+}
+
+/// Ids of VP9 against a model, with losses, reordering, repetitions, pictures left out, and switches between sources whose ids have 7
+/// or 15 bits: between switches a payload has the ids received plus offsets, and at a switch the ids go on by one.
+#[test]
+fn ids_of_vp9_follow_a_model() -> Outcome {
+    let mut random = 11_u64;
+    let mut next = |below: u64| {
+        random = random
+            .wrapping_mul(6_364_136_223_846_793_005)
+            .wrapping_add(1_442_695_040_888_963_407);
+        (random >> 33) % below
+    };
+    let source = |is_flexible, is_long, first_id, first_tl0| Vp9Source {
+        is_flexible,
+        is_long,
+        first_id,
+        first_tl0,
+    };
+    let sources = [
+        source(false, true, 32_000, 250),
+        source(true, true, 5, 0),
+        source(false, false, 100, 9),
+        source(true, false, 3, 0),
+    ];
+    let mut forwarder = Forwarder::new(settings(Codec::Vp9))?;
+    let mut out = Vec::new();
+    // What is added to the ids of the source, and the ids that were sent last.
+    let (mut id_offset, mut tl0_offset) = (0_u64, 0_u64);
+    let (mut last_id, mut last_tl0, mut highest) = (32_767_u64, 255_u64, 0);
+    let (mut written, mut switches) = (0, 0);
+    let mut sent: BTreeMap<u64, Vec<u8>> = BTreeMap::new();
+    for step in 0..40_000_u64 {
+        if step % 3_001 == 0 {
+            forwarder.want(next(4) as u32);
+        }
+        let number = (step + 4).saturating_sub(next(9));
+        for (ssrc, source) in sources.iter().enumerate() {
+            let ssrc = ssrc as u32;
+            if next(10) == 0 {
+                continue;
+            }
+            let payload = source.received(number);
+            let datagram = packet((number % 65_536) as u16, 0, ssrc, &payload);
+            let read = RtpPacket::parse(&datagram)?;
+            let picture = number / 2;
+            if forwarder.source() == Some(ssrc) && picture % 7 == 3 {
+                forwarder.leave_out(&read, &mut out)?;
+                continue;
+            }
+            let answer = forwarder.write(0, &read, &mut out)?;
+            let width = if source.is_long { 32_768 } else { 128 };
+            let (id, tl0) = (source.first_id + picture, source.first_tl0 + number / 4);
+            match answer {
+                Forwarded::Began => {
+                    let (id, tl0) = (id % width, tl0 % 256);
+                    id_offset = (last_id + 1 + 65_536 - id) % 65_536;
+                    if !source.is_flexible {
+                        tl0_offset = (last_tl0 + 1 + 256 - tl0) % 256;
+                    }
+                    (highest, switches) = (number, switches + 1);
+                    sent.clear();
+                }
+                Forwarded::Written => {}
+                _ => continue,
+            }
+            written += 1;
+            let expected_id = (id % width + id_offset) % width;
+            let expected_tl0 = (tl0 + tl0_offset) % 256;
+            let mut expected = source.payload(number, expected_id, expected_tl0);
+            // The bytes after the descriptor stay.
+            let end = expected.len() - 3;
+            expected[end..].copy_from_slice(&payload[payload.len() - 3..]);
+            assert_eq!(out[12..], expected, "packet {number} of {ssrc}");
+            if number >= highest {
+                (highest, last_id) = (number, expected_id);
+                if !source.is_flexible {
+                    last_tl0 = expected_tl0;
+                }
+            }
+            sent.insert(number, out.clone());
+            // Written again, it is what was sent.
+            let (&again, bytes) = sent.iter().next().ok_or("nothing was sent")?;
+            if number < again + 30_000 {
+                let payload = source.received(again);
+                let datagram = packet((again % 65_536) as u16, 0, ssrc, &payload);
+                let bytes = bytes.clone();
+                if forwarder.write_again(&RtpPacket::parse(&datagram)?, &mut out)? {
+                    assert_eq!(out, bytes);
+                }
+            }
+        }
+    }
+    assert!(
+        written > 20_000 && switches > 9,
+        "{written} written, {switches} switches"
+    );
     Ok(())
 }
 

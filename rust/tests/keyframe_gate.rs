@@ -270,3 +270,32 @@ fn packets_of_incomplete_frames_are_counted() -> Result<(), Box<dyn Error>> {
     assert_eq!(discarded(&receiver), (2, 2, 0, 0));
     Ok(())
 }
+
+/// A picture of VP8 in the layers 0 1 0 1 .., with both ids; 1 and 9 refer to the base layer alone (Y).
+fn in_layers(number: u16) -> Vec<u8> {
+    let sync = number == 1 || number == 9;
+    let layer = (number % 2) as u8;
+    let mut payload = vec![0x90, 0xE0, 0x80, 7 + number as u8, (number / 2) as u8];
+    payload.push(layer << 6 | u8::from(sync) << 5);
+    payload.extend(frame(number == 0, number as u8));
+    datagram(number, &payload)
+}
+
+#[test]
+fn a_lost_picture_of_a_layer_wants_no_keyframe() -> Result<(), Box<dyn Error>> {
+    for (from_keyframe, are_released) in [(FromKeyframe::Mark, true), (FromKeyframe::Drop, false)] {
+        let mut receiver = receiver(from_keyframe)?;
+        for number in (0..12).filter(|&number| number != 3) {
+            receiver.receive(Ticks(0), &in_layers(number))?;
+        }
+        receiver.finish()?;
+        // 5 and 7 may refer to 3, although nothing is missing in front of them.
+        let wanted: Vec<Judged> = (0..12)
+            .filter(|number| *number != 3 && (are_released || ![5, 7].contains(number)))
+            .map(|number| (number, number == 0, ![5, 7].contains(&number), false))
+            .collect();
+        assert_eq!(units(&mut receiver)?, wanted);
+        assert_eq!(receiver.counters().undecodable, 2);
+    }
+    Ok(())
+}

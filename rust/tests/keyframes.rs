@@ -1,7 +1,7 @@
 //! The keyframe gate over units of VP8, VP9 and AV1.
 
-use codec_payload::Codec;
 use codec_payload::keyframes::{KeyframeGate, is_keyframe};
+use codec_payload::{Codec, CodecExtra};
 
 /// Frame headers of VP8 (RFC 6386, section 9.1): bit 0 of the first byte is 0 for a keyframe, which goes on with a start code and
 /// its size.
@@ -24,37 +24,40 @@ fn a_keyframe_is_told_by_its_bits() {
 fn delta_frames_after_a_gap_wait_for_a_keyframe() {
     let mut gate = KeyframeGate::new(Codec::Vp8);
     assert!(!gate.wants_keyframe(), "nothing was released yet");
-    assert!(!gate.release(VP8_DELTA, true), "no keyframe came yet");
-    assert!(gate.wants_keyframe());
-    assert!(gate.release(VP8_KEY, false));
-    assert!(!gate.wants_keyframe());
-    assert!(gate.release(VP8_DELTA, true));
-    assert!(!gate.release(VP8_DELTA, false), "a gap");
     assert!(
-        !gate.release(VP8_DELTA, true),
+        !gate.release(VP8_DELTA, true, &CodecExtra::None),
+        "no keyframe came yet"
+    );
+    assert!(gate.wants_keyframe());
+    assert!(gate.release(VP8_KEY, false, &CodecExtra::None));
+    assert!(!gate.wants_keyframe());
+    assert!(gate.release(VP8_DELTA, true, &CodecExtra::None));
+    assert!(!gate.release(VP8_DELTA, false, &CodecExtra::None), "a gap");
+    assert!(
+        !gate.release(VP8_DELTA, true, &CodecExtra::None),
         "contiguous, after a unit that cannot be shown"
     );
     assert!(gate.wants_keyframe());
-    assert!(gate.release(VP8_KEY, true));
+    assert!(gate.release(VP8_KEY, true, &CodecExtra::None));
     assert!(!gate.wants_keyframe());
 }
 
 #[test]
 fn a_lost_unit_and_skipped_units_want_a_keyframe() {
     let mut gate = KeyframeGate::new(Codec::Vp8);
-    assert!(gate.release(VP8_KEY, true));
+    assert!(gate.release(VP8_KEY, true, &CodecExtra::None));
     gate.skip();
     assert!(gate.wants_keyframe());
     assert!(
-        gate.release(VP8_DELTA, true),
+        gate.release(VP8_DELTA, true, &CodecExtra::None),
         "by its picture ids it follows"
     );
     assert!(gate.wants_keyframe(), "only a keyframe ends it");
-    assert!(gate.release(VP8_KEY, true));
+    assert!(gate.release(VP8_KEY, true, &CodecExtra::None));
     gate.lose();
     assert!(gate.wants_keyframe());
     assert!(!gate.shows_last());
-    assert!(!gate.release(VP8_DELTA, true));
+    assert!(!gate.release(VP8_DELTA, true, &CodecExtra::None));
 }
 
 #[test]
@@ -62,6 +65,6 @@ fn audio_needs_no_keyframe() {
     let mut gate = KeyframeGate::new(Codec::Opus);
     gate.lose();
     gate.skip();
-    assert!(gate.release(&[0x78], false));
+    assert!(gate.release(&[0x78], false, &CodecExtra::None));
     assert!(!gate.wants_keyframe());
 }

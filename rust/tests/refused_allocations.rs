@@ -5,6 +5,8 @@
 #[allow(dead_code, reason = "the tests of sessions use the rest")]
 #[path = "sessions/datagrams.rs"]
 mod datagrams;
+#[path = "refused/descriptors.rs"]
+mod descriptors;
 #[path = "refused/runs.rs"]
 mod runs;
 

@@ -147,7 +147,6 @@ static void read_layers(peer *it, const description *offer, const cpay_sdp_media
     if (!media->rid_id || !value_of(offer, media->line, "a=simulcast:send ", list, sizeof list)) return;
     for (char *name = strtok_r(list, ";,~ ", &rest); name && it->layers_len < MOST_LAYERS; name = strtok_r(NULL, ";,~ ", &rest))
         if (is_name(name)) snprintf(it->layers[it->layers_len++], MOST_NAME, "%s", name);
-    it->rid_id = media->rid_id;
 }
 
 /* Chooses the codecs. Returns NULL, or what is wrong. */

@@ -83,19 +83,18 @@ const char *publisher_begin(peer *it, const cpay_sdp_media *media, size_t count)
 
 /* ---- packets ---- */
 
-/* The track of a stream by its payload type and, with simulcast, by the RID of its first packets. NULL: none. */
-static track *track_of(const peer *it, uint8_t payload_type, uint32_t ssrc, const uint8_t *datagram, size_t size) {
+/* The track of a stream by its payload type and, with simulcast, by its RID. NULL: none. */
+static track *track_of(const peer *it, uint8_t payload_type, uint32_t ssrc) {
     track *tracks = it->publisher->tracks;
     int kind = kind_with(it, payload_type);
-    uint8_t rid[MOST_NAME];
-    size_t length = 0;
+    cpay_stream_names names;
     if (kind < 0) return NULL;
     if (kind == AUDIO || it->layers_len < 2) return &tracks[kind];
     for (int i = VIDEO; i <= last_track(it); i++)
         if (tracks[i].source.arrived && tracks[i].source.ssrc == ssrc) return &tracks[i];
-    if (!datagram || cpay_extension(datagram, size, it->rid_id, rid, sizeof rid, &length)) return NULL;
+    if (cpay_session_names(&it->publisher->session, ssrc, payload_type, &names)) return NULL;
     for (int i = 0; i < it->layers_len; i++)
-        if (strlen(it->layers[i]) == length && !memcmp(it->layers[i], rid, length)) return &tracks[VIDEO + i];
+        if (strlen(it->layers[i]) == names.rid_len && !memcmp(it->layers[i], names.rid, names.rid_len)) return &tracks[VIDEO + i];
     return NULL;
 }
 
@@ -128,7 +127,7 @@ static bool begin_source(source *to, uint32_t ssrc) {
 static void forward(peer *it, const cpay_arrival *arrival, const uint8_t *bytes, size_t size) {
     uint8_t original[MOST_DATAGRAM];
     cpay_rtp_info info = {0};
-    track *of = track_of(it, arrival->payload_type, arrival->ssrc, bytes, size);
+    track *of = track_of(it, arrival->payload_type, arrival->ssrc);
     if (!of || size > MOST_FORWARDED || cpay_rtp_read(bytes, size, &info) || !begin_source(&of->source, arrival->ssrc)) return;
     int number = number_of(it, of);
     uint8_t red = it->media[kind_of(number)].red_payload_type;
@@ -177,7 +176,7 @@ static bool is_recorded(const peer *it, int number) { return number == AUDIO || 
 static void handle(peer *it, const cpay_event *event, const uint8_t *bytes) {
     if (event->kind == CPAY_EVENT_REPORT || event->kind == CPAY_EVENT_FEEDBACK || event->kind == CPAY_EVENT_TRANSPORT_FEEDBACK)
         send_rtcp(it, bytes, event->bytes);
-    track *to = track_of(it, event->payload_type, event->ssrc, NULL, 0);
+    track *to = track_of(it, event->payload_type, event->ssrc);
     if (!to) return;
     int number = number_of(it, to);
     switch (event->kind) {
@@ -253,7 +252,7 @@ static void describe(peer *it) {
     cpay_session *session = &it->publisher->session;
     cpay_session_stream stream = {0};
     for (size_t place = 0; cpay_session_stream_at(session, place, &stream) == CPAY_OK; place++) {
-        track *of = track_of(it, stream.payload_type, stream.ssrc, NULL, 0);
+        track *of = track_of(it, stream.payload_type, stream.ssrc);
         if (of && of->source.ssrc == stream.ssrc &&
             !cpay_session_peek_report(session, now_ms(), stream.ssrc, stream.payload_type, &of->reported))
             of->stream = stream;

@@ -62,7 +62,7 @@ typedef struct {
     agreed media[KINDS];
     char layers[MOST_LAYERS][MOST_NAME]; /* the RIDs of simulcast, in the order of the offer; 0 or 1: no simulcast */
     int layers_len;
-    uint8_t rid_id, transport_id; /* ids of header extensions: RID, and the transport-wide number; 0: none */
+    uint8_t transport_id; /* id of the header extension with the transport-wide number; 0: none */
     publisher *publisher;         /* one of the two: a publisher, or the streams of a viewer by their kinds */
     outgoing *viewer;
 } peer;

@@ -183,6 +183,7 @@ void *twin_session(uint32_t codec, uint32_t rate, uint32_t flags, const uint64_t
     settings.idle_timeout = values[5];
     settings.bye_wait = values[6];
     settings.from_keyframe = (uint8_t)values[7];
+    settings.name_ids = (cpay_stream_name_ids){ .mid = 3, .rid = 4, .repaired_rid = 5 };
     if (cpay_session_settings_feedback(&settings, 77, name, sizeof name)) return NULL;
     formats[0].nack = formats[0].pli = formats[1].nack = formats[1].pli = true;
     cpay_session *made = calloc(1, sizeof *made);
@@ -229,6 +230,17 @@ uint32_t twin_session_report(void *session, uint64_t now, uint32_t ssrc, uint8_t
     uint32_t told[7] = { it.ssrc, it.fraction_lost, it.cumulative_lost, it.highest, it.jitter, it.last_sender_report,
                          it.delay_since_sender_report };
     for (int place = 0; place < 7; place++) block[place] = told[place];
+    return status;
+}
+
+/* The three names, each as its length and 32 bytes. */
+uint32_t twin_session_names(void *session, uint32_t ssrc, uint8_t payload_type, uint8_t names[99]) {
+    cpay_stream_names it = { .mid_len = 0 };
+    cpay_status status = cpay_session_names(session, ssrc, payload_type, &it);
+    names[0] = it.mid_len, names[33] = it.rid_len, names[66] = it.repaired_rid_len;
+    memcpy(names + 1, it.mid, 32);
+    memcpy(names + 34, it.rid, 32);
+    memcpy(names + 67, it.repaired_rid, 32);
     return status;
 }
 

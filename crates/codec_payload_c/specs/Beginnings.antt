@@ -1,6 +1,7 @@
 -- Settings to begin with, by purpose. 1: live media whose lost packets are retransmitted; 2: packets from a file; any other number:
 -- live media without retransmission.
 use Rattle.std.specs.Prelude.{◌≡◌, ℕ, ◌==◌, ◌||◌, ◌-◌, ◌^◌, if◌then◌else◌, Bool, true, false, List, take, length, nat_le, ◌&&◌}
+use Rattle.codec_payload_c.specs.SessionNames.{no_name_ids}
 use Rattle.codec_payload_c.specs.declared.adaptive_wait.AdaptiveWaitSettings.{AdaptiveWaitSettings}
 use Rattle.codec_payload_c.specs.declared.extension.ExtensionIds.{ExtensionIds}
 use Rattle.codec_payload_c.specs.declared.receiver.ReceiverSettings.{ReceiverSettings}
@@ -118,6 +119,7 @@ pub record IsSessionFor (purpose : ℕ) (s : SessionSettings) : Type 0 where
   pub extension_ids : s.extension_ids ≡ no_ids
   pub has_transport : s.has_transport ≡ false
   pub transport : s.transport ≡ record { interval = 100; size = 1100; window = 2048; extension_id = 0 }
+  pub name_ids : s.name_ids ≡ no_name_ids
 
 -- the session sends feedback with this SSRC and this name of 1 to 255 bytes; all else stays
 pub record Named (ssrc : ℕ) (name : List ℕ) (s t : SessionSettings) : Type 0 where

@@ -22,6 +22,7 @@ pub mod SessionChanges
 pub mod SessionFaults
 pub mod SessionFormats
 pub mod SessionKeyframes
+pub mod SessionNames
 pub mod SessionPairs
 pub mod SessionReports
 pub mod SessionStreams

@@ -7,6 +7,7 @@ ghost use Rattle.codec_payload_c.specs.Beginnings.{IsFeedback, IsSessionFor, Nam
 use crate::adaptive_wait::AdaptiveWaitSettings;
 use crate::extension::ExtensionIds;
 use crate::receiver::{ReceiverSettings, WaitLimits};
+use crate::session_names::StreamNameIds;
 use crate::session_settings::{SessionFeedback, SessionSettings, SessionTransport};
 use codec_payload_handle::settings::Spec;
 use codec_payload_handle::status;
@@ -240,6 +241,11 @@ pub extern "C" fn cpay_session_settings_init(settings: &mut SessionSettings, pur
             size: 1_100,
             window: 2_048,
             extension_id: 0,
+        },
+        name_ids: StreamNameIds {
+            mid: 0,
+            rid: 0,
+            repaired_rid: 0,
         },
     };
 }

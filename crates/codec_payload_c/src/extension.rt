@@ -35,7 +35,7 @@ pub struct ExtensionIds {
 }
 
 /// Returns an id, if one was agreed on.
-fn id_of(id: u8) -> Option<u8>
+pub(crate) fn id_of(id: u8) -> Option<u8>
     ensures { result ≡ id_given id }
 {
     if id == 0 { None } else { Some(id) }

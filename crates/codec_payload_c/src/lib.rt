@@ -27,6 +27,7 @@ mod session;
 mod session_faults;
 mod session_formats;
 mod session_keyframes;
+mod session_names;
 mod session_pairs;
 mod session_reports;
 mod session_settings;

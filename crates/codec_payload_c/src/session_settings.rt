@@ -7,6 +7,7 @@ ghost use Rattle.codec_payload_c.specs.SessionFormats.{AreSessionSettings, HasPl
 use crate::adaptive_wait::{AdaptiveWaitSettings, bounds_of};
 use crate::extension::{ExtensionIds, ids_of};
 use crate::receiver::{WaitLimits, bound_of, from_keyframe_of, waiting_for};
+use crate::session_names::{StreamNameIds, name_ids_of};
 use codec_payload_core::wire::{CodecSpec, Frequency};
 use codec_payload_feedback::transport::TransportSettings;
 use codec_payload_feedback_requests::nack::NackSettings;
@@ -153,6 +154,8 @@ pub struct SessionSettings {
     pub extension_ids: ExtensionIds,
     /// How the arrivals of packets are reported.
     pub transport: SessionTransport,
+    /// The ids of the header extensions with names of streams.
+    pub name_ids: StreamNameIds,
 }
 
 /// Returns how the format uses RED.
@@ -373,6 +376,7 @@ fn settings_of(alloc: Global, settings: &SessionSettings) -> Option<Settings>
         telephone_events: Vec::new(alloc),
         pairs: Vec::new(alloc),
         extension_ids: ids_of(settings.extension_ids),
+        name_ids: name_ids_of(settings.name_ids),
         audio: waiting_for(settings.audio),
         video: waiting_for(settings.video),
         late: bounds_of(&settings.late),

@@ -7,6 +7,7 @@ use Rattle.std.proofs.lemmas.List.{length-append, length-replicate}
 use Rattle.std.proofs.lemmas.Option.{slice_get-map}
 use Rattle.codec_payload_base.specs.declared.wire.Codec.{Codec}
 use Rattle.codec_payload_buffer_runs.specs.SentStream.{AreReadable, packetizer_after_sample, units_of_run, units_of_sample}
+use Rattle.codec_payload_buffer_runs.specs.Units.{canonical_units, is_readable}
 use Rattle.codec_payload_buffer_runs.specs.declared.run.Step.{Step}
 use Rattle.codec_payload_buffer_runs.specs.declared.run.Step.TheVariants as run_steps
 use Rattle.codec_payload_codec.specs.Packetizers.{PacketizerState}
@@ -24,10 +25,11 @@ use Rattle.codec_payload_datagram_runs.specs.WireRuns.{Runs, begins}
 use Rattle.codec_payload_datagram_runs.specs.declared.run.DatagramStep.{DatagramStep}
 use Rattle.codec_payload_datagram_runs.specs.declared.run.DatagramStep.TheVariants as plain
 use Rattle.codec_payload_datagram_runs.specs.declared.run.SentSample.{SentSample}
+use Rattle.codec_payload_forward_runs.proofs.MovedPayloads.{after_moves, same_fact}
 use Rattle.codec_payload_forward_runs.proofs.SenderLemmas.{map_append, viewer_time}
 use Rattle.codec_payload_forward_runs.proofs.ViewerLemmas.{GoesOn}
 use Rattle.codec_payload_forward_runs.proofs.ViewerRuns.{Comes, Fit, IsAt, comes, ends_on}
-use Rattle.codec_payload_forward_runs.specs.ForwardReleases.{AreForwarded, ForwardsStream, IsForwardedWithinWindows, PacketsForwarded, PromisesForwarded, ReleaseForwarded, forwarded_in, forwarded_of, viewer_sample, viewer_samples, viewer_sender, viewer_steps, viewer_steps_of, viewer_wire}
+use Rattle.codec_payload_forward_runs.specs.ForwardReleases.{AreForwarded, ForwardsStream, IsForwardedWithinWindows, PacketsForwarded, PromisesForwarded, ReleaseForwarded, forwarded_in, forwarded_of, viewer_sample, viewer_packetizer, viewer_samples, viewer_sender, viewer_steps, viewer_steps_of, keeps_packetizer, viewer_wire}
 use Rattle.codec_payload_forward_runs.specs.ForwardRuns.{ForwardRuns, Hops, begins_forwarding}
 use Rattle.codec_payload_forward_runs.specs.declared.run.ForwardStep.{ForwardStep}
 
@@ -82,18 +84,33 @@ module _ (f : Forward) (rate : ℕ) where
       → packetizer_after_sample packetizer mtu (slice_get (moved samples) i) ≡ packetizer_after_sample packetizer mtu (slice_get samples i)
   after_at packetizer mtu i samples = ap (packetizer_after_sample packetizer mtu) (slice_get-map (viewer_sample f rate) samples i) ∙ after_same packetizer mtu (slice_get samples i)
 
-  pub same_units : (packetizer : PacketizerState) (samples : List Sample) (all_steps : List Step) → units_of_run packetizer (moved samples) all_steps ≡ units_of_run packetizer samples all_steps
+  -- and they do not depend on moved ids
+  abbrev moves : PacketizerState → PacketizerState
+  moves = viewer_packetizer f
+
+  units_move : (packetizer : PacketizerState) (mtu : ℕ) (o : Option Sample) → units_of_sample (moves packetizer) mtu o ≡ units_of_sample packetizer mtu o
+  units_move packetizer mtu None = refl
+  units_move packetizer mtu (Some sample) = same_fact (λ (p : PacketizerState). canonical_units p mtu sample.bytes) f.settings.codec f.ids.offsets packetizer (λ s. refl)
+
+  after_move : (packetizer : PacketizerState) (mtu : ℕ) (o : Option Sample) → packetizer_after_sample (moves packetizer) mtu o ≡ moves (packetizer_after_sample packetizer mtu o)
+  after_move packetizer mtu None = refl
+  after_move packetizer mtu (Some sample) = after_moves f.settings.codec f.ids.offsets packetizer mtu sample.bytes
+
+  pub same_units : (packetizer : PacketizerState) (samples : List Sample) (all_steps : List Step) → units_of_run (moves packetizer) (moved samples) all_steps ≡ units_of_run packetizer samples all_steps
   same_units packetizer samples [] = refl
   same_units packetizer samples (run_steps.Send i mtu ∷ later) =
-      ap (λ (us : List (List (List ℕ))). us ++ units_of_run (packetizer_after_sample packetizer mtu (slice_get (moved samples) i)) (moved samples) later) (units_at packetizer mtu i samples)
-      ∙ (ap (λ (p : PacketizerState). units_of_sample packetizer mtu (slice_get samples i) ++ units_of_run p (moved samples) later) (after_at packetizer mtu i samples)
-      ∙ ap (λ (us : List (List (List ℕ))). units_of_sample packetizer mtu (slice_get samples i) ++ us) (same_units (packetizer_after_sample packetizer mtu (slice_get samples i)) samples later))
+      let o : Option Sample = slice_get samples i in
+      ap (λ (us : List (List (List ℕ))). us ++ units_of_run (packetizer_after_sample (moves packetizer) mtu (slice_get (moved samples) i)) (moved samples) later)
+      (units_at (moves packetizer) mtu i samples ∙ units_move packetizer mtu o)
+      ∙ (ap (λ (p : PacketizerState). units_of_sample packetizer mtu o ++ units_of_run p (moved samples) later) (after_at (moves packetizer) mtu i samples ∙ after_move packetizer mtu o)
+      ∙ ap (λ (us : List (List (List ℕ))). units_of_sample packetizer mtu o ++ us) (same_units (packetizer_after_sample packetizer mtu o) samples later))
   same_units packetizer samples (run_steps.Push k ∷ later) = same_units packetizer samples later
   same_units packetizer samples (run_steps.Pop ∷ later) = same_units packetizer samples later
 
-  same_readable : (packetizer : PacketizerState) (samples : List Sample) → AreReadable packetizer samples → AreReadable packetizer (moved samples)
+  same_readable : (packetizer : PacketizerState) (samples : List Sample) → AreReadable packetizer samples → AreReadable (moves packetizer) (moved samples)
   same_readable packetizer [] readable = tt
-  same_readable packetizer (sample ∷ samples) readable = (readable.0, same_readable packetizer samples readable.1)
+  same_readable packetizer (sample ∷ samples) readable =
+      (same_fact (λ (p : PacketizerState). is_readable p sample.bytes) f.settings.codec f.ids.offsets packetizer (λ s. refl) ∙ readable.0, same_readable packetizer samples readable.1)
 
 -- Times
 
@@ -244,28 +261,34 @@ module _ (samples : List Sample) (all_steps : List ForwardStep) (sender : Sendin
   abbrev codec : Codec
   codec = forwarder.settings.codec
 
+  -- whether the packetizer is of the codec
+  abbrev kind : Bool
+  kind = keeps_packetizer codec sender.packetizer
+
   abbrev seen : List DatagramStep
   seen = viewer_steps_of samples all_steps t
 
-  begun : IsAt sender.stream.ssrc rate codec (begins_forwarding sender forwarder receiver)
-  begun = record { source = record { source = refl; clock = refl; keeps = forwards.keeps; all = tt }; codec_is = refl; none = forwards.none_left_out }
+  begun : IsAt sender.stream.ssrc rate codec kind (begins_forwarding sender forwarder receiver)
+  begun = record { source = record { source = refl; clock = refl; keeps = forwards.keeps; of_codec = λ on. on; all = tt }; codec_is = refl; none = forwards.none_left_out }
 
-  came : Comes sender.stream.ssrc rate codec samples all_steps (begins_forwarding sender forwarder receiver) t []
-  came = comes sender.stream.ssrc rate codec samples all_steps (begins_forwarding sender forwarder receiver) t [] begun tt run
+  came : Comes sender.stream.ssrc rate codec kind samples all_steps (begins_forwarding sender forwarder receiver) t []
+  came = comes sender.stream.ssrc rate codec kind samples all_steps (begins_forwarding sender forwarder receiver) t [] begun tt run
 
   on : GoesOn sender.stream.ssrc forwarder e
-  on = ends_on sender.stream.ssrc rate codec samples all_steps (begins_forwarding sender forwarder receiver) t begun run
+  on = ends_on sender.stream.ssrc rate codec kind samples all_steps (begins_forwarding sender forwarder receiver) t begun run
 
   pub written : AreForwarded e t.wire.datagrams t.written (forwarded_of samples all_steps t)
   written = subst (λ (rs : List Forwarded). AreForwarded e t.wire.datagrams t.written (forwarded_in samples 0 [] all_steps t.wire.sends rs)) (sym came.results)
       (subst (λ (es : List SentSample). AreForwarded e t.wire.datagrams t.written (forwarded_in samples 0 [] all_steps es came.more)) (sym came.sends) came.written)
 
   module _ (within : IsForwardedWithinWindows samples all_steps (begins_forwarding sender forwarder receiver) t) where
-    fit : Fit sender.stream.ssrc rate codec samples e
+    fit : Fit sender.stream.ssrc rate codec kind samples e
     fit = (
       within.widths.clock_rate,
       subst (λ (s : _). s.payload_type < 128) (sym on.settings) within.widths.payload_type,
       subst (λ (s : _). s.ssrc < 2 ^ 32) (sym on.settings) within.widths.ssrc,
+      ap (λ (s : _). s.codec) on.settings,
+      within.of_codec,
     )
 
     pub course : Runs (viewer_samples e rate samples) seen (begins (viewer_sender e sender) receiver) (viewer_wire e t.wire)

@@ -14,6 +14,7 @@ use Rattle.codec_payload_forward_runs.specs.ForwardRunExample.{ForwardingCanBeMe
 is_within : (no_media : Vec ℕ) → IsForwardedWithinWindows frames_sent forward_steps (opus_before no_media) (opus_after no_media)
 is_within no_media = record {
   forwards = record { keeps = refl; none_left_out = λ on. refl };
+  of_codec = refl;
   widths = record { clock_rate = lit< tt; payload_type = lit< tt; ssrc = lit< tt };
   settings = viewer_settings no_media;
   depacketizer = OpusDepacketizing;
@@ -37,6 +38,7 @@ is_within no_media = record {
 vp8_is_within : (d : Vp8Depacketizer) (no_media : Vec ℕ) → IsForwardedWithinWindows vp8_frames vp8_steps (vp8_before d no_media) (vp8_after d no_media)
 vp8_is_within d no_media = record {
   forwards = record { keeps = refl; none_left_out = λ on. refl };
+  of_codec = refl;
   widths = record { clock_rate = lit< tt; payload_type = lit< tt; ssrc = lit< tt };
   settings = viewer_settings no_media;
   depacketizer = Vp8Depacketizing d;

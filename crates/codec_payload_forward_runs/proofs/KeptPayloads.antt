@@ -1,4 +1,4 @@
--- Payloads that a forwarder keeps: all payloads except those of VP8 with picture ids.
+-- Payloads that a forwarder keeps: those of VP8 without picture ids; and packetizers that stay of one kind.
 use Rattle.std.proofs.Common.{◌≡◌, ◌∙◌, refl, sym, ap, subst, ℕ, zero, suc, ◌<◌, List, [], ◌∷◌, ◌++◌, Bool, true, false, ltb, Option, Some, None, Result, Ok, Err, length, arith}
 use Rattle.std.specs.Prelude.{slice_index_or}
 use Rattle.std.proofs.lemmas.Bool.{ltb-false, ltb-true}
@@ -9,11 +9,13 @@ use Rattle.codec_payload_base.specs.declared.wire.Codec.{Codec}
 use Rattle.codec_payload_base.specs.declared.wire.Codec.TheVariants as codecs
 use Rattle.codec_payload_codec.specs.Packetizers.{PacketizerState, PacketizerStep, is_built_in}
 use Rattle.codec_payload_codec.specs.Packetizers as packetizers
-use Rattle.codec_payload_sending_forward.specs.Forwarding.{payload_for}
+use Rattle.codec_payload_sending_forward.specs.Forwarding.{offsets_for, payload_for}
+use Rattle.codec_payload_sending_forward.specs.Ids.{Ids, offsets_at}
+use Rattle.codec_payload_vp9.specs.Vp9Sent.{Sender}
 use Rattle.codec_payload_sending_forward.specs.Vp8Numbers.{payload_as}
-use Rattle.codec_payload_sending_forward.specs.declared.vp8_ids.IdOffsets.{IdOffsets}
+use Rattle.codec_payload_sending_forward.specs.declared.ids.IdOffsets.{IdOffsets}
 use Rattle.codec_payload_vp8.specs.Vp8Sent.{advanced, gives_packets, header}
-use Rattle.codec_payload_forward_runs.specs.ForwardReleases.{keeps_payloads}
+use Rattle.codec_payload_forward_runs.specs.ForwardReleases.{keeps_packetizer, keeps_payloads}
 
 -- a payload without ids
 plain_payload : (o : IdOffsets) (first last : Bool) (piece : List ℕ) → payload_as o (header None first last ++ piece) ≡ header None first last ++ piece
@@ -48,10 +50,10 @@ still_none true = refl
 still_none false = refl
 
 -- VP8 without ids: its payloads, and the packetizer after a frame
-abbrev IsPlainVp8 : PacketizerState → Type 0
+abbrev pub IsPlainVp8 : PacketizerState → Type 0
 IsPlainVp8 packetizer = packetizer ≡ packetizers.Vp8Packetizing None
 
-is_plain_vp8 : (packetizer : PacketizerState) → keeps_payloads codecs.Vp8 packetizer ≡ true → IsPlainVp8 packetizer
+pub is_plain_vp8 : (packetizer : PacketizerState) → keeps_payloads codecs.Vp8 packetizer ≡ true → IsPlainVp8 packetizer
 is_plain_vp8 packetizers.G711Packetizing keeps = absurd (cc)
 is_plain_vp8 packetizers.G722Packetizing keeps = absurd (cc)
 is_plain_vp8 packetizers.OpusPacketizing keeps = absurd (cc)
@@ -76,16 +78,58 @@ vp8_keeps packetizer after mtu frame answer plain asks =
     let next : step.1 ≡ None = step.2.1 ∙ still_none (gives_packets answer) in
     ap (keeps_payloads codecs.Vp8) step.3 ∙ ap (λ (id : Option ℕ). keeps_payloads codecs.Vp8 (packetizers.Vp8Packetizing id)) next
 
-vp8_kept : (packetizer after : PacketizerState) (mtu : ℕ) (frame : List ℕ) (payloads : List (List ℕ)) → IsPlainVp8 packetizer → Asks packetizer mtu frame (Ok payloads) after
+pub vp8_kept : (packetizer after : PacketizerState) (mtu : ℕ) (frame : List ℕ) (payloads : List (List ℕ)) → IsPlainVp8 packetizer → Asks packetizer mtu frame (Ok payloads) after
     → (o : IdOffsets) (i : ℕ) → i < length payloads → payload_as o (slice_index_or payloads i []) ≡ slice_index_or payloads i []
 vp8_kept packetizer after mtu frame payloads plain asks o i l =
     let step : PacketizerStep (packetizers.Vp8Packetizing None) mtu frame (Ok payloads) after = subst (λ (p : PacketizerState). Asks p mtu frame (Ok payloads) after) plain asks refl in
     vp8_each o mtu frame payloads step.2.0 i l
 
--- a packetizer whose payloads are kept is one after a frame too
-pub still_keeps : (codec : Codec) (packetizer after : PacketizerState) (mtu : ℕ) (frame : List ℕ) (answer : Result (List (List ℕ)) PacketError) → keeps_payloads codec packetizer ≡ true
+-- a packetizer of VP9
+pub is_vp9 : (packetizer : PacketizerState) → keeps_packetizer codecs.Vp9 packetizer ≡ true → (sender : Sender) × (packetizer ≡ packetizers.Vp9Packetizing sender)
+is_vp9 packetizers.G711Packetizing keeps = absurd (cc)
+is_vp9 packetizers.G722Packetizing keeps = absurd (cc)
+is_vp9 packetizers.OpusPacketizing keeps = absurd (cc)
+is_vp9 packetizers.ComfortNoisePacketizing keeps = absurd (cc)
+is_vp9 packetizers.TelePacketizing keeps = absurd (cc)
+is_vp9 (packetizers.Vp8Packetizing id) keeps = absurd (cc)
+is_vp9 packetizers.Av1Packetizing keeps = absurd (cc)
+is_vp9 (packetizers.AmrWbPacketizing octet) keeps = absurd (cc)
+is_vp9 packetizers.NullPacketizing keeps = absurd (cc)
+is_vp9 packetizers.BoxedPacketizing keeps = absurd (cc)
+is_vp9 (packetizers.Vp9Packetizing sender) keeps = (sender, refl)
+
+vp9_keeps : (packetizer after : PacketizerState) (mtu : ℕ) (frame : List ℕ) (answer : Result (List (List ℕ)) PacketError) (sender : Sender) → packetizer ≡ packetizers.Vp9Packetizing sender
+    → Asks packetizer mtu frame answer after → keeps_packetizer codecs.Vp9 after ≡ true
+vp9_keeps packetizer after mtu frame answer sender is asks =
+    let step : PacketizerStep (packetizers.Vp9Packetizing sender) mtu frame answer after = subst (λ (p : PacketizerState). Asks p mtu frame answer after) is asks refl in
+    ap (keeps_packetizer codecs.Vp9) step.3
+
+-- after a frame the payloads are kept too
+pub still_kept : (codec : Codec) (packetizer after : PacketizerState) (mtu : ℕ) (frame : List ℕ) (answer : Result (List (List ℕ)) PacketError) → keeps_payloads codec packetizer ≡ true
     → Asks packetizer mtu frame answer after → keeps_payloads codec after ≡ true
-still_keeps codecs.Vp8 packetizer after mtu frame answer keeps asks = vp8_keeps packetizer after mtu frame answer (is_plain_vp8 packetizer keeps) asks
+still_kept codecs.Vp8 packetizer after mtu frame answer keeps asks = vp8_keeps packetizer after mtu frame answer (is_plain_vp8 packetizer keeps) asks
+still_kept codecs.Vp9 packetizer after mtu frame answer keeps asks = refl
+still_kept codecs.Opus packetizer after mtu frame answer keeps asks = refl
+still_kept codecs.PCMU packetizer after mtu frame answer keeps asks = refl
+still_kept codecs.PCMA packetizer after mtu frame answer keeps asks = refl
+still_kept codecs.G722 packetizer after mtu frame answer keeps asks = refl
+still_kept codecs.CN packetizer after mtu frame answer keeps asks = refl
+still_kept codecs.AmrWb packetizer after mtu frame answer keeps asks = refl
+still_kept codecs.H264 packetizer after mtu frame answer keeps asks = refl
+still_kept codecs.H265 packetizer after mtu frame answer keeps asks = refl
+still_kept codecs.H266 packetizer after mtu frame answer keeps asks = refl
+still_kept codecs.Av1 packetizer after mtu frame answer keeps asks = refl
+still_kept codecs.Null packetizer after mtu frame answer keeps asks = refl
+still_kept codecs.Tele packetizer after mtu frame answer keeps asks = refl
+still_kept codecs.Rtx packetizer after mtu frame answer keeps asks = refl
+still_kept codecs.Red packetizer after mtu frame answer keeps asks = refl
+still_kept codecs.Unknown packetizer after mtu frame answer keeps asks = refl
+
+-- and the packetizer is of the codec
+pub still_keeps : (codec : Codec) (packetizer after : PacketizerState) (mtu : ℕ) (frame : List ℕ) (answer : Result (List (List ℕ)) PacketError) → keeps_packetizer codec packetizer ≡ true
+    → Asks packetizer mtu frame answer after → keeps_packetizer codec after ≡ true
+still_keeps codecs.Vp9 packetizer after mtu frame answer keeps asks = let is = is_vp9 packetizer keeps in vp9_keeps packetizer after mtu frame answer is.0 is.1 asks
+still_keeps codecs.Vp8 packetizer after mtu frame answer keeps asks = refl
 still_keeps codecs.Opus packetizer after mtu frame answer keeps asks = refl
 still_keeps codecs.PCMU packetizer after mtu frame answer keeps asks = refl
 still_keeps codecs.PCMA packetizer after mtu frame answer keeps asks = refl
@@ -95,7 +139,6 @@ still_keeps codecs.AmrWb packetizer after mtu frame answer keeps asks = refl
 still_keeps codecs.H264 packetizer after mtu frame answer keeps asks = refl
 still_keeps codecs.H265 packetizer after mtu frame answer keeps asks = refl
 still_keeps codecs.H266 packetizer after mtu frame answer keeps asks = refl
-still_keeps codecs.Vp9 packetizer after mtu frame answer keeps asks = refl
 still_keeps codecs.Av1 packetizer after mtu frame answer keeps asks = refl
 still_keeps codecs.Null packetizer after mtu frame answer keeps asks = refl
 still_keeps codecs.Tele packetizer after mtu frame answer keeps asks = refl
@@ -103,7 +146,7 @@ still_keeps codecs.Rtx packetizer after mtu frame answer keeps asks = refl
 still_keeps codecs.Red packetizer after mtu frame answer keeps asks = refl
 still_keeps codecs.Unknown packetizer after mtu frame answer keeps asks = refl
 
--- and one after a frame that was refused
+-- and after a frame that was refused
 abbrev pub Declines : PacketizerState → ℕ → List ℕ → PacketError → PacketizerState → Type 0
 Declines packetizer mtu frame fault after = is_built_in packetizer ≡ true → (answer : Result (List (List ℕ)) PacketError) × PacketizerStep packetizer mtu frame answer after × Lands answer (Err fault) []
 
@@ -113,9 +156,36 @@ vp8_declines packetizer after mtu frame fault plain declines =
     let step = subst (λ (p : PacketizerState). Declines p mtu frame fault after) plain declines refl in
     vp8_keeps (packetizers.Vp8Packetizing None) after mtu frame step.0 refl (λ built. step.1)
 
-pub refused_still : (codec : Codec) (packetizer after : PacketizerState) (mtu : ℕ) (frame : List ℕ) (fault : PacketError) → keeps_payloads codec packetizer ≡ true
+vp9_declines : (packetizer after : PacketizerState) (mtu : ℕ) (frame : List ℕ) (fault : PacketError) (sender : Sender) → packetizer ≡ packetizers.Vp9Packetizing sender
+    → Declines packetizer mtu frame fault after → keeps_packetizer codecs.Vp9 after ≡ true
+vp9_declines packetizer after mtu frame fault sender is declines =
+    let step = subst (λ (p : PacketizerState). Declines p mtu frame fault after) is declines refl in
+    vp9_keeps (packetizers.Vp9Packetizing sender) after mtu frame step.0 sender refl (λ built. step.1)
+
+pub refused_kept : (codec : Codec) (packetizer after : PacketizerState) (mtu : ℕ) (frame : List ℕ) (fault : PacketError) → keeps_payloads codec packetizer ≡ true
     → Declines packetizer mtu frame fault after → keeps_payloads codec after ≡ true
-refused_still codecs.Vp8 packetizer after mtu frame fault keeps declines = vp8_declines packetizer after mtu frame fault (is_plain_vp8 packetizer keeps) declines
+refused_kept codecs.Vp8 packetizer after mtu frame fault keeps declines = vp8_declines packetizer after mtu frame fault (is_plain_vp8 packetizer keeps) declines
+refused_kept codecs.Vp9 packetizer after mtu frame fault keeps declines = refl
+refused_kept codecs.Opus packetizer after mtu frame fault keeps declines = refl
+refused_kept codecs.PCMU packetizer after mtu frame fault keeps declines = refl
+refused_kept codecs.PCMA packetizer after mtu frame fault keeps declines = refl
+refused_kept codecs.G722 packetizer after mtu frame fault keeps declines = refl
+refused_kept codecs.CN packetizer after mtu frame fault keeps declines = refl
+refused_kept codecs.AmrWb packetizer after mtu frame fault keeps declines = refl
+refused_kept codecs.H264 packetizer after mtu frame fault keeps declines = refl
+refused_kept codecs.H265 packetizer after mtu frame fault keeps declines = refl
+refused_kept codecs.H266 packetizer after mtu frame fault keeps declines = refl
+refused_kept codecs.Av1 packetizer after mtu frame fault keeps declines = refl
+refused_kept codecs.Null packetizer after mtu frame fault keeps declines = refl
+refused_kept codecs.Tele packetizer after mtu frame fault keeps declines = refl
+refused_kept codecs.Rtx packetizer after mtu frame fault keeps declines = refl
+refused_kept codecs.Red packetizer after mtu frame fault keeps declines = refl
+refused_kept codecs.Unknown packetizer after mtu frame fault keeps declines = refl
+
+pub refused_still : (codec : Codec) (packetizer after : PacketizerState) (mtu : ℕ) (frame : List ℕ) (fault : PacketError) → keeps_packetizer codec packetizer ≡ true
+    → Declines packetizer mtu frame fault after → keeps_packetizer codec after ≡ true
+refused_still codecs.Vp9 packetizer after mtu frame fault keeps declines = let is = is_vp9 packetizer keeps in vp9_declines packetizer after mtu frame fault is.0 is.1 declines
+refused_still codecs.Vp8 packetizer after mtu frame fault keeps declines = refl
 refused_still codecs.Opus packetizer after mtu frame fault keeps declines = refl
 refused_still codecs.PCMU packetizer after mtu frame fault keeps declines = refl
 refused_still codecs.PCMA packetizer after mtu frame fault keeps declines = refl
@@ -125,7 +195,6 @@ refused_still codecs.AmrWb packetizer after mtu frame fault keeps declines = ref
 refused_still codecs.H264 packetizer after mtu frame fault keeps declines = refl
 refused_still codecs.H265 packetizer after mtu frame fault keeps declines = refl
 refused_still codecs.H266 packetizer after mtu frame fault keeps declines = refl
-refused_still codecs.Vp9 packetizer after mtu frame fault keeps declines = refl
 refused_still codecs.Av1 packetizer after mtu frame fault keeps declines = refl
 refused_still codecs.Null packetizer after mtu frame fault keeps declines = refl
 refused_still codecs.Tele packetizer after mtu frame fault keeps declines = refl
@@ -133,23 +202,47 @@ refused_still codecs.Rtx packetizer after mtu frame fault keeps declines = refl
 refused_still codecs.Red packetizer after mtu frame fault keeps declines = refl
 refused_still codecs.Unknown packetizer after mtu frame fault keeps declines = refl
 
--- its payloads are kept
+-- payloads of VP8 have no ids
+abbrev pub IsKept : Codec → List ℕ → Type 0
+IsKept codecs.Vp8 payload = (o : IdOffsets) → payload_as o payload ≡ payload
+IsKept codec payload = Unit {0}
+
 pub kept_each : (codec : Codec) (packetizer after : PacketizerState) (mtu : ℕ) (frame : List ℕ) (payloads : List (List ℕ)) → keeps_payloads codec packetizer ≡ true
-    → Asks packetizer mtu frame (Ok payloads) after → (i : ℕ) → i < length payloads → (o : IdOffsets) → payload_for codec o (slice_index_or payloads i []) ≡ slice_index_or payloads i []
-kept_each codecs.Vp8 packetizer after mtu frame payloads keeps asks i l o = vp8_kept packetizer after mtu frame payloads (is_plain_vp8 packetizer keeps) asks o i l
-kept_each codecs.Opus packetizer after mtu frame payloads keeps asks i l o = refl
-kept_each codecs.PCMU packetizer after mtu frame payloads keeps asks i l o = refl
-kept_each codecs.PCMA packetizer after mtu frame payloads keeps asks i l o = refl
-kept_each codecs.G722 packetizer after mtu frame payloads keeps asks i l o = refl
-kept_each codecs.CN packetizer after mtu frame payloads keeps asks i l o = refl
-kept_each codecs.AmrWb packetizer after mtu frame payloads keeps asks i l o = refl
-kept_each codecs.H264 packetizer after mtu frame payloads keeps asks i l o = refl
-kept_each codecs.H265 packetizer after mtu frame payloads keeps asks i l o = refl
-kept_each codecs.H266 packetizer after mtu frame payloads keeps asks i l o = refl
-kept_each codecs.Vp9 packetizer after mtu frame payloads keeps asks i l o = refl
-kept_each codecs.Av1 packetizer after mtu frame payloads keeps asks i l o = refl
-kept_each codecs.Null packetizer after mtu frame payloads keeps asks i l o = refl
-kept_each codecs.Tele packetizer after mtu frame payloads keeps asks i l o = refl
-kept_each codecs.Rtx packetizer after mtu frame payloads keeps asks i l o = refl
-kept_each codecs.Red packetizer after mtu frame payloads keeps asks i l o = refl
-kept_each codecs.Unknown packetizer after mtu frame payloads keeps asks i l o = refl
+    → Asks packetizer mtu frame (Ok payloads) after → (i : ℕ) → i < length payloads → IsKept codec (slice_index_or payloads i [])
+kept_each codecs.Vp8 packetizer after mtu frame payloads keeps asks i l = λ o. vp8_kept packetizer after mtu frame payloads (is_plain_vp8 packetizer keeps) asks o i l
+kept_each codecs.Vp9 packetizer after mtu frame payloads keeps asks i l = tt
+kept_each codecs.Opus packetizer after mtu frame payloads keeps asks i l = tt
+kept_each codecs.PCMU packetizer after mtu frame payloads keeps asks i l = tt
+kept_each codecs.PCMA packetizer after mtu frame payloads keeps asks i l = tt
+kept_each codecs.G722 packetizer after mtu frame payloads keeps asks i l = tt
+kept_each codecs.CN packetizer after mtu frame payloads keeps asks i l = tt
+kept_each codecs.AmrWb packetizer after mtu frame payloads keeps asks i l = tt
+kept_each codecs.H264 packetizer after mtu frame payloads keeps asks i l = tt
+kept_each codecs.H265 packetizer after mtu frame payloads keeps asks i l = tt
+kept_each codecs.H266 packetizer after mtu frame payloads keeps asks i l = tt
+kept_each codecs.Av1 packetizer after mtu frame payloads keeps asks i l = tt
+kept_each codecs.Null packetizer after mtu frame payloads keeps asks i l = tt
+kept_each codecs.Tele packetizer after mtu frame payloads keeps asks i l = tt
+kept_each codecs.Rtx packetizer after mtu frame payloads keeps asks i l = tt
+kept_each codecs.Red packetizer after mtu frame payloads keeps asks i l = tt
+kept_each codecs.Unknown packetizer after mtu frame payloads keeps asks i l = tt
+
+-- a payload is sent with the offsets that the forwarder began with
+pub same_payload : (codec : Codec) (ids : Ids) (n : ℕ) (payload : List ℕ) → IsKept codec payload → payload_for codec (offsets_for codec ids n) payload ≡ payload_for codec ids.offsets payload
+same_payload codecs.Vp8 ids n payload kept = kept (offsets_at ids n) ∙ sym (kept ids.offsets)
+same_payload codecs.Vp9 ids n payload kept = refl
+same_payload codecs.Opus ids n payload kept = refl
+same_payload codecs.PCMU ids n payload kept = refl
+same_payload codecs.PCMA ids n payload kept = refl
+same_payload codecs.G722 ids n payload kept = refl
+same_payload codecs.CN ids n payload kept = refl
+same_payload codecs.AmrWb ids n payload kept = refl
+same_payload codecs.H264 ids n payload kept = refl
+same_payload codecs.H265 ids n payload kept = refl
+same_payload codecs.H266 ids n payload kept = refl
+same_payload codecs.Av1 ids n payload kept = refl
+same_payload codecs.Null ids n payload kept = refl
+same_payload codecs.Tele ids n payload kept = refl
+same_payload codecs.Rtx ids n payload kept = refl
+same_payload codecs.Red ids n payload kept = refl
+same_payload codecs.Unknown ids n payload kept = refl

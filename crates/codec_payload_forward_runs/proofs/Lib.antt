@@ -1,6 +1,7 @@
 pub mod ForwardLemmas
 pub mod ForwardRunExamples
 pub mod KeptPayloads
+pub mod MovedPayloads
 pub mod PlainSteps
 pub mod SenderLemmas
 pub mod SourceLemmas

@@ -1,27 +1,29 @@
 -- The sender whose datagrams a viewer gets sends its samples as the sender of the run does.
-use Rattle.std.proofs.Common.{◌≡◌, ◌∙◌, refl, sym, ap, subst, ℕ, zero, suc, ◌*◌, ◌/◌, ◌%◌, ◌^◌, ◌<◌, List, [], ◌∷◌, ◌++◌, Bool, Option, Some, None, MatchOption, Result, Ok, length, map, arith}
-use Rattle.std.specs.Prelude.{slice_get, slice_index_or}
+use Rattle.std.proofs.Common.{◌≡◌, ◌∙◌, refl, sym, ap, subst, ℕ, zero, suc, ◌+◌, ◌*◌, ◌/◌, ◌%◌, ◌^◌, ◌<◌, List, [], ◌∷◌, ◌++◌, Bool, true, ◌||◌, ◌&&◌, Option, Some, None, MatchOption, Result, Ok, length, map, arith}
+use Rattle.std.specs.Prelude.{◌==◌, slice_get, slice_index_or}
 use Rattle.std.specs.Option.{option_map}
 use Rattle.std.proofs.Math.Nat.{mul-div_cancel}
 use Rattle.std.proofs.lemmas.List.{length-map}
 use Rattle.std.proofs.lemmas.Option.{slice_get-map}
 use Rattle.codec_payload_base.specs.declared.error.PacketError.{PacketError}
-use Rattle.codec_payload_codec.specs.Packetizers.{PacketizerState}
+use Rattle.codec_payload_codec.specs.Packetizers.{PacketizerState, is_built_in, marker_of, talk_spurt_of}
 use Rattle.codec_payload_payloader.specs.Sending.{Sample, rtp_time_at}
 use Rattle.codec_payload_rtp.proofs.RtpWriting.{packet_again}
 use Rattle.codec_payload_rtp.specs.RtpPackets.{FitsHeader, Packet}
 use Rattle.codec_payload_rtp.specs.RtpReading.{rtp_at}
 use Rattle.codec_payload_rtp.specs.declared.rtp.RtpError.{RtpError}
-use Rattle.codec_payload_sending.specs.Datagrams.{AreSent, IsSentAt, header_at, time_of}
-use Rattle.codec_payload_sending.specs.Senders.{Refuses, Sending, Sends, counted}
+use Rattle.codec_payload_sending.specs.Datagrams.{AreSent, IsMarker, IsSentAt, header_at, time_of}
+use Rattle.codec_payload_sending.specs.Senders.{Refuses, Sending, Sends}
 use Rattle.codec_payload_sending.specs.declared.sender.Outgoing.{Outgoing}
-use Rattle.codec_payload_sending_forward.specs.Forwarding.{Forward}
+use Rattle.codec_payload_sending_forward.specs.Forwarding.{Forward, payload_for}
+use Rattle.codec_payload_sending_forward.specs.declared.ids.IdOffsets.{IdOffsets}
 use Rattle.codec_payload_sending_forward.specs.Times.{time_as}
 use Rattle.codec_payload_datagram_runs.specs.WireRuns.{DoesStep, SendsIt, SendsOrRefuses, Wire, sent_sample}
 use Rattle.codec_payload_datagram_runs.specs.declared.run.DatagramStep.TheVariants as plain
 use Rattle.codec_payload_datagram_runs.specs.declared.run.SentSample.{SentSample}
-use Rattle.codec_payload_forward_runs.specs.ForwardReleases.{viewer_bytes, viewer_counts, viewer_datagram, viewer_packet, viewer_sample, viewer_samples, viewer_sender, viewer_stream, viewer_wire}
+use Rattle.codec_payload_forward_runs.specs.ForwardReleases.{keeps_packetizer, keeps_payloads, viewer_bytes, viewer_counts, viewer_datagram, viewer_packet, viewer_packetizer, viewer_sample, viewer_samples, viewer_sender, viewer_stream, viewer_wire}
 use Rattle.codec_payload_forward_runs.specs.ForwardRuns.{packet_read}
+use Rattle.codec_payload_forward_runs.proofs.MovedPayloads.{lands_moves, moved_answer, octets_move, same_fact, step_moves}
 
 -- Lists
 
@@ -42,6 +44,10 @@ viewer_time rate time some small =
     ap (λ (n : ℕ). n % 2 ^ 64 % 2 ^ 32) same ∙ omega (arith, small)
 
 module _ (e : Forward) (fits_type : e.settings.payload_type < 128) (fits_ssrc : e.settings.ssrc < 2 ^ 32) where
+  -- a payload as the viewer gets it
+  abbrev move : List ℕ → List ℕ
+  move = payload_for e.settings.codec e.ids.offsets
+
   -- Packets
 
   fits : (p : Packet) → FitsHeader (viewer_packet e p).header
@@ -75,89 +81,131 @@ module _ (e : Forward) (fits_type : e.settings.payload_type < 128) (fits_ssrc : 
     -- the packet at a place
     packet_moves : (count place : ℕ) (marker : Bool) (payload : List ℕ)
         → viewer_packet e (record { header = header_at stream (sent_sample sample) place count marker; payload = payload; padding = 0 })
-        ≡ record { header = header_at (viewer_stream e stream) (sent_sample (viewer_sample e stream.clock_rate sample)) place count marker; payload = payload; padding = 0 }
-    packet_moves count place marker payload = same_packet marker payload _ _ _ _ (omega arith) time_moves
+        ≡ record { header = header_at (viewer_stream e stream) (sent_sample (viewer_sample e stream.clock_rate sample)) place count marker; payload = move payload; padding = 0 }
+    packet_moves count place marker payload = same_packet marker (move payload) _ _ _ _ (omega arith) time_moves
+
+    marker_moves : (packetizer : PacketizerState) (count place : ℕ) (marker : Bool) → IsMarker packetizer (sent_sample sample) place count marker
+        → IsMarker (viewer_packetizer e packetizer) (sent_sample (viewer_sample e stream.clock_rate sample)) place count marker
+    marker_moves packetizer count place marker marked built =
+        let o : IdOffsets = e.ids.offsets in
+        let last : Bool = place + 1 == count in
+        let starts : Bool = sample.start_of_talk_spurt in
+        let built_in : is_built_in packetizer ≡ true = sym (same_fact is_built_in e.settings.codec o packetizer (λ s. refl)) ∙ built in
+        let same : (marker_of (viewer_packetizer e packetizer) last || (talk_spurt_of (viewer_packetizer e packetizer) && starts)) ≡ (marker_of packetizer last || (talk_spurt_of packetizer && starts)) =
+        same_fact (λ (p : PacketizerState). marker_of p last || (talk_spurt_of p && starts)) e.settings.codec o packetizer (λ s. refl) in
+        marked built_in ∙ sym same
 
     sent_at : (packetizer : PacketizerState) (count place : ℕ) (payload datagram : List ℕ) → IsSentAt stream packetizer (sent_sample sample) count place payload datagram
-        → IsSentAt (viewer_stream e stream) packetizer (sent_sample (viewer_sample e stream.clock_rate sample)) count place payload (viewer_datagram e datagram)
+        → IsSentAt (viewer_stream e stream) (viewer_packetizer e packetizer) (sent_sample (viewer_sample e stream.clock_rate sample)) count place (move payload) (viewer_datagram e datagram)
     sent_at packetizer count place payload datagram is = record {
       marker = is.marker;
-      marked = is.marked;
+      marked = marker_moves packetizer count place is.marker is.marked;
       reads = reads datagram _ is.reads (omega arith) ∙ ap (λ (p : Packet). Ok p) (packet_moves count place is.marker payload);
     }
 
+    -- one of the datagrams
+    abbrev IsAtPlace : PacketizerState → (count place : ℕ) → (payload datagram : List ℕ) → Type 0
+    IsAtPlace packetizer count place payload datagram = IsSentAt (viewer_stream e stream) (viewer_packetizer e packetizer) (sent_sample (viewer_sample e stream.clock_rate sample)) count place payload datagram
+
+    place_moves : (packetizer : PacketizerState) (payloads datagrams : List (List ℕ)) (place : ℕ) → length datagrams ≡ length payloads → place < length payloads
+        → IsSentAt stream packetizer (sent_sample sample) (length payloads) place (slice_index_or payloads place []) (slice_index_or datagrams place [])
+        → IsAtPlace packetizer (length (map move payloads)) place (slice_index_or (map move payloads) place []) (slice_index_or (map (viewer_datagram e) datagrams) place [])
+    place_moves packetizer payloads datagrams place same l is =
+        let within : place < length datagrams = omega (arith, same, l) in
+        subst (λ (n : ℕ). IsAtPlace packetizer n place (slice_index_or (map move payloads) place []) (slice_index_or (map (viewer_datagram e) datagrams) place [])) (sym (length-map payloads move))
+        (subst (λ (x : List ℕ). IsAtPlace packetizer (length payloads) place x (slice_index_or (map (viewer_datagram e) datagrams) place [])) (sym (index_map move payloads place [] [] l))
+        (subst (IsAtPlace packetizer (length payloads) place (move (slice_index_or payloads place []))) (sym (index_map (viewer_datagram e) datagrams place [] [] within))
+        (sent_at packetizer (length payloads) place (slice_index_or payloads place []) (slice_index_or datagrams place []) is)))
+
     pub are_sent : (packetizer : PacketizerState) (payloads datagrams : List (List ℕ)) → AreSent stream packetizer (sent_sample sample) payloads datagrams
-        → AreSent (viewer_stream e stream) packetizer (sent_sample (viewer_sample e stream.clock_rate sample)) payloads (map (viewer_datagram e) datagrams)
+        → AreSent (viewer_stream e stream) (viewer_packetizer e packetizer) (sent_sample (viewer_sample e stream.clock_rate sample)) (map move payloads) (map (viewer_datagram e) datagrams)
     are_sent packetizer payloads datagrams are = (
-      length-map datagrams (viewer_datagram e) ∙ are.0,
+      length-map datagrams (viewer_datagram e) ∙ (are.0 ∙ sym (length-map payloads move)),
       λ place l.
-          let within : place < length datagrams = omega (arith, are.0, l) in
-          subst (IsSentAt (viewer_stream e stream) packetizer (sent_sample (viewer_sample e stream.clock_rate sample)) (length payloads) place (slice_index_or payloads place []))
-          (sym (index_map (viewer_datagram e) datagrams place [] [] within))
-          (sent_at packetizer (length payloads) place (slice_index_or payloads place []) (slice_index_or datagrams place []) (are.1 place l)),
+          let low : place < length payloads = omega (arith, length-map payloads move, l) in
+          place_moves packetizer payloads datagrams place are.0 low (are.1 place low),
     )
 
   -- Samples
 
-  -- the sender after a sample, with its number and the time of its counts
-  abbrev sender_with : Sending → Sending → List (List ℕ) → ℕ → ℕ → Sending
-  sender_with s t payloads number time = record (viewer_sender e s) {
-    packetizer = t.packetizer;
+  -- the sender after a sample, with its number and its counts
+  abbrev sender_with : Sending → Sending → (number packets octets time : ℕ) → Sending
+  sender_with s t number packets octets time = record (viewer_sender e s) {
+    packetizer = viewer_packetizer e t.packetizer;
     stream = record (viewer_stream e s.stream) { number = number };
-    counts = counted (viewer_counts e s.counts) time payloads;
+    counts = record { packets = packets; octets = octets; rtp_time = Some time };
     datagrams = map (viewer_datagram e) t.datagrams;
   }
 
-  same_sender : (s t : Sending) (payloads : List (List ℕ)) (n m u v : ℕ) → n ≡ m → u ≡ v → sender_with s t payloads n u ≡ sender_with s t payloads m v
-  same_sender s t payloads n m u v numbers times = ap (λ (k : ℕ). sender_with s t payloads k u) numbers ∙ ap (λ (k : ℕ). sender_with s t payloads m k) times
+  same_sender : (s t : Sending) (n n' p p' o o' u u' : ℕ) → n ≡ n' → p ≡ p' → o ≡ o' → u ≡ u' → sender_with s t n p o u ≡ sender_with s t n' p' o' u'
+  same_sender s t n n' p p' o o' u u' numbers packets octets times =
+      ap (λ (k : ℕ). sender_with s t k p o u) numbers
+      ∙ (ap (λ (k : ℕ). sender_with s t n' k o u) packets
+      ∙ (ap (λ (k : ℕ). sender_with s t n' p' k u) octets
+      ∙ ap (λ (k : ℕ). sender_with s t n' p' o' k) times))
 
-  pub sends_too : (sample : Sample) (s t : Sending) → 0 < s.stream.clock_rate → Sends s (sent_sample sample) t
+  abbrev pub Keeps : Sending → Type 0
+  Keeps s = (keeps_payloads e.settings.codec s.packetizer ≡ true) × (keeps_packetizer e.settings.codec s.packetizer ≡ true)
+
+  is_built : (packetizer : PacketizerState) → is_built_in (viewer_packetizer e packetizer) ≡ true → is_built_in packetizer ≡ true
+  is_built packetizer built = sym (same_fact is_built_in e.settings.codec e.ids.offsets packetizer (λ s. refl)) ∙ built
+
+  pub sends_too : (sample : Sample) (s t : Sending) → Keeps s → 0 < s.stream.clock_rate → Sends s (sent_sample sample) t
       → Sends (viewer_sender e s) (sent_sample (viewer_sample e s.stream.clock_rate sample)) (viewer_sender e t)
-  sends_too sample s t some sends = record {
-    payloads = sends.payloads;
-    packetized = sends.packetized;
-    sent = are_sent s.stream some sample t.packetizer sends.payloads t.datagrams sends.sent;
-    left = ap (viewer_sender e) sends.left ∙ same_sender s t sends.payloads _ _ _ _ (omega arith) (time_moves s.stream some sample);
+  sends_too sample s t keeps some sends =
+      let count : length (map move sends.payloads) ≡ length sends.payloads = length-map sends.payloads move in
+      record {
+        payloads = map move sends.payloads;
+        packetized = λ built. step_moves e.settings.codec e.ids.offsets s.packetizer t.packetizer s.mtu sample.bytes (Ok sends.payloads) keeps.0 keeps.1 (sends.packetized (is_built s.packetizer built));
+        sent = are_sent s.stream some sample t.packetizer sends.payloads t.datagrams sends.sent;
+        left = ap (viewer_sender e) sends.left
+            ∙ same_sender s t _ _ _ _ _ _ _ _ (omega (arith, count)) (omega (arith, count)) (ap (λ (n : ℕ). (s.counts.octets + n) % 2 ^ 32) (sym (octets_move e.settings.codec e.ids.offsets sends.payloads)))
+            (time_moves s.stream some sample);
+      }
+
+  pub refuses_too : (sample : Sample) (fault : PacketError) (s t : Sending) → Keeps s → Refuses s (sent_sample sample) fault t
+      → Refuses (viewer_sender e s) (sent_sample (viewer_sample e s.stream.clock_rate sample)) fault (viewer_sender e t)
+  refuses_too sample fault s t keeps refuses = record {
+    packetized = λ built.
+        let step = refuses.packetized (is_built s.packetizer built) in
+        (moved_answer e.settings.codec e.ids.offsets step.0, step_moves e.settings.codec e.ids.offsets s.packetizer t.packetizer s.mtu sample.bytes step.0 keeps.0 keeps.1 step.1, lands_moves e.settings.codec e.ids.offsets step.0 fault step.2);
+    left = ap (viewer_sender e) refuses.left;
   }
 
-  pub refuses_too : (sample : Sample) (fault : PacketError) (s t : Sending) → Refuses s (sent_sample sample) fault t
-      → Refuses (viewer_sender e s) (sent_sample (viewer_sample e s.stream.clock_rate sample)) fault (viewer_sender e t)
-  refuses_too sample fault s t refuses = record { packetized = refuses.packetized; left = ap (viewer_sender e) refuses.left }
-
-  sends_or_refuses : (sample : Sample) (fault : Option PacketError) (s t : Sending) → 0 < s.stream.clock_rate → SendsOrRefuses (sent_sample sample) s fault t
+  sends_or_refuses : (sample : Sample) (fault : Option PacketError) (s t : Sending) → Keeps s → 0 < s.stream.clock_rate → SendsOrRefuses (sent_sample sample) s fault t
       → SendsOrRefuses (sent_sample (viewer_sample e s.stream.clock_rate sample)) (viewer_sender e s) fault (viewer_sender e t)
-  sends_or_refuses sample None s t some sends = sends_too sample s t some sends
-  sends_or_refuses sample (Some fault) s t some refuses = (refuses.0, refuses_too sample fault s t refuses.1)
+  sends_or_refuses sample None s t keeps some sends = sends_too sample s t keeps some sends
+  sends_or_refuses sample (Some fault) s t keeps some refuses = (refuses.0, refuses_too sample fault s t keeps refuses.1)
 
-  sends_it_too : (sample : Sample) (s t : Sending) (before after : List (List ℕ)) (entry : SentSample) → 0 < s.stream.clock_rate → SendsIt sample s before entry t after
+  sends_it_too : (sample : Sample) (s t : Sending) (before after : List (List ℕ)) (entry : SentSample) → Keeps s → 0 < s.stream.clock_rate → SendsIt sample s before entry t after
       → SendsIt (viewer_sample e s.stream.clock_rate sample) (viewer_sender e s) (map (viewer_datagram e) before) entry (viewer_sender e t) (map (viewer_datagram e) after)
-  sends_it_too sample s t before after entry some sends = record {
-    sends = sends_or_refuses sample entry.fault s t some sends.sends;
+  sends_it_too sample s t before after entry keeps some sends = record {
+    sends = sends_or_refuses sample entry.fault s t keeps some sends.sends;
     gained = ap (map (viewer_datagram e)) sends.gained ∙ map_append (viewer_datagram e) before t.datagrams;
     count = sends.count ∙ sym (length-map t.datagrams (viewer_datagram e));
     few = omega (arith, length-map after (viewer_datagram e), sends.few);
   }
 
-  send_step : (rate : ℕ) (o : Option Sample) (s t : Wire) → s.sending.stream.clock_rate ≡ rate → 0 < rate
+  send_step : (rate : ℕ) (o : Option Sample) (s t : Wire) → s.sending.stream.clock_rate ≡ rate → 0 < rate → Keeps s.sending
       → MatchOption o (t ≡ s) (λ sample. (entry : SentSample) × SendsIt sample s.sending s.datagrams entry t.sending t.datagrams
       × (t ≡ record s { sending = t.sending; datagrams = t.datagrams; sends = s.sends ++ entry ∷ [] }))
       → MatchOption (option_map (viewer_sample e rate) o) (viewer_wire e t ≡ viewer_wire e s)
       (λ sample. (entry : SentSample) × SendsIt sample (viewer_sender e s.sending) (map (viewer_datagram e) s.datagrams) entry (viewer_sender e t.sending) (map (viewer_datagram e) t.datagrams)
       × (viewer_wire e t ≡ record (viewer_wire e s) { sending = viewer_sender e t.sending; datagrams = map (viewer_datagram e) t.datagrams; sends = s.sends ++ entry ∷ [] }))
-  send_step rate None s t is some same = ap (viewer_wire e) same
-  send_step rate (Some sample) s t is some done = (
+  send_step rate None s t is some keeps same = ap (viewer_wire e) same
+  send_step rate (Some sample) s t is some keeps done = (
     done.0,
     subst (λ (r : ℕ). SendsIt (viewer_sample e r sample) (viewer_sender e s.sending) (map (viewer_datagram e) s.datagrams) done.0 (viewer_sender e t.sending) (map (viewer_datagram e) t.datagrams)) is
-        (sends_it_too sample s.sending t.sending s.datagrams t.datagrams done.0 (subst (λ (r : ℕ). 0 < r) (sym is) some) done.1),
+        (sends_it_too sample s.sending t.sending s.datagrams t.datagrams done.0 keeps (subst (λ (r : ℕ). 0 < r) (sym is) some) done.1),
     ap (viewer_wire e) done.2,
   )
 
   -- a step that sends
-  pub sends_step : (rate : ℕ) (samples : List Sample) (i : ℕ) (s t : Wire) → s.sending.stream.clock_rate ≡ rate → 0 < rate → DoesStep samples (plain.Send i) s t
+  pub sends_step : (rate : ℕ) (samples : List Sample) (i : ℕ) (s t : Wire) → s.sending.stream.clock_rate ≡ rate → 0 < rate → Keeps s.sending → DoesStep samples (plain.Send i) s t
       → DoesStep (viewer_samples e rate samples) (plain.Send i) (viewer_wire e s) (viewer_wire e t)
-  sends_step rate samples i s t is some does =
+  sends_step rate samples i s t is some keeps does =
       subst (λ (o : Option Sample).
       MatchOption o (viewer_wire e t ≡ viewer_wire e s)
       (λ sample. (entry : SentSample) × SendsIt sample (viewer_sender e s.sending) (map (viewer_datagram e) s.datagrams) entry (viewer_sender e t.sending) (map (viewer_datagram e) t.datagrams)
       × (viewer_wire e t ≡ record (viewer_wire e s) { sending = viewer_sender e t.sending; datagrams = map (viewer_datagram e) t.datagrams; sends = s.sends ++ entry ∷ [] })))
-      (sym (slice_get-map (viewer_sample e rate) samples i)) (send_step rate (slice_get samples i) s t is some does)
+      (sym (slice_get-map (viewer_sample e rate) samples i)) (send_step rate (slice_get samples i) s t is some keeps does)

@@ -1,5 +1,5 @@
--- The datagrams of the sender: packets of one source, whose payloads the forwarder keeps.
-use Rattle.std.proofs.Common.{◌≡◌, refl, ◌∙◌, sym, ap, subst, ℕ, zero, suc, ◌<◌, List, [], ◌∷◌, ◌++◌, true, Option, Some, None, MatchOption, Ok, length, arith}
+-- The datagrams of the sender: packets of one source.
+use Rattle.std.proofs.Common.{◌≡◌, refl, ◌∙◌, sym, ap, subst, ℕ, zero, suc, ◌<◌, List, [], ◌∷◌, ◌++◌, Bool, true, Option, Some, None, MatchOption, Ok, length, arith}
 use Rattle.std.specs.Prelude.{slice_get, slice_index_or}
 use Rattle.std.proofs.lemmas.Option.{same_Some}
 use Rattle.codec_payload_base.specs.declared.wire.Codec.{Codec}
@@ -11,8 +11,8 @@ use Rattle.codec_payload_sending.specs.Senders.{Refuses, Sending, Sends}
 use Rattle.codec_payload_datagram_runs.specs.WireRuns.{DoesStep, SendsIt, SendsOrRefuses, Wire, sent_sample}
 use Rattle.codec_payload_datagram_runs.specs.declared.run.DatagramStep.TheVariants as plain
 use Rattle.codec_payload_datagram_runs.specs.declared.run.SentSample.{SentSample}
-use Rattle.codec_payload_forward_runs.specs.ForwardReleases.{keeps_payloads}
-use Rattle.codec_payload_forward_runs.proofs.KeptPayloads.{kept_each, refused_still, still_keeps}
+use Rattle.codec_payload_forward_runs.specs.ForwardReleases.{keeps_packetizer, keeps_payloads}
+use Rattle.codec_payload_forward_runs.proofs.KeptPayloads.{kept_each, refused_kept, refused_still, still_keeps, still_kept}
 use Rattle.codec_payload_forward_runs.proofs.ViewerLemmas.{IsOf}
 
 abbrev pub IsDatagramOf : ℕ → Codec → List ℕ → Type 0
@@ -35,16 +35,17 @@ of_each : (ssrc : ℕ) (codec : Codec) (ds : List (List ℕ)) → ((i : ℕ) →
 of_each ssrc codec [] each = tt
 of_each ssrc codec (d ∷ ds) each = (each 0 (omega arith), of_each ssrc codec ds (λ i l. each (suc i) (omega (arith, l))))
 
--- A sender of this source, and the datagrams so far
-pub record IsSource (ssrc rate : ℕ) (codec : Codec) (s : Sending) (datagrams : List (List ℕ)) : Type 0 where
+-- A sender of this source, and the datagrams so far. `kind` says whether its packetizer is of the codec
+pub record IsSource (ssrc rate : ℕ) (codec : Codec) (kind : Bool) (s : Sending) (datagrams : List (List ℕ)) : Type 0 where
   pub source : s.stream.ssrc ≡ ssrc
   pub clock : s.stream.clock_rate ≡ rate
   pub keeps : keeps_payloads codec s.packetizer ≡ true
+  pub of_codec : kind ≡ true → keeps_packetizer codec s.packetizer ≡ true
   pub all : AllOf ssrc codec datagrams
 
 -- the datagrams of a sample
-sent_of : (ssrc rate : ℕ) (codec : Codec) (sample : Sample) (s t : Sending) (datagrams : List (List ℕ)) → IsSource ssrc rate codec s datagrams → Sends s (sent_sample sample) t → AllOf ssrc codec t.datagrams
-sent_of ssrc rate codec sample s t datagrams is sends =
+sent_of : (ssrc rate : ℕ) (codec : Codec) (kind : Bool) (sample : Sample) (s t : Sending) (datagrams : List (List ℕ)) → IsSource ssrc rate codec kind s datagrams → Sends s (sent_sample sample) t → AllOf ssrc codec t.datagrams
+sent_of ssrc rate codec kind sample s t datagrams is sends =
     of_each ssrc codec t.datagrams (λ i l.
     let within : i < length sends.payloads = omega (arith, sends.sent.0, l) in
     let at = sends.sent.1 i within in (
@@ -60,36 +61,41 @@ sent_of ssrc rate codec sample s t datagrams is sends =
     ))
 
 -- a refused sample leaves a packetizer whose payloads are kept
-refused_keeps : (ssrc rate : ℕ) (codec : Codec) (sample : Sample) (fault : PacketError) (s t : Sending) (datagrams : List (List ℕ)) → IsSource ssrc rate codec s datagrams
-    → Refuses s (sent_sample sample) fault t → keeps_payloads codec t.packetizer ≡ true
-refused_keeps ssrc rate codec sample fault s t datagrams is refuses = refused_still codec s.packetizer t.packetizer s.mtu sample.bytes fault is.keeps refuses.packetized
+refused_keeps : (ssrc rate : ℕ) (codec : Codec) (kind : Bool) (sample : Sample) (fault : PacketError) (s t : Sending) (datagrams : List (List ℕ)) → IsSource ssrc rate codec kind s datagrams
+    → Refuses s (sent_sample sample) fault t → (keeps_payloads codec t.packetizer ≡ true) × (kind ≡ true → keeps_packetizer codec t.packetizer ≡ true)
+refused_keeps ssrc rate codec kind sample fault s t datagrams is refuses = (
+  refused_kept codec s.packetizer t.packetizer s.mtu sample.bytes fault is.keeps refuses.packetized,
+  λ on. refused_still codec s.packetizer t.packetizer s.mtu sample.bytes fault (is.of_codec on) refuses.packetized,
+)
 
-source_sends : (ssrc rate : ℕ) (codec : Codec) (sample : Sample) (fault : Option PacketError) (s t : Sending) (datagrams : List (List ℕ)) → IsSource ssrc rate codec s datagrams
-    → SendsOrRefuses (sent_sample sample) s fault t → IsSource ssrc rate codec t (datagrams ++ t.datagrams)
-source_sends ssrc rate codec sample None s t datagrams is sends = record {
+source_sends : (ssrc rate : ℕ) (codec : Codec) (kind : Bool) (sample : Sample) (fault : Option PacketError) (s t : Sending) (datagrams : List (List ℕ)) → IsSource ssrc rate codec kind s datagrams
+    → SendsOrRefuses (sent_sample sample) s fault t → IsSource ssrc rate codec kind t (datagrams ++ t.datagrams)
+source_sends ssrc rate codec kind sample None s t datagrams is sends = record {
   source = ap (λ (x : Sending). x.stream.ssrc) sends.left ∙ is.source;
   clock = ap (λ (x : Sending). x.stream.clock_rate) sends.left ∙ is.clock;
-  keeps = still_keeps codec s.packetizer t.packetizer s.mtu sample.bytes (Ok sends.payloads) is.keeps sends.packetized;
-  all = of_append ssrc codec datagrams t.datagrams is.all (sent_of ssrc rate codec sample s t datagrams is sends);
+  keeps = still_kept codec s.packetizer t.packetizer s.mtu sample.bytes (Ok sends.payloads) is.keeps sends.packetized;
+  of_codec = λ on. still_keeps codec s.packetizer t.packetizer s.mtu sample.bytes (Ok sends.payloads) (is.of_codec on) sends.packetized;
+  all = of_append ssrc codec datagrams t.datagrams is.all (sent_of ssrc rate codec kind sample s t datagrams is sends);
 }
-source_sends ssrc rate codec sample (Some fault) s t datagrams is refuses =
+source_sends ssrc rate codec kind sample (Some fault) s t datagrams is refuses =
     let nothing : t.datagrams ≡ [] = ap (λ (x : Sending). x.datagrams) refuses.1.left in
     record {
       source = ap (λ (x : Sending). x.stream.ssrc) refuses.1.left ∙ is.source;
       clock = ap (λ (x : Sending). x.stream.clock_rate) refuses.1.left ∙ is.clock;
-      keeps = refused_keeps ssrc rate codec sample fault s t datagrams is refuses.1;
+      keeps = (refused_keeps ssrc rate codec kind sample fault s t datagrams is refuses.1).0;
+      of_codec = (refused_keeps ssrc rate codec kind sample fault s t datagrams is refuses.1).1;
       all = of_append ssrc codec datagrams t.datagrams is.all (subst (AllOf ssrc codec) (sym nothing) tt);
     }
 
-source_step : (ssrc rate : ℕ) (codec : Codec) (o : Option Sample) (s t : Wire) → IsSource ssrc rate codec s.sending s.datagrams
+source_step : (ssrc rate : ℕ) (codec : Codec) (kind : Bool) (o : Option Sample) (s t : Wire) → IsSource ssrc rate codec kind s.sending s.datagrams
     → MatchOption o (t ≡ s) (λ sample. (entry : SentSample) × SendsIt sample s.sending s.datagrams entry t.sending t.datagrams
     × (t ≡ record s { sending = t.sending; datagrams = t.datagrams; sends = s.sends ++ entry ∷ [] }))
-    → IsSource ssrc rate codec t.sending t.datagrams
-source_step ssrc rate codec None s t is same = subst (λ (x : Wire). IsSource ssrc rate codec x.sending x.datagrams) (sym same) is
-source_step ssrc rate codec (Some sample) s t is done =
-    subst (IsSource ssrc rate codec t.sending) (sym done.1.gained) (source_sends ssrc rate codec sample done.0.fault s.sending t.sending s.datagrams is done.1.sends)
+    → IsSource ssrc rate codec kind t.sending t.datagrams
+source_step ssrc rate codec kind None s t is same = subst (λ (x : Wire). IsSource ssrc rate codec kind x.sending x.datagrams) (sym same) is
+source_step ssrc rate codec kind (Some sample) s t is done =
+    subst (IsSource ssrc rate codec kind t.sending) (sym done.1.gained) (source_sends ssrc rate codec kind sample done.0.fault s.sending t.sending s.datagrams is done.1.sends)
 
 -- after a step that sends
-pub source_after : (ssrc rate : ℕ) (codec : Codec) (samples : List Sample) (i : ℕ) (s t : Wire) → IsSource ssrc rate codec s.sending s.datagrams → DoesStep samples (plain.Send i) s t
-    → IsSource ssrc rate codec t.sending t.datagrams
-source_after ssrc rate codec samples i s t is does = source_step ssrc rate codec (slice_get samples i) s t is does
+pub source_after : (ssrc rate : ℕ) (codec : Codec) (kind : Bool) (samples : List Sample) (i : ℕ) (s t : Wire) → IsSource ssrc rate codec kind s.sending s.datagrams → DoesStep samples (plain.Send i) s t
+    → IsSource ssrc rate codec kind t.sending t.datagrams
+source_after ssrc rate codec kind samples i s t is does = source_step ssrc rate codec kind (slice_get samples i) s t is does

@@ -1,5 +1,5 @@
 -- The units that a viewer's receiver releases behind a forwarder that writes packets again, from the theorem of runs over one hop.
-use Rattle.std.proofs.Common.{◌≡◌, ◌∙◌, refl, sym, subst, ℕ, ◌^◌, ◌<◌, List, [], Bool}
+use Rattle.std.proofs.Common.{◌≡◌, ◌∙◌, refl, sym, ap, subst, ℕ, ◌^◌, ◌<◌, List, [], Bool}
 use Rattle.codec_payload_base.specs.declared.wire.Codec.{Codec}
 use Rattle.codec_payload_payloader.specs.Sending.{Sample}
 use Rattle.codec_payload_receiver.specs.Sessions.{Session}
@@ -20,7 +20,7 @@ use Rattle.codec_payload_forward_runs.proofs.StoreLemmas.{AllIn, none_in}
 use Rattle.codec_payload_forward_runs.proofs.StoreViewerRuns.{StoreComes, store_comes, store_ends_on}
 use Rattle.codec_payload_forward_runs.proofs.ViewerLemmas.{GoesOn}
 use Rattle.codec_payload_forward_runs.proofs.ViewerRuns.{Fit, IsAt}
-use Rattle.codec_payload_forward_runs.specs.ForwardReleases.{ForwardsStream, viewer_samples, viewer_sender, viewer_wire}
+use Rattle.codec_payload_forward_runs.specs.ForwardReleases.{ForwardsStream, viewer_samples, viewer_sender, keeps_packetizer, viewer_wire}
 use Rattle.codec_payload_forward_runs.specs.StoreReleases.{AreAgain, IsStoredWithinWindows, ReleaseWithStore, store_steps, store_steps_of}
 use Rattle.codec_payload_forward_runs.specs.StoreRuns.{StoreRuns, Stored, begins_with_store}
 use Rattle.codec_payload_forward_runs.specs.declared.store_run.StoreStep.{StoreStep}
@@ -36,20 +36,24 @@ module _ (samples : List Sample) (all_steps : List StoreStep) (sender : Sending)
   abbrev codec : Codec
   codec = forwarder.settings.codec
 
+  -- whether the packetizer is of the codec
+  abbrev kind : Bool
+  kind = keeps_packetizer codec sender.packetizer
+
   abbrev before : Stored
   before = begins_with_store sender forwarder receiver store
 
-  pub begun : IsAt sender.stream.ssrc rate codec before.hops
-  begun = record { source = record { source = refl; clock = refl; keeps = forwards.keeps; all = tt }; codec_is = refl; none = forwards.none_left_out }
+  pub begun : IsAt sender.stream.ssrc rate codec kind before.hops
+  begun = record { source = record { source = refl; clock = refl; keeps = forwards.keeps; of_codec = λ on. on; all = tt }; codec_is = refl; none = forwards.none_left_out }
 
   pub nothing_kept : AllIn [] store.packets
   nothing_kept = subst (AllIn []) (sym empty) (none_in [])
 
-  pub came : StoreComes sender.stream.ssrc rate codec samples e all_steps before t [] []
-  came = store_comes sender.stream.ssrc rate codec samples all_steps before t [] [] begun nothing_kept tt tt run
+  pub came : StoreComes sender.stream.ssrc rate codec kind samples e all_steps before t [] []
+  came = store_comes sender.stream.ssrc rate codec kind samples all_steps before t [] [] begun nothing_kept tt tt run
 
   pub on : GoesOn sender.stream.ssrc forwarder e
-  on = store_ends_on sender.stream.ssrc rate codec samples all_steps before t begun nothing_kept run
+  on = store_ends_on sender.stream.ssrc rate codec kind samples all_steps before t begun nothing_kept run
 
   abbrev repeats : List ℕ
   repeats = came.left
@@ -58,11 +62,13 @@ module _ (samples : List Sample) (all_steps : List StoreStep) (sender : Sending)
   seen = store_steps_of samples all_steps t repeats
 
   module _ (within : IsStoredWithinWindows samples all_steps before t repeats) where
-    fit : Fit sender.stream.ssrc rate codec samples e
+    fit : Fit sender.stream.ssrc rate codec kind samples e
     fit = (
       within.widths.clock_rate,
       subst (λ (s : _). s.payload_type < 128) (sym on.settings) within.widths.payload_type,
       subst (λ (s : _). s.ssrc < 2 ^ 32) (sym on.settings) within.widths.ssrc,
+      ap (λ (s : _). s.codec) on.settings,
+      within.of_codec,
     )
 
     course : Proceeds e.settings.retransmissions (viewer_samples e rate samples) seen (begins (viewer_sender e sender) receiver) (viewer_wire e t.hops.wire)

@@ -95,6 +95,7 @@ is_within no_media t repeats settings e1 e2 e3 e4 =
     let a = arrives_by t.hops.wire.sends t.hops.answers t.found repeats e1 e2 e3 e4 in
     record {
       forwards = forwards_stream;
+      of_codec = refl;
       widths = record { clock_rate = lit< tt; payload_type = lit< tt; ssrc = lit< tt };
       settings = again_viewer no_media;
       depacketizer = OpusDepacketizing;

@@ -77,7 +77,7 @@ is_copy f fits_type fits_ssrc None d bytes p is few same = inl (same ∙ ap (λ 
 is_copy f fits_type fits_ssrc (Some stream) d bytes p is few wrapped_is =
     inr (wrapped_is.0, record { original = viewer_packet f p; was = reads f fits_type fits_ssrc d p is few; reads = wrapped_is.1 })
 
-module _ (ssrc rate : ℕ) (codec : Codec) (samples : List Sample) where
+module _ (ssrc rate : ℕ) (codec : Codec) (kind : Bool) (samples : List Sample) where
   pub record StoreComes (e : Forward) (all_steps : List StoreStep) (s t : Stored) (forwarded repeated : List ℕ) : Type 0 where
     pub later : List SentSample
     pub sends : t.hops.wire.sends ≡ s.hops.wire.sends ++ later
@@ -86,7 +86,7 @@ module _ (ssrc rate : ℕ) (codec : Codec) (samples : List Sample) where
     pub found : List Bool
     pub founds : t.found ≡ s.found ++ found
     pub left : List ℕ
-    pub course : Fit ssrc rate codec samples e
+    pub course : Fit ssrc rate codec kind samples e
         → Proceeds e.settings.retransmissions (viewer_samples e rate samples) (store_steps samples (length s.hops.wire.datagrams) forwarded repeated all_steps later more found left)
         (viewer_wire e s.hops.wire) (viewer_wire e t.hops.wire)
     pub again : AreAgain e t.hops.wire.datagrams t.again (repeated ++ left)
@@ -100,7 +100,7 @@ module _ (ssrc rate : ℕ) (codec : Codec) (samples : List Sample) where
   -- A request
 
   same_on : (f t : Forward) (next : ℕ) → t ≡ record f { next = next } → GoesOn ssrc f t
-  same_on f t next is = subst (GoesOn ssrc f) (sym is) (record { settings = refl; source = λ on. on; numbers = λ on. refl; times = λ on. refl; none = λ none. none })
+  same_on f t next is = subst (GoesOn ssrc f) (sym is) (record { settings = refl; source = λ on. on; numbers = λ on. refl; times = λ on. refl; ids = λ on. refl; none = λ none. none })
 
   resent_on : (again : Option RetransmissionStream) (p : Packet) (f t : Forward) (bytes : List ℕ) → IsResentBy again p f bytes t → GoesOn ssrc f t
   resent_on None p f t bytes is = goes_nowhere ssrc f t is.1
@@ -122,7 +122,7 @@ module _ (ssrc rate : ℕ) (codec : Codec) (samples : List Sample) where
   same_read : (d : List ℕ) (p q : Packet) → rtp_at d ≡ Ok p → rtp_at d ≡ Ok q → p ≡ q
   same_read d p q one two = let same : Ok p ≡ Ok q = sym one ∙ two in cc
 
-  repeats_datagram : (e : Forward) (number : ℕ) (s : Stored) (p : Packet) (t : Forward) (bytes : List ℕ) → IsAt ssrc rate codec s.hops → AllIn s.hops.wire.datagrams s.store.packets
+  repeats_datagram : (e : Forward) (number : ℕ) (s : Stored) (p : Packet) (t : Forward) (bytes : List ℕ) → IsAt ssrc rate codec kind s.hops → AllIn s.hops.wire.datagrams s.store.packets
       → IsRequested s.hops.forwarder s.store number p → Repeats p s.hops.forwarder true bytes t → GoesOn ssrc t e → (k : ℕ) × Repeated e s.hops.wire.datagrams k bytes
   repeats_datagram e number s p t bytes at kept asked repeats goes =
       let f : Forward = s.hops.forwarder in
@@ -136,14 +136,14 @@ module _ (ssrc rate : ℕ) (codec : Codec) (samples : List Sample) where
       let on : is_source f.source ssrc ≡ true = subst (λ (n : ℕ). is_source f.source n ≡ true) own.source repeats.0 in
       let onward : GoesOn ssrc f e = goes_further ssrc f t e (repeats_on true p f t bytes repeats) goes in
       let is : next_packet f repeats.2.0 p ≡ viewer_packet e p =
-      written_packet ssrc repeats.2.0 p f own_here (at.none on) repeats.2.1 ∙ sym (same_viewer f e p onward.settings (onward.numbers on) (onward.times on)) in
+      written_packet ssrc repeats.2.0 p f own_here (at.none on) repeats.2.1 ∙ sym (same_viewer f e p onward.settings (onward.numbers on) (onward.times on) (onward.ids on)) in
       let again = resent_is f.settings.retransmissions (next_packet f repeats.2.0 p) (viewer_packet e p) f t bytes is repeats.2.2 in
       (there.0, (datagram, p, there.1, asked.1.3.2, subst (λ (x : _). IsAgain x.retransmissions (viewer_packet e p) bytes) (sym onward.settings) again))
 
   -- Steps
 
   record Later (s mid : Stored) : Type 0 where
-    at : IsAt ssrc rate codec mid.hops
+    at : IsAt ssrc rate codec kind mid.hops
     kept : AllIn mid.hops.wire.datagrams mid.store.packets
     on : GoesOn ssrc s.hops.forwarder mid.hops.forwarder
     more : IsMore s.hops.wire.datagrams mid.hops.wire.datagrams
@@ -154,17 +154,17 @@ module _ (ssrc rate : ℕ) (codec : Codec) (samples : List Sample) where
   grown_again : (f : Forward) (before after bs : List (List ℕ)) (ks : List ℕ) → IsMore before after → AreAgain f before bs ks → AreAgain f after bs ks
   grown_again f before after bs ks more are = subst (λ (ds : List (List ℕ)). AreAgain f ds bs ks) (sym more.1) (again_more f before more.0 bs ks are)
 
-  with_forwarder : (s : Hops) (f : Forward) → IsAt ssrc rate codec s → GoesOn ssrc s.forwarder f → IsAt ssrc rate codec (record s { forwarder = f })
+  with_forwarder : (s : Hops) (f : Forward) → IsAt ssrc rate codec kind s → GoesOn ssrc s.forwarder f → IsAt ssrc rate codec kind (record s { forwarder = f })
   with_forwarder s f at on = record { source = at.source; codec_is = ap (λ (x : _). x.codec) on.settings ∙ at.codec_is; none = on.none at.none }
 
-  with_session : (s : Hops) (session : Session) (receipts : List Receipt) → IsAt ssrc rate codec s
-      → IsAt ssrc rate codec (record s { wire = record s.wire { session = session; receipts = receipts } })
+  with_session : (s : Hops) (session : Session) (receipts : List Receipt) → IsAt ssrc rate codec kind s
+      → IsAt ssrc rate codec kind (record s { wire = record s.wire { session = session; receipts = receipts } })
   with_session s session receipts at = record { source = at.source; codec_is = at.codec_is; none = at.none }
 
   no_more : (datagrams : List (List ℕ)) → IsMore datagrams datagrams
   no_more datagrams = ([], sym (append-nil datagrams))
 
-  later_again : (o : Option (List ℕ)) (now : Ticks) (s mid : Stored) → IsAt ssrc rate codec s.hops → AllIn s.hops.wire.datagrams s.store.packets
+  later_again : (o : Option (List ℕ)) (now : Ticks) (s mid : Stored) → IsAt ssrc rate codec kind s.hops → AllIn s.hops.wire.datagrams s.store.packets
       → MatchOption o (mid ≡ s) (λ bytes. (receipt : Receipt) × (session : Session) × Delivers now bytes s.hops.wire.session receipt session
       × (mid ≡ record s { hops = record s.hops { wire = record s.hops.wire { session = session; receipts = s.hops.wire.receipts ++ receipt ∷ [] } } }))
       → Later s mid
@@ -179,9 +179,9 @@ module _ (ssrc rate : ℕ) (codec : Codec) (samples : List Sample) where
         more = no_more s.hops.wire.datagrams;
       })
 
-  later : (step : StoreStep) (s mid : Stored) → IsAt ssrc rate codec s.hops → AllIn s.hops.wire.datagrams s.store.packets → DoesStoreStep samples step s mid → Later s mid
+  later : (step : StoreStep) (s mid : Stored) → IsAt ssrc rate codec kind s.hops → AllIn s.hops.wire.datagrams s.store.packets → DoesStoreStep samples step s mid → Later s mid
   later (steps.Plain step) s mid at kept does =
-      let one : Stays ssrc rate codec samples s.hops does.1 = stays ssrc rate codec samples step s.hops does.1 at does.3 in
+      let one : Stays ssrc rate codec kind samples s.hops does.1 = stays ssrc rate codec kind samples step s.hops does.1 at does.3 in
       subst (Later s) (sym does.4)
       (record {
         at = one.at;
@@ -194,7 +194,7 @@ module _ (ssrc rate : ℕ) (codec : Codec) (samples : List Sample) where
       subst (Later s) (sym does.4) (record { at = with_forwarder s.hops does.2 at on; kept = kept; on = on; more = no_more s.hops.wire.datagrams })
   later (steps.DeliverAgain j now) s mid at kept does = later_again (slice_get s.again j) now s mid at kept does
 
-  pub store_ends_on : (all_steps : List StoreStep) (s t : Stored) → IsAt ssrc rate codec s.hops → AllIn s.hops.wire.datagrams s.store.packets → StoreRuns samples all_steps s t
+  pub store_ends_on : (all_steps : List StoreStep) (s t : Stored) → IsAt ssrc rate codec kind s.hops → AllIn s.hops.wire.datagrams s.store.packets → StoreRuns samples all_steps s t
       → GoesOn ssrc s.hops.forwarder t.hops.forwarder
   store_ends_on [] s t at kept run = goes_nowhere ssrc s.hops.forwarder t.hops.forwarder (ap (λ (x : Stored). x.hops.forwarder) run)
   store_ends_on (step ∷ rest) s t at kept run =
@@ -203,7 +203,7 @@ module _ (ssrc rate : ℕ) (codec : Codec) (samples : List Sample) where
 
   -- Whole runs
 
-  plain_comes : (e : Forward) (step : ForwardStep) (rest : List StoreStep) (s mid t : Stored) (forwarded repeated : List ℕ) (o : One ssrc rate codec samples e step s.hops mid.hops forwarded)
+  plain_comes : (e : Forward) (step : ForwardStep) (rest : List StoreStep) (s mid t : Stored) (forwarded repeated : List ℕ) (o : One ssrc rate codec kind samples e step s.hops mid.hops forwarded)
       → mid.found ≡ s.found → StoreComes e rest mid t o.next repeated → StoreComes e (steps.Plain step ∷ rest) s t forwarded repeated
   plain_comes e step rest s mid t forwarded repeated o same c = record {
     later = o.sends c.later;
@@ -255,7 +255,7 @@ module _ (ssrc rate : ℕ) (codec : Codec) (samples : List Sample) where
           ∙ ap (λ (ks : List ℕ). store_steps samples n forwarded (repeated ++ more) rest sends results founds ks) e2
 
   -- the datagram that a request repeats, if a packet was written again
-  asked : (e : Forward) (number : ℕ) (s : Stored) (found : Bool) (bytes : List ℕ) (t : Forward) → IsAt ssrc rate codec s.hops → AllIn s.hops.wire.datagrams s.store.packets
+  asked : (e : Forward) (number : ℕ) (s : Stored) (found : Bool) (bytes : List ℕ) (t : Forward) → IsAt ssrc rate codec kind s.hops → AllIn s.hops.wire.datagrams s.store.packets
       → Requests number s.hops.forwarder s.store found bytes t → GoesOn ssrc t e
       → (more : List ℕ) × AreAgain e s.hops.wire.datagrams (again_by found bytes) more
       × ((left : List ℕ) → (repeated_by (found ∷ []) (more ++ left) ≡ more) × (left_after (found ∷ []) (more ++ left) ≡ left))
@@ -266,7 +266,7 @@ module _ (ssrc rate : ℕ) (codec : Codec) (samples : List Sample) where
       (is.0 ∷ [], (is.1, tt), λ left. (refl, refl))
 
   again_comes : (e : Forward) (o : Option (List ℕ)) (j : ℕ) (now : Ticks) (rest : List StoreStep) (s mid t : Stored) (forwarded repeated : List ℕ) → slice_get s.again j ≡ o
-      → IsAt ssrc rate codec s.hops → AreAgain e s.hops.wire.datagrams s.again repeated
+      → IsAt ssrc rate codec kind s.hops → AreAgain e s.hops.wire.datagrams s.again repeated
       → MatchOption o (mid ≡ s) (λ bytes. (receipt : Receipt) × (session : Session) × Delivers now bytes s.hops.wire.session receipt session
       × (mid ≡ record s { hops = record s.hops { wire = record s.hops.wire { session = session; receipts = s.hops.wire.receipts ++ receipt ∷ [] } } }))
       → StoreComes e rest mid t forwarded repeated → StoreComes e (steps.DeliverAgain j now ∷ rest) s t forwarded repeated
@@ -324,7 +324,7 @@ module _ (ssrc rate : ℕ) (codec : Codec) (samples : List Sample) where
   delivered_after e (Some bytes) now s mid forwarded repeated done written again =
       subst (λ (x : Stored). AreForwarded e x.hops.wire.datagrams x.hops.written forwarded × AreAgain e x.hops.wire.datagrams x.again repeated) (sym done.3) (written, again)
 
-  pub store_comes : (all_steps : List StoreStep) (s t : Stored) (forwarded repeated : List ℕ) → IsAt ssrc rate codec s.hops → AllIn s.hops.wire.datagrams s.store.packets
+  pub store_comes : (all_steps : List StoreStep) (s t : Stored) (forwarded repeated : List ℕ) → IsAt ssrc rate codec kind s.hops → AllIn s.hops.wire.datagrams s.store.packets
       → AreForwarded t.hops.forwarder s.hops.wire.datagrams s.hops.written forwarded → AreAgain t.hops.forwarder s.hops.wire.datagrams s.again repeated → StoreRuns samples all_steps s t
       → StoreComes t.hops.forwarder all_steps s t forwarded repeated
   store_comes [] s t forwarded repeated at kept written again run = record {
@@ -345,8 +345,8 @@ module _ (ssrc rate : ℕ) (codec : Codec) (samples : List Sample) where
       let next = later (steps.Plain step) s mid at kept does in
       let goes : GoesOn ssrc mid.hops.forwarder e = store_ends_on rest mid t next.at next.kept run.2 in
       let hops : mid.hops ≡ does.1 = ap (λ (x : Stored). x.hops) does.4 in
-      let o : One ssrc rate codec samples e step s.hops mid.hops forwarded =
-      one_step ssrc rate codec samples e step s.hops mid.hops forwarded at (subst (λ (x : Hops). DoesForwardStep samples step s.hops x) (sym hops) does.3) goes written in
+      let o : One ssrc rate codec kind samples e step s.hops mid.hops forwarded =
+      one_step ssrc rate codec kind samples e step s.hops mid.hops forwarded at (subst (λ (x : Hops). DoesForwardStep samples step s.hops x) (sym hops) does.3) goes written in
       let same : mid.again ≡ s.again = ap (λ (x : Stored). x.again) does.4 in
       let grown : AreAgain e mid.hops.wire.datagrams mid.again repeated =
       subst (λ (bs : List (List ℕ)). AreAgain e mid.hops.wire.datagrams bs repeated) (sym same) (grown_again e s.hops.wire.datagrams mid.hops.wire.datagrams s.again repeated next.more again) in

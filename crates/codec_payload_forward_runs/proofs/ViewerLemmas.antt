@@ -1,19 +1,22 @@
 -- What a forwarder writes for a packet of its source, and what stays in it.
-use Rattle.std.proofs.Common.{◌≡◌, ◌∙◌, refl, sym, ap, subst, ℕ, ◌+◌, ◌-◌, ◌%◌, ◌<◌, ◌≤◌, List, [], ◌∷◌, Bool, true, false, ltb, Some, Ok, arith}
-use Rattle.std.specs.Prelude.{nat_le}
+use Rattle.std.proofs.Common.{◌≡◌, ◌∙◌, refl, sym, ap, subst, ℕ, ◌+◌, ◌-◌, ◌%◌, ◌<◌, ◌≤◌, List, [], ◌∷◌, Bool, true, false, ltb, Option, Some, None, Ok, arith}
+use Rattle.std.specs.Prelude.{nat_le, nat_lt}
 use Rattle.std.proofs.lemmas.Bool.{eq-eqb, leb-false, leb-true}
 use Rattle.codec_payload_base.specs.Extended.{ahead, nearest}
 use Rattle.codec_payload_base.specs.declared.wire.Codec.{Codec}
 use Rattle.codec_payload_rtp.specs.RtpPackets.{Packet, packet_bytes}
 use Rattle.codec_payload_rtp.specs.RtpReading.{rtp_at}
-use Rattle.codec_payload_sending_forward.specs.Forwarding.{Forward, Forwards, after_begin, after_next, first_packet, is_source, next_packet, number_in, packet_under, payload_for, ticks_between}
+use Rattle.codec_payload_sending_forward.specs.Forwarding.{Forward, Forwards, after_begin, after_next, first_packet, ids_in, ids_when, is_source, next_packet, number_in, offsets_for, packet_under, payload_for, sent_packet, ticks_between}
+use Rattle.codec_payload_sending_forward.specs.Ids.{Ids, after_picture, offsets_switched, switched_ids}
 use Rattle.codec_payload_sending_forward.specs.Numbers.{Numbers, after_packet, is_in, is_too_old, next_number, placed, sent_as}
 use Rattle.codec_payload_sending_forward.specs.Times.{time_as}
 use Rattle.codec_payload_sending_forward.specs.declared.forwarder.Forwarded.{Forwarded}
 use Rattle.codec_payload_sending_forward.specs.declared.forwarder.Forwarded.TheVariants as answers
 use Rattle.codec_payload_sending_forward.specs.declared.forwarder.ForwardSettings.{ForwardSettings}
 use Rattle.codec_payload_sending_forward.specs.declared.renumbering.Placed.TheVariants as places
-use Rattle.codec_payload_sending_forward.specs.declared.vp8_ids.IdOffsets.{IdOffsets}
+use Rattle.codec_payload_sending_forward.specs.declared.ids.IdOffsets.{IdOffsets}
+use Rattle.codec_payload_sending_forward.specs.declared.ids.PayloadIds.{PayloadIds}
+use Rattle.codec_payload_forward_runs.proofs.KeptPayloads.{IsKept, same_payload}
 use Rattle.codec_payload_forward_runs.specs.ForwardReleases.{viewer_packet}
 use Rattle.codec_payload_forward_runs.specs.ForwardRuns.{written_by}
 
@@ -51,21 +54,33 @@ offset_stays m n = by (is_too_old m n) refl (ltb m.highest n) refl
 
 -- Packets
 
--- a packet of the sender, whose payload the forwarder keeps
+-- a packet of the sender, whose payload has no ids of VP8
 pub record IsOf (ssrc : ℕ) (codec : Codec) (p : Packet) : Type 0 where
   pub source : p.header.ssrc ≡ ssrc
   pub number : p.header.sequence_number < 65536
   pub time : p.header.timestamp < 4294967296
   pub padding : p.padding ≡ 0
-  pub kept : (o : IdOffsets) → payload_for codec o p.payload ≡ p.payload
+  pub kept : IsKept codec p.payload
 
--- a packet with another payload, number and time that are the same
-same_under : (s : ForwardSettings) (n n' t t' : ℕ) (p : Packet) (payload : List ℕ) → n ≡ n' → t ≡ t' → payload ≡ p.payload
-    → packet_under s n t (record p { payload = payload }) ≡ packet_under s n' t' p
-same_under s n n' t t' p payload e1 e2 e3 =
+-- a packet with a payload, number and time that are the same
+same_under : (s : ForwardSettings) (n n' t t' : ℕ) (p : Packet) (payload payload' : List ℕ) → n ≡ n' → t ≡ t' → payload ≡ payload'
+    → packet_under s n t (record p { payload = payload }) ≡ packet_under s n' t' (record p { payload = payload' })
+same_under s n n' t t' p payload payload' e1 e2 e3 =
     ap (λ (m : ℕ). packet_under s m t (record p { payload = payload })) e1
     ∙ (ap (λ (m : ℕ). packet_under s n' m (record p { payload = payload })) e2
     ∙ ap (λ (bytes : List ℕ). packet_under s n' t' (record p { payload = bytes })) e3)
+
+-- ids: a packet that is sent leaves the offsets
+sent_leaves : (o : IdOffsets) (ids : Option PayloadIds) (m : Ids) → (after_picture o ids m).offsets ≡ m.offsets
+sent_leaves o None m = refl
+sent_leaves o (Some ids) m = refl
+
+switched_to : (ids : Option PayloadIds) (m : Ids) → (switched_ids ids m).offsets ≡ offsets_switched m ids
+switched_to ids m = sent_leaves (offsets_switched m ids) ids (record m { offsets = offsets_switched m ids; left_out = [] })
+
+ids_stay : (ahead : Bool) (codec : Codec) (n : ℕ) (payload : List ℕ) (m : Ids) → (ids_when ahead codec n payload m).offsets ≡ m.offsets
+ids_stay true codec n payload m = sent_leaves (offsets_for codec m n) (ids_in codec payload) m
+ids_stay false codec n payload m = refl
 
 -- the packet with which the forwarder begins
 begun_packet : (ssrc now : ℕ) (p : Packet) (f : Forward) → IsOf ssrc f.settings.codec p → first_packet now f p ≡ viewer_packet (after_begin now p f) p
@@ -73,7 +88,9 @@ begun_packet ssrc now p f of =
     let number : next_number f.numbers ≡ (p.header.sequence_number + (next_number f.numbers + 65536 - (65536 + p.header.sequence_number) % 65536) % 65536) % 65536 = omega (arith, of.number) in
     let time : (f.times.highest + ticks_between f.written_at now) % 4294967296
     ≡ (p.header.timestamp + ((f.times.highest + ticks_between f.written_at now) % 4294967296 + (4294967296 - p.header.timestamp)) % 4294967296) % 4294967296 = omega (arith, of.time) in
-    same_under f.settings _ _ _ _ p _ number time (of.kept _)
+    let ids : Option PayloadIds = ids_in f.settings.codec p.payload in
+    same_under f.settings _ _ _ _ p _ _ number time
+    (ap (λ (o : IdOffsets). payload_for f.settings.codec o p.payload) (sym (switched_to ids f.ids)))
 
 -- a later packet
 pub written_packet : (ssrc sent : ℕ) (p : Packet) (f : Forward) → IsOf ssrc f.settings.codec p → f.numbers.left_out ≡ [] → placed f.numbers (number_in f p) true ≡ places.Sent sent
@@ -81,14 +98,16 @@ pub written_packet : (ssrc sent : ℕ) (p : Packet) (f : Forward) → IsOf ssrc 
 written_packet ssrc sent p f of none is =
     let low : number_in f p % 65536 ≡ p.header.sequence_number % 65536 = low_number f.numbers.highest p.header.sequence_number in
     let number : sent ≡ (p.header.sequence_number + f.numbers.offset) % 65536 = omega (arith, placed_is f.numbers (number_in f p) sent is, sent_plainly f.numbers (number_in f p) none, low) in
-    same_under f.settings _ _ _ _ p _ number refl (of.kept _)
+    same_under f.settings _ _ _ _ p _ _ number refl (same_payload f.settings.codec f.ids (number_in f p) p.payload of.kept)
 
 -- the packet as the viewer gets it depends on the offsets alone
-pub same_viewer : (f e : Forward) (p : Packet) → e.settings ≡ f.settings → e.numbers.offset ≡ f.numbers.offset → e.times.offset ≡ f.times.offset → viewer_packet e p ≡ viewer_packet f p
-same_viewer f e p settings numbers times =
-    ap (λ (s : ForwardSettings). packet_under s ((p.header.sequence_number + e.numbers.offset) % 65536) (time_as e.times p.header.timestamp) p) settings
-    ∙ (ap (λ (o : ℕ). packet_under f.settings ((p.header.sequence_number + o) % 65536) (time_as e.times p.header.timestamp) p) numbers
-    ∙ ap (λ (o : ℕ). packet_under f.settings ((p.header.sequence_number + f.numbers.offset) % 65536) ((p.header.timestamp + o) % 4294967296) p) times)
+pub same_viewer : (f e : Forward) (p : Packet) → e.settings ≡ f.settings → e.numbers.offset ≡ f.numbers.offset → e.times.offset ≡ f.times.offset → e.ids.offsets ≡ f.ids.offsets
+    → viewer_packet e p ≡ viewer_packet f p
+same_viewer f e p settings numbers times ids =
+    ap (λ (s : ForwardSettings). sent_packet s e.ids.offsets ((p.header.sequence_number + e.numbers.offset) % 65536) (time_as e.times p.header.timestamp) p) settings
+    ∙ (ap (λ (o : ℕ). sent_packet f.settings e.ids.offsets ((p.header.sequence_number + o) % 65536) (time_as e.times p.header.timestamp) p) numbers
+    ∙ (ap (λ (o : ℕ). sent_packet f.settings e.ids.offsets ((p.header.sequence_number + f.numbers.offset) % 65536) ((p.header.timestamp + o) % 4294967296) p) times
+    ∙ ap (λ (o : IdOffsets). sent_packet f.settings o ((p.header.sequence_number + f.numbers.offset) % 65536) (time_as f.times p.header.timestamp) p) ids))
 
 -- The forwarder
 
@@ -102,6 +121,7 @@ pub record GoesOn (ssrc : ℕ) (f t : Forward) : Type 0 where
   pub source : is_source f.source ssrc ≡ true → is_source t.source ssrc ≡ true
   pub numbers : is_source f.source ssrc ≡ true → t.numbers.offset ≡ f.numbers.offset
   pub times : is_source f.source ssrc ≡ true → t.times.offset ≡ f.times.offset
+  pub ids : is_source f.source ssrc ≡ true → t.ids.offsets ≡ f.ids.offsets
   pub none : HasNone ssrc f → HasNone ssrc t
 
 pub goes_nowhere : (ssrc : ℕ) (f t : Forward) → t ≡ f → GoesOn ssrc f t
@@ -110,6 +130,7 @@ goes_nowhere ssrc f t same = record {
   source = λ on. ap (λ (x : Forward). is_source x.source ssrc) same ∙ on;
   numbers = λ on. ap (λ (x : Forward). x.numbers.offset) same;
   times = λ on. ap (λ (x : Forward). x.times.offset) same;
+  ids = λ on. ap (λ (x : Forward). x.ids.offsets) same;
   none = λ none. subst (HasNone ssrc) (sym same) none;
 }
 
@@ -119,6 +140,7 @@ goes_further ssrc f m t one two = record {
   source = λ on. two.source (one.source on);
   numbers = λ on. two.numbers (one.source on) ∙ one.numbers on;
   times = λ on. two.times (one.source on) ∙ one.times on;
+  ids = λ on. two.ids (one.source on) ∙ one.ids on;
   none = λ none. two.none (one.none none);
 }
 
@@ -134,6 +156,7 @@ goes_over ssrc now p f t same off is =
       source = λ on. absurd (not_on ssrc f other on);
       numbers = λ on. absurd (not_on ssrc f other on);
       times = λ on. absurd (not_on ssrc f other on);
+      ids = λ on. absurd (not_on ssrc f other on);
       none = λ none on. ap (λ (x : Forward). x.numbers.left_out) is;
     }
 
@@ -145,6 +168,7 @@ goes_next ssrc now p f t is =
       source = λ on. ap (λ (x : Forward). is_source x.source ssrc) is ∙ on;
       numbers = λ on. ap (λ (x : Forward). x.numbers.offset) is ∙ stays.0;
       times = λ on. ap (λ (x : Forward). x.times.offset) is;
+      ids = λ on. ap (λ (x : Forward). x.ids.offsets) is ∙ ids_stay (nat_lt f.numbers.highest (number_in f p)) f.settings.codec (number_in f p) p.payload f.ids;
       none = λ none on. ap (λ (x : Forward). x.numbers.left_out) is ∙ (stays.1 ∙ none (sym (ap (λ (x : Forward). is_source x.source ssrc) is) ∙ on));
     }
 
@@ -179,7 +203,7 @@ does_one ssrc now p f answers.Written bytes t of none does =
       on = goes;
       writes = λ b is.
           let w = writes_it (viewer_packet t p) (next_packet f does.1.0 p) bytes b
-          (written_packet ssrc does.1.0 p f of (none on) does.1.1 ∙ sym (same_viewer f t p goes.settings (goes.numbers on) (goes.times on))) is does.1.2 in
+          (written_packet ssrc does.1.0 p f of (none on) does.1.1 ∙ sym (same_viewer f t p goes.settings (goes.numbers on) (goes.times on) (goes.ids on))) is does.1.2 in
           (goes.source on, w.0, w.1);
     }
 does_one ssrc now p f answers.NoKeyframe bytes t of none does = record { on = goes_nowhere ssrc f t does.3.1; writes = λ b is. absurd (writes_none b is) }

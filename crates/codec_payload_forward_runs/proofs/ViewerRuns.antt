@@ -7,6 +7,7 @@ use Rattle.std.proofs.lemmas.Option.{same_Some, slice_get-map, slice_get_within}
 use Rattle.codec_payload_base.specs.declared.wire.Codec.{Codec}
 use Rattle.codec_payload_base.specs.declared.wire.Ticks.{Ticks}
 use Rattle.codec_payload_payloader.specs.Sending.{Sample}
+use Rattle.codec_payload_sending.specs.Senders.{Sending}
 use Rattle.codec_payload_receiver.specs.Sessions.{Session}
 use Rattle.codec_payload_rtp.specs.RtpPackets.{Packet, packet_bytes}
 use Rattle.codec_payload_rtp.specs.RtpReading.{rtp_at}
@@ -24,7 +25,7 @@ use Rattle.codec_payload_datagram_runs.specs.declared.run.SentSample.{SentSample
 use Rattle.codec_payload_forward_runs.proofs.SenderLemmas.{sends_step}
 use Rattle.codec_payload_forward_runs.proofs.SourceLemmas.{IsDatagramOf, IsSource, of_at, source_after}
 use Rattle.codec_payload_forward_runs.proofs.ViewerLemmas.{DoesOne, GoesOn, HasNone, IsOf, does_one, goes_further, goes_nowhere, same_viewer}
-use Rattle.codec_payload_forward_runs.specs.ForwardReleases.{AreForwarded, forwarded_by, forwarded_in, viewer_bytes, viewer_datagram, viewer_packet, viewer_samples, viewer_steps, viewer_wire}
+use Rattle.codec_payload_forward_runs.specs.ForwardReleases.{AreForwarded, forwarded_by, forwarded_in, keeps_packetizer, keeps_payloads, viewer_bytes, viewer_datagram, viewer_packet, viewer_samples, viewer_steps, viewer_wire}
 use Rattle.codec_payload_forward_runs.specs.ForwardRuns.{DoesForwardStep, DoesPlain, ForwardRuns, Hops, packet_in, packet_read, written_by}
 use Rattle.codec_payload_forward_runs.specs.StoreReleases.{store_steps}
 use Rattle.codec_payload_forward_runs.specs.declared.run.ForwardStep.{ForwardStep}
@@ -77,12 +78,12 @@ forwarded_later f before after bs ks more are =
 -- Whole runs
 
 -- a state of a run whose forwarder gets one source
-pub record IsAt (ssrc rate : ℕ) (codec : Codec) (s : Hops) : Type 0 where
-  pub source : IsSource ssrc rate codec s.wire.sending s.wire.datagrams
+pub record IsAt (ssrc rate : ℕ) (codec : Codec) (kind : Bool) (s : Hops) : Type 0 where
+  pub source : IsSource ssrc rate codec kind s.wire.sending s.wire.datagrams
   pub codec_is : s.forwarder.settings.codec ≡ codec
   pub none : HasNone ssrc s.forwarder
 
-module _ (ssrc rate : ℕ) (codec : Codec) (samples : List Sample) where
+module _ (ssrc rate : ℕ) (codec : Codec) (kind : Bool) (samples : List Sample) where
   -- a step of the forwarder
   pub record Answers (k now : ℕ) (s mid : Hops) : Type 0 where
     pub packet : Packet
@@ -103,7 +104,7 @@ module _ (ssrc rate : ℕ) (codec : Codec) (samples : List Sample) where
     skips : Skips k s mid → Turns k now s mid
     answers_one : Answers k now s mid → Turns k now s mid
 
-  turns : (k now : ℕ) (s mid : Hops) → IsAt ssrc rate codec s → DoesForwardStep samples (steps.Forward k now) s mid → Turns k now s mid
+  turns : (k now : ℕ) (s mid : Hops) → IsAt ssrc rate codec kind s → DoesForwardStep samples (steps.Forward k now) s mid → Turns k now s mid
   turns k now s mid at does = by (slice_get s.wire.datagrams k) refl
     where
       by : (o : Option (List ℕ)) → slice_get s.wire.datagrams k ≡ o → Turns k now s mid
@@ -128,17 +129,17 @@ module _ (ssrc rate : ℕ) (codec : Codec) (samples : List Sample) where
   -- The state after a step
 
   pub record Stays (s mid : Hops) : Type 0 where
-    pub at : IsAt ssrc rate codec mid
+    pub at : IsAt ssrc rate codec kind mid
     pub on : GoesOn ssrc s.forwarder mid.forwarder
     pub more : IsMore s.wire.datagrams mid.wire.datagrams
 
   -- a step of sender or receiver leaves the forwarder
-  plain_stays : (s mid : Hops) (wire : Wire) → mid ≡ record s { wire = wire } → IsAt ssrc rate codec s → IsSource ssrc rate codec wire.sending wire.datagrams → IsMore s.wire.datagrams wire.datagrams
+  plain_stays : (s mid : Hops) (wire : Wire) → mid ≡ record s { wire = wire } → IsAt ssrc rate codec kind s → IsSource ssrc rate codec kind wire.sending wire.datagrams → IsMore s.wire.datagrams wire.datagrams
       → Stays s mid
   plain_stays s mid wire is at source more =
-      let next : IsAt ssrc rate codec (record s { wire = wire }) = record { source = source; codec_is = at.codec_is; none = at.none } in
+      let next : IsAt ssrc rate codec kind (record s { wire = wire }) = record { source = source; codec_is = at.codec_is; none = at.none } in
       record {
-        at = subst (IsAt ssrc rate codec) (sym is) next;
+        at = subst (IsAt ssrc rate codec kind) (sym is) next;
         on = goes_nowhere ssrc s.forwarder mid.forwarder (ap (λ (x : Hops). x.forwarder) is);
         more = subst (λ (x : Hops). IsMore s.wire.datagrams x.wire.datagrams) (sym is) more;
       }
@@ -147,46 +148,46 @@ module _ (ssrc rate : ℕ) (codec : Codec) (samples : List Sample) where
   none_more datagrams = ([], sym (append-nil datagrams))
 
   -- the receiver's steps send nothing
-  quiet_stays : (s mid : Hops) (wire : Wire) → mid ≡ record s { wire = wire } → IsAt ssrc rate codec s → wire.sending ≡ s.wire.sending → wire.datagrams ≡ s.wire.datagrams → Stays s mid
+  quiet_stays : (s mid : Hops) (wire : Wire) → mid ≡ record s { wire = wire } → IsAt ssrc rate codec kind s → wire.sending ≡ s.wire.sending → wire.datagrams ≡ s.wire.datagrams → Stays s mid
   quiet_stays s mid wire is at sending datagrams =
       plain_stays s mid wire is at
-      (subst (λ (x : _). IsSource ssrc rate codec x wire.datagrams) (sym sending) (subst (IsSource ssrc rate codec s.wire.sending) (sym datagrams) at.source))
+      (subst (λ (x : _). IsSource ssrc rate codec kind x wire.datagrams) (sym sending) (subst (IsSource ssrc rate codec kind s.wire.sending) (sym datagrams) at.source))
       (subst (IsMore s.wire.datagrams) (sym datagrams) (none_more s.wire.datagrams))
 
-  same_stays : (s mid : Hops) → mid ≡ s → IsAt ssrc rate codec s → Stays s mid
+  same_stays : (s mid : Hops) → mid ≡ s → IsAt ssrc rate codec kind s → Stays s mid
   same_stays s mid is at = record {
-    at = subst (IsAt ssrc rate codec) (sym is) at;
+    at = subst (IsAt ssrc rate codec kind) (sym is) at;
     on = goes_nowhere ssrc s.forwarder mid.forwarder (ap (λ (x : Hops). x.forwarder) is);
     more = subst (λ (x : Hops). IsMore s.wire.datagrams x.wire.datagrams) (sym is) (none_more s.wire.datagrams);
   }
 
-  turn_stays : (k now : ℕ) (s mid : Hops) → IsAt ssrc rate codec s → Turns k now s mid → Stays s mid
+  turn_stays : (k now : ℕ) (s mid : Hops) → IsAt ssrc rate codec kind s → Turns k now s mid → Stays s mid
   turn_stays k now s mid at (skips none) = same_stays s mid none.1 at
   turn_stays k now s mid at (answers_one a) =
-      let next : IsAt ssrc rate codec (record s { forwarder = a.forwarder; written = s.written ++ written_by a.answer a.bytes; answers = s.answers ++ a.answer ∷ [] }) = record {
+      let next : IsAt ssrc rate codec kind (record s { forwarder = a.forwarder; written = s.written ++ written_by a.answer a.bytes; answers = s.answers ++ a.answer ∷ [] }) = record {
         source = at.source;
         codec_is = ap (λ (x : _). x.codec) a.one.on.settings ∙ at.codec_is;
         none = a.one.on.none at.none;
       } in
       record {
-        at = subst (IsAt ssrc rate codec) (sym a.is) next;
+        at = subst (IsAt ssrc rate codec kind) (sym a.is) next;
         on = subst (λ (x : Hops). GoesOn ssrc s.forwarder x.forwarder) (sym a.is) a.one.on;
         more = subst (λ (x : Hops). IsMore s.wire.datagrams x.wire.datagrams) (sym a.is) (none_more s.wire.datagrams);
       }
 
-  deliver_stays : (o : Option (List ℕ)) (now : Ticks) (s mid : Hops) → IsAt ssrc rate codec s
+  deliver_stays : (o : Option (List ℕ)) (now : Ticks) (s mid : Hops) → IsAt ssrc rate codec kind s
       → MatchOption o (mid ≡ s) (λ bytes. (receipt : Receipt) × (session : Session) × Delivers now bytes s.wire.session receipt session
       × (mid ≡ record s { wire = record s.wire { session = session; receipts = s.wire.receipts ++ receipt ∷ [] } }))
       → Stays s mid
   deliver_stays None now s mid at same = same_stays s mid same at
   deliver_stays (Some bytes) now s mid at done = quiet_stays s mid _ done.3 at refl refl
 
-  send_stays : (i : ℕ) (s mid : Hops) → IsAt ssrc rate codec s → DoesPlain samples (plain.Send i) s mid → Stays s mid
+  send_stays : (i : ℕ) (s mid : Hops) → IsAt ssrc rate codec kind s → DoesPlain samples (plain.Send i) s mid → Stays s mid
   send_stays i s mid at does =
       let g : Grows s.wire does.0 = grows samples (plain.Send i) s.wire does.0 does.1 in
-      plain_stays s mid does.0 does.2 at (source_after ssrc rate codec samples i s.wire does.0 at.source does.1) (g.new, g.whole)
+      plain_stays s mid does.0 does.2 at (source_after ssrc rate codec kind samples i s.wire does.0 at.source does.1) (g.new, g.whole)
 
-  pub stays : (step : ForwardStep) (s mid : Hops) → IsAt ssrc rate codec s → DoesForwardStep samples step s mid → Stays s mid
+  pub stays : (step : ForwardStep) (s mid : Hops) → IsAt ssrc rate codec kind s → DoesForwardStep samples step s mid → Stays s mid
   stays (steps.Send i) s mid at does = send_stays i s mid at does
   stays (steps.Forward k now) s mid at does = turn_stays k now s mid at (turns k now s mid at does)
   stays (steps.Deliver j now) s mid at does = deliver_stays (slice_get s.written j) now s mid at does
@@ -194,7 +195,7 @@ module _ (ssrc rate : ℕ) (codec : Codec) (samples : List Sample) where
   stays steps.Finish s mid at does = quiet_stays s mid does.0 does.2 at (ap (λ (x : Wire). x.sending) does.1.2) (ap (λ (x : Wire). x.datagrams) does.1.2)
 
   -- the forwarder at the end of a run
-  pub ends_on : (all_steps : List ForwardStep) (s t : Hops) → IsAt ssrc rate codec s → ForwardRuns samples all_steps s t → GoesOn ssrc s.forwarder t.forwarder
+  pub ends_on : (all_steps : List ForwardStep) (s t : Hops) → IsAt ssrc rate codec kind s → ForwardRuns samples all_steps s t → GoesOn ssrc s.forwarder t.forwarder
   ends_on [] s t at run = goes_nowhere ssrc s.forwarder t.forwarder (ap (λ (x : Hops). x.forwarder) run)
   ends_on (step ∷ later) s t at run =
       let one = stays step s run.0 at run.1 in
@@ -202,9 +203,9 @@ module _ (ssrc rate : ℕ) (codec : Codec) (samples : List Sample) where
 
   -- The run over one hop
 
-  -- the numbers of the viewer's stream have their widths
+  -- the numbers of the viewer's stream have their widths, the codec is that of the run, and the packetizer is of the codec
   abbrev pub Fit : Forward → Type 0
-  Fit e = (0 < rate) × (e.settings.payload_type < 128) × (e.settings.ssrc < 2 ^ 32)
+  Fit e = (0 < rate) × (e.settings.payload_type < 128) × (e.settings.ssrc < 2 ^ 32) × (e.settings.codec ≡ codec) × (kind ≡ true)
 
   -- One step, as the viewer's receiver sees it under the offsets of a later forwarder. `after` and `rest` are the results of later steps
   pub record One (e : Forward) (step : ForwardStep) (s mid : Hops) (forwarded : List ℕ) : Type 0 where
@@ -230,7 +231,14 @@ module _ (ssrc rate : ℕ) (codec : Codec) (samples : List Sample) where
   one_run : (e : Forward) (step : DatagramStep) (s t : Wire) → DoesStep (viewer_samples e rate samples) step s t → Runs (viewer_samples e rate samples) (step ∷ []) s t
   one_run e step s t does = (t, does, refl)
 
-  send_one : (e : Forward) (i : ℕ) (s mid : Hops) (forwarded : List ℕ) → IsAt ssrc rate codec s → DoesPlain samples (plain.Send i) s mid
+  keeps_here : (e : Forward) (s : Sending) → e.settings.codec ≡ codec → keeps_payloads codec s.packetizer ≡ true → keeps_packetizer codec s.packetizer ≡ true
+      → (keeps_payloads e.settings.codec s.packetizer ≡ true) × (keeps_packetizer e.settings.codec s.packetizer ≡ true)
+  keeps_here e s same keeps of = (
+    subst (λ (c : Codec). keeps_payloads c s.packetizer ≡ true) (sym same) keeps,
+    subst (λ (c : Codec). keeps_packetizer c s.packetizer ≡ true) (sym same) of,
+  )
+
+  send_one : (e : Forward) (i : ℕ) (s mid : Hops) (forwarded : List ℕ) → IsAt ssrc rate codec kind s → DoesPlain samples (plain.Send i) s mid
       → AreForwarded e mid.wire.datagrams mid.written forwarded → One e (steps.Send i) s mid forwarded
   send_one e i s mid forwarded at does written =
       let wire : mid.wire ≡ does.0 = ap (λ (x : Hops). x.wire) does.2 in
@@ -243,7 +251,7 @@ module _ (ssrc rate : ℕ) (codec : Codec) (samples : List Sample) where
         next = forwarded;
         written = written;
         seen = plain.Send i ∷ [];
-        course = λ fit. one_run e (plain.Send i) (viewer_wire e s.wire) (viewer_wire e mid.wire) (sends_step e fit.1 fit.2 rate samples i s.wire mid.wire at.source.clock fit.0 stepped);
+        course = λ fit. one_run e (plain.Send i) (viewer_wire e s.wire) (viewer_wire e mid.wire) (sends_step e fit.1 fit.2 rate samples i s.wire mid.wire at.source.clock fit.0 (keeps_here e s.wire.sending fit.3 at.source.keeps (at.source.of_codec fit.4)) stepped);
         steps_are = λ after rest later.
             let f = follows samples (plain.Send i) s.wire mid.wire after stepped in
             ap (λ (n : ℕ). plain.Send i ∷ viewer_steps samples n forwarded later (sends_by samples (plain.Send i) f.later) rest) f.sent
@@ -267,7 +275,7 @@ module _ (ssrc rate : ℕ) (codec : Codec) (samples : List Sample) where
           → (datagram : List ℕ) × (p : Packet) × (slice_get s.wire.datagrams k ≡ Some datagram) × (rtp_at datagram ≡ Ok p) × (b ≡ packet_bytes (viewer_packet e p)) × (rtp_at b ≡ Ok (viewer_packet e p))
       wrote b is =
           let w = a.one.writes b is in
-          let same : viewer_packet e a.packet ≡ viewer_packet a.forwarder a.packet = same_viewer a.forwarder e a.packet goes.settings (goes.numbers w.0) (goes.times w.0) in
+          let same : viewer_packet e a.packet ≡ viewer_packet a.forwarder a.packet = same_viewer a.forwarder e a.packet goes.settings (goes.numbers w.0) (goes.times w.0) (goes.ids w.0) in
           (a.datagram, a.packet, a.there, a.reads, w.1 ∙ ap packet_bytes (sym same), w.2 ∙ ap (λ (p : Packet). Ok p) (sym same))
 
       by : (answer : Forwarded) → a.answer ≡ answer → AreForwarded e s.wire.datagrams (written_by a.answer a.bytes) (forwarded_by a.answer k)
@@ -403,7 +411,7 @@ module _ (ssrc rate : ℕ) (codec : Codec) (samples : List Sample) where
       subst (λ (bs : List (List ℕ)). AreForwarded f mid.wire.datagrams bs forwarded) (sym same) (forwarded_later f s.wire.datagrams mid.wire.datagrams s.written forwarded more written)
 
   -- any step
-  pub one_step : (e : Forward) (step : ForwardStep) (s mid : Hops) (forwarded : List ℕ) → IsAt ssrc rate codec s
+  pub one_step : (e : Forward) (step : ForwardStep) (s mid : Hops) (forwarded : List ℕ) → IsAt ssrc rate codec kind s
       → DoesForwardStep samples step s mid → GoesOn ssrc mid.forwarder e → AreForwarded e s.wire.datagrams s.written forwarded → One e step s mid forwarded
   one_step e (steps.Send i) s mid forwarded at does goes written =
       let one = stays (steps.Send i) s mid at does in
@@ -428,7 +436,7 @@ module _ (ssrc rate : ℕ) (codec : Codec) (samples : List Sample) where
         → Runs (viewer_samples t.forwarder rate samples) (viewer_steps samples (length s.wire.datagrams) forwarded all_steps later more) (viewer_wire t.forwarder s.wire) (viewer_wire t.forwarder t.wire)
     pub written : AreForwarded t.forwarder t.wire.datagrams t.written (forwarded_in samples (length s.wire.datagrams) forwarded all_steps later more)
 
-  pub comes : (all_steps : List ForwardStep) (s t : Hops) (forwarded : List ℕ) → IsAt ssrc rate codec s → AreForwarded t.forwarder s.wire.datagrams s.written forwarded → ForwardRuns samples all_steps s t
+  pub comes : (all_steps : List ForwardStep) (s t : Hops) (forwarded : List ℕ) → IsAt ssrc rate codec kind s → AreForwarded t.forwarder s.wire.datagrams s.written forwarded → ForwardRuns samples all_steps s t
       → Comes all_steps s t forwarded
   comes [] s t forwarded at written run = record {
     later = [];

@@ -1,14 +1,14 @@
 -- The units that a viewer's receiver releases behind a forwarder, with any loss, repetition and order of datagrams on both hops.
 --
--- The forwarder changes the same fields of all packets, numbers and times by the same offsets. So the viewer's receiver sees the
--- datagrams of one sender: the sender of the run, with the viewer's SSRC, payload type, numbers and times. Premises and guarantees are
--- those of a run over one hop from that sender.
+-- The forwarder changes the same fields of all packets: numbers, times and the ids of VP9 by the same offsets. So the viewer's receiver
+-- sees the datagrams of one sender: the sender of the run, with the viewer's SSRC, payload type, numbers, times and ids. Premises and
+-- guarantees are those of a run over one hop from that sender.
 use Rattle.std.specs.Prelude.{◌≡◌, ℕ, ◌+◌, ◌%◌, ◌<◌, ◌^◌, nat_lt, if◌then◌else◌, Bool, true, false, List, [], ◌∷◌, ◌++◌, Option, Some, None, option_map, Ok, drop, map, slice_get}
 use Rattle.codec_payload_base.specs.declared.wire.Codec.{Codec}
 use Rattle.codec_payload_base.specs.declared.wire.Codec.TheVariants as codecs
 use Rattle.codec_payload_buffer_runs.specs.SentStream.{AreReadable, SentUnit, units_of_run}
 use Rattle.codec_payload_codec.specs.Depacketizers.{DepacketizerState}
-use Rattle.codec_payload_codec.specs.Packetizers.{PacketizerState, Vp8Packetizing}
+use Rattle.codec_payload_codec.specs.Packetizers.{PacketizerState, Vp8Packetizing, Vp9Packetizing}
 use Rattle.codec_payload_payloader.specs.Sending.{Sample, rtp_time_at}
 use Rattle.codec_payload_receiver.specs.Defaults.{no_ids}
 use Rattle.codec_payload_receiver.specs.Sessions.{Session, session_by}
@@ -18,7 +18,9 @@ use Rattle.codec_payload_rtp.specs.RtpReading.{rtp_at}
 use Rattle.codec_payload_sending.specs.Senders.{Sending}
 use Rattle.codec_payload_sending.specs.declared.sender.Counts.{Counts}
 use Rattle.codec_payload_sending.specs.declared.sender.Outgoing.{Outgoing}
-use Rattle.codec_payload_sending_forward.specs.Forwarding.{Forward, is_source, packet_under}
+use Rattle.codec_payload_sending_forward.specs.Forwarding.{Forward, is_source, sent_packet}
+use Rattle.codec_payload_sending_forward.specs.declared.ids.IdOffsets.{IdOffsets}
+use Rattle.codec_payload_vp9.specs.Vp9Sent.{Sender as Vp9Sender}
 use Rattle.codec_payload_sending_forward.specs.Times.{time_as}
 use Rattle.codec_payload_sending_forward.specs.declared.forwarder.Forwarded.{Forwarded}
 use Rattle.codec_payload_sending_forward.specs.declared.forwarder.Forwarded.TheVariants as answers
@@ -84,10 +86,10 @@ forwarded_of samples all_steps t = forwarded_in samples 0 [] all_steps t.wire.se
 
 -- The viewer's stream
 
--- a packet of the sender as the viewer gets it: the same payload and marker, under the viewer's SSRC and payload type, with number and
--- time moved by the offsets of the forwarder, without header extension
+-- a packet of the sender as the viewer gets it: the same marker, under the viewer's SSRC and payload type, with number, time and the ids
+-- in the payload moved by the offsets of the forwarder, without header extension
 abbrev pub viewer_packet : Forward → Packet → Packet
-viewer_packet f p = packet_under f.settings ((p.header.sequence_number + f.numbers.offset) % 65536) (time_as f.times p.header.timestamp) p
+viewer_packet f p = sent_packet f.settings f.ids.offsets ((p.header.sequence_number + f.numbers.offset) % 65536) (time_as f.times p.header.timestamp) p
 
 -- its datagram
 abbrev pub viewer_bytes : Forward → Option Packet → List ℕ
@@ -117,9 +119,21 @@ viewer_samples f clock_rate samples = map (viewer_sample f clock_rate) samples
 abbrev pub viewer_counts : Forward → Counts → Counts
 viewer_counts f counts = record counts { rtp_time = option_map (time_as f.times) counts.rtp_time }
 
+-- a packetizer of VP9 whose ids are moved
+abbrev pub moved_sender : IdOffsets → Vp9Sender → Vp9Sender
+moved_sender o s = record s { picture_id = (s.picture_id + o.picture) % 32768; tl0picidx = (s.tl0picidx + o.tl0) % 256 }
+
+-- the packetizer whose payloads the viewer gets
+abbrev pub moved_packetizer : Codec → IdOffsets → PacketizerState → PacketizerState
+moved_packetizer codecs.Vp9 o (Vp9Packetizing s) = Vp9Packetizing (moved_sender o s)
+moved_packetizer codec o packetizer = packetizer
+
+abbrev pub viewer_packetizer : Forward → PacketizerState → PacketizerState
+viewer_packetizer f packetizer = moved_packetizer f.settings.codec f.ids.offsets packetizer
+
 -- the sender whose datagrams the viewer gets
 abbrev pub viewer_sender : Forward → Sending → Sending
-viewer_sender f s = record s { stream = viewer_stream f s.stream; counts = viewer_counts f s.counts; datagrams = map (viewer_datagram f) s.datagrams }
+viewer_sender f s = record s { packetizer = viewer_packetizer f s.packetizer; stream = viewer_stream f s.stream; counts = viewer_counts f s.counts; datagrams = map (viewer_datagram f) s.datagrams }
 
 -- the run over one hop from that sender to the viewer
 abbrev pub viewer_wire : Forward → Wire → Wire
@@ -127,13 +141,20 @@ viewer_wire f s = record s { sending = viewer_sender f s.sending; datagrams = ma
 
 -- Premises
 
--- The forwarder does not change the payloads of this packetizer: its codec is not VP8, or the packetizer sends no picture ids
+-- The payloads have no ids that close up behind pictures which are left out: the codec is not VP8, or the packetizer sends no picture ids
 abbrev pub keeps_payloads : Codec → PacketizerState → Bool
 keeps_payloads codecs.Vp8 (Vp8Packetizing None) = true
 keeps_payloads codecs.Vp8 packetizer = false
 keeps_payloads codec packetizer = true
 
--- The forwarder keeps the payloads of the sender. It has not begun with the sender's stream yet, or has left out no packet of it
+-- If the codec is VP9, the packetizer is that of VP9: its ids are moved
+abbrev pub keeps_packetizer : Codec → PacketizerState → Bool
+keeps_packetizer codecs.Vp9 (Vp9Packetizing sender) = true
+keeps_packetizer codecs.Vp9 packetizer = false
+keeps_packetizer codec packetizer = true
+
+-- The forwarder moves the ids of all payloads by the same offsets. It has not begun with the sender's stream yet, or has left out no
+-- packet of it
 pub record ForwardsStream (sender : Sending) (forwarder : Forward) : Type 0 where
   pub keeps : keeps_payloads forwarder.settings.codec sender.packetizer ≡ true
   pub none_left_out : is_source forwarder.source sender.stream.ssrc ≡ true → forwarder.numbers.left_out ≡ []
@@ -148,6 +169,7 @@ pub record HaveWidths (sender : Sending) (forwarder : Forward) : Type 0 where
 -- within its windows, and timely. The forwarder may get any datagrams, in any order
 pub record IsForwardedWithinWindows (samples : List Sample) (all_steps : List ForwardStep) (s t : Hops) : Type 0 where
   pub forwards : ForwardsStream s.wire.sending s.forwarder
+  pub of_codec : keeps_packetizer s.forwarder.settings.codec s.wire.sending.packetizer ≡ true
   pub widths : HaveWidths s.wire.sending s.forwarder
   pub settings : Settings
   pub depacketizer : DepacketizerState

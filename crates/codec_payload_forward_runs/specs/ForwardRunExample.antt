@@ -14,7 +14,7 @@ use Rattle.codec_payload_sending.specs.Senders.{Sending}
 use Rattle.codec_payload_sending_forward.specs.Forwarding.{Forward}
 use Rattle.codec_payload_sending_forward.specs.Numbers.{begun}
 use Rattle.codec_payload_sending_forward.specs.Times.{begun_times}
-use Rattle.codec_payload_sending_forward.specs.Vp8Numbers.{first_ids}
+use Rattle.codec_payload_sending_forward.specs.Ids.{first_ids}
 use Rattle.codec_payload_sending_forward.specs.declared.forwarder.Forwarded.{Forwarded}
 use Rattle.codec_payload_sending_forward.specs.declared.forwarder.Forwarded.TheVariants as answers
 use Rattle.codec_payload_sending_forward.specs.declared.forwarder.ForwardSettings.{ForwardSettings}

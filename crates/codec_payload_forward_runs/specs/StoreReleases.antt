@@ -20,7 +20,7 @@ use Rattle.codec_payload_datagram_runs.specs.WireLogs.{KeepsPromises}
 use Rattle.codec_payload_datagram_runs.specs.declared.run.DatagramStep.{DatagramStep}
 use Rattle.codec_payload_datagram_runs.specs.declared.run.DatagramStep.TheVariants as seen
 use Rattle.codec_payload_datagram_runs.specs.declared.run.SentSample.{SentSample}
-use Rattle.codec_payload_forward_runs.specs.ForwardReleases.{ForwardsStream, HaveWidths, forwarded_first, viewer_packet, viewer_samples, viewer_sender, viewer_wire}
+use Rattle.codec_payload_forward_runs.specs.ForwardReleases.{ForwardsStream, HaveWidths, forwarded_first, keeps_packetizer, viewer_packet, viewer_samples, viewer_sender, viewer_wire}
 use Rattle.codec_payload_forward_runs.specs.StoreRuns.{StoreRuns, Stored, begins_with_store}
 use Rattle.codec_payload_forward_runs.specs.declared.run.ForwardStep.TheVariants as plain
 use Rattle.codec_payload_forward_runs.specs.declared.store_run.StoreStep.{StoreStep}
@@ -82,6 +82,7 @@ AreAgain f datagrams (bytes ∷ more) (k ∷ ks) =
 -- as for a run without a store; the viewer's receiver reads the retransmissions, if there is a stream of them
 pub record IsStoredWithinWindows (samples : List Sample) (all_steps : List StoreStep) (s t : Stored) (repeats : List ℕ) : Type 0 where
   pub forwards : ForwardsStream s.hops.wire.sending s.hops.forwarder
+  pub of_codec : keeps_packetizer s.hops.forwarder.settings.codec s.hops.wire.sending.packetizer ≡ true
   pub widths : HaveWidths s.hops.wire.sending s.hops.forwarder
   pub settings : Settings
   pub depacketizer : DepacketizerState

@@ -1,1 +1,3 @@
 pub mod GateLemmas
+pub mod LayerLemmas
+pub mod ReferenceLemmas

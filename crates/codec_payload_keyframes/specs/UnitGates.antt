@@ -1,8 +1,10 @@
 -- Which units of a stream are passed on: all of them, or those that a decoder can show.
-use Rattle.std.specs.Prelude.{◌≡◌, ◌&&◌, ◌||◌, ℕ, ◌+◌, ◌%◌, ◌^◌, not, if◌then◌else◌, Bool, true, false, List}
+use Rattle.std.specs.Prelude.{◌||◌, ℕ, ◌+◌, ◌%◌, ◌^◌, not, Bool, true, false, List}
+use Rattle.codec_payload_base.specs.declared.interface.CodecExtra.{CodecExtra}
 use Rattle.codec_payload_base.specs.declared.wire.Codec.{Codec}
 use Rattle.codec_payload_base.specs.declared.wire.Codec.TheVariants as codecs
 use Rattle.codec_payload_keyframes.specs.Keyframes.{after_loss, after_skip, after_unit, is_key_unit, new_gate, shows_unit}
+use Rattle.codec_payload_keyframes.specs.Vp8Layers.{picture_of}
 use Rattle.codec_payload_keyframes.specs.declared.gate.KeyframeGate.{KeyframeGate}
 use Rattle.codec_payload_keyframes.specs.declared.unit_gate.FromKeyframe.{FromKeyframe}
 use Rattle.codec_payload_keyframes.specs.declared.unit_gate.FromKeyframe.TheVariants as modes
@@ -35,19 +37,19 @@ undecodable_with true count = count
 undecodable_with false count = (count + 1) % 2 ^ 64
 
 -- a decoder can show the unit
-abbrev pub is_shown : Gating → List ℕ → Bool → Bool
-is_shown g bytes contiguous = shows_unit g.gate (is_key_unit g.gate bytes) contiguous
+abbrev pub is_shown : Gating → List ℕ → Bool → CodecExtra → Bool
+is_shown g bytes contiguous extra = shows_unit g.gate (is_key_unit g.gate bytes) contiguous (picture_of extra)
 
 -- the unit is passed on
-abbrev pub is_passed : Gating → List ℕ → Bool → Bool
-is_passed g bytes contiguous = not g.drops || is_shown g bytes contiguous
+abbrev pub is_passed : Gating → List ℕ → Bool → CodecExtra → Bool
+is_passed g bytes contiguous extra = not g.drops || is_shown g bytes contiguous extra
 
-abbrev pub with_unit : Gating → List ℕ → Bool → Gating
-with_unit g bytes contiguous = record {
-  gate = after_unit g.gate (is_key_unit g.gate bytes) contiguous;
+abbrev pub with_unit : Gating → List ℕ → Bool → CodecExtra → Gating
+with_unit g bytes contiguous extra = record {
+  gate = after_unit g.gate (is_key_unit g.gate bytes) contiguous (picture_of extra);
   drops = g.drops;
   is_keyframe = is_key_unit g.gate bytes;
-  undecodable = undecodable_with (is_shown g bytes contiguous) g.undecodable;
+  undecodable = undecodable_with (is_shown g bytes contiguous extra) g.undecodable;
 }
 
 abbrev pub with_loss : Gating → Gating

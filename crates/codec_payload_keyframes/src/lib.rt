@@ -2,4 +2,6 @@
 #![tactic(auto)]
 
 pub mod gate;
+pub mod references;
 pub mod unit_gate;
+pub mod vp8_layers;

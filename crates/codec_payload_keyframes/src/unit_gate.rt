@@ -4,6 +4,8 @@ ghost use Rattle.std.specs.Prelude.{◌≡◌};
 ghost use Rattle.codec_payload_keyframes.specs.UnitGates.{drops_units, followed_codec, is_passed, new_gating, undecodable_with, with_loss, with_skip, with_unit};
 
 use crate::gate::KeyframeGate;
+use crate::vp8_layers::Vp8Picture;
+use codec_payload_base::interface::CodecExtra;
 use codec_payload_base::wire::Codec;
 use std::marker::Model;
 
@@ -51,13 +53,14 @@ impl UnitGate {
         }
     }
 
-    /// Records a released unit with the flag `contiguous` of that unit. Returns whether to pass it on.
-    pub fn release(&mut self, unit: &[u8], contiguous: bool) -> bool
-        ensures passed { result ≡ is_passed self.old unit.now contiguous }
-        ensures after { self.new ≡ with_unit self.old unit.now contiguous }
+    /// Records a released unit with its flag `contiguous` and its codec-specific data. Returns whether to pass it on.
+    pub fn release(&mut self, unit: &[u8], contiguous: bool, extra: &CodecExtra) -> bool
+        ensures passed { result ≡ is_passed self.old unit.now contiguous extra.now }
+        ensures after { self.new ≡ with_unit self.old unit.now contiguous extra.now }
     {
         self.is_keyframe = self.gate.is_key(unit);
-        let is_shown = self.gate.release_as(self.is_keyframe, contiguous);
+        let picture = Vp8Picture::of(extra);
+        let is_shown = self.gate.release_as(self.is_keyframe, contiguous, picture);
         self.undecodable = undecodable_with(is_shown, self.undecodable);
         !self.drops || is_shown
     }

@@ -1,12 +1,16 @@
 -- The keyframe gate of a receiver follows the events of a run.
-use Rattle.std.proofs.Common.{◌≡◌, ◌∙◌, ◌↔◌, ◌&&◌, ◌||◌, not, Bool, true, false, List, [], ◌∷◌, Option, Some, None, Result, Ok, Err, ℕ, refl, sym, ap, subst, inl, inr}
+use Rattle.std.proofs.Common.{◌≡◌, ◌∙◌, ◌||◌, not, Bool, true, false, List, [], ◌∷◌, Option, Some, None, Result, Ok, Err, ℕ, refl, sym, ap, subst, inl, inr}
 use Rattle.std.specs.declared.alloc.AllocError.{AllocError}
 use Rattle.codec_payload_base.specs.declared.wire.Codec.{Codec}
 use Rattle.codec_payload_base.specs.declared.wire.Ticks.{Ticks}
 use Rattle.codec_payload_jitter.specs.declared.outcome.Outcome.{Outcome}
-use Rattle.codec_payload_keyframes.specs.Keyframes.{Event, ShowsLast, WantsKeyframe, after_loss, after_skip, after_unit, gate_after, is_key_unit, is_video, lost, new_gate, released, shows_unit, skipped}
-use Rattle.codec_payload_keyframes.specs.UnitGates.{Gating, is_passed, is_shown}
+use Rattle.codec_payload_keyframes.specs.Keyframes.{Event, Run, after_skip, is_key_unit, loses, new_gate, releases, skipped, skips}
+use Rattle.codec_payload_keyframes.specs.Keyframes.{begins as gate_begins}
+use Rattle.codec_payload_keyframes.specs.UnitGates.{Gating, is_shown}
+use Rattle.codec_payload_keyframes.specs.Vp8Layers.{picture_of}
+use Rattle.codec_payload_keyframes.specs.declared.gate.KeyframeGate.{KeyframeGate}
 use Rattle.codec_payload_keyframes.proofs.GateLemmas.{gates_agree, units_follow_keyframes}
+use Rattle.codec_payload_keyframes.proofs.LayerLemmas.{layer_fits}
 use Rattle.codec_payload_receiver.specs.KeyframeRuns.{DatagramsLeaveTheGate, DropsFollowKeyframes, GateRun, PopsFollowKeyframes, answer_events, begins, fault_events, others, pop_events, pops, restarts}
 use Rattle.codec_payload_receiver.specs.Kinds.{Datagram}
 use Rattle.codec_payload_receiver.specs.Pops.{Answer, after_fault, gates_after, gates_if, has_left, is_large, is_memory}
@@ -17,41 +21,42 @@ use Rattle.codec_payload_receiver.specs.declared.choice.Verdict.TheVariants as v
 use Rattle.codec_payload_receiver.specs.declared.receiver.ReceiveError.{ReceiveError}
 use Rattle.codec_payload_receiver.specs.declared.receiver.ReceiveError.TheVariants as errors
 
--- the gate after a fault
-after_fault_is : (codec : Codec) (g : Gating) (memory left : Bool) (before : List Event) → g.gate ≡ gate_after codec before
-    → (after_fault memory g left).gate ≡ gate_after codec (fault_events memory left before)
-after_fault_is codec g true true before is = ap after_skip is
-after_fault_is codec g true false before is = is
-after_fault_is codec g false left before is = ap after_loss is
+-- the run of a gate, after a fault
+fault_run : (codec : Codec) (g : Gating) (memory left : Bool) (before : List Event) → Run codec before g.gate
+    → Run codec (fault_events memory left before) (after_fault memory g left).gate
+fault_run codec g true true before run = skips run
+fault_run codec g true false before run = run
+fault_run codec g false left before run = loses run
 
-after_answer : (codec : Codec) (g : Gating) (left : Bool) (answer : Answer) (before : List Event) → g.gate ≡ gate_after codec before
-    → (gates_after g left answer).gate ≡ gate_after codec (answer_events g left answer before)
-after_answer codec g true None before is = ap after_skip is
-after_answer codec g false None before is = is
-after_answer codec g left (Some (Err fault)) before is = after_fault_is codec g (is_memory fault) left before is
-after_answer codec g left (Some (Ok unit)) before is = ap (λ k. after_unit k (is_key_unit g.gate unit.bytes) unit.contiguous) is
+-- after an answer
+answer_run : (codec : Codec) (g : Gating) (left : Bool) (answer : Answer) (before : List Event) → Run codec before g.gate
+    → Run codec (answer_events g left answer before) (gates_after g left answer).gate
+answer_run codec g true None before run = skips run
+answer_run codec g false None before run = run
+answer_run codec g left (Some (Err fault)) before run = fault_run codec g (is_memory fault) left before run
+answer_run codec g left (Some (Ok unit)) before run =
+    releases (is_key_unit g.gate unit.bytes) unit.contiguous (picture_of unit.codec_extra) (layer_fits unit.codec_extra) run
 
--- the gate after a pop
-after_pop : (codec : Codec) (large : Bool) (g : Gating) (left : Bool) (answer : Answer) (before : List Event) → g.gate ≡ gate_after codec before
-    → (gates_if large g left answer).gate ≡ gate_after codec (pop_events large g left answer before)
-after_pop codec true g left answer before is = ap after_loss is
-after_pop codec false g left answer before is = after_answer codec g left answer before is
+-- after a pop
+pop_run : (codec : Codec) (large : Bool) (g : Gating) (left : Bool) (answer : Answer) (before : List Event) → Run codec before g.gate
+    → Run codec (pop_events large g left answer before) (gates_if large g left answer).gate
+pop_run codec true g left answer before run = loses run
+pop_run codec false g left answer before run = answer_run codec g left answer before run
 
--- the gate of a run is the gate of its events
-gate_of_run : (codec : Codec) (s t : Session) (events : List Event) → s.gates.gate ≡ new_gate codec → GateRun s events t → t.gates.gate ≡ gate_after codec events
-gate_of_run codec s t events new begins = new
-gate_of_run codec s t events new (pops {mid = mid} {before = before} now answer run once is) =
-    ap (λ (x : Session). x.gates.gate) once.2
-    ∙ after_pop codec (is_large mid.bound.most answer) mid.gates (has_left mid.packets once.0) answer before (gate_of_run codec s mid before new run)
-    ∙ ap (gate_after codec) (sym is)
-gate_of_run codec s t events new (restarts {mid = mid} {before = before} ssrc named run same is) =
-    ap (λ (x : Session). x.gates.gate) is ∙ ap (λ (k : Gating). after_skip k.gate) same ∙ ap after_skip (gate_of_run codec s mid before new run)
-gate_of_run codec s t events new (others {mid = mid} run same) = ap (λ (k : Gating). k.gate) same ∙ gate_of_run codec s mid events new run
+-- the gate of a receiver has the run of its events
+run_of : (codec : Codec) (s t : Session) (events : List Event) → s.gates.gate ≡ new_gate codec → GateRun s events t → Run codec events t.gates.gate
+run_of codec s t events new begins = subst (λ (k : KeyframeGate). Run codec [] k) (sym new) gate_begins
+run_of codec s t events new (pops {mid = mid} {before = before} now answer run once is) =
+    subst (λ (es : List Event). Run codec es t.gates.gate) (sym is)
+    (subst (λ (x : Session). Run codec (pop_events (is_large mid.bound.most answer) mid.gates (has_left mid.packets once.0) answer before) x.gates.gate) (sym once.2)
+    (pop_run codec (is_large mid.bound.most answer) mid.gates (has_left mid.packets once.0) answer before (run_of codec s mid before new run)))
+run_of codec s t events new (restarts {mid = mid} {before = before} ssrc named run same is) =
+    subst (λ (x : Session). Run codec (skipped ∷ before) x.gates.gate) (sym is)
+    (subst (λ (k : Gating). Run codec (skipped ∷ before) (after_skip k.gate)) (sym same) (skips (run_of codec s mid before new run)))
+run_of codec s t events new (others {mid = mid} run same) = subst (λ (k : Gating). Run codec events k.gate) (sym same) (run_of codec s mid events new run)
 
 pub pops_follow_keyframes : PopsFollowKeyframes
-pops_follow_keyframes codec s t events video new run =
-    let is = sym (gate_of_run codec s t events new run) in
-    subst (λ k. ((k.shows ≡ true) ↔ ShowsLast events) × ((k.wants ≡ true) ↔ WantsKeyframe events)) is (gates_agree codec events video)
+pops_follow_keyframes codec s t events video new run = gates_agree codec events t.gates.gate video (run_of codec s t events new run)
 
 -- a unit that is passed on is decodable, if units are dropped
 shown_if_passed : (drops shown : Bool) → drops ≡ true → (not drops || shown) ≡ true → shown ≡ true
@@ -60,10 +65,9 @@ shown_if_passed false shown dropping passed = cc
 
 pub drops_follow_keyframes : DropsFollowKeyframes
 drops_follow_keyframes codec s mid events unit video new run dropping passed =
-    let is = gate_of_run codec s mid events new run in
-    let key = is_key_unit mid.gates.gate unit.bytes in
-    units_follow_keyframes codec events key unit.contiguous video
-    (subst (λ k. shows_unit k key unit.contiguous ≡ true) is (shown_if_passed mid.gates.drops (is_shown mid.gates unit.bytes unit.contiguous) dropping passed))
+    units_follow_keyframes codec events mid.gates.gate (is_key_unit mid.gates.gate unit.bytes) unit.contiguous (picture_of unit.codec_extra) video
+    (layer_fits unit.codec_extra) (run_of codec s mid events new run)
+    (shown_if_passed mid.gates.drops (is_shown mid.gates unit.bytes unit.contiguous unit.codec_extra) dropping passed)
 
 -- a datagram leaves the gate unchanged
 heard_leaves : (now : Ticks) (d : Datagram) (s t : Session) (answer : Result Outcome ReceiveError) → Heard now d s answer t → t.gates ≡ s.gates

@@ -1,9 +1,9 @@
 -- A custom depacketizer behind a receiver stays custom.
-use Rattle.std.proofs.Common.{◌≡◌, ◌∙◌, refl, ap, sym, ℕ, List, Bool, Option, Result, Ok, Err}
+use Rattle.std.proofs.Common.{◌≡◌, ◌∙◌, refl, ap, ℕ, List, Bool, Result, Ok, Err}
 use Rattle.codec_payload_codec.specs.Depacketizers.{is_built_in_depacketizer}
 use Rattle.codec_payload_base.specs.declared.wire.Ticks.{Ticks}
 use Rattle.codec_payload_jitter.proofs.OwnLemmas.{pops_with_stays, settled_stays}
-use Rattle.codec_payload_jitter.specs.Receiving.{Receiving, settled, waiting_at}
+use Rattle.codec_payload_jitter.specs.Receiving.{settled, waiting_at}
 use Rattle.codec_payload_receiver.specs.Pops.{DropsUnits, Answer, PopsOnce, none_dropped, one_more}
 use Rattle.codec_payload_receiver.specs.Sessions.{Keeps, Session}
 use Rattle.codec_payload_receiver.specs.declared.choice.Origin.{Origin}

@@ -46,9 +46,9 @@ dropped_most now s t (one_more {mid = mid} unit before pops kept) = once_most no
 passes_all : (s : Session) (unit : Release) → s.gates.drops ≡ false → is_answered s (Some (Ok unit)) ≡ true
 passes_all s unit keeps = by_test (is_over s.bound.most unit.bytes)
   where
-    by_test : (large : Bool) → (large || is_passed s.gates unit.bytes unit.contiguous) ≡ true
+    by_test : (large : Bool) → (large || is_passed s.gates unit.bytes unit.contiguous unit.codec_extra) ≡ true
     by_test true = refl
-    by_test false = ap (λ (b : Bool). not b || is_shown s.gates unit.bytes unit.contiguous) keeps
+    by_test false = ap (λ (b : Bool). not b || is_shown s.gates unit.bytes unit.contiguous unit.codec_extra) keeps
 
 -- a receiver that drops no units drops none
 pub none_are_dropped : (now : ℕ) (s mid : Session) → s.gates.drops ≡ false → DropsUnits now s mid → mid ≡ s

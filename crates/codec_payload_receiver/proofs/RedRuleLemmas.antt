@@ -9,7 +9,6 @@ use Rattle.codec_payload_jitter.specs.Receiving.{Receiving, Arrival, ReceivesAs,
 use Rattle.codec_payload_jitter.specs.declared.numbers.Extended.{Extended}
 use Rattle.codec_payload_jitter.specs.declared.numbers.Extended.TheVariants as extended
 use Rattle.codec_payload_jitter.specs.declared.outcome.Outcome.{Outcome}
-use Rattle.codec_payload_jitter.specs.declared.outcome.Outcome.TheVariants as outcomes
 use Rattle.codec_payload_receiver.specs.Kinds.{Kinds, Carrier, RtcpPacket, Malformed, OfOthers, WithoutMedia, WithMedia, InRed, Again, AgainInRed, AgainEmpty, header_for, original_header}
 use Rattle.codec_payload_receiver.specs.RedOnce.{AreListed, AreStoredByRule, HasNoBlock, IsForgotten, ReceivesByRule, block_at, packet_with, repeats, seen_after, seen_since, times_since}
 use Rattle.codec_payload_receiver.specs.SeenTimes.{Seen, has_block, is_seen, none_seen}

@@ -1,5 +1,5 @@
 -- The places of times, from the times and from what arrived with them.
-use Rattle.std.proofs.Common.{◌≡◌, ◌∙◌, refl, ap, zero, suc, ℕ, ◌<◌, List, [], ◌∷◌, length, map, min, Option, None, arith, slice_set}
+use Rattle.std.proofs.Common.{◌≡◌, refl, ap, zero, suc, ℕ, ◌<◌, List, [], ◌∷◌, length, map, Option, None, arith, slice_set}
 use Rattle.std.proofs.lemmas.List.{length-map}
 use Rattle.std.specs.List.{zip}
 use Rattle.std.specs.Prelude.{slice_index_or}

@@ -1,12 +1,13 @@
 -- The answers of the keyframe gate, over every run of a receiver.
-use Rattle.std.specs.Prelude.{◌≡◌, ◌⊎◌, ◌↔◌, ℕ, Bool, true, false, List, [], ◌∷◌, Option, Some, None, Result, Ok, Err}
+use Rattle.std.specs.Prelude.{◌≡◌, ◌↔◌, ℕ, Bool, true, false, List, [], ◌∷◌, Option, Some, None, Result, Ok, Err}
 use Rattle.std.specs.declared.alloc.AllocError.{AllocError}
 use Rattle.codec_payload_base.specs.declared.wire.Codec.{Codec}
 use Rattle.codec_payload_base.specs.declared.wire.Ticks.{Ticks}
 use Rattle.codec_payload_buffer.specs.Release.{Release}
 use Rattle.codec_payload_jitter.specs.declared.outcome.Outcome.{Outcome}
 use Rattle.codec_payload_keyframes.specs.Keyframes.{Event, ShowsLast, WantsKeyframe, is_key_unit, is_video, lost, new_gate, released, skipped}
-use Rattle.codec_payload_keyframes.specs.UnitGates.{Gating, is_passed}
+use Rattle.codec_payload_keyframes.specs.UnitGates.{Gating, is_passed, is_shown}
+use Rattle.codec_payload_keyframes.specs.Vp8Layers.{picture_of}
 use Rattle.codec_payload_receiver.specs.Pops.{Answer, PopsOnce, has_left, is_large, is_memory}
 use Rattle.codec_payload_receiver.specs.Sessions.{Finishes, ReceivesBytes, Session, restarted}
 use Rattle.codec_payload_receiver.specs.declared.receiver.ReceiveError.{ReceiveError}
@@ -24,7 +25,8 @@ fault_events false has_left before = lost ∷ before
 abbrev pub answer_events : Gating → Bool → Answer → List Event → List Event
 answer_events g has_left None before = events_with has_left before
 answer_events g has_left (Some (Err fault)) before = fault_events (is_memory fault) has_left before
-answer_events g has_left (Some (Ok unit)) before = released (is_key_unit g.gate unit.bytes) unit.contiguous ∷ before
+answer_events g has_left (Some (Ok unit)) before =
+    released (is_key_unit g.gate unit.bytes) unit.contiguous (picture_of unit.codec_extra) (is_shown g unit.bytes unit.contiguous unit.codec_extra) ∷ before
 
 -- a unit above the bound is lost
 abbrev pub pop_events : (large : Bool) → Gating → Bool → Answer → List Event → List Event
@@ -40,19 +42,19 @@ pub data GateRun (s : Session) : List Event → Session → Type 0 where
       → GateRun s (skipped ∷ before) t
   others : {mid t : Session} {before : List Event} → GateRun s before mid → t.gates ≡ mid.gates → GateRun s before t
 
--- over every run of a new receiver of video: the latest unit is decodable exactly if a chain of contiguous units leads to it
--- from a keyframe; `wants_keyframe` is true exactly if an event since the last keyframe needs one
+-- over every run of a new receiver of video: the latest unit is decodable exactly if it is a keyframe, or all that it may refer to is
+-- decodable; `wants_keyframe` is true exactly if an event since the last keyframe needs one
 abbrev pub PopsFollowKeyframes : Type 0
 PopsFollowKeyframes =
     (codec : Codec) (s t : Session) (events : List Event) → is_video codec ≡ true → s.gates.gate ≡ new_gate codec → GateRun s events t
     → ((t.gates.gate.shows ≡ true) ↔ ShowsLast events) × ((t.gates.gate.wants ≡ true) ↔ WantsKeyframe events)
 
--- a receiver that drops units passes on a unit only if it is a keyframe, or is contiguous and follows a decodable unit
+-- a receiver that drops units passes on a unit only if it is a keyframe, or all that it may refer to is decodable
 abbrev pub DropsFollowKeyframes : Type 0
 DropsFollowKeyframes =
     (codec : Codec) (s mid : Session) (events : List Event) (unit : Release) → is_video codec ≡ true → s.gates.gate ≡ new_gate codec → GateRun s events mid
-    → mid.gates.drops ≡ true → is_passed mid.gates unit.bytes unit.contiguous ≡ true
-    → (is_key_unit mid.gates.gate unit.bytes ≡ true) ⊎ ((unit.contiguous ≡ true) × ShowsLast events)
+    → mid.gates.drops ≡ true → is_passed mid.gates unit.bytes unit.contiguous unit.codec_extra ≡ true
+    → ShowsLast (released (is_key_unit mid.gates.gate unit.bytes) unit.contiguous (picture_of unit.codec_extra) true ∷ events)
 
 -- datagrams and the end of the stream leave the gate unchanged
 abbrev pub DatagramsLeaveTheGate : Type 0

@@ -1,5 +1,5 @@
 -- Pops of a receiver: each is a pop of the jitter buffer, and updates the keyframe gate.
-use Rattle.std.specs.Prelude.{◌≡◌, ◌==◌, ◌||◌, ℕ, length, not, Bool, true, false, List, [], ◌∷◌, Option, Some, None, Result, Ok, Err}
+use Rattle.std.specs.Prelude.{◌≡◌, ◌==◌, ◌||◌, ℕ, length, not, Bool, true, false, Option, Some, None, Result, Ok, Err}
 use Rattle.std.specs.declared.alloc.AllocError.{AllocError}
 use Rattle.codec_payload_base.specs.declared.error.PacketError.{PacketError}
 use Rattle.codec_payload_base.specs.declared.error.PacketError.TheVariants as faults
@@ -50,13 +50,13 @@ after_fault false g has_left = with_loss g
 abbrev pub gates_after : Gating → Bool → Answer → Gating
 gates_after g has_left None = without_unit g has_left
 gates_after g has_left (Some (Err fault)) = after_fault (is_memory fault) g has_left
-gates_after g has_left (Some (Ok unit)) = with_unit g unit.bytes unit.contiguous
+gates_after g has_left (Some (Ok unit)) = with_unit g unit.bytes unit.contiguous unit.codec_extra
 
 -- a unit can be dropped; any other answer is passed on
 abbrev pub is_passed_on : Gating → Answer → Bool
 is_passed_on g None = true
 is_passed_on g (Some (Err fault)) = true
-is_passed_on g (Some (Ok unit)) = is_passed g unit.bytes unit.contiguous
+is_passed_on g (Some (Ok unit)) = is_passed g unit.bytes unit.contiguous unit.codec_extra
 
 -- ---- the bound of units
 

@@ -39,7 +39,7 @@ pub(crate) fn follow(
     ensures passed { result ≡ is_passed_on gates.old answer.now }
 {
     match answer {
-        Some(Ok(unit)) => return gates.release(&unit.bytes, unit.contiguous),
+        Some(Ok(unit)) => return gates.release(&unit.bytes, unit.contiguous, &unit.codec_extra),
         Some(Err(PacketError::OutOfMemory)) | None => follow_none(gates, has_left),
         Some(Err(_)) => gates.lose(),
     }
@@ -58,7 +58,11 @@ pub(crate) fn follow_to(
     ensures passed { result ≡ is_passed_on gates.old (popped_to answer.now unit.now) }
 {
     match answer {
-        Some(Ok(())) => return gates.release(unit.bytes.as_slice(), unit.contiguous),
+        Some(Ok(())) => return gates.release(
+            unit.bytes.as_slice(),
+            unit.contiguous,
+            &unit.codec_extra,
+        ),
         Some(Err(PacketError::OutOfMemory)) | None => follow_none(gates, has_left),
         Some(Err(_)) => gates.lose(),
     }

@@ -17,9 +17,10 @@ pub fn receives_by_rule()
 
 /// Over every run of a receiver of video, from its first call on:
 ///
-/// - The latest unit is decodable exactly if a chain of contiguous units leads to it from a keyframe.
+/// - The latest unit is decodable exactly if it is a keyframe, or each unit is decodable to which it may refer: by the ids and
+///   layers of VP8 (RFC 7741, section 4.2), or else the unit before it, without a gap.
 /// - `wants_keyframe` is true exactly if an event since the last keyframe needs a keyframe.
-/// - A receiver that drops units passes on a unit only if it is a keyframe, or follows a decodable unit.
+/// - A receiver that drops units passes on only units that are decodable in this sense.
 /// - Datagrams and the end of the stream change neither answer.
 pub fn pops_follow_keyframes()
     ensures marks { PopsFollowKeyframes }

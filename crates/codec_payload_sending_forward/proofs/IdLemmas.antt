@@ -1,9 +1,16 @@
 -- Picture ids that are moved.
-use Rattle.std.proofs.Common.{◌≡◌, sym, subst, ℕ, ◌+◌, ◌%◌, ◌<◌, ◌≤◌, true, List, [], ◌∷◌, length, take, arith}
+use Rattle.std.proofs.Common.{◌≡◌, sym, subst, ℕ, ◌+◌, ◌%◌, ◌<◌, ◌≤◌, true, List, [], ◌∷◌, length, take, Option, Some, None, arith}
+use Rattle.std.specs.Option.{option_map}
+use Rattle.std.specs.Prelude.{IfSome}
 use Rattle.std.proofs.lemmas.Bool.{ltb-true}
 use Rattle.std.proofs.lemmas.List.{length-take}
+use Rattle.std.proofs.lemmas.Option.{same_Some}
+use Rattle.codec_payload_base.specs.PictureIds.{FitsWidth, id_value}
+use Rattle.codec_payload_base.specs.declared.picture_id.PictureId.{PictureId}
+use Rattle.codec_payload_base.specs.declared.picture_id.PictureId.TheVariants.{Long, Short}
+use Rattle.codec_payload_vp8.specs.Vp8Descriptor.{id_bits}
 use Rattle.codec_payload_sending_forward.specs.Numbers.{AllBelow, Falls}
-use Rattle.codec_payload_sending_forward.specs.Vp8Numbers.{is_ahead}
+use Rattle.codec_payload_sending_forward.specs.Ids.{is_ahead}
 use Rattle.codec_payload_sending_forward.proofs.NumberLemmas.{all_below_less, all_below_take, falls_take}
 
 pub short_id : (n o : ℕ) → (n + o) % 65536 % 128 ≡ (n + o) % 128
@@ -11,6 +18,12 @@ short_id n o = omega arith
 
 pub long_id : (n o : ℕ) → (n + o) % 65536 % 32768 ≡ (n + o) % 32768
 long_id n o = omega arith
+
+-- a picture id of 7 bits fits into a byte
+pub short_fits : (o : Option PictureId) (id : ℕ) → Some id ≡ option_map id_value o → Some 7 ≡ option_map id_bits o → IfSome o FitsWidth → id ≤ 255
+short_fits None id is bits fits = absurd (cc)
+short_fits (Some (Short n)) id is bits fits = omega (arith, same_Some id n is, fits)
+short_fits (Some (Long n)) id is bits fits = absurd (let wrong : 7 ≡ 15 = same_Some 7 15 bits in omega (arith, wrong))
 
 -- The pictures that are left out
 

@@ -6,3 +6,4 @@ pub mod RepeatLemmas
 pub mod RequestLemmas
 pub mod SizeLemmas
 pub mod TimeLemmas
+pub mod Vp9Lemmas

@@ -1,13 +1,12 @@
 -- A packet that is written again is the packet that was sent.
-use Rattle.std.proofs.Common.{◌≡◌, refl, ap, ℕ, ◌+◌, ◌%◌, List, Bool, true, false, ltb, None, Result, Ok, Err}
+use Rattle.std.proofs.Common.{◌≡◌, refl, ap, ℕ, ◌+◌, ◌%◌, List, Bool, true, false, ltb, Option, Some, None}
 use Rattle.codec_payload_base.specs.declared.wire.Codec.{Codec}
 use Rattle.codec_payload_base.specs.declared.wire.Codec.TheVariants as codecs
-use Rattle.codec_payload_vp8.specs.Vp8Descriptor.{Descriptor, parsed}
-use Rattle.codec_payload_vp8.specs.declared.vp8.descriptor.Vp8DescriptorError.{Vp8DescriptorError}
-use Rattle.codec_payload_sending_forward.specs.declared.vp8_ids.IdOffsets.{IdOffsets}
-use Rattle.codec_payload_sending_forward.specs.Forwarding.{RepeatsWhatWasSent, ids_after, ids_when, sent_packet}
+use Rattle.codec_payload_sending_forward.specs.declared.ids.IdOffsets.{IdOffsets}
+use Rattle.codec_payload_sending_forward.specs.declared.ids.PayloadIds.{PayloadIds}
+use Rattle.codec_payload_sending_forward.specs.Forwarding.{RepeatsWhatWasSent, ids_in, ids_when, offsets_for, sent_packet}
 use Rattle.codec_payload_sending_forward.specs.Numbers.{Numbers, after_packet, is_too_old, sent_as}
-use Rattle.codec_payload_sending_forward.specs.Vp8Numbers.{Ids, after_described, offsets_at}
+use Rattle.codec_payload_sending_forward.specs.Ids.{Ids, after_picture, offsets_at}
 
 -- Numbers
 
@@ -21,32 +20,35 @@ same_sent m number n = by (is_too_old m number) refl (ltb m.highest number) refl
 
 -- Ids: the offsets of what was sent do not depend on what is sent later
 
-same_offsets : (o : IdOffsets) (read : Result Descriptor Vp8DescriptorError) (m : Ids) (n : ℕ)
-    → offsets_at (after_described o read (record m { leaving = None })) n ≡ offsets_at m n
-same_offsets o (Ok d) m n = refl
-same_offsets o (Err error) m n = refl
+same_at : (o : IdOffsets) (sent : Option PayloadIds) (m : Ids) (n : ℕ) → offsets_at (after_picture o sent m) n ≡ offsets_at m n
+same_at o (Some ids) m n = refl
+same_at o None m n = refl
 
-same_ids : (codec : Codec) (m : ℕ) (ids : Ids) (other : List ℕ) (n : ℕ) → offsets_at (ids_after codec m other ids) n ≡ offsets_at ids n
-same_ids codecs.Vp8 m ids other n = same_offsets (offsets_at ids m) (parsed other) ids n
-same_ids codecs.Opus m ids other n = refl
-same_ids codecs.PCMU m ids other n = refl
-same_ids codecs.PCMA m ids other n = refl
-same_ids codecs.G722 m ids other n = refl
-same_ids codecs.CN m ids other n = refl
-same_ids codecs.AmrWb m ids other n = refl
-same_ids codecs.H264 m ids other n = refl
-same_ids codecs.H265 m ids other n = refl
-same_ids codecs.H266 m ids other n = refl
-same_ids codecs.Vp9 m ids other n = refl
-same_ids codecs.Av1 m ids other n = refl
-same_ids codecs.Null m ids other n = refl
-same_ids codecs.Tele m ids other n = refl
-same_ids codecs.Rtx m ids other n = refl
-same_ids codecs.Red m ids other n = refl
-same_ids codecs.Unknown m ids other n = refl
+same_begun : (o : IdOffsets) (sent : Option PayloadIds) (m : Ids) → (after_picture o sent m).offsets ≡ m.offsets
+same_begun o (Some ids) m = refl
+same_begun o None m = refl
 
-same_when : (ahead : Bool) (codec : Codec) (m : ℕ) (ids : Ids) (other : List ℕ) (n : ℕ) → offsets_at (ids_when ahead codec m other ids) n ≡ offsets_at ids n
-same_when true codec m ids other n = same_ids codec m ids other n
+same_offsets : (codec : Codec) (o : IdOffsets) (sent : Option PayloadIds) (m : Ids) (n : ℕ) → offsets_for codec (after_picture o sent m) n ≡ offsets_for codec m n
+same_offsets codecs.Vp8 o sent m n = same_at o sent m n
+same_offsets codecs.Opus o sent m n = same_begun o sent m
+same_offsets codecs.PCMU o sent m n = same_begun o sent m
+same_offsets codecs.PCMA o sent m n = same_begun o sent m
+same_offsets codecs.G722 o sent m n = same_begun o sent m
+same_offsets codecs.CN o sent m n = same_begun o sent m
+same_offsets codecs.AmrWb o sent m n = same_begun o sent m
+same_offsets codecs.H264 o sent m n = same_begun o sent m
+same_offsets codecs.H265 o sent m n = same_begun o sent m
+same_offsets codecs.H266 o sent m n = same_begun o sent m
+same_offsets codecs.Vp9 o sent m n = same_begun o sent m
+same_offsets codecs.Av1 o sent m n = same_begun o sent m
+same_offsets codecs.Null o sent m n = same_begun o sent m
+same_offsets codecs.Tele o sent m n = same_begun o sent m
+same_offsets codecs.Rtx o sent m n = same_begun o sent m
+same_offsets codecs.Red o sent m n = same_begun o sent m
+same_offsets codecs.Unknown o sent m n = same_begun o sent m
+
+same_when : (ahead : Bool) (codec : Codec) (m : ℕ) (ids : Ids) (other : List ℕ) (n : ℕ) → offsets_for codec (ids_when ahead codec m other ids) n ≡ offsets_for codec ids n
+same_when true codec m ids other n = same_offsets codec (offsets_for codec ids m) (ids_in codec other) ids n
 same_when false codec m ids other n = refl
 
 pub repeats_what_was_sent : RepeatsWhatWasSent

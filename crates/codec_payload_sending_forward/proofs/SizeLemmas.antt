@@ -1,6 +1,6 @@
 -- How many bytes a packet has that is written for a viewer.
-use Rattle.std.proofs.Common.{◌≡◌, ◌∙◌, ap, refl, ℕ, zero, suc, ◌+◌, List, [], ◌∷◌, ◌++◌, length, replicate, Bool, Option, Some, None, Result, Ok, Err, arith}
-use Rattle.std.specs.Prelude.{OnOk}
+use Rattle.std.proofs.Common.{◌≡◌, ◌∙◌, ap, refl, ℕ, zero, suc, ◌+◌, ◌%◌, ◌≤◌, List, [], ◌∷◌, ◌++◌, length, replicate, Bool, Option, Some, None, Result, Ok, Err, arith}
+use Rattle.std.specs.Prelude.{IfOk, OnOk}
 use Rattle.std.proofs.lemmas.List.{length-append, length-replicate, length-set}
 use Rattle.std.specs.declared.alloc.AllocError.{AllocError}
 use Rattle.codec_payload_base.specs.declared.wire.Codec.{Codec}
@@ -8,9 +8,15 @@ use Rattle.codec_payload_base.specs.declared.wire.Codec.TheVariants as codecs
 use Rattle.codec_payload_rtp.specs.RtpPackets.{Header, Packet, header_bytes, is_padded, packet_bytes, padding_bytes}
 use Rattle.codec_payload_vp8.specs.Vp8Patch.{Patch, patched, written}
 use Rattle.codec_payload_sending_forward.specs.declared.forwarder.ForwardSettings.{ForwardSettings}
-use Rattle.codec_payload_sending_forward.specs.declared.vp8_ids.IdOffsets.{IdOffsets}
-use Rattle.codec_payload_sending_forward.specs.Forwarding.{IsWritten, forwarded_size, packet_under, payload_for, sent_packet}
+use Rattle.codec_payload_sending_forward.specs.declared.ids.IdOffsets.{IdOffsets}
+use Rattle.codec_payload_sending_forward.specs.declared.forwarder.Forwarded.{Forwarded}
+use Rattle.codec_payload_sending_forward.specs.declared.forwarder.Forwarded.TheVariants as answers
+use Rattle.codec_payload_sending_forward.specs.Forwarding.{Forward, Forwards, IsWritten, forwarded_size, ids_in, number_in, offsets_for, packet_under, payload_for, sent_packet, ticks_between}
+use Rattle.codec_payload_sending_forward.specs.Ids.{offsets_switched}
+use Rattle.codec_payload_sending_forward.specs.Numbers.{next_number}
+use Rattle.codec_payload_sending_forward.specs.Times.{time_as}
 use Rattle.codec_payload_sending_forward.specs.Vp8Numbers.{patch_in, patched_by, payload_as}
+use Rattle.codec_payload_sending_forward.proofs.Vp9Lemmas.{length_vp9_payload}
 
 -- A patch keeps the number of bytes
 
@@ -43,7 +49,7 @@ length_payload_for codecs.AmrWb offsets payload = refl
 length_payload_for codecs.H264 offsets payload = refl
 length_payload_for codecs.H265 offsets payload = refl
 length_payload_for codecs.H266 offsets payload = refl
-length_payload_for codecs.Vp9 offsets payload = refl
+length_payload_for codecs.Vp9 offsets payload = length_vp9_payload offsets payload
 length_payload_for codecs.Av1 offsets payload = refl
 length_payload_for codecs.Null offsets payload = refl
 length_payload_for codecs.Tele offsets payload = refl
@@ -84,3 +90,25 @@ pub on_written : {T : Type 0} (r : Result T AllocError) (s : ForwardSettings) (o
     → OnOk r (IsWritten (sent_packet s offsets number time p) bytes) → OnOk r (length bytes ≡ forwarded_size p)
 on_written (Ok x) s offsets number time p bytes h = ap length h.0 ∙ length_sent s offsets number time p
 on_written (Err e) s offsets number time p bytes h = tt
+
+-- ---- a packet that is forwarded
+
+written_length : (s : ForwardSettings) (offsets : IdOffsets) (number time : ℕ) (p : Packet) (bytes : List ℕ) → IsWritten (sent_packet s offsets number time p) bytes
+    → length bytes ≤ forwarded_size p
+written_length s offsets number time p bytes is = omega (arith, ap length is.0 ∙ length_sent s offsets number time p)
+
+forwarded_length : (now : ℕ) (p : Packet) (f : Forward) (answer : Forwarded) (bytes : List ℕ) (t : Forward) → Forwards now p f answer bytes t → length bytes ≤ forwarded_size p
+forwarded_length now p f answers.Began bytes t does =
+    written_length f.settings (offsets_switched f.ids (ids_in f.settings.codec p.payload)) (next_number f.numbers) ((f.times.highest + ticks_between f.written_at now) % 4294967296) p bytes does.3
+forwarded_length now p f answers.Written bytes t does =
+    written_length f.settings (offsets_for f.settings.codec f.ids (number_in f p)) does.1.0 (time_as f.times p.header.timestamp) p bytes does.1.2
+forwarded_length now p f answers.NoKeyframe bytes t does = omega (arith, ap length does.3.0)
+forwarded_length now p f answers.OtherSource bytes t does = omega (arith, ap length does.2.0)
+forwarded_length now p f answers.TooOld bytes t does = omega (arith, ap length does.2.0)
+forwarded_length now p f answers.LeftOut bytes t does = omega (arith, ap length does.2.0)
+forwarded_length now p f answers.Filled bytes t does = absurd does
+
+pub on_forwarded : (now : ℕ) (p : Packet) (f : Forward) (r : Result Forwarded AllocError) (bytes : List ℕ) (t : Forward)
+    → IfOk r (λ answer. Forwards now p f answer bytes t) → OnOk r (length bytes ≤ forwarded_size p)
+on_forwarded now p f (Ok answer) bytes t does = forwarded_length now p f answer bytes t does
+on_forwarded now p f (Err error) bytes t does = tt

@@ -1,8 +1,9 @@
 -- What a forwarder does with a packet.
-use Rattle.std.specs.Prelude.{◌≡◌, ◌<◌, ◌⊎◌, ℕ, ◌+◌, ◌-◌, ◌%◌, ◌≤◌, ◌==◌, ◌/◌, ◌&&◌, drop, max, min, nat_lt, not, if◌then◌else◌, Bool, true, false, List, [], ◌∷◌, ◌++◌, length, Option, Some, None, is_some, Result, Ok, Err}
+use Rattle.std.specs.Prelude.{◌≡◌, ◌<◌, ◌⊎◌, ℕ, ◌+◌, ◌-◌, ◌%◌, ◌≤◌, ◌==◌, ◌/◌, ◌&&◌, drop, max, min, nat_lt, not, if◌then◌else◌, Bool, true, false, List, [], ◌∷◌, ◌++◌, length, Option, Some, None, is_some, option_map, Result, Ok, Err}
 use Rattle.std.specs.Int.{w16, to_be_bytes}
 use Rattle.codec_payload_base.specs.Extended.{nearest}
 use Rattle.codec_payload_base.specs.Flags.{has_bit}
+use Rattle.codec_payload_base.specs.PictureIds.{id_value}
 use Rattle.codec_payload_base.specs.declared.wire.Codec.{Codec}
 use Rattle.codec_payload_base.specs.declared.wire.Codec.TheVariants as codecs
 use Rattle.codec_payload_sending_history.specs.Histories.{HasNot, IsKept, first_of}
@@ -20,11 +21,14 @@ use Rattle.codec_payload_sending_forward.specs.declared.forwarder.Forwarded.TheV
 use Rattle.codec_payload_sending_forward.specs.declared.renumbering.Placed.TheVariants as places
 use Rattle.codec_payload_sending_forward.specs.declared.times.Retiming.{Retiming}
 use Rattle.codec_payload_sending_forward.specs.Numbers.{HasNumber, Numbers, after_packet, begun, next_number, placed, sent_as}
-use Rattle.codec_payload_sending_forward.specs.declared.vp8_ids.IdOffsets.{IdOffsets}
-use Rattle.codec_payload_sending_forward.specs.Vp8Numbers.{Ids, after_picture, first_ids, left_picture, offsets_at, offsets_switched, payload_as, switched_ids}
+use Rattle.codec_payload_sending_forward.specs.declared.ids.IdOffsets.{IdOffsets}
+use Rattle.codec_payload_sending_forward.specs.declared.ids.PayloadIds.{PayloadIds}
+use Rattle.codec_payload_sending_forward.specs.Ids.{Ids, after_picture, first_ids, left_picture, offsets_at, offsets_switched, switched_ids}
+use Rattle.codec_payload_sending_forward.specs.Vp8Numbers.{payload_as, vp8_ids}
+use Rattle.codec_payload_sending_forward.specs.Vp9Numbers.{vp9_ids, vp9_payload_as}
 use Rattle.codec_payload_sending_forward.specs.Times.{after_time, begun_times, switched_times, time_as}
 
--- a forwarder: its settings; the source that is forwarded, and the one to go over to; the maps of numbers, times and VP8's ids; the
+-- a forwarder: its settings; the source that is forwarded, and the one to go over to; the maps of numbers, times and ids; the
 -- number of the next retransmission; and when the packet with the highest number was written
 pub record Forward : Type 0 where
   pub settings : ForwardSettings
@@ -86,10 +90,27 @@ begins codec payload = true
 
 -- ---- what is written
 
--- the payload of VP8 with the ids of the viewer's stream; other payloads as they are
+-- the payload of VP8 or VP9 with the ids of the viewer's stream; other payloads as they are
 abbrev pub payload_for : Codec → IdOffsets → List ℕ → List ℕ
 payload_for codecs.Vp8 offsets payload = payload_as offsets payload
+payload_for codecs.Vp9 offsets payload = vp9_payload_as offsets payload
 payload_for codec offsets payload = payload
+
+-- the ids in a payload
+abbrev pub ids_in : Codec → List ℕ → Option PayloadIds
+ids_in codecs.Vp8 payload = vp8_ids payload
+ids_in codecs.Vp9 payload = vp9_ids payload
+ids_in codec payload = None
+
+-- the id of a picture behind which picture ids close up if it is left out: those of VP8. The ids of VP9 keep their gaps, since a
+-- difference of the flexible mode counts ids, and a group of pictures names a picture by its id (RFC 9628, section 4.2)
+abbrev pub picture_of : Option PayloadIds → Option ℕ
+picture_of None = None
+picture_of (Some ids) = option_map id_value ids.picture_id
+
+abbrev pub closing_id : Codec → List ℕ → Option ℕ
+closing_id codecs.Vp8 payload = picture_of (vp8_ids payload)
+closing_id codec payload = None
 
 -- the packet received, with the viewer's SSRC and payload type, this number and this time, without CSRCs and extension
 abbrev pub packet_under : ForwardSettings → (number time : ℕ) → Packet → Packet
@@ -112,29 +133,32 @@ abbrev pub ticks_between : Option ℕ → ℕ → ℕ
 ticks_between None now = 0
 ticks_between (Some last) now = min (max (now - last) 1) 2147483647
 
+-- what is added to the ids of the packet with that number: those of VP8 close up behind pictures that are left out, and those of VP9
+-- keep the offsets of the last switch
+abbrev pub offsets_for : Codec → Ids → ℕ → IdOffsets
+offsets_for codecs.Vp8 ids n = offsets_at ids n
+offsets_for codec ids n = ids.offsets
+
 -- the packet with the number `n` of the source that is forwarded, as it is sent
 abbrev pub packet_for : Forward → (n sent : ℕ) → Packet → Packet
-packet_for f n sent p = sent_packet f.settings (offsets_at f.ids n) sent (time_as f.times p.header.timestamp) p
+packet_for f n sent p = sent_packet f.settings (offsets_for f.settings.codec f.ids n) sent (time_as f.times p.header.timestamp) p
 
 abbrev pub next_packet : Forward → ℕ → Packet → Packet
 next_packet f sent p = packet_for f (number_in f p) sent p
 
 -- the map of ids after a packet, after one that is left out, and after a switch
 abbrev pub ids_after : Codec → ℕ → List ℕ → Ids → Ids
-ids_after codecs.Vp8 n payload ids = after_picture (offsets_at ids n) payload ids
-ids_after codec n payload ids = ids
+ids_after codec n payload ids = after_picture (offsets_for codec ids n) (ids_in codec payload) ids
 
 abbrev pub ids_left : Codec → ℕ → List ℕ → Ids → Ids
-ids_left codecs.Vp8 n payload ids = left_picture n payload ids
-ids_left codec n payload ids = ids
+ids_left codec n payload ids = left_picture n (closing_id codec payload) ids
 
 abbrev pub ids_switched : Codec → List ℕ → Ids → Ids
-ids_switched codecs.Vp8 payload ids = switched_ids payload ids
-ids_switched codec payload ids = ids
+ids_switched codec payload ids = switched_ids (ids_in codec payload) ids
 
 -- the first packet of another source: the number and the ids go on by one, the time by the ticks that passed
 abbrev pub first_packet : ℕ → Forward → Packet → Packet
-first_packet now f p = sent_packet f.settings (offsets_switched f.ids p.payload) (next_number f.numbers) ((f.times.highest + ticks_between f.written_at now) % 4294967296) p
+first_packet now f p = sent_packet f.settings (offsets_switched f.ids (ids_in f.settings.codec p.payload)) (next_number f.numbers) ((f.times.highest + ticks_between f.written_at now) % 4294967296) p
 
 -- ---- the forwarder after it
 

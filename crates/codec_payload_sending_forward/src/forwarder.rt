@@ -10,13 +10,13 @@ ghost use Rattle.codec_payload_rtp.specs.RtpReading.{rtp_at};
 ghost use Rattle.codec_payload_rtp.specs.RtpValues.{header_of, packet_of};
 ghost use Rattle.codec_payload_sending_forward.specs.declared.renumbering.Placed.TheVariants as places;
 ghost use Rattle.codec_payload_sending_forward.specs.Numbers.{after_packet, placed};
-ghost use Rattle.codec_payload_sending_forward.specs.Vp8Numbers.{offsets_at};
-ghost use Rattle.codec_payload_sending_forward.specs.Forwarding.{IsNotRequested, IsNumberOf, IsRequested, IsResent, IsWritten, Forwards, Leaves, Repeats, after_written, begins, codec_fits, forward_by, ids_after, ids_left, ids_switched, is_source, next_packet, number_in, packet_under, sent_packet, size_again, forwarded_size, ticks_between, time_for, wrapped};
+ghost use Rattle.codec_payload_sending_forward.specs.Forwarding.{IsNotRequested, IsNumberOf, IsRequested, IsResent, IsWritten, Forwards, Leaves, Repeats, after_written, begins, codec_fits, forward_by, is_source, next_packet, number_in, offsets_for, packet_under, sent_packet, size_again, forwarded_size, ticks_between, time_for, wrapped};
 
 use crate::beginning::begins;
+use crate::ids::{ForwardedIds, IdOffsets};
+use crate::payloads::{closing_id, ids_in, rewrite};
 use crate::renumbering::{Placed, Renumbering};
 use crate::times::Retiming;
-use crate::vp8_ids::{IdOffsets, Vp8Ids};
 use codec_payload_base::wire::Codec;
 use codec_payload_rtp::rtp::{PacketHeader, RtpPacket};
 use codec_payload_sending_history::retransmission::{History, RetransmissionStream};
@@ -83,8 +83,8 @@ pub enum Forwarded {
 /// Name a source by [`Forwarder::want`], and pass each packet that arrived to [`Forwarder::write`], before SRTP encrypts it.
 /// The forwarder goes over to the wanted source at its next keyframe. Until then it forwards the source before. Each written packet
 /// has the payload, the marker and the padding of the packet received. It has the viewer's SSRC and payload type, and the number and
-/// time of the maps [`Renumbering`] and [`Retiming`]. In a VP8 payload, PictureID and TL0PICIDX are those of the map [`Vp8Ids`], and
-/// all other bits stay. The packet has no CSRCs and no header extension, since ids of extensions differ between connections.
+/// time of the maps [`Renumbering`] and [`Retiming`]. In a payload of VP8 or VP9, PictureID and TL0PICIDX are those of the map
+/// [`ForwardedIds`], in the widths that they have, and all other bits stay (RFC 7741 and RFC 9628, section 4.2). The packet has no CSRCs and no header extension, since ids of extensions differ between connections.
 #[derive(Debug, Drop)]
 pub struct Forwarder {
     settings: ForwardSettings,
@@ -94,13 +94,13 @@ pub struct Forwarder {
     wanted: Option<u32>,
     numbers: Renumbering,
     times: Retiming,
-    /// For VP8.
-    ids: Vp8Ids,
+    /// For VP8 and VP9.
+    ids: ForwardedIds,
     /// The number of the next retransmission.
     next: u16,
     /// When the packet with the highest number was written.
     written_at: Option<u64>,
-    /// Memory for the payload of a packet of VP8.
+    /// Memory for the payload of a packet of VP8 or VP9.
     payload: Vec<u8>,
 }
 
@@ -172,47 +172,6 @@ fn ticks_between(last: Option<u64>, now: u64) -> u32
     match last {
         None => 0,
         Some(last) => now.saturating_sub(last).clamp(1, MAX_TICKS) as u32,
-    }
-}
-
-/// Records in the map of ids that the packet with this number and payload was sent.
-fn record_ids(codec: Codec, ids: &mut Vp8Ids, number: u64, payload: &[u8])
-    ensures { ids.new ≡ ids_after codec number payload.now ids.old }
-{
-    match codec {
-        Codec::Vp8 => ids.record(number, payload),
-        _ => {}
-    }
-}
-
-/// Goes over to a source whose first payload this is, in the map of ids.
-fn switch_ids(codec: Codec, ids: &mut Vp8Ids, payload: &[u8])
-    ensures { ids.new ≡ ids_switched codec payload.now ids.old }
-{
-    match codec {
-        Codec::Vp8 => ids.switch(payload),
-        _ => {}
-    }
-}
-
-/// Leaves out the packet with this number and payload, which is above all others, in both maps.
-fn leave_out_of(
-    codec: Codec,
-    numbers: &mut Renumbering,
-    ids: &mut Vp8Ids,
-    number: u64,
-    payload: &[u8],
-) -> Result<(), AllocError>
-    ensures ids { OnOk result (ids.new ≡ ids_left codec number payload.now ids.old) }
-    ensures numbers { OnOk result (numbers.new ≡ after_packet number false numbers.old) }
-    ensures err { OnErr result ((ids.new ≡ ids.old) × (numbers.new ≡ numbers.old)) }
-{
-    match codec {
-        Codec::Vp8 => ids.leave_out(numbers, number, payload),
-        _ => {
-            numbers.place(number, false)?;
-            Ok(())
-        }
     }
 }
 
@@ -300,7 +259,7 @@ impl Forwarder {
             wanted: None,
             numbers: Renumbering::new(alloc, 0, settings.first_number.wrapping_sub(1)),
             times: Retiming::new(0, settings.first_time),
-            ids: Vp8Ids::new(alloc),
+            ids: ForwardedIds::new(alloc),
             next: first_of(settings.retransmissions),
             written_at: None,
             payload: Vec::new(alloc),
@@ -355,7 +314,7 @@ impl Forwarder {
     /// - AV1: the first packet of a coded video sequence: N is set, and Z is clear (RTP payload format for AV1, section 4.4).
     /// - Other codecs: any packet.
     ///
-    /// It copies the payload once, a payload of VP8 three times. Once `out` has grown to the largest packet, it does not allocate.
+    /// It copies the payload once, a payload of VP8 three times, and one of VP9 twice. Once `out` has grown to the largest packet, it does not allocate.
     ///
     /// # Errors
     ///
@@ -414,7 +373,9 @@ impl Forwarder {
     {
         if number > self.numbers.highest() {
             self.written_at = Some(now);
-            record_ids(self.settings.codec, &mut self.ids, number, packet.payload);
+            let offsets = self.offsets_at(number);
+            let ids = ids_in(self.settings.codec, packet.payload);
+            self.ids.record(offsets, ids);
         }
         self.numbers.record(number);
         self.times.record(packet.header.timestamp);
@@ -434,8 +395,13 @@ impl Forwarder {
         ensures err { OnErr result (out.new.items ≡ []) }
     {
         match self.settings.codec {
-            Codec::Vp8 => {
-                offsets.rewrite(packet.payload, &mut self.payload)?;
+            Codec::Vp8 | Codec::Vp9 => {
+                rewrite(
+                    self.settings.codec,
+                    offsets,
+                    packet.payload,
+                    &mut self.payload,
+                )?;
                 let rewritten = RtpPacket {
                     header: packet.header,
                     payload: &self.payload,
@@ -447,12 +413,22 @@ impl Forwarder {
         }
     }
 
+    /// Returns what is added to the ids in the packet with this number of the source that is forwarded.
+    fn offsets_at(&self, number: u64) -> IdOffsets
+        ensures { result ≡ offsets_for self.now.settings.codec self.now.ids number }
+    {
+        match self.settings.codec {
+            Codec::Vp8 => self.ids.offsets(number),
+            _ => self.ids.begun_offsets(),
+        }
+    }
+
     /// Returns what is added to the ids in a packet of the source that is forwarded.
     fn offsets_of(&self, packet: &RtpPacket<'_>) -> IdOffsets
-        ensures { result ≡ offsets_at self.now.ids (number_in self.now (packet_of packet.now)) }
+        ensures { result ≡ offsets_for self.now.settings.codec self.now.ids (number_in self.now (packet_of packet.now)) }
     {
         let number = extended(self.numbers.highest(), packet.header.sequence_number);
-        self.ids.offsets(number)
+        self.offsets_at(number)
     }
 
     /// Writes a packet of the source that is forwarded, under this number.
@@ -490,9 +466,10 @@ impl Forwarder {
         let ticks = ticks_between(self.written_at, now);
         let number = self.numbers.next_number();
         let time = self.times.next_time(ticks);
-        let offsets = self.ids.offsets_switched(packet.payload);
+        let ids = ids_in(self.settings.codec, packet.payload);
+        let offsets = self.ids.offsets_switched(ids);
         self.write_as(offsets, Place { number, time }, packet, out)?;
-        switch_ids(self.settings.codec, &mut self.ids, packet.payload);
+        self.ids.switch(ids);
         self.numbers
             .switch(65_536 + u64::from(header.sequence_number));
         self.times.switch(header.timestamp, ticks);
@@ -507,7 +484,8 @@ impl Forwarder {
     /// is empty.
     ///
     /// In VP8, PictureIDs close up behind each picture that is left out. Leave out all packets of a picture, or none. The id of a
-    /// picture all of whose packets come late stays unused. PictureIDs of VP9 do not close up. It takes 8 bytes for each packet left
+    /// picture all of whose packets come late stays unused. PictureIDs of VP9 keep their gaps, since differences between pictures count
+    /// ids, and a structure names pictures by their ids. It takes 8 bytes for each packet left
     /// out, and for VP8 8 bytes for each picture, at most 65,536 bytes.
     ///
     /// # Errors
@@ -550,13 +528,8 @@ impl Forwarder {
         ensures err { OnErr result ((self.new ≡ self.old) × (out.new.items ≡ [])) }
     {
         if number > self.numbers.highest() {
-            leave_out_of(
-                self.settings.codec,
-                &mut self.numbers,
-                &mut self.ids,
-                number,
-                packet.payload,
-            )?;
+            let picture = closing_id(self.settings.codec, packet.payload);
+            self.ids.leave_out(&mut self.numbers, number, picture)?;
             return Ok(Forwarded::LeftOut);
         }
         let time = self.times.sent_as(packet.header.timestamp);
@@ -695,9 +668,14 @@ impl Forwarder {
             extension: None,
         };
         match self.settings.codec {
-            Codec::Vp8 => {
+            Codec::Vp8 | Codec::Vp9 => {
                 let offsets = self.offsets_of(packet);
-                offsets.rewrite(packet.payload, &mut self.payload)?;
+                rewrite(
+                    self.settings.codec,
+                    offsets,
+                    packet.payload,
+                    &mut self.payload,
+                )?;
                 write_behind_number(header, number, &self.payload, out)
             }
             _ => write_behind_number(header, number, packet.payload, out),

@@ -5,7 +5,10 @@
 mod beginning;
 pub mod counts;
 pub mod forwarder;
+pub mod ids;
+mod payloads;
 pub mod renumbering;
 pub mod theorems;
 pub mod times;
-pub mod vp8_ids;
+mod vp8_ids;
+mod vp9_ids;

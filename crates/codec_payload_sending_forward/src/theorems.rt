@@ -3,6 +3,7 @@
 ghost use Rattle.codec_payload_sending_forward.specs.Forwarding.{RepeatsWhatWasSent};
 ghost use Rattle.codec_payload_sending_forward.specs.NumberRuns.{KeepsGaps, KeepsNumbers, Renumbers, SendsGiven, SwitchesNext};
 ghost use Rattle.codec_payload_sending_forward.specs.Times.{NeverGoesBack, Retimes};
+ghost use Rattle.codec_payload_sending_forward.specs.Vp9Numbers.{MovesIds};
 
 /// Proves for each sequence of calls: the number on the wire is the number received plus an offset, less the packets left out
 /// before it since the last switch.
@@ -42,4 +43,10 @@ pub fn never_goes_back()
 /// written.
 pub fn repeats_what_was_sent()
     ensures { RepeatsWhatWasSent }
+{}
+
+/// Proves that in a payload of VP9 only PictureID and TL0PICIDX change: the moved payload has the same descriptor with these two
+/// fields moved, in their widths, and the same bytes after it.
+pub fn moves_vp9_ids()
+    ensures { MovesIds }
 {}

@@ -26,6 +26,7 @@ use Rattle.codec_payload_session.specs.Changes.{continues}
 use Rattle.codec_payload_session.specs.Sorting.{Sorted, sorted_at}
 use Rattle.codec_payload_receiver.specs.Sessions.{Session as Receiver}
 use Rattle.codec_payload_session.specs.Late.{limit_by}
+use Rattle.codec_payload_session.specs.Names.{names_after}
 use Rattle.codec_payload_session.specs.Requests.{Asking, heard_by, number_at, wait_by}
 use Rattle.codec_payload_session.specs.Streams.{Drains, Follows, Plays, RequestsBy, RestsBy, Steps, StepsBy, Takes, end_of, heard_unless, is_accepted, is_no_memory, is_of, is_probation, late_followed, late_noted, left_when, received, waiting_for, waiting_if, waiting_when, waiting_where}
 use Rattle.codec_payload_session.specs.Turns.{AreQuiet, TakesTurn, ended_after, kept_after}
@@ -100,7 +101,7 @@ waiting_taken (Some wait) s = refl
 
 received_taken : (now : ℕ) (bytes : List ℕ) (accepted : Bool) (r : Receiver) (s : StreamState) → (received now bytes accepted r s).taken ≡ s.taken
 received_taken now bytes true r s =
-    waiting_taken (wait_by (heard_by now (number_at s.format bytes) s.feedback)) (record s { receiver = r; feedback = heard_by now (number_at s.format bytes) s.feedback })
+    waiting_taken (wait_by (heard_by now (number_at s.format bytes) s.feedback)) (record s { receiver = r; feedback = heard_by now (number_at s.format bytes) s.feedback; names = names_after s.name_ids bytes s.names })
 received_taken now bytes false r s = refl
 
 late_taken : (b : Bool) (now : ℕ) (bytes : List ℕ) (s : StreamState) → (late_followed b now bytes s).taken ≡ s.taken

@@ -8,6 +8,7 @@ mod DueLemmas
 mod GoodbyeLemmas
 mod IdleLemmas
 mod KeyframeLemmas
+mod NameLemmas
 mod NamedLemmas
 mod PacketLemmas
 mod PacketsLemmas

@@ -191,4 +191,6 @@ seen s = record {
   late = unboxed s.late;
   sender_clock = s.sender_clock;
   was_reported = s.was_reported;
+  name_ids = s.name_ids;
+  names = s.names;
 }

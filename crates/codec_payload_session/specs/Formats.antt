@@ -10,6 +10,7 @@ use Rattle.codec_payload_receiver.specs.Kinds.{is_among}
 use Rattle.codec_payload_receiver.specs.declared.receiver.RedSettings.{RedSettings}
 use Rattle.codec_payload_receiver.specs.declared.receiver.Retransmission.{Retransmission}
 use Rattle.codec_payload_receiver.specs.declared.receiver.Settings.{Settings}
+use Rattle.codec_payload_session.specs.Names.{no_name_ids}
 use Rattle.codec_payload_base.specs.declared.wire.CodecSpec.{CodecSpec}
 use Rattle.codec_payload_feedback_requests.specs.declared.nack.NackSettings.{NackSettings}
 use Rattle.codec_payload_session.specs.declared.formats.FeedbackSettings.{FeedbackSettings}
@@ -151,6 +152,7 @@ pub record IsLive (s : SessionSettings) : Type 0 where
   pub telephone_events : s.telephone_events.items ≡ []
   pub pairs : s.pairs.items ≡ []
   pub extension_ids : s.extension_ids ≡ no_ids
+  pub name_ids : s.name_ids ≡ no_name_ids
   pub audio : s.audio ≡ waits_for 1 100
   pub video : s.video ≡ waits_for 2 200
   pub late : s.late ≡ record { shortest = 20; longest = 400; first = 200; lost_after = 1000 }

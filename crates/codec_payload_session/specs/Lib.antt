@@ -9,6 +9,7 @@ pub mod Idle
 pub mod Keyframes
 pub mod Late
 pub mod Named
+pub mod Names
 pub mod Pairs
 pub mod Polls
 pub mod Ports

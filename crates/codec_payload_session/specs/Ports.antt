@@ -1,5 +1,6 @@
 -- A session, with a counter for each result of a datagram, and its packets of telephone events.
 use Rattle.std.specs.Prelude.{◌≡◌, ◌⊎◌, ◌≤◌, IsErr, ℕ, ◌+◌, ◌%◌, ◌^◌, ◌==◌, Bool, true, false, List, [], ◌∷◌, Option, Some, None, Result, Ok, Err, length, slice_get, slice_set}
+use Rattle.std.specs.List.{position}
 use Rattle.std.specs.Option.{option_map}
 use Rattle.std.specs.declared.alloc.AllocError.{AllocError}
 use Rattle.codec_payload_base.specs.declared.wire.Ticks.{Ticks}
@@ -8,7 +9,7 @@ use Rattle.codec_payload_jitter.specs.Receiving.{next}
 use Rattle.codec_payload_session.specs.Arrivals.{Port, TakesIn, left_where}
 use Rattle.codec_payload_session.specs.Checks.{fault_of}
 use Rattle.codec_payload_session.specs.Reports.{block_of, reported_by}
-use Rattle.codec_payload_session.specs.Streams.{IsInfo, waiting_where}
+use Rattle.codec_payload_session.specs.Streams.{IsInfo, is_former, waiting_where}
 use Rattle.codec_payload_session.specs.Telephone.{MayLackMemory, Queue, QueuesIf, empty_queue, is_without_media, telephone_at}
 use Rattle.codec_payload_session.specs.Transports.{reporter_for, restarted_if}
 use Rattle.codec_payload_jitter.specs.declared.waiting.WaitLimits.{WaitLimits}
@@ -20,6 +21,7 @@ use Rattle.codec_payload_session.specs.declared.session.Arrival.{Arrival}
 use Rattle.codec_payload_session.specs.declared.session.Arrival.TheVariants as arrivals
 use Rattle.codec_payload_session.specs.declared.session.ArrivalCounts.{ArrivalCounts}
 use Rattle.codec_payload_session.specs.declared.session.SessionCounts.{SessionCounts}
+use Rattle.codec_payload_session.specs.declared.names.StreamNames.{StreamNames}
 use Rattle.codec_payload_session.specs.declared.stream.Ending.TheVariants as endings
 use Rattle.codec_payload_session.specs.declared.stream.StreamInfo.{StreamInfo}
 use Rattle.codec_payload_session.specs.declared.stream.StreamState.{StreamState}
@@ -151,6 +153,21 @@ IsSum c taken = c.received % 2 ^ 64 ≡ (c.rtcp + c.malformed + c.unknown + c.re
 abbrev pub receiver_among : Option ℕ → List StreamState → Option Receiver
 receiver_among None streams = None
 receiver_among (Some place) streams = option_map (λ stream. stream.receiver) (slice_get streams place)
+
+-- the names of the stream at a place
+abbrev pub names_among : Option ℕ → List StreamState → Option StreamNames
+names_among None streams = None
+names_among (Some place) streams = option_map (λ stream. stream.names) (slice_get streams place)
+
+-- the SSRC of the stream at a place
+abbrev pub ssrc_among : Option ℕ → List StreamState → Option ℕ
+ssrc_among None streams = None
+ssrc_among (Some place) streams = option_map (λ stream. stream.ssrc) (slice_get streams place)
+
+-- the SSRC of the first other stream that is announced and has these names
+abbrev pub former_among : ℕ → Option StreamNames → List StreamState → Option ℕ
+former_among ssrc None streams = None
+former_among ssrc (Some names) streams = ssrc_among (position (is_former ssrc names) streams) streams
 
 abbrev pub MatchInfo : Option StreamState → Option StreamInfo → Type 0
 MatchInfo None None = Unit {0}

@@ -1,5 +1,5 @@
 -- One stream of a session: the datagrams and calls that its receiver gets, and when the stream begins and ends.
-use Rattle.std.specs.Prelude.{◌≡◌, ℕ, min, ◌+◌, ◌-◌, ◌%◌, ◌^◌, ◌==◌, ◌&&◌, nat_lt, nat_le, if◌then◌else◌, is_ok, Bool, true, false, List, [], ◌∷◌, Option, Some, None, Result, Ok, Err, length, map}
+use Rattle.std.specs.Prelude.{◌≡◌, ℕ, min, ◌+◌, ◌-◌, ◌%◌, ◌^◌, ◌==◌, ◌&&◌, not, nat_lt, nat_le, if◌then◌else◌, is_ok, Bool, true, false, List, [], ◌∷◌, Option, Some, None, Result, Ok, Err, length, map}
 use Rattle.std.specs.Global.{Vec}
 use Rattle.std.specs.declared.alloc.AllocError.{AllocError}
 use Rattle.codec_payload_base.specs.declared.wire.Ticks.{Ticks}
@@ -22,11 +22,14 @@ use Rattle.codec_payload_receiver.specs.declared.receiver.ReceiveError.TheVarian
 use Rattle.codec_payload_receiver.specs.declared.receiver.Settings.{Settings}
 use Rattle.codec_payload_session.specs.Formats.{HasSettings, is_video, limits_for}
 use Rattle.codec_payload_session.specs.Late.{late_after, late_for, limit_by, number_at as late_number}
+use Rattle.codec_payload_session.specs.Names.{are_of_one, names_after, no_names}
 use Rattle.codec_payload_session.specs.Requests.{Asking, Asks, answer_by, answered_if, asked_by, feedback_by, heard_by, is_heard, number_at, requests_due, round_trip_of, wait_by}
 use Rattle.codec_payload_session.specs.declared.formats.Format.{Format}
 use Rattle.codec_payload_session.specs.declared.formats.SessionSettings.{SessionSettings}
 use Rattle.codec_payload_session.specs.declared.keyframe.KeyframeAnswer.{KeyframeAnswer}
 use Rattle.codec_payload_session.specs.declared.keyframe.KeyframeAnswer.TheVariants as answers
+use Rattle.codec_payload_session.specs.declared.names.StreamNameIds.{StreamNameIds}
+use Rattle.codec_payload_session.specs.declared.names.StreamNames.{StreamNames}
 use Rattle.codec_payload_session.specs.declared.stream.Ending.{Ending}
 use Rattle.codec_payload_session.specs.declared.stream.Ending.TheVariants as endings
 use Rattle.codec_payload_session.specs.declared.stream.Stage.{Stage}
@@ -39,7 +42,8 @@ use Rattle.codec_payload_session.specs.declared.stream.StreamInfo.{StreamInfo}
 
 -- a stream, as contracts see it: its SSRC and format; its receiver; its stage; whether it was announced; how many datagrams it
 -- took, and how many of them were accepted; when the latest one arrived; what it requests; how late its missing packets arrive, if
--- waiting follows that; the clock of its sender; whether this round of reports had a block about it
+-- waiting follows that; the clock of its sender; whether this round of reports had a block about it; which header extensions have its
+-- names, and the names that its accepted packets had
 pub record StreamState : Type 0 where
   pub ssrc : ℕ
   pub format : Format
@@ -53,13 +57,15 @@ pub record StreamState : Type 0 where
   pub late : Option Wait
   pub sender_clock : Option SenderClock
   pub was_reported : Bool
+  pub name_ids : StreamNameIds
+  pub names : StreamNames
 
 -- the stream has this SSRC and payload type
 abbrev pub is_of : ℕ → ℕ → StreamState → Bool
 is_of ssrc payload_type s = (s.ssrc == ssrc) && (s.format.payload_type == payload_type)
 
--- a stream without datagrams; its receiver is a new one with the stream's settings, nothing was requested, and no sender report
--- arrived
+-- a stream without datagrams; its receiver is a new one with the stream's settings, nothing was requested, no sender report
+-- arrived, and it has no names
 pub record Begins (settings : SessionSettings) (ssrc : ℕ) (f : Format) (s : StreamState) : Type 0 where
   pub ssrc_is : s.ssrc ≡ ssrc
   pub format : s.format ≡ f
@@ -72,6 +78,8 @@ pub record Begins (settings : SessionSettings) (ssrc : ℕ) (f : Format) (s : St
   pub late : s.late ≡ late_for settings f
   pub sender_clock : s.sender_clock ≡ None
   pub was_reported : s.was_reported ≡ false
+  pub name_ids : s.name_ids ≡ settings.name_ids
+  pub names : s.names ≡ no_names
   pub depacketizer : DepacketizerState
   pub known : depacketizer_state_for f.spec.codec ≡ Some depacketizer
   pub receiver_settings : Settings
@@ -148,9 +156,9 @@ abbrev pub late_followed : Bool → ℕ → List ℕ → StreamState → StreamS
 late_followed false now bytes s = s
 late_followed true now bytes s = waiting_for (limit_by (late_noted now bytes s).late) (late_noted now bytes s)
 
--- the number of an accepted packet may answer a request, which measures the round trip
+-- the number of an accepted packet may answer a request, which measures the round trip, and its header extension may have names
 abbrev pub received : ℕ → List ℕ → Bool → Receiver → StreamState → StreamState
-received now bytes true r s = following (record s { receiver = r; feedback = heard_by now (number_at s.format bytes) s.feedback })
+received now bytes true r s = following (record s { receiver = r; feedback = heard_by now (number_at s.format bytes) s.feedback; names = names_after s.name_ids bytes s.names })
 received now bytes false r s = record s { receiver = r }
 
 -- the receiver receives the datagram; if memory runs out for it, nothing is counted
@@ -158,6 +166,10 @@ abbrev pub Takes : Ticks → ℕ → List ℕ → StreamState → Result Outcome
 Takes now probation bytes s answer t =
     (r : Receiver) × ReceivesBytes now bytes s.receiver answer r
     × (t ≡ heard_unless (is_no_memory answer) now.0 probation (is_accepted answer) (late_followed (is_ok answer) now.0 bytes (received now.0 bytes (is_accepted answer) r s)))
+
+-- the stream is announced, and has the names of this sender under another SSRC
+abbrev pub is_former : ℕ → StreamNames → StreamState → Bool
+is_former ssrc names s = s.told && not (s.ssrc == ssrc) && are_of_one names s.names
 
 -- ---- the end
 

@@ -4,6 +4,7 @@ ghost use Rattle.std.specs.Prelude.{◌≡◌, IfOk};
 ghost use Rattle.codec_payload_session.specs.Formats.{HasSettings, IsLive, IsLiveFeedback, has_type, is_no_media, is_telephone, is_type, is_video, limits_for, plain_format, resends, resends_red, retransmission_for, retransmission_of, role_by, role_of, stream_of};
 ghost use Rattle.codec_payload_receiver.specs.Kinds.{is_among};
 
+use crate::names::StreamNameIds;
 use codec_payload_base::wire::{Codec, CodecSpec, Frequency};
 use codec_payload_feedback::transport::TransportSettings;
 use codec_payload_feedback_requests::nack::NackSettings;
@@ -129,6 +130,11 @@ pub struct SessionSettings {
     pub pairs: Vec<SsrcPair>,
     /// The ids of the header extensions to read.
     pub extension_ids: ExtensionIds,
+    /// The ids of the header extensions that name streams: MID, RID and repaired RID ([`Session::names_of`]). By default none is
+    /// read. They are not checked: an id that another extension has too reads that element.
+    ///
+    /// [`Session::names_of`]: crate::session::Session::names_of
+    pub name_ids: StreamNameIds,
     /// How long frames of audio wait for missing packets.
     pub audio: WaitLimits,
     /// How long frames of video wait for missing packets.
@@ -219,6 +225,7 @@ impl SessionSettings {
             telephone_events: Vec::new(alloc),
             pairs: Vec::new(alloc),
             extension_ids: ExtensionIds::default(),
+            name_ids: StreamNameIds::default(),
             audio: WaitLimits::live(),
             video: WaitLimits::live_video_with_nack(),
             late: AdaptiveWaitSettings::live(),

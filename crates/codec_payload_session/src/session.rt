@@ -8,7 +8,7 @@ ghost use Rattle.codec_payload_session.specs.Accepting.{Accepts, time_for};
 ghost use Rattle.codec_payload_session.specs.Associations.{Associates};
 ghost use Rattle.codec_payload_session.specs.Checks.{checked, fault_of};
 ghost use Rattle.codec_payload_session.specs.Idle.{IsIdle, held_in, next_of};
-ghost use Rattle.codec_payload_session.specs.Ports.{IsSum, MatchInfo, ReportsIf, counted, counted_if, ends_all, ends_of, made_of, no_counts, receiver_among, restarts_transport, taken_in, told_counts, waits_of};
+ghost use Rattle.codec_payload_session.specs.Ports.{IsSum, MatchInfo, ReportsIf, counted, counted_if, ends_all, ends_of, former_among, made_of, names_among, no_counts, receiver_among, restarts_transport, taken_in, told_counts, waits_of};
 ghost use Rattle.codec_payload_session.specs.Reports.{block_among, clock_among};
 ghost use Rattle.codec_payload_session.specs.Polls.{Polls, SendsReport, SendsTransport, TurnsOrReports, TurnsOrSends};
 ghost use Rattle.codec_payload_session.specs.Renegotiation.{SetsFormats, with_formats};
@@ -20,6 +20,8 @@ use crate::association::{add_pair, take_in};
 use crate::checks::SessionSettingsError;
 use crate::events::{report_event, transport_event, with_unit};
 use crate::formats::{Format, SessionSettings, SsrcPair};
+use crate::former::former;
+use crate::names::StreamNames;
 use crate::pairs::remove_pair;
 use crate::reporter::report_deadline;
 use crate::reports::SenderClock;
@@ -82,10 +84,12 @@ pub enum Arrival {
 /// [`Session::poll_into`], which writes the unit to memory of the caller.
 #[derive(Debug, Drop)]
 pub enum Event<U = PoppedUnit> {
-    /// A stream is announced. This is the first event of the stream.
+    /// A stream is announced. This is the first event of the stream. `names` has its MID and RID, as far as its packets had them
+    /// before ([`Session::names_of`]).
     Begun {
         ssrc: u32,
         payload_type: u8,
+        names: StreamNames,
     },
     /// A unit of a stream. If memory ran out for it, the frame is kept, and the next poll tries again. `rtp_time` is in ticks of
     /// the RTP clock, without wrapping. A decoder can show the unit if it is `decodable`: see [`Receiver::unit_is_decodable`],
@@ -574,6 +578,43 @@ impl Session {
                 let stream = &self.streams.list[place];
                 stream.sender_clock
             }
+            None => None,
+        }
+    }
+
+    /// Returns the names of the stream with this SSRC and payload type: MID, RID and repaired RID. `None`: there is no such stream. A
+    /// server that receives a simulcast so knows which stream is which before any SSRC was signalled.
+    ///
+    /// A stream takes names from the packets that it accepts, under [`SessionSettings::name_ids`]: of media, of retransmissions, and
+    /// without media. The latest value of each name is kept. A value without a byte, or of more than 32, is ignored. Senders stop
+    /// sending names once they know that they arrived, so a stream in another format under the same SSRC can lack them: ask for the
+    /// names of the earlier stream, which is kept for `bye_wait` of the settings at least. Allocates nothing.
+    ///
+    /// [`SessionSettings::name_ids`]: crate::formats::SessionSettings::name_ids
+    pub fn names_of(&self, ssrc: u32, payload_type: u8) -> Option<StreamNames>
+        ensures { result ≡ names_among (position (is_of ssrc payload_type) self.now.port.streams) self.now.port.streams }
+    {
+        match self.streams.place_of(ssrc, payload_type) {
+            Some(place) => {
+                let stream = &self.streams.list[place];
+                Some(stream.names)
+            }
+            None => None,
+        }
+    }
+
+    /// Returns the SSRC of the first other stream that is announced and has the names of the stream with this SSRC and payload type: the
+    /// same MID, and the same RID or none. So its sender began anew under this SSRC, as browsers do when they replace a track. `None`:
+    /// there is no such stream, or its MID is not known.
+    ///
+    /// Ask when the stream begins, and end the former one if it is not to wait for its timeout ([`Session::end`]). A sender that sends
+    /// several streams under one MID without RIDs at once is told in the same way. The cost is one step for each stream. Allocates
+    /// nothing.
+    pub fn former_ssrc(&self, ssrc: u32, payload_type: u8) -> Option<u32>
+        ensures { result ≡ former_among ssrc (names_among (position (is_of ssrc payload_type) self.now.port.streams) self.now.port.streams) self.now.port.streams }
+    {
+        match self.names_of(ssrc, payload_type) {
+            Some(names) => former(&self.streams.list, ssrc, names),
             None => None,
         }
     }

@@ -8,7 +8,7 @@ ghost use Rattle.codec_payload_session.specs.Dues.{key_of};
 ghost use Rattle.codec_payload_session.specs.Pairs.{paired_if};
 ghost use Rattle.codec_payload_session.specs.Quiet.{RestsUntil, or_none, time_of};
 ghost use Rattle.codec_payload_session.specs.Requests.{wait_by};
-ghost use Rattle.codec_payload_session.specs.Streams.{Begins, Drains, IsInfo, Pops, RequestsBy, RestsBy, Steps, Takes, answer_for, asked_for, due_of, earlier, end_of, heard, heard_unless, is_accepted, is_ending, is_keyframe, is_no_memory, is_of, is_probation, late_followed, left, left_when, received, step_of, step_with, waiting_for, waiting_if, work_deadline};
+ghost use Rattle.codec_payload_session.specs.Streams.{Begins, Drains, IsInfo, Pops, RequestsBy, RestsBy, Steps, Takes, answer_for, asked_for, due_of, earlier, end_of, heard, heard_unless, is_accepted, is_ending, is_former, is_keyframe, is_no_memory, is_of, is_probation, late_followed, left, left_when, received, step_of, step_with, waiting_for, waiting_if, work_deadline};
 ghost use Rattle.codec_payload_session.specs.Turns.{is_nothing};
 ghost use Rattle.codec_payload_session.specs.Units.{step_to};
 ghost use Rattle.codec_payload_session.specs.Waking.{Sleeps, or_max};
@@ -19,6 +19,7 @@ use crate::formats::{Format, SessionSettings, SsrcPair, retransmission_for};
 use crate::keyframe::KeyframeAnswer;
 use crate::late::{follow, late_for, limit_by};
 use crate::named::NamedReceiver;
+use crate::names::{StreamNameIds, StreamNames};
 use crate::reports::SenderClock;
 use crate::requests::{
     Feedback, answer_if, ask_keyframe, hear, requests_due, rest_time, round_trip, wait_by,
@@ -109,6 +110,10 @@ pub(crate) struct StreamState {
     pub(crate) sender_clock: Option<SenderClock>,
     /// Whether this round of reports had a block about it.
     pub(crate) was_reported: bool,
+    /// The header extensions that have its names.
+    name_ids: StreamNameIds,
+    /// The names that its accepted packets had.
+    pub(crate) names: StreamNames,
     /// At earlier times a step has no event, unless the stream is idle. 0: it is not known.
     quiet_until: u64,
     /// Its `work_deadline`, unless `quiet_until` is 0. 0: there is none.
@@ -136,6 +141,8 @@ impl Model for StreamState {
       late = unboxed s.late;
       sender_clock = s.sender_clock;
       was_reported = s.was_reported;
+      name_ids = s.name_ids;
+      names = s.names;
     } };
 
     ghost invariant = { λ s. IsQuietUntil s.quiet_until (time_of s.work) s.told s.stage s.last s.feedback s.receiver };
@@ -173,6 +180,7 @@ impl StreamState {
         let max_wait = settings.limits(format).max_wait;
         let feedback = Feedback::begin(alloc, &settings.feedback, ssrc, format, max_wait)?;
         let late = late_for(alloc, settings, format)?;
+        let name_ids = settings.name_ids;
         let settings = settings.receiver(alloc, ssrc, format)?;
         let receiver = NamedReceiver::begin(alloc, depacketizer, settings).unwrap();
         Ok(StreamState {
@@ -188,6 +196,8 @@ impl StreamState {
             late,
             sender_clock: None,
             was_reported: false,
+            name_ids,
+            names: StreamNames::default(),
             quiet_until: 0,
             work: 0,
         })
@@ -228,7 +238,7 @@ impl StreamState {
         answer
     }
 
-    /// Measures the round trip by an accepted datagram, if it answers a request.
+    /// Reads the names of an accepted datagram, and measures the round trip by it, if it answers a request.
     #[inline(always)]
     fn hear_if(&mut self, accepted: bool, now: Ticks, datagram: &ParsedDatagram<'_>)
         ensures { self.new ≡ received now.0 datagram.now accepted self.old.receiver self.old }
@@ -236,6 +246,7 @@ impl StreamState {
         if accepted {
             self.quiet_until = 0;
             hear(&mut self.feedback, &self.format, now, datagram);
+            self.names.note(&self.name_ids, datagram);
             self.follow_round_trip();
         }
     }
@@ -332,6 +343,13 @@ impl StreamState {
         ensures { result ≡ plays ssrc payload_type self.now }
     {
         self.is_of(ssrc, payload_type) && is_playing(self.stage)
+    }
+
+    /// Returns whether the stream is announced, and has the names of this sender under another SSRC.
+    pub(crate) fn is_former(&self, ssrc: u32, names: &StreamNames) -> bool
+        ensures { result ≡ is_former ssrc names.now self.now }
+    {
+        self.told && self.ssrc != ssrc && names.are_of_one(&self.names)
     }
 
     /// Returns whether the sender left the stream for this format: it took no datagram for `wait` ticks.

@@ -28,6 +28,7 @@ use Rattle.codec_payload_session.specs.Ports.{ReportsIf as ReportsPlace}
 use Rattle.codec_payload_session.specs.Reporting.{all_reported, is_chosen, reported_if, room_after}
 use Rattle.codec_payload_session.specs.Reports.{noted, noted_at, reported_by}
 use Rattle.codec_payload_session.specs.Reports.{noted_in as clocks_in}
+use Rattle.codec_payload_session.specs.Names.{names_after}
 use Rattle.codec_payload_session.specs.Requests.{heard_by, number_at, wait_by}
 use Rattle.codec_payload_session.specs.Sorting.{Sorted, sorted_at}
 use Rattle.codec_payload_session.specs.Sorting as sorted
@@ -69,7 +70,7 @@ waiting_same (Some wait) s = record { ssrc_is = refl; format = refl; last = refl
 
 pub received_same : (accepted : Bool) (now : ℕ) (bytes : List ℕ) (r : Receiver) (s : StreamState) → Same s (received now bytes accepted r s)
 received_same true now bytes r s =
-    let w = waiting_same (wait_by (heard_by now (number_at s.format bytes) s.feedback)) (record s { receiver = r; feedback = heard_by now (number_at s.format bytes) s.feedback }) in
+    let w = waiting_same (wait_by (heard_by now (number_at s.format bytes) s.feedback)) (record s { receiver = r; feedback = heard_by now (number_at s.format bytes) s.feedback; names = names_after s.name_ids bytes s.names }) in
     record { ssrc_is = w.ssrc_is; format = w.format; last = w.last; stage = w.stage; accepted = w.accepted }
 received_same false now bytes r s = record { ssrc_is = refl; format = refl; last = refl; stage = refl; accepted = refl }
 

@@ -15,6 +15,7 @@ use Rattle.codec_payload_session.specs.Arrivals.{Arrives, arrival_of}
 use Rattle.codec_payload_session.specs.Formats.{retransmission_for}
 use Rattle.codec_payload_session.specs.Late.{limit_by}
 use Rattle.codec_payload_session.specs.Pairs.{paired, paired_when}
+use Rattle.codec_payload_session.specs.Names.{names_after}
 use Rattle.codec_payload_session.specs.Requests.{Asking, answered_if, heard_by, number_at, wait_by}
 use Rattle.codec_payload_session.specs.Streams.{Drains, Follows, Plays, RequestsBy, RestsBy, Steps, StepsBy, Takes, accepted_after, end_of, heard_unless, is_accepted, is_keyframe, is_no_memory, is_probation, late_followed, late_noted, left_when, received, stage_after, stage_left, step_of, step_with, waiting_for}
 use Rattle.codec_payload_session.specs.Turns.{event_of, kept_after}
@@ -165,7 +166,7 @@ received_heard : (given accepted : Bool) (now : Ticks) (datagram : Vec ℕ) (r :
     → Heard given s.ssrc s.format s.told s.stage r (received now.0 datagram.items accepted r s)
 received_heard given true now datagram r s is =
     waiting_heard given (wait_by (heard_by now.0 (number_at s.format datagram.items) s.feedback))
-    (record s { receiver = r; feedback = heard_by now.0 (number_at s.format datagram.items) s.feedback }) (is refl)
+    (record s { receiver = r; feedback = heard_by now.0 (number_at s.format datagram.items) s.feedback; names = names_after s.name_ids datagram.items s.names }) (is refl)
 received_heard given false now datagram r s is = record { ssrc_is = refl; format = refl; told_is = refl; stage_is = λ is. is; more = []; run = refl; all = tt }
 
 -- the wait may follow how late missing packets arrive
@@ -529,10 +530,10 @@ plays_stepped now idle x step y plays told got =
 
 -- an event with the beginning of a stream
 begun_stepped : (now : Ticks) (x : StreamState) → x.told ≡ false → is_probation x.stage ≡ false
-    → Stepped now x (Some (events.Begun x.ssrc x.format.payload_type)) (stays_with (record x { told = true })) (record x { told = true })
+    → Stepped now x (Some (events.Begun x.ssrc x.format.payload_type x.names)) (stays_with (record x { told = true })) (record x { told = true })
 begun_stepped now x told stage_is =
     let same : is_same x.ssrc x.format.payload_type x.ssrc x.format.payload_type ≡ true = same_is x.ssrc x.format.payload_type in
-    let event : Event = events.Begun x.ssrc x.format.payload_type in
+    let event : Event = events.Begun x.ssrc x.format.payload_type x.names in
     record {
       ssrc_is = refl;
       format = refl;

@@ -2,7 +2,8 @@
 
 use crate::av1::Av1Depacketizer;
 use crate::buffer::{PoppedPackets, PoppedUnit};
-use crate::forward::Vp8Ids;
+use crate::descriptor::DescriptorReader;
+use crate::forward::ForwardedIds;
 use crate::jitter::SequenceNumbers;
 use crate::vp9::Vp9Depacketizer;
 
@@ -36,8 +37,14 @@ impl Default for PoppedPackets {
     }
 }
 
-impl Default for Vp8Ids {
+impl Default for ForwardedIds {
     fn default() -> Self {
-        Vp8Ids::new()
+        ForwardedIds::new()
+    }
+}
+
+impl Default for DescriptorReader {
+    fn default() -> Self {
+        DescriptorReader::new()
     }
 }

@@ -3,9 +3,10 @@
 //! One stream of a viewer: packets of one source after another, under the viewer's SSRC, payload type, numbers and times.
 
 use crate::forward::beginning::begins;
+use crate::forward::ids::{ForwardedIds, IdOffsets};
+use crate::forward::payloads::{closing_id, ids_in, rewrite};
 use crate::forward::renumbering::{Placed, Renumbering};
 use crate::forward::times::Retiming;
-use crate::forward::vp8_ids::{IdOffsets, Vp8Ids};
 use crate::history::retransmission::{History, RetransmissionStream};
 use crate::memory::{AllocError, TryVec};
 use crate::rtp::packet::{PacketHeader, RtpPacket};
@@ -87,8 +88,8 @@ pub enum Forwarded {
 /// Name a source by [`Forwarder::want`], and pass each packet that arrived to [`Forwarder::write`], before SRTP encrypts it.
 /// The forwarder goes over to the wanted source at its next keyframe. Until then it forwards the source before. Each written packet
 /// has the payload, the marker and the padding of the packet received. It has the viewer's SSRC and payload type, and the number and
-/// time of the maps [`Renumbering`] and [`Retiming`]. In a VP8 payload, PictureID and TL0PICIDX are those of the map [`Vp8Ids`], and
-/// all other bits stay. The packet has no CSRCs and no header extension, since ids of extensions differ between connections.
+/// time of the maps [`Renumbering`] and [`Retiming`]. In a payload of VP8 or VP9, PictureID and TL0PICIDX are those of the map
+/// [`ForwardedIds`], in the widths that they have, and all other bits stay (RFC 7741 and RFC 9628, section 4.2). The packet has no CSRCs and no header extension, since ids of extensions differ between connections.
 #[derive(Debug)]
 pub struct Forwarder {
     settings: ForwardSettings,
@@ -98,13 +99,13 @@ pub struct Forwarder {
     wanted: Option<u32>,
     numbers: Renumbering,
     times: Retiming,
-    /// For VP8.
-    ids: Vp8Ids,
+    /// For VP8 and VP9.
+    ids: ForwardedIds,
     /// The number of the next retransmission.
     next: u16,
     /// When the packet with the highest number was written.
     written_at: Option<u64>,
-    /// Memory for the payload of a packet of VP8.
+    /// Memory for the payload of a packet of VP8 or VP9.
     payload: Vec<u8>,
 }
 
@@ -152,39 +153,6 @@ fn ticks_between(last: Option<u64>, now: u64) -> u32 {
     match last {
         None => 0,
         Some(last) => now.saturating_sub(last).clamp(1, MAX_TICKS) as u32,
-    }
-}
-
-/// Records in the map of ids that the packet with this number and payload was sent.
-fn record_ids(codec: Codec, ids: &mut Vp8Ids, number: u64, payload: &[u8]) {
-    match codec {
-        Codec::Vp8 => ids.record(number, payload),
-        _ => {}
-    }
-}
-
-/// Goes over to a source whose first payload this is, in the map of ids.
-fn switch_ids(codec: Codec, ids: &mut Vp8Ids, payload: &[u8]) {
-    match codec {
-        Codec::Vp8 => ids.switch(payload),
-        _ => {}
-    }
-}
-
-/// Leaves out the packet with this number and payload, which is above all others, in both maps.
-fn leave_out_of(
-    codec: Codec,
-    numbers: &mut Renumbering,
-    ids: &mut Vp8Ids,
-    number: u64,
-    payload: &[u8],
-) -> Result<(), AllocError> {
-    match codec {
-        Codec::Vp8 => ids.leave_out(numbers, number, payload),
-        _ => {
-            numbers.place(number, false)?;
-            Ok(())
-        }
     }
 }
 
@@ -258,7 +226,7 @@ impl Forwarder {
             wanted: None,
             numbers: Renumbering::new(0, settings.first_number.wrapping_sub(1)),
             times: Retiming::new(0, settings.first_time),
-            ids: Vp8Ids::new(),
+            ids: ForwardedIds::new(),
             next: first_of(settings.retransmissions),
             written_at: None,
             payload: Vec::new(),
@@ -303,7 +271,7 @@ impl Forwarder {
     /// - AV1: the first packet of a coded video sequence: N is set, and Z is clear (RTP payload format for AV1, section 4.4).
     /// - Other codecs: any packet.
     ///
-    /// It copies the payload once, a payload of VP8 three times. Once `out` has grown to the largest packet, it does not allocate.
+    /// It copies the payload once, a payload of VP8 three times, and one of VP9 twice. Once `out` has grown to the largest packet, it does not allocate.
     ///
     /// # Errors
     ///
@@ -351,7 +319,9 @@ impl Forwarder {
     fn record(&mut self, now: u64, number: u64, packet: &RtpPacket<'_>) {
         if number > self.numbers.highest() {
             self.written_at = Some(now);
-            record_ids(self.settings.codec, &mut self.ids, number, packet.payload);
+            let offsets = self.offsets_at(number);
+            let ids = ids_in(self.settings.codec, packet.payload);
+            self.ids.record(offsets, ids);
         }
         self.numbers.record(number);
         self.times.record(packet.header.timestamp);
@@ -366,8 +336,13 @@ impl Forwarder {
         out: &mut Vec<u8>,
     ) -> Result<(), AllocError> {
         match self.settings.codec {
-            Codec::Vp8 => {
-                offsets.rewrite(packet.payload, &mut self.payload)?;
+            Codec::Vp8 | Codec::Vp9 => {
+                rewrite(
+                    self.settings.codec,
+                    offsets,
+                    packet.payload,
+                    &mut self.payload,
+                )?;
                 let rewritten = RtpPacket {
                     header: packet.header,
                     payload: &self.payload,
@@ -379,10 +354,18 @@ impl Forwarder {
         }
     }
 
+    /// Returns what is added to the ids in the packet with this number of the source that is forwarded.
+    fn offsets_at(&self, number: u64) -> IdOffsets {
+        match self.settings.codec {
+            Codec::Vp8 => self.ids.offsets(number),
+            _ => self.ids.begun_offsets(),
+        }
+    }
+
     /// Returns what is added to the ids in a packet of the source that is forwarded.
     fn offsets_of(&self, packet: &RtpPacket<'_>) -> IdOffsets {
         let number = extended(self.numbers.highest(), packet.header.sequence_number);
-        self.ids.offsets(number)
+        self.offsets_at(number)
     }
 
     /// Writes a packet of the source that is forwarded, under this number.
@@ -407,9 +390,10 @@ impl Forwarder {
         let ticks = ticks_between(self.written_at, now);
         let number = self.numbers.next_number();
         let time = self.times.next_time(ticks);
-        let offsets = self.ids.offsets_switched(packet.payload);
+        let ids = ids_in(self.settings.codec, packet.payload);
+        let offsets = self.ids.offsets_switched(ids);
         self.write_as(offsets, Place { number, time }, packet, out)?;
-        switch_ids(self.settings.codec, &mut self.ids, packet.payload);
+        self.ids.switch(ids);
         self.numbers
             .switch(65_536 + u64::from(header.sequence_number));
         self.times.switch(header.timestamp, ticks);
@@ -424,7 +408,8 @@ impl Forwarder {
     /// is empty.
     ///
     /// In VP8, PictureIDs close up behind each picture that is left out. Leave out all packets of a picture, or none. The id of a
-    /// picture all of whose packets come late stays unused. PictureIDs of VP9 do not close up. It takes 8 bytes for each packet left
+    /// picture all of whose packets come late stays unused. PictureIDs of VP9 keep their gaps, since differences between pictures count
+    /// ids, and a structure names pictures by their ids. It takes 8 bytes for each packet left
     /// out, and for VP8 8 bytes for each picture, at most 65,536 bytes.
     ///
     /// # Errors
@@ -456,13 +441,8 @@ impl Forwarder {
         out: &mut Vec<u8>,
     ) -> Result<Forwarded, AllocError> {
         if number > self.numbers.highest() {
-            leave_out_of(
-                self.settings.codec,
-                &mut self.numbers,
-                &mut self.ids,
-                number,
-                packet.payload,
-            )?;
+            let picture = closing_id(self.settings.codec, packet.payload);
+            self.ids.leave_out(&mut self.numbers, number, picture)?;
             return Ok(Forwarded::LeftOut);
         }
         let time = self.times.sent_as(packet.header.timestamp);
@@ -578,9 +558,14 @@ impl Forwarder {
             extension: None,
         };
         match self.settings.codec {
-            Codec::Vp8 => {
+            Codec::Vp8 | Codec::Vp9 => {
                 let offsets = self.offsets_of(packet);
-                offsets.rewrite(packet.payload, &mut self.payload)?;
+                rewrite(
+                    self.settings.codec,
+                    offsets,
+                    packet.payload,
+                    &mut self.payload,
+                )?;
                 write_behind_number(header, number, &self.payload, out)
             }
             _ => write_behind_number(header, number, packet.payload, out),

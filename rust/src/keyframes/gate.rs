@@ -2,6 +2,8 @@
 
 //! Follows the units that a receiver releases, and reports which of them a decoder can show.
 
+use crate::interface::CodecExtra;
+use crate::keyframes::vp8_layers::{Vp8Layers, Vp8Picture};
 use crate::media::frame_info::{FrameInfo, frame_info};
 use crate::wire::Codec;
 
@@ -35,6 +37,8 @@ pub struct KeyframeGate {
     codec: Codec,
     shows: bool,
     wants: bool,
+    /// What was released since the latest keyframe, if the descriptors of all its pictures have both ids.
+    layers: Option<Vp8Layers>,
 }
 
 impl KeyframeGate {
@@ -44,27 +48,63 @@ impl KeyframeGate {
             codec,
             shows: !is_video(codec),
             wants: false,
+            layers: None,
         }
     }
 
-    /// Records a released unit with the flag `contiguous` of that unit. Returns whether a decoder can show it: it is a keyframe, or
-    /// it is contiguous and a decoder can show the previous unit.
-    pub fn release(&mut self, unit: &[u8], contiguous: bool) -> bool {
+    /// Records a released unit with its flag `contiguous` and its codec-specific data. Returns whether a decoder can show it. A
+    /// keyframe can be shown. If the descriptors of VP8 have PictureID and TL0PICIDX, a unit can be shown if each unit can to which it
+    /// may refer (RFC 7741, section 4.2). Without them it is contiguous, and the previous unit can be shown. If some units since the
+    /// keyframe have both ids and others do not, none can be shown.
+    pub fn release(&mut self, unit: &[u8], contiguous: bool, extra: &CodecExtra) -> bool {
         if !is_video(self.codec) {
             return true;
         }
         let keyframe = is_keyframe(self.codec, unit);
-        self.release_as(keyframe, contiguous)
+        self.release_as(keyframe, contiguous, Vp8Picture::of(extra))
     }
 
     /// Records a released unit that is a keyframe or not. Returns whether a decoder can show it.
-    pub(crate) fn release_as(&mut self, keyframe: bool, contiguous: bool) -> bool {
+    pub(crate) fn release_as(
+        &mut self,
+        keyframe: bool,
+        contiguous: bool,
+        picture: Option<Vp8Picture>,
+    ) -> bool {
         if !is_video(self.codec) {
             return true;
         }
-        self.shows = keyframe || (contiguous && self.shows);
-        self.wants = !keyframe && (self.wants || !self.shows);
+        if keyframe {
+            self.shows = true;
+            self.wants = false;
+            self.layers = layers_from(picture);
+        } else {
+            self.release_delta(contiguous, picture);
+        }
         self.shows
+    }
+
+    /// Records a released unit of video that is not a keyframe.
+    fn release_delta(&mut self, contiguous: bool, picture: Option<Vp8Picture>) {
+        match (self.layers, picture) {
+            (None, None) => {
+                self.shows = contiguous && self.shows;
+                self.wants = self.wants || !self.shows;
+            }
+            (Some(layers), Some(picture)) => {
+                self.shows = layers.shows(picture);
+                self.wants = !layers.has_base(picture) || (self.wants && picture.layer != 0);
+                self.layers = Some(layers.after(picture));
+            }
+            (_, _) => self.break_off(),
+        }
+    }
+
+    /// Records that nothing can be shown until a keyframe.
+    fn break_off(&mut self) {
+        self.shows = false;
+        self.wants = true;
+        self.layers = None;
     }
 
     /// Returns whether a unit of the stream is a keyframe. A unit of audio is not, and is not inspected.
@@ -76,8 +116,7 @@ impl KeyframeGate {
     /// until a keyframe.
     pub fn lose(&mut self) {
         if is_video(self.codec) {
-            self.shows = false;
-            self.wants = true;
+            self.break_off();
         }
     }
 
@@ -89,7 +128,8 @@ impl KeyframeGate {
         }
     }
 
-    /// Whether a keyframe is needed: from the first event that needs one until a keyframe is released.
+    /// Whether a keyframe is needed: from the first event that needs one until a keyframe is released, or a unit of the base layer
+    /// that can be shown. A unit above the base layer that cannot be shown needs none, if its unit of the base layer can.
     pub fn wants_keyframe(&self) -> bool {
         self.wants
     }
@@ -97,5 +137,13 @@ impl KeyframeGate {
     /// Whether a decoder can show the unit that was released last.
     pub fn shows_last(&self) -> bool {
         self.shows
+    }
+}
+
+/// Returns what was released since a keyframe with this picture.
+fn layers_from(picture: Option<Vp8Picture>) -> Option<Vp8Layers> {
+    match picture {
+        Some(key) => Some(Vp8Layers::after_keyframe(key)),
+        None => None,
     }
 }

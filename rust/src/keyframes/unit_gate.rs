@@ -2,7 +2,9 @@
 
 //! Decides which released units to pass on: all of them, or those that a decoder can show.
 
+use crate::interface::CodecExtra;
 use crate::keyframes::gate::KeyframeGate;
+use crate::keyframes::vp8_layers::Vp8Picture;
 use crate::wire::Codec;
 
 /// What a receiver of video does with units that a decoder cannot show: those after a gap, until a keyframe.
@@ -37,10 +39,11 @@ impl UnitGate {
         }
     }
 
-    /// Records a released unit with the flag `contiguous` of that unit. Returns whether to pass it on.
-    pub fn release(&mut self, unit: &[u8], contiguous: bool) -> bool {
+    /// Records a released unit with its flag `contiguous` and its codec-specific data. Returns whether to pass it on.
+    pub fn release(&mut self, unit: &[u8], contiguous: bool, extra: &CodecExtra) -> bool {
         self.is_keyframe = self.gate.is_key(unit);
-        let is_shown = self.gate.release_as(self.is_keyframe, contiguous);
+        let picture = Vp8Picture::of(extra);
+        let is_shown = self.gate.release_as(self.is_keyframe, contiguous, picture);
         self.undecodable = undecodable_with(is_shown, self.undecodable);
         !self.drops || is_shown
     }

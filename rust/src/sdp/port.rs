@@ -5,7 +5,7 @@ use super::{Media, Role};
 use crate::feedback::TransportSettings;
 use crate::jitter::WaitLimits;
 use crate::memory::{AllocError, TryVec};
-use crate::session::{Format, SessionSettings, SessionSettingsError, SsrcPair};
+use crate::session::{Format, SessionSettings, SessionSettingsError, SsrcPair, StreamNameIds};
 use crate::stream::RedSettings;
 use crate::wire::Codec;
 use core::fmt;
@@ -67,7 +67,7 @@ impl From<AllocError> for SessionError {
 /// - Telephone events: polls return their packets.
 /// - Types without media: comfort noise, error correction.
 /// - Pairs of SSRCs: those of [`pairs`].
-/// - Ids of header extensions: those of all sections.
+/// - Ids of header extensions: those of all sections, of values and of names of streams (MID, RID and repaired RID).
 /// - Transport: [`TransportSettings::live`] with the id of transport-wide-cc, if a section has its `a=extmap` and a format of the
 ///   session has `a=rtcp-fb` with `transport-cc`. So pass the description that both sides agreed on, or the offer if you accept both.
 /// - Wait limits: for live audio and video, with retransmission if a format of the kind has `nack`.
@@ -119,6 +119,7 @@ pub fn session_settings(media: &[Media<'_>]) -> Result<SessionSettings, SessionE
         settings.pairs.try_push(pair)?;
     }
     settings.extension_ids = port.ids.extension_ids;
+    settings.name_ids = name_ids(&port.ids);
     settings.transport = transport(&port.ids, port.has_transport_feedback);
     set_wait_limits(&mut settings);
     match settings.check() {
@@ -127,6 +128,15 @@ pub fn session_settings(media: &[Media<'_>]) -> Result<SessionSettings, SessionE
             | SessionSettingsError::TwoMeanings { payload_type, .. },
         ) => Err(SessionError::PayloadType(payload_type)),
         _ => Ok(settings),
+    }
+}
+
+/// The ids of the extensions that name streams.
+fn name_ids(ids: &Media<'_>) -> StreamNameIds {
+    StreamNameIds {
+        mid: ids.other_ids.mid,
+        rid: ids.other_ids.rid,
+        repaired_rid: ids.other_ids.repaired_rid,
     }
 }
 

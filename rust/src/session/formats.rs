@@ -8,6 +8,7 @@ use crate::keyframes::unit_gate::FromKeyframe;
 use crate::memory::{AllocError, TryVec};
 use crate::requests::nack::NackSettings;
 use crate::rtp::values::ExtensionIds;
+use crate::session::names::StreamNameIds;
 use crate::stream::receiver::{ReceiverSettings, RedSettings, Retransmission};
 use crate::waiting::adaptive_wait::AdaptiveWaitSettings;
 use crate::wire::{Codec, CodecSpec, Frequency};
@@ -128,6 +129,11 @@ pub struct SessionSettings {
     pub pairs: Vec<SsrcPair>,
     /// The ids of the header extensions to read.
     pub extension_ids: ExtensionIds,
+    /// The ids of the header extensions that name streams: MID, RID and repaired RID ([`Session::names_of`]). By default none is
+    /// read. They are not checked: an id that another extension has too reads that element.
+    ///
+    /// [`Session::names_of`]: crate::session::sessions::Session::names_of
+    pub name_ids: StreamNameIds,
     /// How long frames of audio wait for missing packets.
     pub audio: WaitLimits,
     /// How long frames of video wait for missing packets.
@@ -214,6 +220,7 @@ impl SessionSettings {
             telephone_events: Vec::new(),
             pairs: Vec::new(),
             extension_ids: ExtensionIds::default(),
+            name_ids: StreamNameIds::default(),
             audio: WaitLimits::live(),
             video: WaitLimits::live_video_with_nack(),
             late: AdaptiveWaitSettings::live(),

@@ -14,6 +14,8 @@ use crate::session::association::{add_pair, take_in};
 use crate::session::checks::SessionSettingsError;
 use crate::session::events::{report_event, transport_event, with_unit};
 use crate::session::formats::{Format, SessionSettings, SsrcPair};
+use crate::session::former::former;
+use crate::session::names::StreamNames;
 use crate::session::pairs::remove_pair;
 use crate::session::reporter::report_deadline;
 use crate::session::reports::SenderClock;
@@ -70,8 +72,13 @@ pub enum Arrival {
 #[derive(Debug)]
 #[non_exhaustive]
 pub enum Event<U = PoppedUnit> {
-    /// A stream is announced. This is the first event of the stream.
-    Begun { ssrc: u32, payload_type: u8 },
+    /// A stream is announced. This is the first event of the stream. `names` has its MID and RID, as far as its packets had them
+    /// before ([`Session::names_of`]).
+    Begun {
+        ssrc: u32,
+        payload_type: u8,
+        names: StreamNames,
+    },
     /// A unit of a stream. If memory ran out for it, the frame is kept, and the next poll tries again. `rtp_time` is in ticks of
     /// the RTP clock, without wrapping. A decoder can show the unit if it is `decodable`: see [`Receiver::unit_is_decodable`],
     /// and [`Receiver::unit_is_keyframe`] for `keyframe`.
@@ -492,6 +499,39 @@ impl Session {
                 let stream = &self.streams.list[place];
                 stream.sender_clock
             }
+            None => None,
+        }
+    }
+
+    /// Returns the names of the stream with this SSRC and payload type: MID, RID and repaired RID. `None`: there is no such stream. A
+    /// server that receives a simulcast so knows which stream is which before any SSRC was signalled.
+    ///
+    /// A stream takes names from the packets that it accepts, under [`SessionSettings::name_ids`]: of media, of retransmissions, and
+    /// without media. The latest value of each name is kept. A value without a byte, or of more than 32, is ignored. Senders stop
+    /// sending names once they know that they arrived, so a stream in another format under the same SSRC can lack them: ask for the
+    /// names of the earlier stream, which is kept for `bye_wait` of the settings at least. Allocates nothing.
+    ///
+    /// [`SessionSettings::name_ids`]: crate::session::formats::SessionSettings::name_ids
+    pub fn names_of(&self, ssrc: u32, payload_type: u8) -> Option<StreamNames> {
+        match self.streams.place_of(ssrc, payload_type) {
+            Some(place) => {
+                let stream = &self.streams.list[place];
+                Some(stream.names)
+            }
+            None => None,
+        }
+    }
+
+    /// Returns the SSRC of the first other stream that is announced and has the names of the stream with this SSRC and payload type: the
+    /// same MID, and the same RID or none. So its sender began anew under this SSRC, as browsers do when they replace a track. `None`:
+    /// there is no such stream, or its MID is not known.
+    ///
+    /// Ask when the stream begins, and end the former one if it is not to wait for its timeout ([`Session::end`]). A sender that sends
+    /// several streams under one MID without RIDs at once is told in the same way. The cost is one step for each stream. Allocates
+    /// nothing.
+    pub fn former_ssrc(&self, ssrc: u32, payload_type: u8) -> Option<u32> {
+        match self.names_of(ssrc, payload_type) {
+            Some(names) => former(&self.streams.list, ssrc, names),
             None => None,
         }
     }

@@ -13,6 +13,7 @@ use crate::session::formats::{Format, SessionSettings, SsrcPair, retransmission_
 use crate::session::keyframe::KeyframeAnswer;
 use crate::session::late::{follow, late_for, limit_by};
 use crate::session::named::NamedReceiver;
+use crate::session::names::{StreamNameIds, StreamNames};
 use crate::session::reports::SenderClock;
 use crate::session::requests::{
     Feedback, answer_if, ask_keyframe, hear, requests_due, rest_time, round_trip, wait_by,
@@ -99,6 +100,10 @@ pub(crate) struct StreamState {
     pub(crate) sender_clock: Option<SenderClock>,
     /// Whether this round of reports had a block about it.
     pub(crate) was_reported: bool,
+    /// The header extensions that have its names.
+    name_ids: StreamNameIds,
+    /// The names that its accepted packets had.
+    pub(crate) names: StreamNames,
     /// At earlier times a step has no event, unless the stream is idle. 0: it is not known.
     quiet_until: u64,
     /// Its `work_deadline`, unless `quiet_until` is 0. 0: there is none.
@@ -133,6 +138,7 @@ impl StreamState {
         let max_wait = settings.limits(format).max_wait;
         let feedback = Feedback::begin(&settings.feedback, ssrc, format, max_wait)?;
         let late = late_for(settings, format)?;
+        let name_ids = settings.name_ids;
         let settings = settings.receiver(ssrc, format)?;
         let receiver = NamedReceiver::begin(depacketizer, settings).unwrap();
         Ok(StreamState {
@@ -148,6 +154,8 @@ impl StreamState {
             late,
             sender_clock: None,
             was_reported: false,
+            name_ids,
+            names: StreamNames::default(),
             quiet_until: 0,
             work: 0,
         })
@@ -182,12 +190,13 @@ impl StreamState {
         answer
     }
 
-    /// Measures the round trip by an accepted datagram, if it answers a request.
+    /// Reads the names of an accepted datagram, and measures the round trip by it, if it answers a request.
     #[inline(always)]
     fn hear_if(&mut self, accepted: bool, now: Ticks, datagram: &ParsedDatagram<'_>) {
         if accepted {
             self.quiet_until = 0;
             hear(&mut self.feedback, &self.format, now, datagram);
+            self.names.note(&self.name_ids, datagram);
             self.follow_round_trip();
         }
     }
@@ -268,6 +277,11 @@ impl StreamState {
     /// Returns whether the stream has this SSRC and payload type, and plays.
     pub(crate) fn plays(&self, ssrc: u32, payload_type: u8) -> bool {
         self.is_of(ssrc, payload_type) && is_playing(self.stage)
+    }
+
+    /// Returns whether the stream is announced, and has the names of this sender under another SSRC.
+    pub(crate) fn is_former(&self, ssrc: u32, names: &StreamNames) -> bool {
+        self.told && self.ssrc != ssrc && names.are_of_one(&self.names)
     }
 
     /// Returns whether the sender left the stream for this format: it took no datagram for `wait` ticks.

@@ -29,7 +29,7 @@ pub(crate) fn follow(
     has_left: bool,
 ) -> bool {
     match answer {
-        Some(Ok(unit)) => return gates.release(&unit.bytes, unit.contiguous),
+        Some(Ok(unit)) => return gates.release(&unit.bytes, unit.contiguous, &unit.codec_extra),
         Some(Err(PacketError::OutOfMemory)) | None => follow_none(gates, has_left),
         Some(Err(_)) => gates.lose(),
     }
@@ -45,7 +45,9 @@ pub(crate) fn follow_to(
     has_left: bool,
 ) -> bool {
     match answer {
-        Some(Ok(())) => return gates.release(unit.bytes.as_slice(), unit.contiguous),
+        Some(Ok(())) => {
+            return gates.release(unit.bytes.as_slice(), unit.contiguous, &unit.codec_extra);
+        }
         Some(Err(PacketError::OutOfMemory)) | None => follow_none(gates, has_left),
         Some(Err(_)) => gates.lose(),
     }

@@ -4,12 +4,13 @@ use crate::{Call, made, told};
 use codec_payload::buffer::{Incoming, PackedHeader, PackedMeta};
 use codec_payload::jitter::{JitterBuffer, WaitLimits};
 use codec_payload::media::av1::{Av1SequenceHeader, front_obu, write_av1c};
+use codec_payload::parts::descriptor::{DependencyDescriptor, DescriptorReader};
 use codec_payload::payload::{MemorySink, OutgoingPacket, PacketSink, Payloader};
 use codec_payload::payloads::PayloadWriter;
 use codec_payload::wire::{RtpHeader, ToPayload};
 use codec_payload::*;
 
-pub const CALLS: [Call; 17] = [
+pub const CALLS: [Call; 18] = [
     Call(&["Packetizer::packetize"], packetize),
     Call(&["Packetizer::packetize_into"], packetize_into),
     Call(&["Depacketizer::depacketize"], depacketize),
@@ -34,6 +35,10 @@ pub const CALLS: [Call; 17] = [
         write_payloads,
     ),
     Call(&["Payloader::push_sample", "PacketSink::send"], payloader),
+    Call(
+        &["DependencyDescriptor::read", "DescriptorReader::read"],
+        descriptors,
+    ),
     Call(
         &[
             "RedEncoder::encode",
@@ -525,4 +530,31 @@ fn av1c(size: usize) {
     let (obu, _) = front_obu(&unit).expect("an OBU");
     let header = Av1SequenceHeader::parse(obu.payload).expect("a sequence header");
     made(write_av1c(&header, &vec![0x0a; size], &mut vec![0; size]));
+}
+
+/// Descriptors with a structure of 1 to 64 templates without decode targets of their own, and bytes that are none.
+fn descriptors(size: usize) {
+    // A structure of one decode target; each template is of the same layer, and the last one ends the list.
+    let templates = size.clamp(1, 64);
+    let mut bits = vec![0_u8; 8 * 4];
+    (bits[0], bits[24]) = (1, 1);
+    bits.extend([0; 3 + 5]);
+    for template in 1..=templates {
+        bits.extend(if template < templates { [0, 0] } else { [1, 1] });
+    }
+    bits.resize(bits.len() + 3 * templates + 2 + size, 0);
+    let bytes: Vec<u8> = bits
+        .chunks(8)
+        .map(|it| (0..8).fold(0, |byte, at| byte << 1 | it.get(at).unwrap_or(&0)))
+        .collect();
+    let mut reader = DescriptorReader::new();
+    for _ in 0..3 {
+        let _ = told(reader.read(&bytes));
+        let _ = told(reader.read(&[0x80, 0, 1]));
+    }
+    assert_eq!(
+        reader.structure().map_or(0, |it| it.layers().len()),
+        templates
+    );
+    let _ = told(DependencyDescriptor::read(&vec![0xff; size], None));
 }

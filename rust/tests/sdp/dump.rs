@@ -235,7 +235,7 @@ fn add_session(out: &mut String, media: &[Media<'_>]) -> std::fmt::Result {
         write!(out, " {payload_type}{event}")?;
     }
     writeln!(out)?;
-    let ids = &settings.extension_ids;
+    let (ids, names) = (&settings.extension_ids, &settings.name_ids);
     write!(out, "session ids:")?;
     for (name, id) in [
         ("capture-time", ids.abs_capture_time),
@@ -244,6 +244,9 @@ fn add_session(out: &mut String, media: &[Media<'_>]) -> std::fmt::Result {
         ("timing", ids.video_timing),
         ("layers", ids.layers_allocation),
         ("level", ids.audio_level),
+        ("mid", names.mid),
+        ("rid", names.rid),
+        ("repaired-rid", names.repaired_rid),
     ] {
         if let Some(id) = id {
             write!(out, " {name} {id}")?;

@@ -3,7 +3,9 @@
 use crate::dump::{changed, reason};
 use codec_payload::rtp::ExtensionIds;
 use codec_payload::sdp::{self, MAX_PAIRS, SessionError};
-use codec_payload::session::{Arrival, Event, Format, Session, SessionSettings, SsrcPair};
+use codec_payload::session::{
+    Arrival, Event, Format, Session, SessionSettings, SsrcPair, StreamNameIds,
+};
 use codec_payload::{Codec, CodecSpec, Frequency, Ticks};
 use std::fmt::Write;
 
@@ -70,6 +72,12 @@ fn chromium() {
     };
     let settings = settings(text).unwrap();
     assert_eq!(settings.extension_ids, ids);
+    let name_ids = StreamNameIds {
+        mid: Some(4),
+        rid: Some(10),
+        repaired_rid: Some(11),
+    };
+    assert_eq!(settings.name_ids, name_ids);
     assert!(settings.feedback.is_none());
 }
 

@@ -7,6 +7,7 @@ mod deadlines;
 mod keyframes;
 mod many;
 mod model;
+mod names;
 mod pairs;
 mod polls_into;
 mod renegotiation;

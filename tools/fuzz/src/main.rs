@@ -3,6 +3,7 @@
 #![no_main]
 
 mod buffer;
+mod descriptor;
 mod formats;
 mod input;
 mod media;
@@ -16,7 +17,7 @@ use std::sync::OnceLock;
 
 type Target = fn(&mut Input);
 
-const TARGETS: [(&str, Target); 9] = [
+const TARGETS: [(&str, Target); 10] = [
     ("depacketize", formats::depacketize),
     ("units", formats::units),
     ("red", formats::red),
@@ -26,6 +27,7 @@ const TARGETS: [(&str, Target); 9] = [
     ("session", session::session),
     ("buffer", buffer::buffer),
     ("media", media::media),
+    ("descriptor", descriptor::descriptor),
 ];
 
 fn target() -> Target {

@@ -8,7 +8,7 @@ use crate::input::Input;
 use codec_payload::jitter::WaitLimits;
 use codec_payload::keyframes::FromKeyframe;
 use codec_payload::requests::NackSettings;
-use codec_payload::session::{FeedbackSettings, Format, SessionSettings, SsrcPair};
+use codec_payload::session::{FeedbackSettings, Format, SessionSettings, SsrcPair, StreamNameIds};
 use codec_payload::stream::RedSettings;
 use codec_payload::{Codec, CodecSpec, Frequency};
 use watch::Watch;
@@ -105,6 +105,11 @@ fn settings(input: &mut Input) -> SessionSettings {
         idle_timeout: input.word().into(),
         bye_wait: input.byte().into(),
         feedback: (input.byte() < 192).then(|| feedback(input)),
+        name_ids: StreamNameIds {
+            mid: Some(3),
+            rid: Some(4),
+            repaired_rid: Some(5),
+        },
         ..SessionSettings::live()
     }
 }

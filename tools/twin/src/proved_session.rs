@@ -37,6 +37,7 @@ unsafe extern "C" {
         payload_type: u8,
         block: *mut u32,
     ) -> u32;
+    fn twin_session_names(it: *mut c_void, ssrc: u32, payload_type: u8, names: *mut u8) -> u32;
     fn twin_session_add_pair(it: *mut c_void, ssrc: u32, rtx_ssrc: u32) -> u32;
     fn twin_session_request_keyframe(it: *mut c_void, ssrc: u32) -> u32;
     fn twin_session_counts(it: *mut c_void, counts: *mut u64) -> u32;
@@ -115,6 +116,19 @@ impl Session {
             unsafe { twin_session_report(self.0, now, ssrc, payload_type, block.as_mut_ptr()) };
         assert!(status == 0 || status == NONE);
         (status == 0).then_some(block)
+    }
+
+    /// MID, RID and repaired RID; without bytes where there is none.
+    pub fn names(&mut self, ssrc: u32, payload_type: u8) -> Option<[Vec<u8>; 3]> {
+        let mut names = [0; 99];
+        let status = unsafe { twin_session_names(self.0, ssrc, payload_type, names.as_mut_ptr()) };
+        assert!(status == 0 || status == NONE);
+        let name = |at: usize| {
+            let (bytes, rest) = names[at + 1..at + 33].split_at(names[at].into());
+            assert!(rest.iter().all(|it| *it == 0));
+            bytes.to_vec()
+        };
+        (status == 0).then(|| [name(0), name(33), name(66)])
     }
 
     pub fn add_pair(&mut self, ssrc: u32, rtx_ssrc: u32) {

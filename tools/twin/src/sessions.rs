@@ -5,7 +5,8 @@ use super::{Compared, OUT_OF_MEMORY, codec, proved_session};
 use codec_payload::jitter::Outcome;
 use codec_payload::keyframes::FromKeyframe;
 use codec_payload::session::{
-    Arrival, Ending, Event, FeedbackSettings, Format, Session, SessionSettings, SsrcPair, Waiting,
+    Arrival, Ending, Event, FeedbackSettings, Format, Session, SessionSettings, SsrcPair,
+    StreamName, StreamNameIds, Waiting,
 };
 use codec_payload::stream::{ReceiveError, RedSettings};
 use codec_payload::{Codec, CodecSpec, Frequency, Ticks};
@@ -57,6 +58,11 @@ fn settings(spec: CodecSpec, input: &mut Input) -> (SessionSettings, [u64; 8]) {
     ours.bye_wait = u64::from(input.byte());
     let from_keyframe = input.byte() % 3;
     ours.feedback = Some(FeedbackSettings::live(77, b"me@host".to_vec()));
+    ours.name_ids = StreamNameIds {
+        mid: Some(3),
+        rid: Some(4),
+        repaired_rid: Some(5),
+    };
     ours.from_keyframe =
         [FromKeyframe::Off, FromKeyframe::Mark, FromKeyframe::Drop][usize::from(from_keyframe)];
     let values = [
@@ -105,6 +111,12 @@ fn datagram(how: u8, numbers: &mut [u16; 5], input: &mut Input) -> Vec<u8> {
     bytes.extend(number.to_be_bytes());
     bytes.extend(u32::to_be_bytes(u32::from(*number / 3) * 90));
     bytes.extend(u32::to_be_bytes(ssrc.into()));
+    if step & 48 == 48 {
+        // A header extension with one element of the one-byte form (RFC 8285, section 4.2).
+        bytes[0] |= 0x10;
+        bytes.extend([0xbe, 0xde, 0, 1, (step % 4 + 2) << 4 | 2]);
+        bytes.extend([input.byte(), flags, step]);
+    }
     if payload_type == 98 || payload_type == 99 {
         bytes.extend(numbers[1].wrapping_sub(u16::from(flags & 7)).to_be_bytes());
     }
@@ -119,7 +131,9 @@ fn told(event: Event) -> ([u64; 12], Vec<u8>, Option<String>) {
         (it[0], it[1], it[2]) = (kind, ssrc.into(), payload_type.into());
     };
     match event {
-        Event::Begun { ssrc, payload_type } => stream(0, ssrc, payload_type),
+        Event::Begun {
+            ssrc, payload_type, ..
+        } => stream(0, ssrc, payload_type),
         Event::Feedback {
             ssrc,
             payload_type,
@@ -321,6 +335,11 @@ pub fn sessions(input: &mut Input, compared: &mut Compared) {
                     .receiver_of(ssrc, 96)
                     .map(|it| it.missing(most).collect());
                 assert_eq!(missing, theirs.missing(ssrc, 96, most));
+                let bytes =
+                    |name: Option<StreamName>| name.map_or(Vec::new(), |it| it.as_bytes().to_vec());
+                let names = ours.names_of(ssrc, 96);
+                let names = names.map(|it| [it.mid, it.rid, it.repaired_rid].map(bytes));
+                assert_eq!(names, theirs.names(ssrc, 96));
             }
             6 => assert_eq!(ours.next_deadline().map(|it| it.0), theirs.next_deadline()),
             7 if how & 7 == 0 && input.byte() < 8 => {

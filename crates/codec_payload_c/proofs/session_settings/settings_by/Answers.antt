@@ -11,6 +11,7 @@ returns-clause-ok c =
     record {
       plain = record {
         ids = plain.ids;
+        name_ids = plain.name_ids;
         audio = plain.audio;
         video = plain.video;
         late = plain.late;

@@ -2,7 +2,7 @@ use Rattle.std.proofs.Common.{◌≡◌, ◌∙◌, ℕ, ap, subst, sym, true, f
 use Rattle.codec_payload_buffer.specs.Steps.{popped_to}
 use Rattle.codec_payload_jitter.specs.Receiving.{Receiving, settled, waiting_at}
 use Rattle.codec_payload_jitter.specs.declared.outcome.PacketCounters.{PacketCounters}
-use Rattle.codec_payload_keyframes.specs.UnitGates.{Gating, with_loss}
+use Rattle.codec_payload_keyframes.specs.UnitGates.{Gating}
 use Rattle.codec_payload_receiver.specs.Pops.{Answer, PopsOnce, bound_if, gates_after, has_left, is_large}
 use Rattle.codec_payload_receiver.specs.Sessions.{Session, time_with}
 use Rattle.codec_payload_receiver.specs.declared.bound.UnitBound.{UnitBound}

@@ -1,4 +1,4 @@
-use Rattle.std.proofs.Common.{◌∙◌, ap, refl, sym, subst, Result, IsOk}
+use Rattle.std.proofs.Common.{◌∙◌, ap, refl, rules, sym, subst, Result, IsOk}
 use Rattle.codec_payload_codec.specs.Depacketizers.{DepacketizerState, depacketizer_state_for, depacketizer_state_of}
 use Rattle.codec_payload_jitter.specs.declared.waiting.WaitLimits.{WaitLimits}
 use Rattle.codec_payload_receiver.specs.Sessions.{Session as Receiver, session_by}
@@ -32,6 +32,8 @@ returns c = record {
   late = c.in_ok-late.ensures;
   sender_clock = refl;
   was_reported = refl;
+  name_ids = refl;
+  names = search rules;
   depacketizer = depacketizer_state_of c.unwrap-depacketizer.result;
   known =
       known_by depacketizer_state_of c.from_codec.result c.unwrap-depacketizer.result (depacketizer_state_for c.args.format.now.spec.codec) c.from_codec.ensures

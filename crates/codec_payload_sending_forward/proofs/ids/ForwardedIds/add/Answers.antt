@@ -1,7 +1,7 @@
 use Rattle.std.proofs.Common.{rules, ◌≡◌, ◌<◌, ◌∷◌, true, sym, subst, length}
-use Rattle.codec_payload_sending_forward.specs.Vp8Numbers.{Ids, is_ahead}
+use Rattle.codec_payload_sending_forward.specs.Ids.{Ids, is_ahead}
 use Rattle.codec_payload_sending_forward.proofs.IdLemmas.{picture_added}
-use Rattle.codec_payload_sending_forward.proofs.vp8_ids.Vp8Ids.add.Goals as goal
+use Rattle.codec_payload_sending_forward.proofs.ids.ForwardedIds.add.Goals as goal
 
 pub invariant_of-self-2 : goal.invariant_of-self-2
 invariant_of-self-2 c =

@@ -1,7 +1,7 @@
 use Rattle.std.proofs.Common.{◌≡◌, true, sym, subst}
-use Rattle.codec_payload_sending_forward.specs.Vp8Numbers.{Ids, is_ahead}
+use Rattle.codec_payload_sending_forward.specs.Ids.{Ids, is_ahead}
 use Rattle.codec_payload_sending_forward.proofs.IdLemmas.{ahead_below, picture_put}
-use Rattle.codec_payload_sending_forward.proofs.vp8_ids.Vp8Ids.replace_lowest.Goals as goal
+use Rattle.codec_payload_sending_forward.proofs.ids.ForwardedIds.replace_lowest.Goals as goal
 
 pub replace_last-requires-clause-falls : goal.replace_last-requires-clause-falls
 replace_last-requires-clause-falls c =

@@ -1,7 +1,7 @@
 use Rattle.std.proofs.Common.{◌≡◌, ◌∙◌, sym, ap, subst}
 use Rattle.codec_payload_vp8.specs.Vp8Descriptor.{Descriptor, IsDescribed}
 use Rattle.codec_payload_vp8.specs.Vp8Patch.{Builder}
-use Rattle.codec_payload_sending_forward.proofs.vp8_ids.IdOffsets.patch.Goals as goal
+use Rattle.codec_payload_sending_forward.proofs.ids.IdOffsets.patch.Goals as goal
 
 pub returns-in-Ok-build-clause-reaches : goal.returns-in-Ok-build-clause-reaches
 returns-in-Ok-build-clause-reaches c =

@@ -1,0 +1,3 @@
+pub mod Descriptors
+pub mod Structures
+pub mod Syntax

@@ -1,0 +1,106 @@
+//! Which pictures a decoder can show, if each names those to which it refers, against sets of numbers.
+
+use codec_payload::parts::keyframes::references::{References, Referring};
+use std::collections::BTreeSet;
+
+fn picture(number: u64, distances: &[u32]) -> Referring {
+    Referring {
+        number,
+        distances: distances.iter().fold(0, |bits, d| bits | 1 << d),
+    }
+}
+
+#[test]
+fn three_temporal_layers() {
+    // T0 T2 T1 T2 T0 ..: a picture of T0 refers to the one 4 before it, one of T1 to the one 2 before it, one of T2 to the one before it.
+    let distance = |number: u64| [4, 1, 2, 1][(number % 4) as usize];
+    let shown = |lost: &[u64]| {
+        let mut references = References::after_keyframe(100);
+        (101..113)
+            .filter(|number| !lost.contains(number))
+            .filter(|&number| references.release(picture(number, &[distance(number)])))
+            .collect::<Vec<_>>()
+    };
+    assert_eq!(shown(&[]).len(), 12);
+    assert_eq!(
+        shown(&[103]),
+        [101, 102, 104, 105, 106, 107, 108, 109, 110, 111, 112]
+    );
+    assert_eq!(
+        shown(&[102]),
+        [101, 104, 105, 106, 107, 108, 109, 110, 111, 112]
+    );
+    assert_eq!(shown(&[104]), [101, 102, 103], "the base layer is broken");
+}
+
+#[test]
+fn numbers_that_do_not_rise_break_off_all() {
+    for number in [0, 99, 100] {
+        let mut references = References::after_keyframe(100);
+        assert!(!references.release(picture(number, &[])));
+        assert!(!references.release(picture(101, &[1])) && !references.release(picture(102, &[])));
+    }
+}
+
+#[test]
+fn far_references_and_itself_are_not_met() {
+    let mut references = References::after_keyframe(5);
+    assert!(references.release(picture(132, &[127])));
+    assert!(!references.clone().release(picture(133, &[0])));
+    assert!(
+        !references.release(picture(133, &[127])),
+        "6 was not released"
+    );
+    assert!(!references.release(picture(u64::MAX, &[1])));
+    let mut first = References::after_keyframe(0);
+    assert!(!first.release(picture(3, &[4])), "no number is below 0");
+    assert!(!first.release(picture(4, &[1])));
+    assert!(first.release(picture(5, &[5])));
+}
+
+fn random(seed: &mut u64, below: u64) -> u64 {
+    *seed ^= *seed << 13;
+    *seed ^= *seed >> 7;
+    *seed ^= *seed << 17;
+    *seed % below
+}
+
+#[test]
+fn random_streams_are_as_the_sets_say() {
+    let mut seed = 0x9E37_79B9_7F4A_7C15;
+    let (mut released, mut all) = (0, 0);
+    for round in 0..3_000_u64 {
+        let mut number = random(&mut seed, 1_000);
+        let mut references = References::after_keyframe(number);
+        let mut shown = BTreeSet::from([number]);
+        for _ in 0..200 {
+            number += 1 + if random(&mut seed, 100) < round % 4 * 10 {
+                random(&mut seed, 140)
+            } else {
+                0
+            };
+            let distances: Vec<u32> = (0..random(&mut seed, 3))
+                .map(|_| 1 + random(&mut seed, [3, 20, 127][round as usize % 3]) as u32)
+                .collect();
+            let wanted = distances.iter().all(|&d| {
+                number
+                    .checked_sub(u64::from(d))
+                    .is_some_and(|it| shown.contains(&it))
+            });
+            assert_eq!(
+                references.release(picture(number, &distances)),
+                wanted,
+                "{number} {distances:?}"
+            );
+            all += 1;
+            if wanted {
+                shown.insert(number);
+                released += 1;
+            }
+        }
+    }
+    assert!(
+        released > all / 4 && released < all * 3 / 4,
+        "{released} of {all}"
+    );
+}
