@@ -153,6 +153,7 @@ mod queue;
 pub mod red;
 #[doc(hidden)]
 pub mod red_writer;
+mod references;
 #[doc(hidden)]
 pub mod requests;
 #[doc(hidden)]

@@ -93,6 +93,7 @@ pub record AreSettings (s : ReceiverSettings) (types : List ℕ) (t : Settings) 
   pub forward : t.forward ≡ s.forward
   pub backward : t.backward ≡ s.backward
   pub from_keyframe : t.from_keyframe ≡ from_keyframe_numbered s.from_keyframe
+  pub dependency_descriptor : t.dependency_descriptor ≡ None
 
 -- a new receiver with these settings
 pub record IsNewStream (s : ReceiverSettings) (no_media : List ℕ) (depacketizer : Option DepacketizerState) (r : StreamReceiver) : Type 0 where

@@ -260,6 +260,7 @@ fn settings_of(
         forward: settings.forward,
         backward: settings.backward,
         from_keyframe,
+        dependency_descriptor: None,
     })
 }
 

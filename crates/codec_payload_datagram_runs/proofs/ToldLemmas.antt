@@ -217,9 +217,9 @@ pops_told stream now answer s t is_told not_memory gated =
     let r : Receiving = s.packets in
     let settled_is : settled r ≡ r = settled_none r listening.none_noted in
     let wait : Option ℕ = waiting_at r now.0 in
-    let pops : PopsWith wait r answer popped.0 = subst (λ (x : Receiving). PopsWith (waiting_at x now.0) x answer popped.0) settled_is popped.1 in
-    let turn = turn_of wait r answer popped.0 listening.of_codec not_memory pops in
-    let packets : t.packets ≡ popped.0 = ap (λ (x : Session). x.packets) popped.2 in
+    let pops : PopsWith wait r answer popped.packets = subst (λ (x : Receiving). PopsWith (waiting_at x now.0) x answer popped.packets) settled_is popped.pops in
+    let turn = turn_of wait r answer popped.packets listening.of_codec not_memory pops in
+    let packets : t.packets ≡ popped.packets = ap (λ (x : Session). x.packets) popped.left in
     record {
       wait = wait;
       at_end = waits_for_nothing r now.0;
@@ -229,23 +229,23 @@ pops_told stream now answer s t is_told not_memory gated =
       numbering = ap (λ (x : Receiving). x.numbering) packets ∙ turn.numbering;
       is_told = record {
         calm = record {
-          payload_type = ap (λ (x : Session). x.stream.payload_type) popped.2 ∙ listening.payload_type;
-          named = ap (λ (x : Session). x.named) popped.2 ∙ listening.named;
-          ssrc = ap (λ (x : Session). x.ssrc) popped.2 ∙ listening.ssrc;
-          not_again = ap (λ (x : Session). is_sent_again_by x.stream.retransmission stream) popped.2 ∙ listening.not_again;
+          payload_type = ap (λ (x : Session). x.stream.payload_type) popped.left ∙ listening.payload_type;
+          named = ap (λ (x : Session). x.named) popped.left ∙ listening.named;
+          ssrc = ap (λ (x : Session). x.ssrc) popped.left ∙ listening.ssrc;
+          not_again = ap (λ (x : Session). is_sent_again_by x.stream.retransmission stream) popped.left ∙ listening.not_again;
           rate = ap (λ (x : Receiving). x.rate) packets ∙ (turn.rate ∙ listening.rate);
           running = refl;
           none_noted = ap (λ (x : Receiving). x.no_media_numbers) packets ∙ (turn.no_media_numbers ∙ listening.none_noted);
           of_codec = ap (λ (x : Receiving). is_built_in_depacketizer x.buffer.depacketizer) packets ∙ turn.of_codec;
-          no_block_seen = subst HasNoBlock (sym (ap (λ (x : Session). x.seen) popped.2)) listening.no_block_seen;
-          drops_none = ap (λ (x : Session). x.gates.drops) popped.2 ∙ (drops_stay _ s.gates _ answer ∙ listening.drops_none);
+          no_block_seen = subst HasNoBlock (sym (ap (λ (x : Session). x.seen) popped.left)) listening.no_block_seen;
+          drops_none = ap (λ (x : Session). x.gates.drops) popped.left ∙ (drops_stay _ s.gates _ answer popped.references ∙ listening.drops_none);
           heard = tt;
         };
         waiting = ap (λ (x : Receiving). x.is_restarting) packets ∙ (turn.is_restarting ∙ is_told.waiting);
         kept = ap (λ (x : Receiving). x.kept) packets ∙ (turn.kept ∙ is_told.kept);
         fresh = ap (λ (x : Receiving). x.first) packets ∙ (turn.first ∙ is_told.fresh);
       };
-      kinds = ap (λ (x : Session). x.stream) popped.2;
+      kinds = ap (λ (x : Session). x.stream) popped.left;
       limits = record { wait_limits = ap (λ (x : Receiving). x.wait_limits) packets ∙ turn.limits.wait_limits; room = ap (λ (x : Receiving). x.room) packets ∙ turn.limits.room };
       wait_is = refl;
       ended = ap (λ (x : Receiving). x.ended) packets ∙ turn.ended;

@@ -10,6 +10,7 @@ use Rattle.codec_payload_jitter.specs.declared.outcome.Outcome.TheVariants as ou
 use Rattle.codec_payload_jitter.specs.declared.outcome.PacketCounters.{PacketCounters}
 use Rattle.codec_payload_receiver.specs.Choice.{latest_after, origin_of}
 use Rattle.codec_payload_receiver.specs.Kinds.{Kinds, Carrier, Datagram, RtcpPacket, Malformed, OfOthers, WithoutMedia, WithMedia, InRed, Again, AgainInRed, AgainEmpty}
+use Rattle.codec_payload_receiver.specs.Noting.{notes_after}
 use Rattle.codec_payload_receiver.specs.SeenTimes.{Seen, is_seen}
 use Rattle.codec_payload_receiver.specs.Sessions.{Holding, NotesAgain, Session, TakesAgain, TakesDatagram, TakesMedia, TakesPrimaryAgain, TakesPrimaryIf, RecoversOne, RecoversUnseen, RecoversAll, RecoversUnless, AnswersFor}
 use Rattle.codec_payload_receiver.specs.Sessions.{Heard, IsSorted, all_carried, arrived_with, ssrc_after, is_own_media, is_repeat, is_suspect, error_of, reception_after, told_of_red}
@@ -237,6 +238,7 @@ pub heard : (now : Ticks) (d : Datagram) (s t : Session) (o : Outcome) (whole : 
       reception = reception_after o s.packets packets s.reception now.0 d;
       choice = record s.choice { latest = latest_after s.choice.latest now.0 (origin_of d) };
       seen = seen;
+      notes = notes_after s.notes s.stream d o packets.numbering.greatest;
     }
     → Heard now d s answer t
 heard now d s t o whole packets seen (Ok told) takes answers left = record { outcome = o; whole = whole; packets = packets; seen = seen; takes = takes; answers = answers; left = left }

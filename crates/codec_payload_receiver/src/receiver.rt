@@ -21,6 +21,7 @@ use crate::checks::{packets_at_once, red_of, retransmission_fits};
 use crate::choice::{Choice, Origin, Verdict};
 use crate::datagram::{Datagram, RedStream, StreamKinds};
 use crate::gated::gate_for;
+use crate::notes::{StreamNotes, forget_suspect, notes_for};
 use crate::parsed::ParsedDatagram;
 use crate::reports::{ReceptionReport, ReceptionStatistics};
 use crate::seen_times::LazySeenTimes;
@@ -100,6 +101,11 @@ pub struct Settings {
     ///
     /// [`Popped::TooLarge`]: crate::pops::Popped::TooLarge
     pub max_unit: Option<usize>,
+    /// The id of the header extension element with the dependency descriptor (AV1 RTP specification, appendix A), for VP8, VP9
+    /// and AV1: 1 to 14 in the one-byte form of RFC 8285, 1 to 255 in the two-byte form. No element has id 0. Accept the extension
+    /// if the sender offers it: a lost frame to which no other refers then costs no other frame. `None`: the stream has none. All
+    /// constructors set `None`.
+    pub dependency_descriptor: Option<u8>,
 }
 
 /// The setting that is out of range.
@@ -207,9 +213,13 @@ pub struct Receiver<B = NoBox> {
     gates: UnitGate,
     /// How many bytes a unit may have.
     bound: UnitBound,
+    /// What packets say of the frames that they begin, if units may name those that they refer to.
+    notes: Option<StreamNotes>,
 }
 
 impl<B> Model for Receiver<B> {
+    ghost use Rattle.std.specs.Option.{option_map};
+    ghost use Rattle.codec_payload_receiver.specs.Noting.{noting_of};
     ghost use Rattle.codec_payload_receiver.specs.Reports.{report_of, reported};
     ghost use Rattle.codec_payload_receiver.specs.Sessions.{Session, IsSorted};
 
@@ -227,6 +237,7 @@ impl<B> Model for Receiver<B> {
       seen = r.seen;
       gates = r.gates;
       bound = r.bound;
+      notes = option_map noting_of r.notes;
     } };
 
     ghost invariant = { λ r. IsSorted r.arrived r.packets.counters };
@@ -278,6 +289,7 @@ impl<B: Depacketizer> Receiver<B> {
         let statistics = ReceptionStatistics::over(numbers, settings.tick_rate, clock_rate);
         let choice = Choice::over(alloc, settings.tick_rate);
         let gates = gate_for(&depacketizer, settings.from_keyframe);
+        let notes = notes_for(&depacketizer, &settings);
         let wait_limits = settings.wait_limits;
         let buffer = DepacketizingBuffer::with_limit(
             alloc,
@@ -306,6 +318,7 @@ impl<B: Depacketizer> Receiver<B> {
             seen: LazySeenTimes::none(),
             gates,
             bound: UnitBound::new(settings.max_unit),
+            notes,
         }
     }
 
@@ -614,6 +627,7 @@ impl<B: Depacketizer> Receiver<B> {
         self.ssrc = ssrc;
         self.statistics = self.statistics.anew();
         self.seen = LazySeenTimes::none();
+        forget_suspect(&mut self.notes);
         self.packets.restart();
     }
 

@@ -137,6 +137,7 @@ pub record HasSettings (s : SessionSettings) (ssrc : ℕ) (f : Format) (r : Sett
   pub from_keyframe : r.from_keyframe ≡ s.from_keyframe
   pub limit : r.limit ≡ s.limit
   pub max_unit : r.max_unit ≡ s.max_unit
+  pub dependency_descriptor : r.dependency_descriptor ≡ None
   pub forward : r.forward ≡ forward_for (is_video f.spec.codec)
   pub backward : r.backward ≡ backward_for (is_video f.spec.codec)
 

@@ -268,7 +268,8 @@ impl<B: Depacketizer> JitterBuffer<B> {
     }
 
     /// Returns the highest extended number so far.
-    pub(crate) fn greatest(&self) -> Option<u64> {
+    #[inline(always)]
+    pub fn greatest(&self) -> Option<u64> {
         self.numbers.greatest()
     }
 

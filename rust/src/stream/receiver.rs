@@ -25,6 +25,7 @@ use crate::stream::checks::{packets_at_once, red_of, retransmission_fits};
 use crate::stream::choice::{Choice, Origin, Verdict};
 use crate::stream::datagram::{Datagram, RedStream, StreamKinds};
 use crate::stream::gated::gate_for;
+use crate::stream::notes::{StreamNotes, forget_suspect, notes_for};
 use crate::stream::parsed::ParsedDatagram;
 use crate::stream::reports::{ReceptionReport, ReceptionStatistics};
 use crate::stream::seen_times::LazySeenTimes;
@@ -92,6 +93,11 @@ pub struct ReceiverSettings {
     ///
     /// [`Popped::TooLarge`]: crate::stream::pops::Popped::TooLarge
     pub max_unit: Option<usize>,
+    /// The id of the header extension element with the dependency descriptor (AV1 RTP specification, appendix A), for VP8, VP9
+    /// and AV1: 1 to 14 in the one-byte form of RFC 8285, 1 to 255 in the two-byte form. No element has id 0. Accept the extension
+    /// if the sender offers it: a lost frame to which no other refers then costs no other frame. `None`: the stream has none. All
+    /// constructors set `None`.
+    pub dependency_descriptor: Option<u8>,
 }
 
 /// The setting that is out of range.
@@ -234,6 +240,8 @@ pub struct Receiver<B = NoBox> {
     gates: UnitGate,
     /// How many bytes a unit may have.
     bound: UnitBound,
+    /// What packets say of the frames that they begin, if units may name those that they refer to.
+    notes: Option<StreamNotes>,
 }
 
 impl<B: Depacketizer> Receiver<B> {
@@ -274,6 +282,7 @@ impl<B: Depacketizer> Receiver<B> {
         let statistics = ReceptionStatistics::over(numbers, settings.tick_rate, clock_rate);
         let choice = Choice::over(settings.tick_rate);
         let gates = gate_for(&depacketizer, settings.from_keyframe);
+        let notes = notes_for(&depacketizer, &settings);
         let wait_limits = settings.wait_limits;
         let buffer = DepacketizingBuffer::with_limit(
             depacketizer,
@@ -300,6 +309,7 @@ impl<B: Depacketizer> Receiver<B> {
             seen: LazySeenTimes::none(),
             gates,
             bound: UnitBound::new(settings.max_unit),
+            notes,
         }
     }
 
@@ -546,6 +556,7 @@ impl<B: Depacketizer> Receiver<B> {
         self.ssrc = ssrc;
         self.statistics = self.statistics.anew();
         self.seen = LazySeenTimes::none();
+        forget_suspect(&mut self.notes);
         self.packets.restart();
     }
 
