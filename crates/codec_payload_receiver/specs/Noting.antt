@@ -13,7 +13,8 @@ use Rattle.codec_payload_keyframes.specs.declared.unit_gate.FromKeyframe.{FromKe
 use Rattle.codec_payload_keyframes.specs.declared.unit_gate.FromKeyframe.TheVariants as modes
 use Rattle.codec_payload_keyframes.specs.References.{no_references}
 use Rattle.codec_payload_keyframes.specs.declared.references.UnitReferences.{UnitReferences}
-use Rattle.codec_payload_references.specs.Notes.{IsTaken, Note, Notes, inserted, note_of}
+use Rattle.codec_payload_references.specs.FrameNotes.{Note, note_of}
+use Rattle.codec_payload_references.specs.Notes.{IsTaken, Notes, inserted}
 use Rattle.codec_payload_rtp.specs.ExtensionFormats.{bytes_for, elements_of}
 use Rattle.codec_payload_rtp.specs.RtpPackets.{Extension}
 use Rattle.codec_payload_rtp.specs.RtpValues.{extension_of}

@@ -6,7 +6,7 @@ ghost use Rattle.codec_payload_base.specs.Extended.{extended};
 ghost use Rattle.codec_payload_buffer.specs.Steps.{HasPacketsIn, popped_to};
 ghost use Rattle.codec_payload_codec.specs.Depacketizers.{depacketizer_state_of, kind_of_depacketizer};
 ghost use Rattle.codec_payload_receiver.specs.Kinds.{carrier_of, datagram_of, takes_memory};
-ghost use Rattle.codec_payload_receiver.specs.Noting.{HasRoom, HasRoomFor, HasRoomIf, TakesNotes, TakesRange, forgetting, forgotten, media_in, media_of, new_noting, noted, noted_with, noting_of, pending_by, pending_in, primary_media, settled_by, with_note, without_room};
+ghost use Rattle.codec_payload_receiver.specs.Noting.{HasRoom, HasRoomFor, HasRoomIf, TakesNotes, TakesRange, forgetting, forgotten, media_in, media_of, new_noting, noted, noted_with, noting_of, pending_by, pending_in, primary_media, settled_by, with_kept_if, with_note, without_room};
 ghost use Rattle.codec_payload_receiver.specs.Sessions.{video_codec};
 
 use crate::datagram::{Datagram, RedPacket, StreamKinds};
@@ -191,27 +191,39 @@ fn settle_in(
     requires { 2 ≤ notes.old.room }
     ensures { without_room notes.new ≡ noted pending outcome highest (without_room notes.old) }
 {
+    let PendingNote { number, note } = pending;
     match outcome {
-        Outcome::Held | Outcome::HeldAndEvicted => insert(notes, pending, highest),
-        Outcome::Suspect => notes.keep_suspect(pending.number, pending.note),
+        Outcome::Held | Outcome::HeldAndEvicted => insert(notes, number, note, highest),
+        Outcome::Suspect => notes.keep_suspect(number, note),
         Outcome::Restarted(with_kept) => {
-            let kept = notes.take_suspect();
-            if with_kept && let Some((number, note)) = kept {
-                notes.insert(near(highest, number), note);
-            }
-            insert(notes, pending, highest);
+            insert_kept(notes, with_kept, highest);
+            insert(notes, number, note, highest);
         }
         _ => {}
     }
 }
 
-/// Inserts the note of a packet, if it has one.
-fn insert(notes: &mut FrameNotes, pending: PendingNote, highest: Option<u64>)
-    requires { 1 ≤ notes.old.room }
-    ensures { without_room notes.new ≡ with_note highest pending.number pending.note (without_room notes.old) }
+/// Takes the note of the suspect packet, and inserts it if that packet was stored.
+fn insert_kept(notes: &mut FrameNotes, is_stored: bool, highest: Option<u64>)
+    requires { 2 ≤ notes.old.room }
+    ensures notes { without_room notes.new ≡ with_kept_if is_stored highest (without_room notes.old) }
+    ensures room { 1 ≤ notes.new.room }
 {
-    if let Some(note) = pending.note {
-        notes.insert(near(highest, pending.number), note);
+    let Some((number, note)) = notes.take_suspect() else {
+        return;
+    };
+    if is_stored {
+        notes.insert(near(highest, number), note);
+    }
+}
+
+/// Inserts the note of a packet, if it has one.
+fn insert(notes: &mut FrameNotes, number: u16, note: Option<FrameNote>, highest: Option<u64>)
+    requires { 1 ≤ notes.old.room }
+    ensures { without_room notes.new ≡ with_note highest number note (without_room notes.old) }
+{
+    if let Some(note) = note {
+        notes.insert(near(highest, number), note);
     }
 }
 

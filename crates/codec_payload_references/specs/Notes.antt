@@ -1,5 +1,5 @@
 -- The notes of the packets that a receiver holds.
-use Rattle.std.specs.Prelude.{◌≡◌, ℕ, ◌-◌, ◌<◌, ◌≤◌, nat_lt, nat_le, ◌==◌, List, [], ◌∷◌, length, drop, Option, None, if◌then◌else◌}
+use Rattle.std.specs.Prelude.{◌≡◌, ℕ, ◌+◌, ◌-◌, ◌<◌, ◌≤◌, nat_lt, nat_le, ◌==◌, ◌||◌, Bool, false, List, [], ◌∷◌, length, drop, Option, None, if◌then◌else◌}
 use Rattle.codec_payload_keyframes.specs.declared.references.UnitReferences.{UnitReferences}
 use Rattle.codec_payload_references.specs.Frames.{Following}
 use Rattle.codec_payload_references.specs.FrameNotes.{Note}
@@ -46,17 +46,28 @@ abbrev pub from : ℕ → List HeldNote → List HeldNote
 from n [] = []
 from n (h ∷ hs) = if nat_lt h.number n then from n hs else h ∷ hs
 
--- with one more note in its place, unless there is one with its number
-abbrev pub with_note : HeldNote → List HeldNote → List HeldNote
-with_note x [] = x ∷ []
-with_note x (h ∷ hs) = if nat_lt h.number x.number then h ∷ with_note x hs else (if h.number == x.number then h ∷ hs else x ∷ h ∷ hs)
+-- a note with this number is held
+abbrev pub has_number : ℕ → List HeldNote → Bool
+has_number n [] = false
+has_number n (h ∷ hs) = (h.number == n) || has_number n hs
+
+-- how many notes have a lower number
+abbrev pub place_of : ℕ → List HeldNote → ℕ
+place_of n [] = 0
+place_of n (h ∷ hs) = if nat_lt h.number n then place_of n hs + 1 else 0
+
+-- the notes with one more at its place in the order of numbers
+abbrev pub placed : HeldNote → List HeldNote → List HeldNote
+placed x [] = x ∷ []
+placed x (h ∷ hs) = if nat_lt h.number x.number then h ∷ placed x hs else x ∷ h ∷ hs
 
 -- the highest notes
 abbrev pub highest : ℕ → List HeldNote → List HeldNote
 highest most hs = drop (length hs - most) hs
 
+-- with one more note, unless there is one with its number; if there are then too many, without the lowest one
 abbrev pub inserted : ℕ → HeldNote → List HeldNote → List HeldNote
-inserted most x hs = highest most (with_note x hs)
+inserted most x hs = if has_number x.number hs then hs else highest most (placed x hs)
 
 -- ---- a unit
 

@@ -84,3 +84,7 @@ references_so_far u = record { descriptor = if u.is_unread then None else u.fram
 abbrev pub Collects : UnitSoFar → Following → List HeldNote → UnitSoFar → Following → Type 0
 Collects u r [] v s = (v ≡ u) × (s ≡ r)
 Collects u r (h ∷ hs) v s = (x : Reading) × (between : Following) × IsReading r h.note.descriptor x between × Collects (with_reading u h.note.layer_frame x) between hs v s
+
+-- descriptors of notes are read, whatever they say
+abbrev pub Skips : Following → List HeldNote → Following → Type 0
+Skips before hs after = (xs : List Reading) × AreReadings before hs xs after

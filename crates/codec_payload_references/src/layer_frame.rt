@@ -1,6 +1,6 @@
 //! What a payload of VP9 in the flexible mode says of the layer frame that it begins (RFC 9628, section 4.2).
 
-ghost use Rattle.std.specs.Prelude.{◌≡◌, option_map};
+ghost use Rattle.std.specs.Prelude.{◌≡◌, ◌/◌, ◌^◌, option_map};
 ghost use Rattle.codec_payload_references.specs.LayerFrames.{after_id, differences_if, differences_in, layer_frame_of, layer_octet, read_layer_frame};
 
 use codec_payload_base::picture_id::PictureId;
@@ -61,6 +61,13 @@ fn layer_octet(present: bool, bytes: &[u8]) -> Option<(u8, &[u8])>
     Some((octet, rest))
 }
 
+/// The bit for the P_DIFF in a byte P_DIFF(7) N.
+fn difference_bit(octet: u8) -> u128
+    ensures { result ≡ 2 ^ (octet / 2) }
+{
+    1 << (octet / 2)
+}
+
 /// One bit for each P_DIFF at the front. `None`: the bytes end early, or there are more than `most`.
 fn differences_in(bytes: &[u8], most: u8) -> Option<u128>
     ensures { result ≡ differences_in most bytes.now }
@@ -69,7 +76,7 @@ fn differences_in(bytes: &[u8], most: u8) -> Option<u128>
         return None;
     }
     let (&octet, rest) = bytes.split_first()?;
-    let difference = 1u128 << (octet / 2);
+    let difference = difference_bit(octet);
     if octet & MORE_DIFFERENCES == 0 {
         return Some(difference);
     }

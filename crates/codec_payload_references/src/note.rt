@@ -38,7 +38,7 @@ fn starts_frame(descriptor: &[u8]) -> bool
 
 /// The bytes of a dependency descriptor, if it is that of the first packet of a frame.
 fn descriptor_if(alloc: Global, descriptor: Option<&[u8]>) -> Result<Option<Vec<u8>>, AllocError>
-    ensures { IfOk result (λ d. option_map (λ v. v.items) d ≡ descriptor_if (option_map (λ bytes. bytes.now) descriptor)) }
+    ensures { IfOk result (λ d. option_map (λ v. v.items) d ≡ descriptor_if (option_map (λ bytes. bytes.now) descriptor.entry)) }
 {
     let Some(bytes) = descriptor else {
         return Ok(None);
@@ -65,7 +65,7 @@ impl FrameNote {
         payload: &[u8],
         descriptor: Option<&[u8]>,
     ) -> Result<Option<FrameNote>, AllocError>
-        ensures { IfOk result (λ note. note ≡ note_of is_vp9 payload.now (option_map (λ bytes. bytes.now) descriptor)) }
+        ensures { IfOk result (λ note. note ≡ note_of is_vp9 payload.now (option_map (λ bytes. bytes.now) descriptor.entry)) }
     {
         let layer_frame = if is_vp9 { LayerFrame::of(payload) } else { None };
         let descriptor = descriptor_if(alloc, descriptor)?;

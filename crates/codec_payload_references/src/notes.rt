@@ -1,8 +1,8 @@
 //! The notes of the packets that a receiver holds, in rising order of their sequence numbers.
 
-ghost use Rattle.std.specs.Prelude.{◌≡◌, ◌≤◌, ◌<◌, ◌+◌, ◌^◌, [], ◌∷◌, length, IfSome, IsNone, None, OnOk, option_map};
-ghost use Rattle.codec_payload_references.specs.Notes.{HeldRises, IsTaken, above, inserted, up_to};
-ghost use Rattle.codec_payload_references.specs.Units.{Collects};
+ghost use Rattle.std.specs.Prelude.{◌≡◌, ◌≤◌, ◌<◌, ◌+◌, ◌^◌, [], ◌∷◌, length, false, IfSome, IsNone, None, OnOk, option_map};
+ghost use Rattle.codec_payload_references.specs.Notes.{HeldRises, IsTaken, above, below, from, has_number, highest, inserted, place_of, placed, up_to};
+ghost use Rattle.codec_payload_references.specs.Units.{Collects, Skips};
 
 use crate::frames::FrameReader;
 use crate::note::FrameNote;
@@ -54,6 +54,39 @@ impl Model for FrameNotes {
     ghost invariant = { λ s. HeldRises s.held.items × (length s.held.items ≤ s.most) };
 }
 
+/// Returns how many notes have a lower number.
+fn find_place(held: &TieredQueue<HeldNote>, number: u64) -> usize
+    requires { HeldRises held.now.items }
+    ensures { result ≡ place_of number held.now.items }
+{
+    held.place_of(number)
+}
+
+/// Returns whether the note at `place` has this number.
+fn is_at(held: &TieredQueue<HeldNote>, place: usize, number: u64) -> bool
+    requires rises { HeldRises held.now.items }
+    requires place { place ≡ place_of number held.now.items }
+    ensures { result ≡ has_number number held.now.items }
+{
+    place < held.len() && held.at(place).number == number
+}
+
+/// Inserts a note at its place. If there are then more than `most`, the lowest one is removed.
+fn put(held: &mut TieredQueue<HeldNote>, most: usize, place: usize, note: HeldNote)
+    requires place { place ≡ place_of note.number held.old.items }
+    requires few { length held.old.items ≤ most }
+    requires room { 0 < held.old.room }
+    ensures items { held.new.items ≡ highest most (placed note held.old.items) }
+    ensures room { held.old.room ≤ held.new.room + 1 }
+{
+    if held.len() < most {
+        held.insert(place, note);
+    } else if place > 0 {
+        let _ = held.pop_front();
+        held.insert(place - 1, note);
+    }
+}
+
 /// Removes the lowest note, if its number is not above `last`.
 fn pop_to(held: &mut TieredQueue<HeldNote>, last: u64) -> Option<HeldNote>
     ensures some { IfSome result (λ h. (held.old.items ≡ h ∷ held.new.items) × (h.number ≤ last)) }
@@ -78,6 +111,18 @@ fn collect(held: &mut TieredQueue<HeldNote>, reader: &mut FrameReader, last: u64
         unit = unit.with(lowest.note.layer_frame(), &reading);
     }
     unit
+}
+
+/// Removes the notes with numbers up to `last` and below `first`, and reads their descriptors in this order.
+fn skip(held: &mut TieredQueue<HeldNote>, reader: &mut FrameReader, first: u64, last: u64)
+    ensures skips { Skips reader.old (below first (up_to last held.old.items)) reader.new }
+    ensures unit { up_to last held.new.items ≡ from first (up_to last held.old.items) }
+    ensures rest { above last held.new.items ≡ above last held.old.items }
+    ensures room { held.old.room ≤ held.new.room }
+{
+    if first > 0 {
+        let _ = collect(held, reader, last.min(first - 1));
+    }
 }
 
 impl FrameNotes {
@@ -124,16 +169,9 @@ impl FrameNotes {
         ensures following { self.new.following ≡ self.old.following }
         ensures suspect { self.new.suspect ≡ self.old.suspect }
     {
-        let place = self.held.place_of(number);
-        if place < self.held.len() && self.held.at(place).number == number {
-            return;
-        }
-        let held = HeldNote { number, note };
-        if self.held.len() < self.most {
-            self.held.insert(place, held);
-        } else if place > 0 {
-            let _ = self.held.pop_front();
-            self.held.insert(place - 1, held);
+        let place = find_place(&self.held, number);
+        if !is_at(&self.held, place, number) {
+            put(&mut self.held, self.most, place, HeldNote { number, note });
         }
     }
 
@@ -171,9 +209,7 @@ impl FrameNotes {
     pub fn take(&mut self, first: u64, last: u64) -> UnitReferences
         ensures { IsTaken self.old first last result self.new }
     {
-        if first > 0 {
-            let _ = collect(&mut self.held, &mut self.reader, last.min(first - 1));
-        }
+        skip(&mut self.held, &mut self.reader, first, last);
         collect(&mut self.held, &mut self.reader, last).references()
     }
 }
