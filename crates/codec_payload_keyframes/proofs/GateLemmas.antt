@@ -5,7 +5,7 @@ use Rattle.std.proofs.lemmas.Bool.{and_from, eqb-true, eq-eqb, false≢true, or_
 use Rattle.codec_payload_base.specs.declared.wire.Codec.{Codec}
 use Rattle.codec_payload_keyframes.proofs.LayerLemmas.{Knows, both, has_base_is, knows_key, knows_next, shows_is}
 use Rattle.codec_payload_keyframes.proofs.ReferenceLemmas.{Knows as KnowsFrames, knows_key as knows_first, knows_next as knows_more, shows_is as refers_is}
-use Rattle.codec_payload_keyframes.specs.Keyframes.{CanBeShownIn, Event, FollowsPlainly, GatesAgree, HasBaseFrames, HasBaseIn, IsOfBaseBy, IsVp8, Numbered, Run, Said, ShowsLast, UnitsFollowKeyframes, WantsKeyframe, after_delta, after_described, after_differing, after_layered, after_lost, after_plain, after_skipped, after_unit, after_video, at_keyframe, begins, begun_by, by_numbers, by_references, by_the_unit_before, descriptors, differences, followed_by, followed_past, following, from_keyframe, is_video, loses, lost, names_none, new_gate, next_unit, numbered_since, numbers_from, past, past_skipped, pictures_since, released, releases, said_by, shows_differing, shows_unit, skipped, skips, still, undecodable, undecodable_base, unnumbered, wants_after, without_base}
+use Rattle.codec_payload_keyframes.specs.Keyframes.{CanBeShownIn, Event, FollowsPlainly, GatesAgree, HasBaseFrames, HasBaseIn, IsOfBaseBy, IsVp8, Numbered, PlainStreams, Run, Said, ShowsLast, UnitsFollowKeyframes, WantsKeyframe, after_delta, after_described, after_differing, after_layered, after_lost, after_plain, after_skipped, after_unit, after_video, at_keyframe, begins, begun_by, by_numbers, by_references, by_the_unit_before, descriptors, differences, followed_by, followed_past, following, from_keyframe, is_video, loses, lost, names_none, new_gate, next_unit, numbered_since, numbers_from, past, past_skipped, pictures_since, released, releases, said_by, shows_differing, shows_unit, skipped, skips, still, undecodable, undecodable_base, unnumbered, wants_after, without_base}
 use Rattle.codec_payload_keyframes.specs.References.{HasReferences, Reported, shows_referring, with_frames}
 use Rattle.codec_payload_keyframes.specs.Vp8Layers.{Pictures, after_picture, has_base, shows_picture}
 use Rattle.codec_payload_keyframes.specs.declared.gate.Followed.{Followed}
@@ -480,3 +480,10 @@ units_follow_keyframes codec before g key c picture said video few run so =
     shown_after : (g : KeyframeGate) (key c : Bool) (picture : Option Vp8Picture) → is_video g.codec ≡ true → shows_unit g key c picture said ≡ true
         → (after_unit g key c picture said).shows ≡ true
     shown_after g key c picture is so = rw (is) (rw (is) at so)
+
+pub plain_streams : PlainStreams
+plain_streams [] silent = refl
+plain_streams (released true contiguous picture said shown ∷ before) silent = silent.0
+plain_streams (released false contiguous picture said shown ∷ before) silent = rw (plain_streams before silent) refl
+plain_streams (lost ∷ before) silent = plain_streams before silent
+plain_streams (skipped ∷ before) silent = plain_streams before silent

@@ -304,3 +304,15 @@ abbrev pub UnitsFollowKeyframes : Type 0
 UnitsFollowKeyframes =
     (codec : Codec) (before : List Event) (g : KeyframeGate) (key contiguous : Bool) (picture : Option Vp8Picture) (said : Said) → is_video codec ≡ true → IsVp8 picture
     → Run codec before g → shows_unit g key contiguous picture said ≡ true → ShowsLast (released key contiguous picture said true ∷ before)
+
+-- no keyframe says what it refers to
+abbrev pub KeysSayNothing : List Event → Type 0
+KeysSayNothing [] = Unit {0}
+KeysSayNothing (released true contiguous picture said shown ∷ before) = (numbers_from said.frames said.pictures ≡ None) × KeysSayNothing before
+KeysSayNothing (released false contiguous picture said shown ∷ before) = KeysSayNothing before
+KeysSayNothing (lost ∷ before) = KeysSayNothing before
+KeysSayNothing (skipped ∷ before) = KeysSayNothing before
+
+-- such a stream is followed by its ids of VP8 or as a chain alone
+abbrev pub PlainStreams : Type 0
+PlainStreams = (events : List Event) → KeysSayNothing events → numbered_since events ≡ None
