@@ -58,9 +58,13 @@ followed_by None (Some key) vp8 = ways.Pictures (after_key_frames key)
 followed_by None None (Some key) = ways.Layers (after_keyframe key)
 followed_by None None None = ways.Chain
 
+-- nothing is shown, and the units after it are followed so
+abbrev pub held_back : KeyframeGate → Followed → KeyframeGate
+held_back g followed = record g { shows = false; wants = true; followed = followed }
+
 -- nothing can be shown until a keyframe
 abbrev pub broken_off : KeyframeGate → KeyframeGate
-broken_off g = record g { shows = false; wants = true; followed = ways.Chain }
+broken_off g = held_back g ways.Chain
 
 -- a unit in the chain, or by its ids of VP8: by its ids, if it and all units since the keyframe have them, and by the unit before it,
 -- if none of them has them
@@ -79,7 +83,7 @@ wants_after wants u shown = if u.is_base then not shown else wants
 
 -- by descriptors; the frames of a unit whose descriptor cannot be read are missing
 abbrev pub after_described : KeyframeGate → References → Option Referring → KeyframeGate
-after_described g s None = record g { shows = false; wants = true }
+after_described g s None = held_back g g.followed
 after_described g s (Some u) = record g {
   shows = shows_referring s u;
   wants = wants_after g.wants u (shows_referring s u);
@@ -124,7 +128,7 @@ followed_past (ways.Frames s) = ways.Frames s
 followed_past (ways.Pictures s) = ways.Pictures s
 
 abbrev pub after_loss : KeyframeGate → KeyframeGate
-after_loss g = if is_video g.codec then record g { shows = false; wants = true; followed = followed_past g.followed } else g
+after_loss g = if is_video g.codec then held_back g (followed_past g.followed) else g
 
 abbrev pub after_skip : KeyframeGate → KeyframeGate
 after_skip g = if is_video g.codec then record g { wants = true } else g
@@ -300,3 +304,15 @@ abbrev pub UnitsFollowKeyframes : Type 0
 UnitsFollowKeyframes =
     (codec : Codec) (before : List Event) (g : KeyframeGate) (key contiguous : Bool) (picture : Option Vp8Picture) (said : Said) → is_video codec ≡ true → IsVp8 picture
     → Run codec before g → shows_unit g key contiguous picture said ≡ true → ShowsLast (released key contiguous picture said true ∷ before)
+
+-- no keyframe says what it refers to
+abbrev pub KeysSayNothing : List Event → Type 0
+KeysSayNothing [] = Unit {0}
+KeysSayNothing (released true contiguous picture said shown ∷ before) = (numbers_from said.frames said.pictures ≡ None) × KeysSayNothing before
+KeysSayNothing (released false contiguous picture said shown ∷ before) = KeysSayNothing before
+KeysSayNothing (lost ∷ before) = KeysSayNothing before
+KeysSayNothing (skipped ∷ before) = KeysSayNothing before
+
+-- such a stream is followed by its ids of VP8 or as a chain alone
+abbrev pub PlainStreams : Type 0
+PlainStreams = (events : List Event) → KeysSayNothing events → numbered_since events ≡ None

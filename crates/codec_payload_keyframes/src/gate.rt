@@ -1,7 +1,7 @@
 //! Follows the units that a receiver releases, and reports which of them a decoder can show.
 
 ghost use Rattle.std.specs.Prelude.{◌≡◌};
-ghost use Rattle.codec_payload_keyframes.specs.Keyframes.{GatesAgree, UnitsFollowKeyframes, after_delta, after_described, after_differing, after_layered, after_loss, after_plain, after_skip, after_unit, broken_off, followed_by, followed_past, is_key_unit, is_keyframe, is_video, new_gate, said_of, shows_unit, wants_after};
+ghost use Rattle.codec_payload_keyframes.specs.Keyframes.{GatesAgree, PlainStreams, UnitsFollowKeyframes, after_delta, after_described, after_differing, after_layered, after_loss, after_plain, after_skip, after_unit, broken_off, followed_by, followed_past, held_back, is_key_unit, is_keyframe, is_video, new_gate, said_of, shows_unit, wants_after};
 ghost use Rattle.codec_payload_keyframes.specs.References.{picture_by_differences};
 ghost use Rattle.codec_payload_keyframes.specs.Vp8Layers.{picture_of};
 
@@ -37,7 +37,7 @@ pub fn is_keyframe(codec: Codec, unit: &[u8]) -> bool
 
 /// How units are followed since the latest keyframe. What the packets of the keyframe say decides.
 #[derive(Clone, Copy, Debug, PartialEq, Eq)]
-pub enum Followed {
+pub(crate) enum Followed {
     /// Each by the unit before it.
     Chain,
     /// By the layers of VP8. The descriptors of all pictures have both ids.
@@ -181,10 +181,7 @@ impl KeyframeGate {
                 self.decide(unit, shown);
                 self.followed = Followed::Frames(frames.after(unit, shown));
             }
-            None => {
-                self.shows = false;
-                self.wants = true;
-            }
+            None => self.hold_back(self.followed),
         }
     }
 
@@ -216,9 +213,16 @@ impl KeyframeGate {
     fn break_off(&mut self)
         ensures { self.new ≡ broken_off self.old }
     {
+        self.hold_back(Followed::Chain);
+    }
+
+    /// Records that nothing is shown, and how the units after it are followed.
+    fn hold_back(&mut self, followed: Followed)
+        ensures { self.new ≡ held_back self.old followed }
+    {
         self.shows = false;
         self.wants = true;
-        self.followed = Followed::Chain;
+        self.followed = followed;
     }
 
     /// Returns whether it follows a stream of video.
@@ -241,9 +245,7 @@ impl KeyframeGate {
         ensures { self.new ≡ after_loss self.old }
     {
         if is_video(self.codec) {
-            self.shows = false;
-            self.wants = true;
-            self.followed = self.followed.past_loss();
+            self.hold_back(self.followed.past_loss());
         }
     }
 
@@ -304,8 +306,10 @@ fn followed_by(extra: &CodecExtra, references: &UnitReferences) -> Followed
 
 /// For each sequence of events of a video stream, starting with a new gate: the gate says that the last released unit can be shown
 /// exactly if it is a keyframe, or each unit can be shown to which it refers or may refer. It asks for a keyframe exactly if an event
-/// since the last keyframe needs one. This function exists for its proof and does nothing.
+/// since the last keyframe needs one. If no keyframe says what it refers to, units are followed by their ids of VP8 or as a chain alone.
+/// This function exists for its proof and does nothing.
 pub fn gates_follow_keyframes()
     ensures agrees { GatesAgree }
     ensures follows { UnitsFollowKeyframes }
+    ensures plain { PlainStreams }
 {}
