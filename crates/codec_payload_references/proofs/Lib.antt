@@ -1,0 +1,4 @@
+mod FrameLemmas
+mod LayerLemmas
+mod NoteLemmas
+mod UnitLemmas

@@ -1,0 +1,5 @@
+pub mod FrameNotes
+pub mod Frames
+pub mod LayerFrames
+pub mod Notes
+pub mod Units
