@@ -56,13 +56,18 @@ fn layer_octet(present: bool, bytes: &[u8]) -> Option<(u8, &[u8])> {
     Some((octet, rest))
 }
 
+/// The bit for the P_DIFF in a byte P_DIFF(7) N.
+fn difference_bit(octet: u8) -> u128 {
+    1 << (octet / 2)
+}
+
 /// One bit for each P_DIFF at the front. `None`: the bytes end early, or there are more than `most`.
 fn differences_in(bytes: &[u8], most: u8) -> Option<u128> {
     if most == 0 {
         return None;
     }
     let (&octet, rest) = bytes.split_first()?;
-    let difference = 1u128 << (octet / 2);
+    let difference = difference_bit(octet);
     if octet & MORE_DIFFERENCES == 0 {
         return Some(difference);
     }

@@ -38,6 +38,26 @@ pub struct FrameNotes {
     suspect: Option<(u16, FrameNote)>,
 }
 
+/// Returns how many notes have a lower number.
+fn find_place(held: &TieredQueue<HeldNote>, number: u64) -> usize {
+    held.place_of(number)
+}
+
+/// Returns whether the note at `place` has this number.
+fn is_at(held: &TieredQueue<HeldNote>, place: usize, number: u64) -> bool {
+    place < held.len() && held.at(place).number == number
+}
+
+/// Inserts a note at its place. If there are then more than `most`, the lowest one is removed.
+fn put(held: &mut TieredQueue<HeldNote>, most: usize, place: usize, note: HeldNote) {
+    if held.len() < most {
+        held.insert(place, note);
+    } else if place > 0 {
+        let _ = held.pop_front();
+        held.insert(place - 1, note);
+    }
+}
+
 /// Removes the lowest note, if its number is not above `last`.
 fn pop_to(held: &mut TieredQueue<HeldNote>, last: u64) -> Option<HeldNote> {
     match held.front() {
@@ -54,6 +74,13 @@ fn collect(held: &mut TieredQueue<HeldNote>, reader: &mut FrameReader, last: u64
         unit = unit.with(lowest.note.layer_frame(), &reading);
     }
     unit
+}
+
+/// Removes the notes with numbers up to `last` and below `first`, and reads their descriptors in this order.
+fn skip(held: &mut TieredQueue<HeldNote>, reader: &mut FrameReader, first: u64, last: u64) {
+    if first > 0 {
+        let _ = collect(held, reader, last.min(first - 1));
+    }
 }
 
 impl FrameNotes {
@@ -80,16 +107,9 @@ impl FrameNotes {
     /// largest number of them, the lowest one is discarded. Memory was found by [`FrameNotes::reserve`]. The time grows with the
     /// logarithm of the number of notes; in front of the last ones, up to 512 of them move.
     pub fn insert(&mut self, number: u64, note: FrameNote) {
-        let place = self.held.place_of(number);
-        if place < self.held.len() && self.held.at(place).number == number {
-            return;
-        }
-        let held = HeldNote { number, note };
-        if self.held.len() < self.most {
-            self.held.insert(place, held);
-        } else if place > 0 {
-            let _ = self.held.pop_front();
-            self.held.insert(place - 1, held);
+        let place = find_place(&self.held, number);
+        if !is_at(&self.held, place, number) {
+            put(&mut self.held, self.most, place, HeldNote { number, note });
         }
     }
 
@@ -112,9 +132,7 @@ impl FrameNotes {
     /// if its own frame is not released. If memory runs out for a structure, its descriptor counts as one that cannot be read. The
     /// time grows with the number of notes that leave.
     pub fn take(&mut self, first: u64, last: u64) -> UnitReferences {
-        if first > 0 {
-            let _ = collect(&mut self.held, &mut self.reader, last.min(first - 1));
-        }
+        skip(&mut self.held, &mut self.reader, first, last);
         collect(&mut self.held, &mut self.reader, last).references()
     }
 }

@@ -29,7 +29,7 @@ pub fn is_keyframe(codec: Codec, unit: &[u8]) -> bool {
 
 /// How units are followed since the latest keyframe. What the packets of the keyframe say decides.
 #[derive(Clone, Copy, Debug, PartialEq, Eq)]
-pub enum Followed {
+pub(crate) enum Followed {
     /// Each by the unit before it.
     Chain,
     /// By the layers of VP8. The descriptors of all pictures have both ids.
@@ -157,10 +157,7 @@ impl KeyframeGate {
                 self.decide(unit, shown);
                 self.followed = Followed::Frames(frames.after(unit, shown));
             }
-            None => {
-                self.shows = false;
-                self.wants = true;
-            }
+            None => self.hold_back(self.followed),
         }
     }
 
@@ -186,9 +183,14 @@ impl KeyframeGate {
 
     /// Records that nothing can be shown until a keyframe.
     fn break_off(&mut self) {
+        self.hold_back(Followed::Chain);
+    }
+
+    /// Records that nothing is shown, and how the units after it are followed.
+    fn hold_back(&mut self, followed: Followed) {
         self.shows = false;
         self.wants = true;
-        self.followed = Followed::Chain;
+        self.followed = followed;
     }
 
     /// Returns whether it follows a stream of video.
@@ -205,9 +207,7 @@ impl KeyframeGate {
     /// that refer to it cannot be shown. Otherwise none after it can be until a keyframe.
     pub fn lose(&mut self) {
         if is_video(self.codec) {
-            self.shows = false;
-            self.wants = true;
-            self.followed = self.followed.past_loss();
+            self.hold_back(self.followed.past_loss());
         }
     }
 
