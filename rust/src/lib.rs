@@ -128,6 +128,8 @@ pub mod feedback;
 #[doc(hidden)]
 pub mod forward;
 #[doc(hidden)]
+pub mod frame_notes;
+#[doc(hidden)]
 pub mod history;
 mod index;
 #[doc(hidden)]

@@ -176,9 +176,11 @@ popped_within (Some h) hs zs is = omega (arith, ap length is)
 
 pub put_popped : (most place : ℕ) (p : HeldNote) (o : Option HeldNote) (hs zs ys : List HeldNote) → hs ≡ option_to_list o ++ zs → (IsSome o ↔ (0 < length hs)) → place ≡ place_of p.number hs
     → 0 < place → length hs ≡ most → ys ≡ insert zs (place - 1) p → ys ≡ highest most (placed p hs)
-put_popped most place p None hs zs ys is some at above full it = absurd (some.1 (omega (arith, place_within p.number hs, at, above)))
-put_popped most place p (Some h) hs zs ys is some at above full it =
-    put_rest most (place - 1) p h zs ys (omega (arith, at, above, ap (place_of p.number) is)) (omega (arith, full, ap length is)) it ∙ sym (ap (λ (xs : List HeldNote). highest most (placed p xs)) is)
+put_popped most place p None hs zs ys is some at up full it =
+    let there : IsSome {T = HeldNote} None = some.1 (omega (arith, place_within p.number hs, at, up)) in
+    let no : ⊥ = cc in absurd no
+put_popped most place p (Some h) hs zs ys is some at up full it =
+    put_rest most (place - 1) p h zs ys (omega (arith, at, up, ap (place_of p.number) is)) (omega (arith, full, ap length is)) it ∙ sym (ap (λ (xs : List HeldNote). highest most (placed p xs)) is)
 
 -- ---- the invariant of held notes
 

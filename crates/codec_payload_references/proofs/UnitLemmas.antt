@@ -4,7 +4,7 @@ use Rattle.std.proofs.lemmas.Bool.Decides.{nat_tests}
 use Rattle.codec_payload_keyframes.specs.declared.references.Referring.{Referring}
 use Rattle.codec_payload_references.specs.Frames.{Following, Frame, with_frames}
 use Rattle.codec_payload_references.specs.Notes.{above, below, from, up_to}
-use Rattle.codec_payload_references.specs.Units.{AreReadings, Collects, differences_after, frames_of, frames_with, is_any_unread, is_unread, with_frame_of, with_reading}
+use Rattle.codec_payload_references.specs.Units.{AreReadings, Collects, differences_after, frames_of, frames_with, is_any_unread, is_unread, references_so_far, referring_of, with_frame_of, with_reading}
 use Rattle.codec_payload_references.specs.declared.notes.HeldNote.{HeldNote}
 use Rattle.codec_payload_references.specs.declared.unit.Reading.{Reading}
 use Rattle.codec_payload_references.specs.declared.unit.Reading.TheVariants as readings
@@ -47,6 +47,9 @@ collected u r (h ∷ hs) v s (x, between, reading, rest) =
       unread = later.unread ∙ or_assoc u.is_unread (is_unread x) (is_any_unread later.readings);
       differences = later.differences;
     }
+
+pub descriptor_is : (v : UnitSoFar) (xs : List Reading) → v.frames ≡ with_frames None (frames_of xs) → v.is_unread ≡ is_any_unread xs → (references_so_far v).descriptor ≡ referring_of xs
+descriptor_is v xs frames unread = rw (frames, unread) refl
 
 -- ---- the notes before a unit, and those of it
 

@@ -108,7 +108,11 @@ fn further_on(distances: u128, gap: u64) -> u128
 {
     let known = distances & !1;
     let moved = moved_on(known, gap);
-    let is_within = if gap < 128 { moved >> gap == known } else { known == 0 };
+    let is_within = if gap < 128 {
+        moved >> gap == known
+    } else {
+        known == 0
+    };
     moved | (distances & 1) | u128::from(!is_within)
 }
 

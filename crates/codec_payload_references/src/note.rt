@@ -67,7 +67,11 @@ impl FrameNote {
     ) -> Result<Option<FrameNote>, AllocError>
         ensures { IfOk result (λ note. note ≡ note_of is_vp9 payload.now (option_map (λ bytes. bytes.now) descriptor.entry)) }
     {
-        let layer_frame = if is_vp9 { LayerFrame::of(payload) } else { None };
+        let layer_frame = if is_vp9 {
+            LayerFrame::of(payload)
+        } else {
+            None
+        };
         let descriptor = descriptor_if(alloc, descriptor)?;
         if layer_frame.is_none() && descriptor.is_none() {
             return Ok(None);
