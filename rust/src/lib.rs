@@ -155,7 +155,6 @@ mod queue;
 pub mod red;
 #[doc(hidden)]
 pub mod red_writer;
-mod references;
 #[doc(hidden)]
 pub mod requests;
 #[doc(hidden)]

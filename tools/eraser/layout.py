@@ -25,7 +25,7 @@ UNDOCUMENTED_FUNCTIONS = {"abs_capture_time_of", "all_fit", "append_report", "au
 # Modules of such crates that stay.
 KEPT_MODULES = {("media", "amr_wb"), ("media", "av1"), ("media", "opus"), ("vpx", "vp8"), ("vpx", "vp9")}
 # Modules of such crates whose names are for the crate alone.
-UNNAMED_MODULES = {("index", "ssrcs"), ("index", "times"), ("queue", "search"), ("queue", "tiers"), ("vpx", "fields"), ("vpx", "reader"), ("descriptor", "fields"), ("references", "frames"), ("references", "layer_frame"), ("references", "note"), ("references", "notes"), ("rtp", "writing")}
+UNNAMED_MODULES = {("index", "ssrcs"), ("index", "times"), ("queue", "search"), ("queue", "tiers"), ("vpx", "fields"), ("vpx", "reader"), ("descriptor", "fields"), ("rtp", "writing")}
 # Modules with functions that only callers in Rattle need.
 PARTLY_USED_MODULES = {("index", "times")}
 
