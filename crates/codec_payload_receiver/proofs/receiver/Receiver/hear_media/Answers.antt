@@ -1,4 +1,4 @@
-use Rattle.std.proofs.Common.{◌≡◌, ◌∙◌, Bool, Option, refl, ap, rules, subst, true, Ok}
+use Rattle.std.proofs.Common.{◌≡◌, ◌∙◌, Bool, Option, refl, ap, rules, sym, subst, true, Ok}
 use Rattle.std.specs.Option.{option_map}
 use Rattle.codec_payload_rtp.specs.RtpValues.{packet_of}
 use Rattle.codec_payload_jitter.specs.declared.outcome.Outcome.{Outcome}
@@ -61,6 +61,6 @@ returns-clause-heard g c =
       choice = record s.choice { latest = latest_after s.choice.latest c.args.now.0 (origin_of d) };
       seen = seen;
       notes = x;
-    }) (none_noted c.self.inside.notes s.stream d o after.numbering.greatest c.if-is_some.false) in
+    }) (none_noted c.self.inside.notes s.stream d o after.numbering.greatest (sym c.is_some.ensures ∙ c.if-is_some.false)) in
     let made : Heard c.args.now d s (Ok c.in-Ok.outcome) t = heard c.args.now d s t c.in-Ok.outcome true after seen (Ok c.in-Ok.outcome) c.in-Ok.ensures.ok refl left in
     subst (λ (x : Session). Heard c.args.now d x (Ok c.in-Ok.outcome) t) c.self.view_is made

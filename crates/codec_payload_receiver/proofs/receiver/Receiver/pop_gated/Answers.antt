@@ -9,6 +9,14 @@ use Rattle.codec_payload_receiver.proofs.receiver.Receiver.pop_gated.Goals as go
 pub loop-now-init : goal.loop-now-init
 loop-now-init g c = (none_dropped, omega arith)
 
+pub returns-then-is_passed-clause-pops : goal.returns-then-is_passed-clause-pops
+returns-then-is_passed-clause-pops g c = record {
+  mid = c.loop-now.self;
+  dropped = c.loop-now.invariant.0;
+  pops = c.pop_once-answer.ensures.pops.0;
+  passed = sym c.pop_once-answer.ensures.pops.1 ∙ c.if-is_passed.true;
+}
+
 pub returns-then-is_passed-clause-drained : goal.returns-then-is_passed-clause-drained
 returns-then-is_passed-clause-drained g c = λ keeps pressed none.
     let same = none_are_dropped c.args.now.0 c.args.self.now c.loop-now.self keeps c.loop-now.invariant.0 in
