@@ -103,13 +103,17 @@ fn vp9(flags: u8, layers: u8, differences: &[u8]) -> Vec<u8> {
 fn payload_descriptors_of_vp9_are_read() {
     // I P L F B E V Z: every byte, with the fields that it names.
     for flags in 0..=255u8 {
-        let payload = vp9(flags, 0b001_0_000_0, &[3, 127, 1]);
+        let payload = vp9(flags, 0x20, &[3, 127, 1]);
         let expected = match (flags & 0x18 == 0x18, flags & 0x40 != 0) {
             (false, _) => None,
             (true, false) => Some(0),
             (true, true) => Some(1 << 3 | 1 << 127 | 1 << 1),
         };
-        assert_eq!(differences_of(&[payload.clone()]), expected, "{flags:#x}");
+        assert_eq!(
+            differences_of(std::slice::from_ref(&payload)),
+            expected,
+            "{flags:#x}"
+        );
         assert!(
             FrameNote::of(false, &payload, None).unwrap().is_none(),
             "not read as VP9's"
