@@ -29,7 +29,7 @@ use Rattle.codec_payload_handle.specs.declared.object.Object.{Object}
 use Rattle.codec_payload_handle.specs.declared.object.Object.TheVariants as objects
 use Rattle.codec_payload_handle.specs.declared.object.StreamReceiver.{StreamReceiver}
 use Rattle.codec_payload_handle.specs.declared.unit.Unit.{Unit as CUnit}
-use Rattle.codec_payload_c.specs.Ids.{ids_given}
+use Rattle.codec_payload_c.specs.Ids.{id_given, ids_given}
 use Rattle.codec_payload_c.specs.Inspect.{given_if}
 use Rattle.codec_payload_c.specs.RtpFields.{rtp_status}
 use Rattle.codec_payload_c.specs.declared.receiver.WaitLimits.{WaitLimits as CWaitLimits}
@@ -85,6 +85,7 @@ pub record AreSettings (s : ReceiverSettings) (types : List ℕ) (t : Settings) 
   pub red : t.red ≡ red_set s
   pub retransmission : t.retransmission ≡ rtx_set s
   pub ids : t.extension_ids ≡ ids_given s.extension_ids
+  pub dependency_descriptor : t.dependency_descriptor ≡ id_given s.dependency_descriptor
   pub clock_rate : t.clock_rate ≡ s.spec.rate
   pub tick_rate : t.tick_rate ≡ s.tick_rate
   pub wait_limits : t.wait_limits ≡ wait_limits_set s

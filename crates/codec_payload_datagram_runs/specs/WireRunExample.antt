@@ -48,6 +48,7 @@ opus_settings no_media = record {
   red = None;
   retransmission = None;
   extension_ids = no_ids;
+  dependency_descriptor = None;
   clock_rate = 48000;
   tick_rate = 1000;
   wait_limits = waits_for 1 100;

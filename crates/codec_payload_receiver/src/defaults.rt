@@ -141,6 +141,7 @@ impl Settings {
             red: None,
             retransmission: None,
             extension_ids: ExtensionIds::default(),
+            dependency_descriptor: None,
             clock_rate,
             tick_rate: milliseconds(),
             wait_limits,

@@ -79,6 +79,8 @@ pub struct Settings {
     pub retransmission: Option<Retransmission>,
     /// The ids of the header extensions to read.
     pub extension_ids: ExtensionIds,
+    /// The id of the header extension element with the dependency descriptor. `None`: not read.
+    pub dependency_descriptor: Option<u8>,
     /// The rate of the RTP clock.
     pub clock_rate: Frequency,
     /// Ticks per second of your clock: 1,000 for milliseconds, 1,000,000,000 for nanoseconds. The jitter of reports depends on

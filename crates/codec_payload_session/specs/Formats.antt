@@ -131,6 +131,7 @@ pub record HasSettings (s : SessionSettings) (ssrc : ℕ) (f : Format) (r : Sett
   pub red : r.red ≡ f.red
   pub retransmission : r.retransmission ≡ retransmission_for ssrc f.retransmission s.pairs.items
   pub extension_ids : r.extension_ids ≡ s.extension_ids
+  pub dependency_descriptor : r.dependency_descriptor ≡ s.dependency_descriptor
   pub clock_rate : r.clock_rate ≡ f.spec.clock_rate
   pub tick_rate : r.tick_rate ≡ s.tick_rate
   pub wait_limits : r.wait_limits ≡ limits_for s (is_video f.spec.codec)
@@ -152,6 +153,7 @@ pub record IsLive (s : SessionSettings) : Type 0 where
   pub telephone_events : s.telephone_events.items ≡ []
   pub pairs : s.pairs.items ≡ []
   pub extension_ids : s.extension_ids ≡ no_ids
+  pub dependency_descriptor : s.dependency_descriptor ≡ None
   pub name_ids : s.name_ids ≡ no_name_ids
   pub audio : s.audio ≡ waits_for 1 100
   pub video : s.video ≡ waits_for 2 200

@@ -117,6 +117,7 @@ impl ReceiverSettings {
             red: None,
             retransmission: None,
             extension_ids: ExtensionIds::default(),
+            dependency_descriptor: None,
             clock_rate,
             tick_rate: milliseconds(),
             wait_limits,

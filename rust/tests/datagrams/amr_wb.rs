@@ -33,6 +33,7 @@ fn receiver_of() -> Result<Receiver<NoBox>, Fail> {
         red: None,
         retransmission: None,
         extension_ids: ExtensionIds::default(),
+        dependency_descriptor: None,
         clock_rate: Frequency::make(16_000).ok_or("a rate")?,
         tick_rate: Frequency::make(1_000).ok_or("a rate")?,
         wait_limits: WaitLimits {

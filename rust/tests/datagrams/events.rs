@@ -106,6 +106,7 @@ pub fn receiver_for(
         red: None,
         retransmission: None,
         extension_ids: ExtensionIds::default(),
+        dependency_descriptor: None,
         clock_rate: Frequency::FORTY_EIGHT_KHZ,
         tick_rate: Frequency::make(1_000).ok_or("a rate")?,
         wait_limits,

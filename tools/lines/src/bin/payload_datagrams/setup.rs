@@ -48,6 +48,7 @@ impl Draft {
                 red: None,
                 retransmission: None,
                 extension_ids: ExtensionIds::default(),
+                dependency_descriptor: None,
                 clock_rate: stream.spec.clock_rate,
                 tick_rate: Frequency::make(1_000).expect("it is above 0"),
                 wait_limits: WaitLimits::file(),
