@@ -85,7 +85,6 @@ pub record AreSettings (s : ReceiverSettings) (types : List ℕ) (t : Settings) 
   pub red : t.red ≡ red_set s
   pub retransmission : t.retransmission ≡ rtx_set s
   pub ids : t.extension_ids ≡ ids_given s.extension_ids
-  pub dependency_descriptor : t.dependency_descriptor ≡ id_given s.dependency_descriptor
   pub clock_rate : t.clock_rate ≡ s.spec.rate
   pub tick_rate : t.tick_rate ≡ s.tick_rate
   pub wait_limits : t.wait_limits ≡ wait_limits_set s
@@ -94,6 +93,7 @@ pub record AreSettings (s : ReceiverSettings) (types : List ℕ) (t : Settings) 
   pub forward : t.forward ≡ s.forward
   pub backward : t.backward ≡ s.backward
   pub from_keyframe : t.from_keyframe ≡ from_keyframe_numbered s.from_keyframe
+  pub dependency_descriptor : t.dependency_descriptor ≡ id_given s.dependency_descriptor
 
 -- a new receiver with these settings
 pub record IsNewStream (s : ReceiverSettings) (no_media : List ℕ) (depacketizer : Option DepacketizerState) (r : StreamReceiver) : Type 0 where

@@ -249,7 +249,6 @@ fn settings_of(
         red: red_of(settings),
         retransmission: retransmission_of(settings),
         extension_ids: ids_of(settings.extension_ids),
-        dependency_descriptor: id_of(settings.dependency_descriptor),
         clock_rate,
         tick_rate,
         wait_limits: waiting_for(WaitLimits {
@@ -263,6 +262,7 @@ fn settings_of(
         forward: settings.forward,
         backward: settings.backward,
         from_keyframe,
+        dependency_descriptor: id_of(settings.dependency_descriptor),
     })
 }
 

@@ -48,7 +48,6 @@ opus_settings no_media = record {
   red = None;
   retransmission = None;
   extension_ids = no_ids;
-  dependency_descriptor = None;
   clock_rate = 48000;
   tick_rate = 1000;
   wait_limits = waits_for 1 100;
@@ -57,6 +56,7 @@ opus_settings no_media = record {
   backward = 1000;
   from_keyframe = modes.Mark;
   max_unit = None;
+  dependency_descriptor = None;
 }
 
 abbrev pub opus_receiver : Vec ℕ → Session

@@ -37,7 +37,6 @@ pub record HasDefaults (payload_type rate : ℕ) (limits : WaitLimits) (windows 
   pub red : s.red ≡ None
   pub retransmission : s.retransmission ≡ None
   pub extension_ids : s.extension_ids ≡ no_ids
-  pub dependency_descriptor : s.dependency_descriptor ≡ None
   pub clock_rate : s.clock_rate ≡ rate
   pub tick_rate : s.tick_rate ≡ 1000
   pub wait_limits : s.wait_limits ≡ limits
@@ -46,3 +45,4 @@ pub record HasDefaults (payload_type rate : ℕ) (limits : WaitLimits) (windows 
   pub backward : s.backward ≡ windows.backward
   pub from_keyframe : s.from_keyframe ≡ modes.Mark
   pub max_unit : s.max_unit ≡ Some 1048576
+  pub dependency_descriptor : s.dependency_descriptor ≡ None

@@ -141,7 +141,6 @@ impl Settings {
             red: None,
             retransmission: None,
             extension_ids: ExtensionIds::default(),
-            dependency_descriptor: None,
             clock_rate,
             tick_rate: milliseconds(),
             wait_limits,
@@ -150,6 +149,7 @@ impl Settings {
             backward: windows.backward,
             from_keyframe: FromKeyframe::Mark,
             max_unit: Some(MAX_UNIT),
+            dependency_descriptor: None,
         }
     }
 }

@@ -131,13 +131,13 @@ pub record HasSettings (s : SessionSettings) (ssrc : ℕ) (f : Format) (r : Sett
   pub red : r.red ≡ f.red
   pub retransmission : r.retransmission ≡ retransmission_for ssrc f.retransmission s.pairs.items
   pub extension_ids : r.extension_ids ≡ s.extension_ids
-  pub dependency_descriptor : r.dependency_descriptor ≡ s.dependency_descriptor
   pub clock_rate : r.clock_rate ≡ f.spec.clock_rate
   pub tick_rate : r.tick_rate ≡ s.tick_rate
   pub wait_limits : r.wait_limits ≡ limits_for s (is_video f.spec.codec)
   pub from_keyframe : r.from_keyframe ≡ s.from_keyframe
   pub limit : r.limit ≡ s.limit
   pub max_unit : r.max_unit ≡ s.max_unit
+  pub dependency_descriptor : r.dependency_descriptor ≡ s.dependency_descriptor
   pub forward : r.forward ≡ forward_for (is_video f.spec.codec)
   pub backward : r.backward ≡ backward_for (is_video f.spec.codec)
 

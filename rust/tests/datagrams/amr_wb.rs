@@ -33,7 +33,6 @@ fn receiver_of() -> Result<Receiver<NoBox>, Fail> {
         red: None,
         retransmission: None,
         extension_ids: ExtensionIds::default(),
-        dependency_descriptor: None,
         clock_rate: Frequency::make(16_000).ok_or("a rate")?,
         tick_rate: Frequency::make(1_000).ok_or("a rate")?,
         wait_limits: WaitLimits {
@@ -46,6 +45,7 @@ fn receiver_of() -> Result<Receiver<NoBox>, Fail> {
         backward: 1_000,
         from_keyframe: FromKeyframe::Mark,
         max_unit: None,
+        dependency_descriptor: None,
     };
     Ok(Receiver::new(depack, settings).map_err(|_| "settings out of range")?)
 }

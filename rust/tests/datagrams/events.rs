@@ -106,7 +106,6 @@ pub fn receiver_for(
         red: None,
         retransmission: None,
         extension_ids: ExtensionIds::default(),
-        dependency_descriptor: None,
         clock_rate: Frequency::FORTY_EIGHT_KHZ,
         tick_rate: Frequency::make(1_000).ok_or("a rate")?,
         wait_limits,
@@ -115,6 +114,7 @@ pub fn receiver_for(
         backward: 1_000,
         from_keyframe: FromKeyframe::Mark,
         max_unit: None,
+        dependency_descriptor: None,
     };
     Ok(Receiver::new(depack, settings).map_err(|_| "settings out of range")?)
 }

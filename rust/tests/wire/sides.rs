@@ -38,7 +38,6 @@ pub fn receiver_settings(wait_limits: WaitLimits) -> Result<ReceiverSettings, Fa
         red: None,
         retransmission: None,
         extension_ids: ExtensionIds::default(),
-        dependency_descriptor: None,
         clock_rate: Frequency::make(90_000).ok_or("a rate")?,
         tick_rate: Frequency::make(1_000).ok_or("a rate")?,
         wait_limits,
@@ -47,6 +46,7 @@ pub fn receiver_settings(wait_limits: WaitLimits) -> Result<ReceiverSettings, Fa
         backward: 1_000,
         from_keyframe: FromKeyframe::Mark,
         max_unit: None,
+        dependency_descriptor: None,
     })
 }
 

@@ -48,7 +48,6 @@ impl Draft {
                 red: None,
                 retransmission: None,
                 extension_ids: ExtensionIds::default(),
-                dependency_descriptor: None,
                 clock_rate: stream.spec.clock_rate,
                 tick_rate: Frequency::make(1_000).expect("it is above 0"),
                 wait_limits: WaitLimits::file(),
@@ -57,6 +56,7 @@ impl Draft {
                 backward: 1_000,
                 from_keyframe: FromKeyframe::Mark,
                 max_unit: None,
+                dependency_descriptor: None,
             },
         }
     }
