@@ -131,9 +131,7 @@ fn told(event: Event) -> ([u64; 12], Vec<u8>, Option<String>) {
         (it[0], it[1], it[2]) = (kind, ssrc.into(), payload_type.into());
     };
     match event {
-        Event::Begun {
-            ssrc, payload_type, ..
-        } => stream(0, ssrc, payload_type),
+        Event::Begun { ssrc, payload_type } => stream(0, ssrc, payload_type),
         Event::Feedback {
             ssrc,
             payload_type,
