@@ -117,7 +117,6 @@ impl ReceiverSettings {
             red: None,
             retransmission: None,
             extension_ids: ExtensionIds::default(),
-            dependency_descriptor: None,
             clock_rate,
             tick_rate: milliseconds(),
             wait_limits,
@@ -126,6 +125,7 @@ impl ReceiverSettings {
             backward: windows.backward,
             from_keyframe: FromKeyframe::Mark,
             max_unit: Some(MAX_UNIT),
+            dependency_descriptor: None,
         }
     }
 }

@@ -71,8 +71,6 @@ pub struct ReceiverSettings {
     pub retransmission: Option<Retransmission>,
     /// The ids of the header extensions to read.
     pub extension_ids: ExtensionIds,
-    /// The id of the header extension element with the dependency descriptor. `None`: not read.
-    pub dependency_descriptor: Option<u8>,
     /// The rate of the RTP clock.
     pub clock_rate: Frequency,
     /// Ticks per second of your clock: 1,000 for milliseconds, 1,000,000,000 for nanoseconds. The jitter of reports depends on
@@ -94,6 +92,11 @@ pub struct ReceiverSettings {
     ///
     /// [`Popped::TooLarge`]: crate::stream::pops::Popped::TooLarge
     pub max_unit: Option<usize>,
+    /// The id of the header extension element with the dependency descriptor (AV1 RTP specification, appendix A), for VP8, VP9
+    /// and AV1: 1 to 14 in the one-byte form of RFC 8285, 1 to 255 in the two-byte form. No element has id 0. Accept the extension
+    /// if the sender offers it: a lost frame to which no other refers then costs no other frame. `None`: the stream has none. All
+    /// constructors set `None`.
+    pub dependency_descriptor: Option<u8>,
 }
 
 /// The setting that is out of range.

@@ -26,7 +26,7 @@ fn session(change: impl FnOnce(&mut SessionSettings)) -> Session {
 
 /// The packet with these elements in its header extension: in the one-byte form if each has 1 to 16 bytes (RFC 8285, section 4.2),
 /// otherwise in the two-byte form (section 4.3).
-fn with_elements(datagram: &[u8], elements: &[(u8, &[u8])]) -> Vec<u8> {
+pub fn with_elements(datagram: &[u8], elements: &[(u8, &[u8])]) -> Vec<u8> {
     let is_short = elements.iter().all(|(_, it)| (1..=16).contains(&it.len()));
     let mut extension = Vec::new();
     for (id, bytes) in elements {
