@@ -152,10 +152,13 @@ fn judged(unit: &Unit, before: &[Event], says: &[(bool, bool)], wanted: bool) ->
         .windows(2)
         .all(|pair| last(&pair[0].0) < last(&pair[1].0))
         && last(&numbered[numbered.len() - 1].0) < last(&own);
+    // A keyframe replaces everything before it.
+    let lowest = numbered[0].0[0];
     let is_shown = |n: u64| {
-        numbered
-            .iter()
-            .any(|(frames, shown)| *shown && frames.contains(&n))
+        n < lowest
+            || numbered
+                .iter()
+                .any(|(frames, shown)| *shown && frames.contains(&n))
     };
     let shown = rise
         && match by {
@@ -171,7 +174,7 @@ fn judged(unit: &Unit, before: &[Event], says: &[(bool, bool)], wanted: bool) ->
                 } else {
                     differences
                         .iter()
-                        .all(|d| own[0].checked_sub(*d).is_some_and(is_shown))
+                        .all(|d| own[0].checked_sub(*d).is_none_or(is_shown))
                 }
             }
         };

@@ -56,8 +56,8 @@ fn far_references_and_itself_are_not_met() {
     );
     assert!(!references.release(picture(u64::MAX, &[1])));
     let mut first = References::after_keyframe(picture(0, &[]));
-    assert!(!first.release(picture(3, &[4])), "no number is below 0");
-    assert!(!first.release(picture(4, &[1])));
+    assert!(first.release(picture(3, &[4])), "before the keyframe");
+    assert!(!first.release(picture(4, &[2])), "2 was not released");
     assert!(first.release(picture(5, &[5])));
 }
 
@@ -70,20 +70,18 @@ fn all_frames_of_a_unit_count_if_it_can_be_shown() {
     };
     let mut references = References::after_keyframe(unit(100, &[90, 0]));
     assert!(references.clone().release(picture(101, &[1, 2, 3])));
-    assert!(
-        !references.clone().release(picture(101, &[4])),
-        "97 is none of them"
-    );
+    // A keyframe replaces everything before it.
+    assert!(references.clone().release(picture(101, &[4, 90, 127])));
     assert!(references.release(unit(103, &[3, 4, 5])));
     assert!(references.release(picture(104, &[1, 2, 3, 4, 5, 6])));
     assert!(
-        !references.release(unit(107, &[8, 11])),
-        "96 was not released"
+        !references.release(unit(110, &[5, 8])),
+        "105 was not released"
     );
-    for distance in 1..=3 {
-        assert!(!references.clone().release(picture(108, &[distance])));
+    for distance in 1..=6 {
+        assert!(!references.clone().release(picture(111, &[distance])));
     }
-    assert!(references.release(picture(108, &[4, 5, 6, 7])));
+    assert!(references.release(picture(111, &[7, 8, 9, 10])));
 }
 
 fn random(seed: &mut u64, below: u64) -> u64 {
@@ -100,7 +98,8 @@ fn random_streams_are_as_the_sets_say() {
     for round in 0..3_000_u64 {
         let mut number = random(&mut seed, 1_000);
         let mut references = References::after_keyframe(picture(number, &[]));
-        let mut shown = BTreeSet::from([number]);
+        let key = number;
+        let mut shown = BTreeSet::from([key]);
         for _ in 0..200 {
             number += 1 + if random(&mut seed, 100) < round % 4 * 10 {
                 random(&mut seed, 140)
@@ -113,7 +112,7 @@ fn random_streams_are_as_the_sets_say() {
             let wanted = distances.iter().all(|&d| {
                 number
                     .checked_sub(u64::from(d))
-                    .is_some_and(|it| shown.contains(&it))
+                    .is_none_or(|it| it < key || shown.contains(&it))
             });
             assert_eq!(
                 references.release(picture(number, &distances)),

@@ -1,14 +1,16 @@
 -- What is known of units that name the frames to which they refer is what was released.
 use Rattle.std.proofs.Common.{◌≡◌, ◌∙◌, refl, sym, ap, subst, ℕ, zero, suc, ◌+◌, ◌-◌, ◌*◌, ◌^◌, ◌%◌, ◌/◌, ◌<◌, ◌≤◌, ◌&&◌, ◌⊎◌, inl, inr, max, min, List, [], ◌∷◌, Bool, true, false, cond, eqb, ltb, arith}
 use Rattle.std.specs.Prelude.{◌↔◌}
-use Rattle.std.specs.Int.{bit_at}
+use Rattle.std.specs.Int.{bit_at, leading_zeros}
+use Rattle.std.specs.Int.Count.{count_leading_zeros}
 use Rattle.std.specs.Int.Width.{w128}
 use Rattle.std.specs.Int.Bits.{bit_and, bit_or}
 use Rattle.std.proofs.lemmas.Bool.{and_from, eq-eqb, eqb-true, false≢true, lt-ltb, ltb-true, ltb-false}
-use Rattle.std.proofs.lemmas.Nat.{and_le_r, pow_pos}
-use Rattle.std.proofs.lemmas.Nat.Bits.{bit_at-lt, bit_at-zero, bit_at_and, bit_at_cat_high, bit_at_cat_low, bit_at_not, bit_at_or, same_from_bits_below}
+use Rattle.std.proofs.Math.Nat.{pow-le-pow_right, pow-suc}
+use Rattle.std.proofs.lemmas.Nat.{and_le_r, leading_length, pow_pos}
+use Rattle.std.proofs.lemmas.Nat.Bits.{bit_at-lt, bit_at-zero, bit_at_and, bit_at_mask_below, bit_at_mask_inside, bit_at_cat_high, bit_at_cat_low, bit_at_not, bit_at_or, same_from_bits_below}
 use Rattle.codec_payload_keyframes.proofs.LayerLemmas.{both}
-use Rattle.codec_payload_keyframes.specs.References.{FollowsReferences, HasFrame, HasReferences, IsShownAt, NumbersRise, ReferenceRun, Reported, after_key_frames, begins, latest_number, moved_on, releases, seen_from, shows_referring, with_frames}
+use Rattle.codec_payload_keyframes.specs.References.{FollowsReferences, HasFrame, HasReferences, IsBelow, IsShownAt, NumbersRise, ReferenceRun, Reported, after_key_frames, begins, latest_number, lower_numbers, moved_on, releases, seen_from, shows_referring, with_frames}
 use Rattle.codec_payload_keyframes.specs.declared.references.References.{References}
 use Rattle.codec_payload_keyframes.specs.declared.references.Referring.{Referring}
 
@@ -16,7 +18,8 @@ use Rattle.codec_payload_keyframes.specs.declared.references.Referring.{Referrin
 
 -- a frame that was released has a number up to the latest one
 shown_low : (n d : ℕ) (key : Referring) (later : List Reported) → NumbersRise key later → IsShownAt n d key later → n ≤ latest_number key later + d
-shown_low n d key [] rise is = is.0
+shown_low n d key [] rise (inl is) = is.0
+shown_low n d key [] rise (inr is) = is.0
 shown_low n d key (r ∷ rs) rise (inl is) = is.0.0
 shown_low n d key (r ∷ rs) rise (inr is) = omega (arith, shown_low n d key rs rise.1 is, rise.0)
 
@@ -24,8 +27,12 @@ shown_low n d key (r ∷ rs) rise (inr is) = omega (arith, shown_low n d key rs 
 moved_frame : (n d m e : ℕ) (u : Referring) → n + e ≡ m + d → HasFrame n d u → HasFrame m e u
 moved_frame n d m e u same has = (omega (arith, has.0, same), subst (λ (i : ℕ). bit_at u.frames i ≡ 1) (omega (arith, has.0, same)) has.1)
 
+moved_below : (n d m e : ℕ) (u : Referring) → n + e ≡ m + d → IsBelow n d u → IsBelow m e u
+moved_below n d m e u same below = (omega (arith, below.0, same), subst (λ (i : ℕ). u.frames < 2 ^ i) (omega (arith, below.0, same)) below.1)
+
 moved_shown : (n d m e : ℕ) (key : Referring) (later : List Reported) → n + e ≡ m + d → IsShownAt n d key later → IsShownAt m e key later
-moved_shown n d m e key [] same is = moved_frame n d m e key same is
+moved_shown n d m e key [] same (inl is) = inl (moved_frame n d m e key same is)
+moved_shown n d m e key [] same (inr is) = inr (moved_below n d m e key same is)
 moved_shown n d m e key (r ∷ rs) same (inl is) = inl (moved_frame n d m e r.unit same is.0, is.1)
 moved_shown n d m e key (r ∷ rs) same (inr is) = inr (moved_shown n d m e key rs same is)
 
@@ -135,17 +142,61 @@ shows_is s key later u knows = (there, back)
         (none_missing u.distances moved (moved_fits s.shown (u.number - s.last))
         (λ d low is. (moved_is s key later u.number knows has.rise has.above d low).1 (has.references d low is)))))
 
+pow_more : (d : ℕ) → 2 ^ suc d ≡ 2 * 2 ^ d
+pow_more d = omega (arith, pow-suc 2 d)
+
+pow_fits : (d : ℕ) → d < 128 → 2 ^ d ≤ 2 ^ 128
+pow_fits d low = pow-le-pow_right (omega arith) {i = d} {j = 128} (omega (arith, low))
+
+-- the numbers below all frames
+lower_is : (frames d : ℕ) → d < 128 → (bit_at (lower_numbers frames) d ≡ 1) ↔ (frames < 2 ^ d)
+lower_is frames d low = by (ltb frames (2 ^ 128)) refl
+  where
+    Wanted : ℕ → Type 0
+    Wanted x = (bit_at x d ≡ 1) ↔ (frames < 2 ^ d)
+
+    by : (b : Bool) → ltb frames (2 ^ 128) ≡ b → Wanted (cond b (2 ^ 128 - 2 ^ (128 - leading_zeros w128 frames)) 0)
+    by false e = (
+      λ so. absurd (omega (arith, so, bit_at-zero d)),
+      λ so. absurd (omega (arith, so, ltb-false frames (2 ^ 128) e, pow_fits d low)),
+    )
+    by true e = with_length (leading_length 128 frames (ltb-true frames (2 ^ 128) e))
+      where
+        with_length : (m : ℕ) × (count_leading_zeros 128 frames + m ≡ 128) × (frames < 2 ^ m) × (2 ^ m ≤ 2 * frames + 1) → Wanted (2 ^ 128 - 2 ^ (128 - leading_zeros w128 frames))
+        with_length m = subst (λ (k : ℕ). Wanted (2 ^ 128 - 2 ^ k)) (omega (arith, m.1)) (at (ltb d m.0) refl)
+          where
+            at : (b : Bool) → ltb d m.0 ≡ b → Wanted (2 ^ 128 - 2 ^ m.0)
+            at true below =
+                let more : 2 ^ suc d ≤ 2 ^ m.0 = pow-le-pow_right (omega arith) {i = suc d} {j = m.0} (omega (arith, ltb-true d m.0 below)) in (
+                  λ so. absurd (omega (arith, so, bit_at_mask_below m.0 128 d (ltb-true d m.0 below))),
+                  λ so. absurd (omega (arith, so, m.3, more, pow_more d)),
+                )
+            at false above =
+                let more : 2 ^ m.0 ≤ 2 ^ d = pow-le-pow_right (omega arith) {i = m.0} {j = d} (ltb-false d m.0 above) in
+                (λ so. omega (arith, m.2, more), λ so. bit_at_mask_inside m.0 128 d (ltb-false d m.0 above) low)
+
 pub knows_key : (key : Referring) → Knows (after_key_frames key) key []
-knows_key key = record { last_is = refl; rises_is = (λ e. tt, λ so. refl); bits = λ rise d low. first d }
+knows_key key = record { last_is = refl; rises_is = (λ e. tt, λ so. refl); bits = λ rise d low. first d low }
   where
     own : (d : ℕ) → key.number + d - key.number ≡ d
     own d = omega arith
 
-    first : (d : ℕ) → (bit_at key.frames d ≡ 1) ↔ HasFrame key.number d key
-    first d = (
-      λ e. (omega arith, subst (λ (i : ℕ). bit_at key.frames i ≡ 1) (sym (own d)) e),
-      λ so. subst (λ (i : ℕ). bit_at key.frames i ≡ 1) (own d) so.1,
-    )
+    both_bits : (d : ℕ) → bit_at (bit_or key.frames (lower_numbers key.frames)) d ≡ max (bit_at key.frames d) (bit_at (lower_numbers key.frames) d)
+    both_bits d = bit_at_or key.frames (lower_numbers key.frames) d
+
+    first : (d : ℕ) → d < 128 → (bit_at (bit_or key.frames (lower_numbers key.frames)) d ≡ 1) ↔ (HasFrame key.number d key ⊎ IsBelow key.number d key)
+    first d low = (there (bit_is key.frames d), back)
+      where
+        there : (bit_at key.frames d ≡ 0) ⊎ (bit_at key.frames d ≡ 1) → bit_at (bit_or key.frames (lower_numbers key.frames)) d ≡ 1
+            → HasFrame key.number d key ⊎ IsBelow key.number d key
+        there (inr so) e = inl (omega arith, subst (λ (i : ℕ). bit_at key.frames i ≡ 1) (sym (own d)) so)
+        there (inl none) e =
+            inr (omega arith, subst (λ (i : ℕ). key.frames < 2 ^ i) (sym (own d)) ((lower_is key.frames d low).0 (omega (arith, none, e, both_bits d))))
+
+        back : HasFrame key.number d key ⊎ IsBelow key.number d key → bit_at (bit_or key.frames (lower_numbers key.frames)) d ≡ 1
+        back (inl so) = both_bits d ∙ omega (arith, subst (λ (i : ℕ). bit_at key.frames i ≡ 1) (own d) so.1, bit_at-lt (lower_numbers key.frames) d)
+        back (inr so) =
+            both_bits d ∙ omega (arith, (lower_is key.frames d low).1 (subst (λ (i : ℕ). key.frames < 2 ^ i) (own d) so.1), bit_at-lt key.frames d)
 
 -- one more unit, which is reported as one that can be shown or not
 pub knows_next : (s : References) (key : Referring) (later : List Reported) (u : Referring) (shown : Bool) → Knows s key later

@@ -1,7 +1,8 @@
 -- Which units a decoder can show, if each names the frames to which it refers.
 use Rattle.std.specs.Prelude.{◌≡◌, ◌≤◌, ◌<◌, ◌==◌, ◌+◌, ◌-◌, ◌*◌, ◌^◌, ◌%◌, ◌&&◌, ◌⊎◌, ℕ, nat_lt, if◌then◌else◌, ◌↔◌, Bool, true, List, [], ◌∷◌, Option, Some, None}
-use Rattle.std.specs.Int.{bit_at}
+use Rattle.std.specs.Int.{bit_at, leading_zeros}
 use Rattle.std.specs.Int.Bits.{bit_and, bit_or}
+use Rattle.std.specs.Int.Width.{w128}
 use Rattle.codec_payload_base.specs.declared.interface.CodecExtra.{CodecExtra}
 use Rattle.codec_payload_base.specs.declared.interface.CodecExtra.TheVariants as extras
 use Rattle.codec_payload_keyframes.specs.declared.references.References.{References}
@@ -49,9 +50,14 @@ NumbersRise key (r ∷ rs) = (latest_number key rs < r.unit.number) × NumbersRi
 abbrev pub HasFrame : ℕ → ℕ → Referring → Type 0
 HasFrame n d u = (n ≤ u.number + d) × (bit_at u.frames (u.number + d - n) ≡ 1)
 
--- the frame whose number is less than n by d was released in a unit that can be shown
+-- the number that is less than n by d is below all frames of u
+abbrev pub IsBelow : ℕ → ℕ → Referring → Type 0
+IsBelow n d u = (n ≤ u.number + d) × (u.frames < 2 ^ (u.number + d - n))
+
+-- the frame whose number is less than n by d was released in a unit that can be shown. A keyframe replaces all frames before it, so a
+-- number below its frames stands for it
 abbrev pub IsShownAt : ℕ → ℕ → Referring → List Reported → Type 0
-IsShownAt n d key [] = HasFrame n d key
+IsShownAt n d key [] = HasFrame n d key ⊎ IsBelow n d key
 IsShownAt n d key (r ∷ rs) = (HasFrame n d r.unit × (r.shown ≡ true)) ⊎ IsShownAt n d key rs
 
 -- the numbers rise, and each frame to which u refers was released in a unit that can be shown
@@ -62,8 +68,12 @@ pub record HasReferences (key : Referring) (later : List Reported) (u : Referrin
 
 -- ---- steps
 
+-- bit d: all of these frames are less by fewer than d
+abbrev pub lower_numbers : ℕ → ℕ
+lower_numbers frames = if nat_lt frames (2 ^ 128) then 2 ^ 128 - 2 ^ (128 - leading_zeros w128 frames) else 0
+
 abbrev pub after_key_frames : Referring → References
-after_key_frames key = record { last = key.number; shown = key.frames; rises = true }
+after_key_frames key = record { last = key.number; shown = bit_or key.frames (lower_numbers key.frames); rises = true }
 
 abbrev pub moved_on : ℕ → ℕ → ℕ
 moved_on shown gap = if nat_lt gap 128 then shown * 2 ^ gap % 2 ^ 128 else 0

@@ -2,7 +2,7 @@
 //! section 4.2), or by the frame differences of the dependency descriptor (AV1 RTP specification, appendix A).
 
 ghost use Rattle.std.specs.Prelude.{◌≡◌, ◌<◌};
-ghost use Rattle.codec_payload_keyframes.specs.References.{FollowsReferences, after_key_frames, moved_on, no_references, picture_by_differences, shows_referring, with_frames};
+ghost use Rattle.codec_payload_keyframes.specs.References.{FollowsReferences, after_key_frames, lower_numbers, moved_on, no_references, picture_by_differences, shows_referring, with_frames};
 
 use codec_payload_base::interface::CodecExtra;
 
@@ -80,13 +80,14 @@ pub struct References {
 }
 
 impl References {
-    /// The frames after this keyframe, which can be shown whatever it refers to.
+    /// The frames after this keyframe, which can be shown whatever it refers to. A keyframe replaces everything that a frame could refer
+    /// to, so a later frame that names one from before it refers to the keyframe: numbers below its frames count as its own.
     pub fn after_keyframe(key: Referring) -> References
         ensures { result ≡ after_key_frames key }
     {
         References {
             last: key.number,
-            shown: key.frames,
+            shown: key.frames | lower_numbers(key.frames),
             rises: true,
         }
     }
@@ -135,6 +136,17 @@ impl References {
             rises: self.rises && is_new,
         }
     }
+}
+
+/// Bit d, 0 to 127: all of these frames have numbers that are less by fewer than d.
+fn lower_numbers(frames: u128) -> u128
+    ensures { result ≡ lower_numbers frames }
+{
+    let zeros = frames.leading_zeros();
+    if zeros == 0 {
+        return 0;
+    }
+    (1u128 << (128 - zeros)).wrapping_neg()
 }
 
 /// After a keyframe, a unit is reported as one that can be shown exactly if its numbers rise, and each frame to which it refers was

@@ -75,11 +75,12 @@ pub struct References {
 }
 
 impl References {
-    /// The frames after this keyframe, which can be shown whatever it refers to.
+    /// The frames after this keyframe, which can be shown whatever it refers to. A keyframe replaces everything that a frame could refer
+    /// to, so a later frame that names one from before it refers to the keyframe: numbers below its frames count as its own.
     pub fn after_keyframe(key: Referring) -> References {
         References {
             last: key.number,
-            shown: key.frames,
+            shown: key.frames | lower_numbers(key.frames),
             rises: true,
         }
     }
@@ -119,4 +120,13 @@ impl References {
             rises: self.rises && is_new,
         }
     }
+}
+
+/// Bit d, 0 to 127: all of these frames have numbers that are less by fewer than d.
+fn lower_numbers(frames: u128) -> u128 {
+    let zeros = frames.leading_zeros();
+    if zeros == 0 {
+        return 0;
+    }
+    (1u128 << (128 - zeros)).wrapping_neg()
 }
