@@ -4,6 +4,8 @@
   scripts/kit.py free [MINUTES]   waits until no other rt works here, and says what it waits for; by default at most 30 minutes
   scripts/kit.py keep             after an `rt ci` that passed: marks what it built, so that rt does not prove it once more
   scripts/kit.py layout           fails if a file of the crates is not in the layout of `rt fmt`
+  scripts/kit.py over LIB,.. CRATE [FUNCTION ...]
+                                  checks functions of a crate over the sources of these libraries, which need no proof yet
 
 free: two rt in one copy wait for each other, without a limit, and in a script the message of rt is in a log. So scripts that call
 rt call this first. It changes nothing. The status is 0 once the copy is free, and 1 if it gave up.
@@ -14,6 +16,10 @@ changes. Never call it after anything else than an `rt ci` that passed. If the t
 written, and rt proves the crates again. The status is 0 either way.
 
 layout: changes nothing, proves nothing, and takes half a minute. The last line says what passed.
+
+over: while a change is under way in a library, the crates above it can be tried at once. The other libraries below the crate must be
+built (crates/*/out/rlib). Functions are paths or parts of them; without any, the whole crate is checked, and the libraries too, which
+takes long. It gives no verdict: a library whose contract nobody meets passes as well. The status is that of `rattle check`.
 """
 import fcntl
 import filecmp
@@ -111,6 +117,43 @@ def keep_proved():
         print(f"nothing kept ({fault}): rt will prove again what it needs")
 
 
+def libraries():
+    """The libraries of each crate, as crates.txt names them."""
+    with open(f"{ROOT}/crates.txt", encoding="utf-8") as file:
+        lines = [line.split("#")[0].split(":") for line in file if ":" in line.split("#")[0]]
+    return {name.split()[0]: used.split() for name, used in lines}
+
+
+def below(crate, uses):
+    """The crates below a crate."""
+    found, waiting = set(), [crate]
+    while waiting:
+        for it in uses.get(waiting.pop(), []):
+            if it in uses and it not in found:
+                found.add(it)
+                waiting.append(it)
+    return found
+
+
+def check_over(sources, crate, functions):
+    """Checks functions of a crate over these libraries as sources."""
+    uses = libraries()
+    kit = os.path.dirname(subprocess.run(["rt", "doc"], capture_output=True, text=True, check=True).stdout.strip())
+    named = {"std", *uses[crate], *(it for source in sources for it in uses[source])} - set(sources)
+    built = {it: f"{ROOT}/crates/{it}/out/rlib" for it in below(crate, uses) - set(sources)}
+    words = [f"{kit}/bin/rattle", "check", "--crate-name", crate, "src/lib.rt"]
+    for it in sorted(named):
+        words += ["--extern", f"{it}={built[it] if it in built else f'{kit}/rlibs'}/{it}.rlib"]
+    for folder in [f"{kit}/rlibs", *sorted(built.values())]:
+        words += ["-L", f"dependency={folder}"]
+    for it in sources:
+        words += ["--lib", f"{it}={ROOT}/crates/{it}/src/lib.rt"]
+    words += ["--antt-project", f"{kit}/rattle/logic/antt-project.json", "--logic-built", f"{kit}/logic_built", "--links", f"{crate}="]
+    words += ["--incremental", "out/incremental", *(it for function in functions for it in ("--only", function))]
+    os.makedirs(f"{ROOT}/crates/{crate}/out/incremental", exist_ok=True)
+    return subprocess.run(words, cwd=f"{ROOT}/crates/{crate}", check=False).returncode
+
+
 def check_layout():
     """0 if `rt fmt` changes nothing in a copy of the crates."""
     with tempfile.TemporaryDirectory() as work:
@@ -138,7 +181,9 @@ def main(words):
         return keep_proved()
     if words == ["layout"]:
         return check_layout()
-    print("usage: scripts/kit.py free [MINUTES] | keep | layout", file=sys.stderr)
+    if words[:1] == ["over"] and len(words) >= 3:
+        return check_over(words[1].split(","), words[2], words[3:])
+    print("usage: scripts/kit.py free [MINUTES] | keep | layout | over LIB,.. CRATE [FUNCTION ...]", file=sys.stderr)
     return 2
 
 
