@@ -12,7 +12,7 @@ pub mod unit_gate;
 pub mod vp8_layers;
 
 #[doc(inline)]
-pub use gate::{Followed, KeyframeGate, is_keyframe, is_video};
+pub use gate::{KeyframeGate, is_keyframe, is_video};
 
 #[doc(inline)]
 pub use references::{References, Referring, UnitReferences};

@@ -1,5 +1,5 @@
 -- Sets of distances as bits.
-use Rattle.std.proofs.Common.{◌≡◌, ℕ, zero, suc, ◌<◌, [], ◌∷◌, List, length, get_or, drop, refl, ap, sym, ◌∙◌, arith}
+use Rattle.std.proofs.Common.{◌≡◌, ℕ, zero, suc, ◌<◌, [], ◌∷◌, List, length, get_or, drop, refl, ap, arith}
 use Rattle.std.specs.Int.Bits.{bit_or}
 use Rattle.codec_payload_references.specs.Frames.{bit_for, mask_of}
 

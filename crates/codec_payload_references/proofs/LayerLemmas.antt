@@ -1,5 +1,5 @@
 -- P_DIFFs, one after the other.
-use Rattle.std.proofs.Common.{◌≡◌, ◌≢◌, ◌∙◌, ℕ, zero, suc, ◌<◌, ◌-◌, ◌^◌, ◌/◌, [], ◌∷◌, List, refl, ap, sym, arith, Bool, true, false, Option, Some, None, option_map}
+use Rattle.std.proofs.Common.{◌≡◌, ◌≢◌, ◌∙◌, ℕ, zero, suc, ◌<◌, ◌-◌, ◌^◌, ◌/◌, ◌∷◌, List, refl, ap, arith, true, false, Some, option_map}
 use Rattle.std.specs.Int.Bits.{bit_and, bit_or}
 use Rattle.std.proofs.lemmas.Bool.Decides.{nat_tests}
 use Rattle.codec_payload_base.specs.Flags.{has_bit}

@@ -1,10 +1,10 @@
 -- Places of numbers among notes in rising order, and notes that leave from the front.
-use Rattle.std.proofs.Common.{◌≡◌, ℕ, zero, suc, ◌<◌, ◌≤◌, ◌+◌, ◌-◌, eqb, ltb, leb, ◌↔◌, [], ◌∷◌, ◌++◌, List, length, get_or, take, drop, refl, ap, sym, ◌∙◌, arith, Bool, true, false, cond, add-one, Option, Some, None, IsSome}
+use Rattle.std.proofs.Common.{◌≡◌, ℕ, zero, suc, ◌<◌, ◌≤◌, ◌+◌, ◌-◌, eqb, ltb, leb, ◌↔◌, [], ◌∷◌, ◌++◌, List, length, get_or, drop, refl, ap, sym, ◌∙◌, arith, Bool, true, false, cond, add-one, Option, Some, None, IsSome}
 use Rattle.std.specs.Option.{option_to_list}
 use Rattle.std.specs.List.{insert}
 use Rattle.std.specs.List.Sorted.{IsNonDecreasingBy, IsPartitionPoint}
 use Rattle.std.proofs.lemmas.Bool.Decides.{nat_tests}
-use Rattle.codec_payload_references.specs.Notes.{AllAbove, HeldRises, above, below, from, has_number, highest, inserted, place_of, placed, up_to}
+use Rattle.codec_payload_references.specs.Notes.{AllAbove, HeldRises, above, has_number, highest, place_of, placed, up_to}
 use Rattle.codec_payload_references.specs.declared.notes.HeldNote.{HeldNote}
 
 pub by_test : (b : Bool) (P : Bool → Type 0) → (b ≡ true → P true) → (b ≡ false → P false) → P b

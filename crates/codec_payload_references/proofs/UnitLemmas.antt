@@ -1,5 +1,5 @@
 -- What notes say, one after the other, is what a unit of them says.
-use Rattle.std.proofs.Common.{◌≡◌, ◌∙◌, refl, sym, ap, ℕ, zero, suc, ◌<◌, ◌≤◌, ◌-◌, ◌||◌, [], ◌∷◌, List, Bool, true, false, cond, leb, ltb, min, Option, Some, None, arith}
+use Rattle.std.proofs.Common.{◌≡◌, ◌∙◌, refl, ap, ℕ, ◌<◌, ◌≤◌, ◌-◌, ◌||◌, [], ◌∷◌, List, Bool, true, false, cond, leb, ltb, min, Option, None, arith}
 use Rattle.std.proofs.lemmas.Bool.Decides.{nat_tests}
 use Rattle.codec_payload_keyframes.specs.declared.references.Referring.{Referring}
 use Rattle.codec_payload_references.specs.Frames.{Following, Frame, with_frames}

@@ -1,7 +1,8 @@
 //! The notes of the packets that a receiver holds, in rising order of their sequence numbers.
 
-ghost use Rattle.std.specs.Prelude.{◌≡◌, ◌≤◌, ◌<◌, ◌+◌, ◌^◌, [], ◌∷◌, length, false, IfSome, IsNone, None, OnOk, option_map};
+ghost use Rattle.std.specs.Prelude.{◌≡◌, ◌≤◌, ◌<◌, ◌+◌, ◌^◌, [], ◌∷◌, ◌↔◌, length, false, IfSome, IsNone, IsTrue, None, OnOk, option_map};
 ghost use Rattle.codec_payload_references.specs.Notes.{HeldRises, IsTaken, above, below, from, has_number, highest, inserted, place_of, placed, up_to};
+ghost use Rattle.codec_payload_references.specs.Sets.{UnitsAreSets};
 ghost use Rattle.codec_payload_references.specs.Units.{Collects, Skips};
 
 use crate::frames::FrameReader;
@@ -143,6 +144,23 @@ impl FrameNotes {
         }
     }
 
+    /// Returns the number of notes.
+    pub fn len(&self) -> usize
+        ensures value { result ≡ length self.now.held }
+        ensures few { result ≤ self.now.most }
+        // Each number is above the one in front of it.
+        ensures rises { HeldRises self.now.held }
+    {
+        self.held.len()
+    }
+
+    /// Whether there are no notes.
+    pub fn is_empty(&self) -> bool
+        ensures { IsTrue result ↔ (self.now.held ≡ []) }
+    {
+        self.held.len() == 0
+    }
+
     /// Finds memory for two more notes, since a restart stores two packets.
     ///
     /// # Errors
@@ -213,3 +231,9 @@ impl FrameNotes {
         collect(&mut self.held, &mut self.reader, last).references()
     }
 }
+
+/// The frames of a unit whose numbers rise, and the frames that it refers to, are what the unit says of them. This function exists
+/// for its proof and does nothing.
+pub fn units_are_sets()
+    ensures { UnitsAreSets }
+{}

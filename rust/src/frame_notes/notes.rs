@@ -94,6 +94,16 @@ impl FrameNotes {
         }
     }
 
+    /// Returns the number of notes.
+    pub fn len(&self) -> usize {
+        self.held.len()
+    }
+
+    /// Whether there are no notes.
+    pub fn is_empty(&self) -> bool {
+        self.held.len() == 0
+    }
+
     /// Finds memory for two more notes, since a restart stores two packets.
     ///
     /// # Errors

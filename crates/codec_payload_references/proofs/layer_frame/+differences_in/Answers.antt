@@ -1,4 +1,4 @@
-use Rattle.std.proofs.Common.{◌≡◌, ◌∙◌, ap, arith, refl, sym, Some}
+use Rattle.std.proofs.Common.{◌∙◌, ap, arith, refl, sym, Some}
 use Rattle.std.specs.Int.Bits.{bit_or}
 use Rattle.codec_payload_references.specs.LayerFrames.{differences_in}
 use Rattle.codec_payload_references.proofs.LayerLemmas.{last_difference, next_difference}

@@ -1,4 +1,4 @@
-use Rattle.std.proofs.Common.{◌≡◌, ◌∙◌, ap, arith, false, None, refl, subst, List}
+use Rattle.std.proofs.Common.{◌∙◌, ap, arith, false, None, refl, subst, List}
 use Rattle.codec_payload_keyframes.specs.declared.references.UnitReferences.{UnitReferences}
 use Rattle.codec_payload_references.specs.Notes.{IsTaken, Notes, from, up_to}
 use Rattle.codec_payload_references.specs.Units.{Collects}
