@@ -13,9 +13,11 @@ requests missing packets and keyframes, which Chromium answers. A call fails unl
   OBU with its size;
 - no frame is released twice, and the frames of each stream are in the encoder's order;
 - `keyframe` is what the encoder says, and a unit is only `decodable` if all frames to which the encoder refers are;
-- at least 99 % of the frames whose packets arrived in time, at first or again, are released (not asked of temporal layers: a frame
-  above the base layer is skipped if the one before it is missing); and 99 % of the frames that follow a keyframe without a gap
-  are decodable;
+- at least 99 % of the frames whose packets arrived in time, at first or again, are released (not asked of the call `temporal`: a
+  frame of VP8 above the base layer is skipped if the one before it is missing); and 99 % of the frames that follow a keyframe
+  without a gap are decodable;
+- in the calls that end in `-layers`, 99 % of the released frames all of whose references were decodable are decodable, also after a
+  gap. They are by the dependency descriptor, which the answer accepts, or in `vp9-plain-layers` by the P_DIFFs of VP9 without it;
 - at least half of the lost packets of video arrive again, and a keyframe is requested if a gap stays;
 - Chromium reads the receiver reports: it has the relay's round trip, and no more losses than the relay made.
 
@@ -66,7 +68,15 @@ CALLS = {
     "layers": "video=VP9,rtx&layers=L2T2",
     "temporal": "video=VP8,rtx&layers=L1T3",
     "simulcast": "video=VP8&simulcast=1&width=640",
+    "vp9-layers": "video=VP9,rtx&layers=L1T3",
+    "vp9-spatial-layers": "video=VP9,rtx&layers=L3T3_KEY&width=640",
+    "av1-layers": "video=AV1,rtx&layers=L1T3",
+    "vp9-plain-layers": "video=VP9,rtx&layers=L1T3",
 }
+# The calls whose offers must have the dependency descriptor (AV1 RTP specification, appendix A), and the one that refuses it.
+DESCRIBED = {"vp9-layers", "vp9-spatial-layers", "av1-layers"}
+PLAIN = "vp9-plain-layers"
+DESCRIPTOR = re.compile(r"(?m)^a=extmap:\d+ https://aomediacodec\.github\.io/av1-rtp-spec/#dependency-descriptor.*\r?\n")
 # What the relay changes in the middle of a call.
 RESTARTS = {"restart": {"numbers": 20_000, "times": 1_000_000_000}, "swap": {"ssrc_change": 0x10}}
 TIME_LIMIT = 60
@@ -128,6 +138,8 @@ class Call:
         return ""
 
     def answer(self, offer):
+        if self.name == PLAIN:
+            offer = DESCRIPTOR.sub("", offer)
         if self.offer is None:
             self.offer = offer
             self.start()
@@ -329,6 +341,8 @@ class Comparison:
         if self.call.failure or not self.units:
             self.fault(self.call.failure or "no unit is released")
             return
+        if self.call.name in DESCRIBED and not DESCRIPTOR.search(self.call.offer):
+            self.fault("the offer has no dependency descriptor")
         self.check_units()
         self.check_counts()
         self.check_reports()
@@ -407,12 +421,15 @@ class Comparison:
                 "packets": len(packets), "lost": sum(sent.lost for sent in packets), "arrived": arrived, "chained": chained,
                 "again": sum(sent.lost and sent.arrived is not None for sent in packets),
                 "released": unit is not None, "decodable": shown, "arrived, released": arrived and unit is not None,
-                "chained, decodable": chained and shown})
+                "chained, decodable": chained and shown, "referring": unit is not None and can_show,
+                "referring, decodable": can_show and shown})
         return counts
 
     def check_shares(self, row):
-        parts = [("arrived", "arrived, released"), ("chained", "chained, decodable")]
-        for of, part in parts[self.call.name == "temporal":]:
+        parts = [("arrived", "arrived, released"), ("chained", "chained, decodable")][self.call.name == "temporal" :]
+        if self.call.name.endswith("-layers"):
+            parts.append(("referring", "referring, decodable"))
+        for of, part in parts:
             if row.counts[part] < SHARE_WANTED * row.counts[of]:
                 self.fault(f"{row.codec}: {row.counts[part]} of {row.counts[of]} frames: {part}")
 
