@@ -1,5 +1,6 @@
 -- Since when complete frames wait.
-use Rattle.std.specs.Prelude.{ℕ, nat_lt, max, if◌then◌else◌, Bool, true, List, [], ◌∷◌, ◌++◌, Option, Some, None}
+use Rattle.std.specs.Prelude.{ℕ, nat_lt, map, max, min, if◌then◌else◌, Bool, true, List, [], ◌∷◌, ◌++◌, Option, Some, None}
+use Rattle.std.specs.List.{last_or}
 use Rattle.codec_payload_base.specs.declared.wire.Ticks.{Ticks}
 use Rattle.codec_payload_buffer.specs.Frames.{frames}
 use Rattle.codec_payload_buffer.specs.Held.{Held}
@@ -24,10 +25,12 @@ held_waits None ws = []
 held_waits (Some f) ws = from_end f.last ws
 
 -- this time, or that of the last entry if it is later
+abbrev pub later_of : ℕ → Option Wait → ℕ
+later_of now None = now
+later_of now (Some w) = max w.since.0 now
+
 abbrev pub latest_since : ℕ → List Wait → ℕ
-latest_since now [] = now
-latest_since now (w ∷ []) = max w.since.0 now
-latest_since now (w ∷ v ∷ ws) = latest_since now (v ∷ ws)
+latest_since now ws = later_of now (last_or None ws)
 
 -- no frame ends at n or above
 abbrev pub ends_below : Option CompleteFrame → ℕ → Bool
@@ -39,6 +42,13 @@ abbrev pub begun_waiting : ℕ → Option CompleteFrame → Option CompleteFrame
 begun_waiting now before None ws = ws
 begun_waiting now before (Some f) ws =
     if ends_below before f.last then ws ++ record { last = f.last; since = record { 0 = latest_since now ws } } ∷ [] else ws
+
+-- all entries wait since this time at the latest
+abbrev pub since_at_most : ℕ → Wait → Wait
+since_at_most at w = record w { since = record { 0 = min w.since.0 at } }
+
+abbrev pub lowered : ℕ → List Wait → List Wait
+lowered at ws = map (since_at_most at) ws
 
 -- the entries after a packet that arrived now, with the outer complete frames before and after it
 abbrev pub waits_between : ℕ → OuterFrames → OuterFrames → List Wait → List Wait
@@ -58,5 +68,4 @@ first_wait (w ∷ ws) = Some w.since
 
 -- since when a complete frame waits: the longest time of all
 abbrev pub waiting_since : Option CompleteFrame → List Wait → Option Ticks
-waiting_since None ws = None
-waiting_since (Some f) ws = first_wait ws
+waiting_since first ws = first_wait (held_waits first ws)

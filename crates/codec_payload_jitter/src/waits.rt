@@ -2,7 +2,7 @@
 
 ghost use Rattle.std.specs.Prelude.{◌≡◌, ◌<◌, ◌≤◌, ◌+◌, ◌++◌, ◌∷◌, [], OnOk};
 ghost use Rattle.std.specs.VecDeque.{deque_capacity, deque_len};
-ghost use Rattle.codec_payload_jitter.specs.Waits.{begun_waiting, ends_below, first_wait, from_end, held_waits, latest_since, waits_between};
+ghost use Rattle.codec_payload_jitter.specs.Waits.{begun_waiting, ends_below, first_wait, from_end, held_waits, latest_since, lowered, waiting_since, waits_between};
 
 use codec_payload_base::wire::Ticks;
 use codec_payload_buffer::buffer::frames::{CompleteFrame, OuterFrames};
@@ -88,6 +88,14 @@ impl Waits {
         }
     }
 
+    /// Lets all entries wait since this time at the latest.
+    pub(crate) fn lower(&mut self, at: Ticks)
+        ensures items { self.new.items ≡ lowered at.0 self.old.items }
+        ensures room { self.old.room ≤ self.new.room }
+    {
+        lower_all(&mut self.waits, at);
+    }
+
     /// Removes the entries of frames that have left: those that end below the first complete frame.
     #[inline(always)]
     pub(crate) fn keep_held(&mut self, first: Option<CompleteFrame>)
@@ -100,13 +108,14 @@ impl Waits {
         }
     }
 
-    /// Returns the time of the first entry.
+    /// Returns since when a complete frame waits: the time of the first entry that ends at the first complete frame or above. Entries
+    /// below have left already.
     #[inline(always)]
-    pub(crate) fn first(&self) -> Option<Ticks>
-        ensures { result ≡ first_wait self.now.items }
+    pub(crate) fn since(&self, first: Option<CompleteFrame>) -> Option<Ticks>
+        ensures { result ≡ waiting_since first self.now.items }
     {
-        match self.waits.front() {
-            Some(wait) => Some(wait.since),
+        match first {
+            Some(frame) => since_from(&self.waits, frame.last),
             None => None,
         }
     }
@@ -116,10 +125,11 @@ impl Waits {
     fn latest_since(&self, now: Ticks) -> Ticks
         ensures { result.0 ≡ latest_since now.0 self.now.items }
     {
-        match self.waits.back() {
-            Some(wait) if wait.since.0 > now.0 => wait.since,
-            _ => now,
+        let count = self.waits.len();
+        if count == 0 {
+            return now;
         }
+        Ticks(self.waits[count - 1].since.0.max(now.0))
     }
 }
 
@@ -131,6 +141,33 @@ fn ends_below(frame: Option<CompleteFrame>, number: u64) -> bool
     match frame {
         Some(frame) => frame.last < number,
         None => true,
+    }
+}
+
+/// Returns the time of the first entry that ends at this number or above.
+#[inline(always)]
+fn since_from(waits: &VecDeque<Wait>, number: u64) -> Option<Ticks>
+    ensures { result ≡ first_wait (from_end number waits.now.items) }
+{
+    for i in 0..waits.len() {
+        if waits[i].last >= number {
+            return Some(waits[i].since);
+        }
+    }
+    None
+}
+
+/// Lets all entries wait since this time at the latest.
+fn lower_all(waits: &mut VecDeque<Wait>, at: Ticks)
+    ensures items { waits.new.items ≡ lowered at.0 waits.old.items }
+    ensures capacity { deque_capacity waits.old ≤ deque_capacity waits.new }
+{
+    for i in 0..waits.len() {
+        let Wait { last, since } = waits[i];
+        waits[i] = Wait {
+            last,
+            since: Ticks(since.0.min(at.0)),
+        };
     }
 }
 

@@ -2,7 +2,7 @@
 
 ghost use Rattle.std.specs.Prelude.{◌≡◌, ◌≤◌, ◌<◌, ◌+◌, IfSome, IsTrue, drop, length, nat_lt, true, ℕ};
 ghost use Rattle.codec_payload_buffer.specs.Rows.{EndsRise, first_mended, frame_of_row, frame_place, has_end, noted, noted_if};
-ghost use Rattle.codec_payload_buffer.specs.OuterFrames.{outer_of};
+ghost use Rattle.codec_payload_buffer.specs.OuterFrames.{last_of, outer_of};
 ghost use Rattle.codec_payload_buffer.specs.Scan.{first_of};
 
 use super::rows::{Row, is_next};
@@ -59,8 +59,19 @@ pub(super) fn outer_frames(complete: &TieredQueue<CompleteFrame>) -> OuterFrames
     ensures { result ≡ outer_of complete.now.items }
 {
     OuterFrames {
-        first: complete.front().copied(),
-        last: complete.back().copied(),
+        first: lowest_frame(complete),
+        last: highest_frame(complete),
+    }
+}
+
+/// Returns the highest frame.
+#[inline(always)]
+fn highest_frame(complete: &TieredQueue<CompleteFrame>) -> Option<CompleteFrame>
+    ensures { result ≡ last_of complete.now.items }
+{
+    match complete.back() {
+        Some(frame) => Some(*frame),
+        None => None,
     }
 }
 

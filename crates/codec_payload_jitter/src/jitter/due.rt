@@ -30,8 +30,7 @@ impl<B: Depacketizer> JitterBuffer<B> {
     pub(super) fn waits_since(&self) -> Option<Ticks>
         ensures { result ≡ waits_since self.now }
     {
-        self.buffer.outer_frames().first?;
-        self.waits.first()
+        self.waits.since(self.buffer.outer_frames().first)
     }
 
     /// Returns whether fewer places are free than `room`.
