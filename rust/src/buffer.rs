@@ -29,7 +29,9 @@ use crate::interface::CodecExtra;
 use crate::queue::tiers::TieredQueue;
 use crate::wire::{SeqNo, Ticks};
 use ends::{evict, place_at, row_with};
-use frames::{CompleteFrame, drop_first, frame_of, lowest_frame, mend_first, note};
+use frames::{
+    CompleteFrame, OuterFrames, drop_first, frame_of, lowest_frame, mend_first, note, outer_frames,
+};
 use held_packet::{HeldPacket, Packet};
 pub use known::PackedMeta;
 use known::are_plain;
@@ -39,7 +41,7 @@ use packets::{
     copy_metas, drop_front, find_place, find_place_near, frame_range, hold, is_at, is_too_late,
     make_room, received_at, row_from, starts_next, unpack,
 };
-pub use pair::Incoming;
+pub use pair::{Incoming, StoredTwo};
 pub use placed::Placed;
 use placed::placed_among;
 pub use popped::PoppedUnit;
@@ -238,6 +240,12 @@ impl<B: Depacketizer> DepacketizingBuffer<B> {
     pub fn ready_since(&self) -> Option<Ticks> {
         let frame = lowest_frame(&self.complete)?;
         received_at(&self.packets, frame.last)
+    }
+
+    /// Returns the first and the last complete frame. The cost does not grow with the number of packets.
+    #[inline(always)]
+    pub fn outer_frames(&self) -> OuterFrames {
+        outer_frames(&self.complete)
     }
 
     /// Changes `hold_back`: from now on a frame behind a gap is held back until more than `hold_back` complete frames are held.

@@ -17,6 +17,7 @@ pub mod numbers;
 pub mod outcome;
 #[doc(hidden)]
 pub mod waiting;
+mod waits;
 
 #[doc(inline)]
 pub use jitter_buffer::{JitterBuffer, KeptPacket, Outcome, PacketCounters, WaitLimits};

@@ -1,6 +1,7 @@
 -- Where complete frames end, and how many there are.
 use Rattle.std.proofs.Common.{◌≡◌, ℕ, zero, suc, ◌<◌, ◌≤◌, ◌+◌, [], ◌∷◌, List, length, get_or, refl, ap, arith, true, false, cond, Option, Some, None, eqb}
 use Rattle.std.proofs.lemmas.Bool.Decides.{nat_tests}
+use Rattle.std.specs.List.{last_or}
 use Rattle.codec_payload_buffer.specs.Held.{Held}
 use Rattle.codec_payload_buffer.specs.Frames.{frames}
 use Rattle.codec_payload_buffer.specs.Rows.{row_of, rows, meet, joined, put_before, frame_in, frame_of_row, with_frame, row_frames, has_end, RowsAbove, RowsRise}
@@ -37,6 +38,14 @@ pub end_found : (fs : List CompleteFrame) (i : ℕ) (f : CompleteFrame) → i < 
 end_found [] i f l is = absurd (omega arith)
 end_found (g ∷ gs) zero f l is = let same : eqb g.last f.last ≡ true = grind (arith, nat_tests, ap (λ (x : CompleteFrame). x.last) is) in rw same refl
 end_found (g ∷ gs) (suc i) f l is = grind (arith, end_found gs i f (omega arith) is)
+
+-- the last frame
+pub last_found : (o : Option CompleteFrame) (fs : List CompleteFrame) (i : ℕ) (f : CompleteFrame) → i + 1 ≡ length fs → f ≡ get_or fs i f → Some f ≡ last_or o fs
+last_found o [] i f at is = absurd (omega (arith, at))
+last_found o (g ∷ []) zero f at is = ap Some is
+last_found o (g ∷ []) (suc i) f at is = absurd (omega (arith, at))
+last_found o (g ∷ h ∷ fs) zero f at is = absurd (omega (arith, at))
+last_found o (g ∷ h ∷ fs) (suc i) f at is = last_found (Some g) (h ∷ fs) i f (omega (arith, at)) is
 
 -- Rows that end a unit join none after them
 

@@ -17,6 +17,7 @@ use Rattle.codec_payload_jitter.specs.Receiving.{Receiving, Arrival, Accepts, Co
 use Rattle.codec_payload_jitter.specs.Receiving.{answer_in, answer_to, kept_number, with_noted, counted, counted_again, counted_in_again, counted_pop, counted_recovered, is_stored, has_little_room, is_pressed, may_recover, next, number_again, numbered, outcome_at, past_first, restarted, settled, units_in, waiting_at, with_first}
 use Rattle.codec_payload_jitter.specs.NoMediaNumbers.{noted_no_media}
 use Rattle.codec_payload_jitter.specs.Runs.{Answer}
+use Rattle.codec_payload_jitter.specs.Waits.{lowered, waits_after, waits_left}
 use Rattle.codec_payload_jitter.specs.declared.numbers.Extended.{Extended}
 use Rattle.codec_payload_jitter.specs.declared.numbers.Extended.TheVariants as extended
 use Rattle.codec_payload_jitter.specs.declared.outcome.Outcome.{Outcome}
@@ -141,7 +142,7 @@ accepts a n r t o accepted =
     let pushes : accepted.0 ≡ pushed s accepted.1.0 = accepted.1.2 in
     let same : length accepted.0.held ≡ length (pushed s accepted.1.0).held = ap (λ (x : State). length x.held) pushes in
     let few : length (pushed s accepted.1.0).held ≤ length s.held + 1 = pushed_few s accepted.1.0 in
-    moved 1 r (record r { buffer = accepted.0; counters = counted r.counters o }) t accepted.3 (record {
+    moved 1 r (record r { buffer = accepted.0; counters = counted r.counters o; waits = waits_after a.now.0 r.buffer.held accepted.0.held r.waits }) t accepted.3 (record {
       limit = ap (λ (x : State). x.limit) pushes ∙ pushed_limit s accepted.1.0;
       room = refl;
       held = omega (arith, same, few);
@@ -157,7 +158,7 @@ goes_in_again a n r t kept goes =
     let pushes : goes.0 ≡ pushed s goes.1.0 = goes.1.2 in
     let same : length goes.0.held ≡ length (pushed s goes.1.0).held = ap (λ (x : State). length x.held) pushes in
     let few : length (pushed s goes.1.0).held ≤ length s.held + 1 = pushed_few s goes.1.0 in
-    moved 0 r (record (restarted r) { buffer = goes.0; counters = counted_again (restarted r).counters (outcome_at s n) }) t goes.2 (record {
+    moved 0 r (record (restarted r) { buffer = goes.0; counters = counted_again (restarted r).counters (outcome_at s n); waits = waits_after a.now.0 s.held goes.0.held (lowered a.now.0 r.waits) }) t goes.2 (record {
       limit = ap (λ (x : State). x.limit) pushes ∙ pushed_limit s goes.1.0;
       room = refl;
       held = omega (arith, same, few, one);
@@ -286,7 +287,7 @@ pops_with None r answer t pops = leaves_moved r r t pops.1 (record { limit = ref
 pops_with (Some h) r answer t pops =
     let s : State = record r.buffer { hold_back = h } in
     let away : released_packets answer + length pops.0.held ≤ length s.held = takes_away s pops.0 answer pops.1 in
-    leaves_moved r (record r { buffer = pops.0; counters = counted_pop r.counters (units_in answer) (released_packets answer) (left_of s answer pops.0 pops.1) }) t pops.2 (record {
+    leaves_moved r (record r { buffer = pops.0; counters = counted_pop r.counters (units_in answer) (released_packets answer) (left_of s answer pops.0 pops.1); waits = waits_left pops.0.held r.waits }) t pops.2 (record {
       limit = pops_limit s pops.0 answer pops.1;
       room = refl;
       few = omega (arith, away);

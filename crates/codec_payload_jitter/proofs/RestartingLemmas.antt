@@ -4,11 +4,14 @@ use Rattle.std.proofs.Common.{cond}
 use Rattle.std.specs.Prelude.{nat_lt, ◌||◌}
 use Rattle.codec_payload_codec.specs.Depacketizers.{DepacketizerState}
 use Rattle.codec_payload_codec.proofs.CaseLemmas.{by_test}
+use Rattle.codec_payload_buffer.specs.Frames.{frames}
 use Rattle.codec_payload_buffer.specs.Held.{Held, has_number, number_of, placed}
+use Rattle.codec_payload_buffer.specs.OuterFrames.{outer_of}
 use Rattle.codec_payload_buffer.specs.Pairs.{StoresTwo}
 use Rattle.codec_payload_buffer.specs.Steps.{IsArrived, State, is_at_most, kept_to_limit, placed_at, pushed, without_lowest}
 use Rattle.codec_payload_buffer.specs.declared.buffer.pair.Incoming.{Incoming}
-use Rattle.codec_payload_buffer.specs.declared.buffer.placed.Placed.{Placed}
+use Rattle.codec_payload_buffer.specs.declared.buffer.frames.OuterFrames.{OuterFrames}
+use Rattle.codec_payload_buffer.specs.declared.buffer.pair.StoredTwo.{StoredTwo}
 use Rattle.codec_payload_buffer.specs.declared.buffer.unit.RtpMeta.{RtpMeta}
 use Rattle.codec_payload_jitter.proofs.ReceivingLemmas.{placed_outcome}
 use Rattle.codec_payload_jitter.specs.NoMediaNumbers.{noted_no_media}
@@ -18,7 +21,9 @@ use Rattle.codec_payload_jitter.specs.Receiving.{counted, counted_again, counted
 use Rattle.codec_payload_jitter.specs.declared.numbers.Extended.TheVariants as extended
 use Rattle.codec_payload_jitter.specs.declared.outcome.Outcome.{Outcome}
 use Rattle.codec_payload_jitter.specs.declared.outcome.Outcome.TheVariants as outcomes
+use Rattle.codec_payload_jitter.specs.Waits.{lowered, waits_after, waits_between}
 use Rattle.codec_payload_jitter.specs.declared.outcome.PacketCounters.{PacketCounters}
+use Rattle.codec_payload_jitter.specs.declared.waits.Wait.{Wait}
 
 -- a packet that is stored leaves the suspect packet alone
 goes_on_kept : (n : ℕ) (a : Arrival) (r t : Receiving) (o : Outcome) → GoesOn n a r o t → t.kept ≡ r.kept
@@ -47,24 +52,28 @@ notes_alone n r t kept is = (false, subst (λ (k : Option Arrival). Confirms n k
 
 -- from what the code has done
 
-pub went_on : (n : ℕ) (a : Arrival) (r seen t : Receiving) (buffer : State) (o : Outcome) (times : Noted) (k : PacketCounters) → r ≡ seen → TakesIn r.rate a n r.buffer buffer
+pub went_on : (n : ℕ) (a : Arrival) (r seen t : Receiving) (buffer : State) (o : Outcome) (times : Noted) (k : PacketCounters) (vs : List Wait) → r ≡ seen → TakesIn r.rate a n r.buffer buffer
     → o ≡ outcome_at r.buffer n → times ≡ noted_with r.noted (record { number = n; time = a.header.timestamp }) → k ≡ counted r.counters o
-    → t ≡ record r { buffer = buffer; noted = times; counters = k } → GoesOn n a seen o t
-went_on n a r seen t buffer o times k same takes outcome_is noted_is counted_is is =
-    let mid : Receiving = record r { buffer = buffer; counters = counted r.counters o } in
+    → vs ≡ waits_after a.now.0 r.buffer.held buffer.held r.waits
+    → t ≡ record r { buffer = buffer; noted = times; counters = k; waits = vs } → GoesOn n a seen o t
+went_on n a r seen t buffer o times k vs same takes outcome_is noted_is counted_is waits_are is =
+    let ws : List Wait = waits_after a.now.0 r.buffer.held buffer.held r.waits in
+    let mid : Receiving = record r { buffer = buffer; counters = counted r.counters o; waits = ws } in
     subst (λ (x : Receiving). GoesOn n a x o t) same (
       mid,
       (buffer, takes, outcome_is, refl),
-      is ∙ (ap (λ (ns : Noted). record r { buffer = buffer; noted = ns; counters = k }) noted_is
-          ∙ ap (λ (x : PacketCounters). record (with_noted n a mid) { counters = x }) counted_is),
+      is ∙ (ap (λ (xs : List Wait). record r { buffer = buffer; noted = times; counters = k; waits = xs }) waits_are
+          ∙ (ap (λ (ns : Noted). record r { buffer = buffer; noted = ns; counters = k; waits = ws }) noted_is
+          ∙ ap (λ (x : PacketCounters). record (with_noted n a mid) { counters = x }) counted_is)),
     )
 
-pub stored_both : (n : ℕ) (a b : Arrival) (r seen t : Receiving) (buffer : State) (outcomes : Outcome × Outcome) (times : Noted) (k : PacketCounters) → r ≡ seen
-    → TakesInBoth r.rate a n b (kept_number n b.header.sequence_number) r.buffer outcomes buffer
+pub stored_both : (n : ℕ) (a b : Arrival) (r seen t : Receiving) (buffer : State) (outcomes : Outcome × Outcome) (times : Noted) (k : PacketCounters) (vs : List Wait) → r ≡ seen
+    → TakesInBoth r.rate a n b (kept_number n b.header.sequence_number) r.buffer r.waits outcomes buffer vs
     → times ≡ noted_with r.noted (record { number = n; time = a.header.timestamp }) → k ≡ counted_again (counted_restart (counted r.counters outcomes.0)) outcomes.1
-    → t ≡ record r { buffer = buffer; noted = times; kept = None; counters = k } → RestartsWith n a b seen t
-stored_both n a b r seen t buffer outcomes times k same takes noted_is counted_is is =
-    let taken : Receiving = record r { buffer = takes.0; counters = counted r.counters outcomes.0 } in
+    → t ≡ record r { buffer = buffer; noted = times; kept = None; counters = k; waits = vs } → RestartsWith n a b seen t
+stored_both n a b r seen t buffer outcomes times k vs same takes noted_is counted_is is =
+    let taken : Receiving = record r { buffer = takes.0; counters = counted r.counters outcomes.0; waits = waits_after a.now.0 r.buffer.held takes.0.held r.waits } in
+    let ws : List Wait = waits_after b.now.0 takes.0.held buffer.held (lowered b.now.0 taken.waits) in
     let mid : Receiving = with_noted n a taken in
     subst (λ (x : Receiving). RestartsWith n a b x t) same (
       outcomes.0,
@@ -73,26 +82,30 @@ stored_both n a b r seen t buffer outcomes times k same takes noted_is counted_i
       (
         buffer,
         takes.2,
-        is ∙ (ap (λ (ns : Noted). record r { buffer = buffer; noted = ns; kept = None; counters = k }) noted_is
-            ∙ (ap (λ (x : PacketCounters). record (restarted mid) { buffer = buffer; counters = x }) counted_is
-            ∙ ap (λ (o : Outcome). record (restarted mid) { buffer = buffer; counters = counted_again (restarted mid).counters o }) takes.4)),
+        is ∙ (ap (λ (xs : List Wait). record r { buffer = buffer; noted = times; kept = None; counters = k; waits = xs }) takes.5
+            ∙ (ap (λ (ns : Noted). record r { buffer = buffer; noted = ns; kept = None; counters = k; waits = ws }) noted_is
+            ∙ (ap (λ (x : PacketCounters). record (restarted mid) { buffer = buffer; counters = x; waits = ws }) counted_is
+            ∙ ap (λ (o : Outcome). record (restarted mid) { buffer = buffer; counters = counted_again (restarted mid).counters o; waits = ws }) takes.4))),
       ),
     )
 
-pub noted_both : (n : ℕ) (b : Arrival) (r seen t : Receiving) (buffer : State) (o : Outcome) (ns : List ℕ) (k : PacketCounters) → r ≡ seen
+pub noted_both : (n : ℕ) (b : Arrival) (r seen t : Receiving) (buffer : State) (o : Outcome) (ns : List ℕ) (k : PacketCounters) (vs : List Wait) → r ≡ seen
     → TakesIn r.rate b (kept_number n b.header.sequence_number) r.buffer buffer → o ≡ outcome_at r.buffer (kept_number n b.header.sequence_number)
     → ns ≡ noted_no_media n r.no_media_numbers → k ≡ counted_again (counted_restart (counted r.counters outcomes.NoMedia)) o
-    → t ≡ record r { buffer = buffer; no_media_numbers = ns; kept = None; counters = k }
+    → vs ≡ waits_after b.now.0 r.buffer.held buffer.held (lowered b.now.0 r.waits)
+    → t ≡ record r { buffer = buffer; no_media_numbers = ns; kept = None; counters = k; waits = vs }
     → GoesInAgain b (kept_number n b.header.sequence_number) (restarted (noted n seen)) t
-noted_both n b r seen t buffer o ns k same takes outcome_is noted_is counted_is is =
+noted_both n b r seen t buffer o ns k vs same takes outcome_is noted_is counted_is waits_are is =
+    let ws : List Wait = waits_after b.now.0 r.buffer.held buffer.held (lowered b.now.0 r.waits) in
     let m : ℕ = kept_number n b.header.sequence_number in
     let s : Receiving = restarted (noted n r) in
     subst (λ (x : Receiving). GoesInAgain b m (restarted (noted n x)) t) same (
       buffer,
       takes,
-      is ∙ (ap (λ (xs : List ℕ). record r { buffer = buffer; no_media_numbers = xs; kept = None; counters = k }) noted_is
-          ∙ (ap (λ (x : PacketCounters). record s { buffer = buffer; counters = x }) counted_is
-          ∙ ap (λ (y : Outcome). record s { buffer = buffer; counters = counted_again s.counters y }) outcome_is)),
+      is ∙ (ap (λ (xs : List Wait). record r { buffer = buffer; no_media_numbers = ns; kept = None; counters = k; waits = xs }) waits_are
+          ∙ (ap (λ (xs : List ℕ). record r { buffer = buffer; no_media_numbers = xs; kept = None; counters = k; waits = ws }) noted_is
+          ∙ (ap (λ (x : PacketCounters). record s { buffer = buffer; counters = x; waits = ws }) counted_is
+          ∙ ap (λ (y : Outcome). record s { buffer = buffer; counters = counted_again s.counters y; waits = ws }) outcome_is))),
     )
 
 -- What the buffer says of both
@@ -115,10 +128,12 @@ arrived_as : (d e : DepacketizerState) (m n : RtpMeta) (bs cs : List ℕ) (p : H
 arrived_as d e m n bs cs p one two three is =
     subst (λ (x : DepacketizerState). IsArrived x n cs p) one (subst (λ (x : RtpMeta). IsArrived d x cs p) two (subst (λ (x : List ℕ). IsArrived d m x p) three is))
 
-pub taken_both : (rate : ℕ) (a : Arrival) (n : ℕ) (b : Arrival) (m : ℕ) (s t : State) (first second : Incoming) (places : Placed × Placed)
+pub taken_both : (rate : ℕ) (a : Arrival) (n : ℕ) (b : Arrival) (m : ℕ) (s t : State) (ws vs : List Wait) (first second : Incoming) (both : StoredTwo)
     → first.meta ≡ meta_for a.now rate a.header n → first.payload.items ≡ a.bytes → second.meta ≡ meta_for b.now rate b.header m → second.payload.items ≡ b.bytes
-    → StoresTwo s first second places t → TakesInBoth rate a n b m s (outcome_of places.0, outcome_of places.1) t
-taken_both rate a n b m s t first second places one bytes_one two bytes_two stores =
+    → StoresTwo s first second both t
+    → vs ≡ waits_between b.now.0 both.between (outer_of (frames t.held)) (lowered b.now.0 (waits_between a.now.0 (outer_of (frames s.held)) both.between ws))
+    → TakesInBoth rate a n b m s ws (outcome_of both.first, outcome_of both.second) t vs
+taken_both rate a n b m s t ws vs first second both one bytes_one two bytes_two stores waits_are =
     let p : Held = stores.0 in
     let q : Held = stores.1 in
     let mid : State = pushed s p in (
@@ -131,4 +146,5 @@ taken_both rate a n b m s t first second places one bytes_one two bytes_two stor
       ),
       ap outcome_of stores.4 ∙ (ap (λ (x : RtpMeta). outcome_of (placed_at s x.seq_no.0)) one ∙ placed_outcome s n),
       ap outcome_of stores.5 ∙ (ap (λ (x : RtpMeta). outcome_of (placed_at mid x.seq_no.0)) two ∙ placed_outcome mid m),
+      waits_are ∙ ap (λ (x : OuterFrames). waits_between b.now.0 x (outer_of (frames t.held)) (lowered b.now.0 (waits_between a.now.0 (outer_of (frames s.held)) x ws))) stores.7,
     )

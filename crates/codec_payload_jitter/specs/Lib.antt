@@ -7,4 +7,5 @@ pub mod Receiving
 pub mod Restarts
 pub mod Runs
 pub mod Waiting
+pub mod Waits
 pub mod OwnReceiving

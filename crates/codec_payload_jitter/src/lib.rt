@@ -10,3 +10,4 @@ pub mod numbers;
 pub mod outcome;
 mod theorems;
 pub mod waiting;
+mod waits;

@@ -8,6 +8,7 @@ use Rattle.codec_payload_buffer.specs.declared.buffer.frames.CompleteFrame.{Comp
 use Rattle.codec_payload_buffer.specs.declared.buffer.leaving.Left.{Left}
 use Rattle.codec_payload_buffer.proofs.PopLemmas.{nothing_passed}
 use Rattle.codec_payload_jitter.specs.Receiving.{PopsWith, Receiving, counted_pop, settled, waiting_at}
+use Rattle.codec_payload_jitter.specs.Waits.{waits_left}
 use Rattle.codec_payload_jitter.proofs.PressureLemmas.{settled_holds}
 use Rattle.codec_payload_session.specs.Quiet.{PopsNothing}
 use Rattle.codec_payload_session.proofs.RestLemmas.{IsSameOrFewer, passes_same}
@@ -55,7 +56,7 @@ none_due h r nothing = by_pass (passes_same (record (settled r).buffer { hold_ba
         absurd (omega (arith, fewer, held, settled_holds r))
 
 abbrev popped : Receiving → State → Left → Receiving
-popped r s l = record (settled r) { buffer = s; counters = counted_pop (settled r).counters 0 0 l }
+popped r s l = record (settled r) { buffer = s; counters = counted_pop (settled r).counters 0 0 l; waits = waits_left s.held r.waits }
 
 -- a pop without a unit then leaves what is known
 popped_is : (h : ℕ) (r t : Receiving) (waits : due_of (record (settled r).buffer { hold_back = h }) ≡ None) → PopsWith (Some h) (settled r) None t

@@ -5,7 +5,7 @@ use Rattle.std.proofs.lemmas.Bool.Decides.{nat_tests}
 use Rattle.codec_payload_base.specs.Time.{Time}
 use Rattle.codec_payload_base.specs.declared.error.PacketError.{PacketError}
 use Rattle.codec_payload_base.specs.declared.wire.Ticks.{Ticks}
-use Rattle.codec_payload_buffer.specs.Blanks.{ready_since_among, ready_since_of}
+use Rattle.codec_payload_buffer.specs.OuterFrames.{outer_of}
 use Rattle.codec_payload_buffer.specs.Frames.{frames}
 use Rattle.codec_payload_buffer.specs.Held.{Held, above, number_of}
 use Rattle.codec_payload_buffer.specs.Leaving.{left_of}
@@ -17,11 +17,14 @@ use Rattle.codec_payload_buffer.proofs.BlankLemmas.{leaves_few, takes_away}
 use Rattle.codec_payload_buffer.proofs.FrameParts.{IsRun}
 use Rattle.codec_payload_buffer.proofs.PopLemmas.{above_shorter, order_due, part_due}
 use Rattle.codec_payload_jitter.specs.NoMediaNumbers.{is_done, no_media_left, passed_no_media}
-use Rattle.codec_payload_jitter.specs.Receiving.{PopsWith, Receiving, counted_pop, deadline_by, deadline_of, has_little_room, is_overdue, is_pressed, is_starting, settled, waiting_at}
+use Rattle.codec_payload_jitter.specs.Receiving.{PopsWith, Receiving, counted_pop, deadline_by, deadline_of, has_little_room, is_overdue, is_pressed, is_starting, settled, waiting_at, waits_since}
 use Rattle.codec_payload_jitter.specs.Waiting.{most_held_back}
+use Rattle.codec_payload_jitter.specs.Waits.{first_wait, waiting_since, waits_left}
 use Rattle.codec_payload_jitter.specs.declared.outcome.PacketCounters.{PacketCounters}
+use Rattle.codec_payload_jitter.specs.declared.waits.Wait.{Wait}
 use Rattle.codec_payload_jitter.proofs.PressureLemmas.{none_left, settled_holds}
 use Rattle.codec_payload_jitter.proofs.ReceivingLemmas.{pressed_waits_for_none}
+use Rattle.codec_payload_jitter.proofs.WaitLemmas.{held_twice}
 use Rattle.codec_payload_buffer.specs.Blanks.{passed_number}
 use Rattle.codec_payload_session.specs.Quiet.{IsBefore, PopsNothing}
 
@@ -92,14 +95,14 @@ left_again s (n ∷ ns) h = by_test (is_done s n) refl (left_again (passed_numbe
     by_test false is later = rw is refl
 
 -- a jitter buffer after a pop that took nothing
-abbrev waited : Receiving → ℕ → PacketCounters → Receiving
-waited r h c = record (settled r) { buffer = record (settled r).buffer { hold_back = h }; counters = c }
+abbrev waited : Receiving → ℕ → PacketCounters → List Wait → Receiving
+waited r h c ws = record (settled r) { buffer = record (settled r).buffer { hold_back = h }; counters = c; waits = ws }
 
-settled_again : (r : Receiving) (h : ℕ) (c : PacketCounters) → settled (waited r h c) ≡ waited r h c
-settled_again r h c =
-    ap (λ (b : State). record (waited r h c) { buffer = b; no_media_numbers = no_media_left (waited r h c).buffer (waited r h c).no_media_numbers })
+settled_again : (r : Receiving) (h : ℕ) (c : PacketCounters) (ws : List Wait) → settled (waited r h c ws) ≡ waited r h c ws
+settled_again r h c ws =
+    ap (λ (b : State). record (waited r h c ws) { buffer = b; no_media_numbers = no_media_left (waited r h c ws).buffer (waited r h c ws).no_media_numbers })
     (passed_again r.buffer r.no_media_numbers h)
-    ∙ ap (λ (ns : List ℕ). record (waited r h c) { no_media_numbers = ns }) (left_again r.buffer r.no_media_numbers h)
+    ∙ ap (λ (ns : List ℕ). record (waited r h c ws) { no_media_numbers = ns }) (left_again r.buffer r.no_media_numbers h)
 
 -- ---- waiting
 
@@ -122,20 +125,25 @@ never_overdue None now = refl
 never_overdue (Some m) now = refl
 
 -- no frame is overdue, if pops under pressure leave none
-not_overdue : (p : Receiving) (now : ℕ) → (is_pressed p now ≡ true → frames p.buffer.held ≡ []) → is_overdue p.wait_limits.max_wait now (ready_since_of p.buffer) ≡ false
-not_overdue p now drained = by_test (is_overdue p.wait_limits.max_wait now (ready_since_of p.buffer)) refl
+not_overdue : (p : Receiving) (now : ℕ) → (is_pressed p now ≡ true → frames p.buffer.held ≡ []) → is_overdue p.wait_limits.max_wait now (waits_since p) ≡ false
+not_overdue p now drained = by_test (is_overdue p.wait_limits.max_wait now (waits_since p)) refl
   where
-    by_test : (b : Bool) → is_overdue p.wait_limits.max_wait now (ready_since_of p.buffer) ≡ b → is_overdue p.wait_limits.max_wait now (ready_since_of p.buffer) ≡ false
+    by_test : (b : Bool) → is_overdue p.wait_limits.max_wait now (waits_since p) ≡ b → is_overdue p.wait_limits.max_wait now (waits_since p) ≡ false
     by_test true is =
         let empty : frames p.buffer.held ≡ [] = drained (or_first p.ended _ (has_little_room p) is) in
-        ap (λ (fs : List CompleteFrame). is_overdue p.wait_limits.max_wait now (ready_since_among p.buffer.held fs)) empty ∙ never_overdue p.wait_limits.max_wait now
+        ap (λ (fs : List CompleteFrame). is_overdue p.wait_limits.max_wait now (waiting_since (outer_of fs).first p.waits)) empty ∙ never_overdue p.wait_limits.max_wait now
     by_test false is = is
+
+-- how many frames a pop waits for, by the time since which a frame waits
+abbrev waiting_since_then : Receiving → ℕ → Option Ticks → Option ℕ
+waiting_since_then p now since =
+    if p.ended || (is_overdue p.wait_limits.max_wait now since || has_little_room p) then Some 0 else (if is_starting p then None else Some (most_held_back p.wait_limits.hold_back))
 
 -- until the deadline pops wait as before
 waits_same : (p : Receiving) (now later : ℕ) → (is_pressed p now ≡ true → frames p.buffer.held ≡ []) → later < 2 ^ 64 → IsBefore (deadline_of p) later → waiting_at p later ≡ waiting_at p now
 waits_same p now later drained few before =
-    let first : is_overdue p.wait_limits.max_wait now (ready_since_of p.buffer) ≡ false = not_overdue p now drained in
-    let second : is_overdue p.wait_limits.max_wait later (ready_since_of p.buffer) ≡ false = overdue_later p.wait_limits.max_wait (ready_since_of p.buffer) now later first few before in
+    let first : is_overdue p.wait_limits.max_wait now (waits_since p) ≡ false = not_overdue p now drained in
+    let second : is_overdue p.wait_limits.max_wait later (waits_since p) ≡ false = overdue_later p.wait_limits.max_wait (waits_since p) now later first few before in
     ap (λ (b : Bool). if p.ended || (b || has_little_room p) then Some 0 else (if is_starting p then None else Some (most_held_back p.wait_limits.hold_back))) (second ∙ sym first)
 
 -- ---- pops
@@ -162,15 +170,17 @@ counted_twice c l m incomplete skipped refused =
     again a b d e f g = rw (once a, once b, once d, once e, once f, once g) refl
 
 -- a pop that waits for `h` frames and finds none to take
-waits_on : (r : Receiving) (h : ℕ) (c : PacketCounters) (l : Left) → due_of (record (settled r).buffer { hold_back = h }) ≡ None → c ≡ counted_pop (settled r).counters 0 0 l
-    → PopsWith (Some h) (waited r h c) None (waited r h c)
-waits_on r h c l due counted =
+waits_on : (r : Receiving) (h : ℕ) (c : PacketCounters) (l : Left) (ws : List Wait) → due_of (record (settled r).buffer { hold_back = h }) ≡ None → c ≡ counted_pop (settled r).counters 0 0 l
+    → ws ≡ waits_left (settled r).buffer.held r.waits → PopsWith (Some h) (waited r h c ws) None (waited r h c ws)
+waits_on r h c l ws due counted kept =
     let s : State = record (settled r).buffer { hold_back = h } in
     let pops : Pops s None s = ([], (none, due)) in
     let twice : counted_pop c 0 0 (left_of s None s pops) ≡ c =
     subst (λ (k : PacketCounters). counted_pop k 0 0 (left_of s None s pops) ≡ k) (sym counted)
     (counted_twice (settled r).counters l (left_of s None s pops) (omega arith) refl refl) in
-    (s, pops, ap (λ (k : PacketCounters). record (waited r h c) { counters = k }) (sym twice))
+    let left : waits_left s.held ws ≡ ws =
+    subst (λ (xs : List Wait). waits_left s.held xs ≡ xs) (sym kept) (held_twice (outer_of (frames s.held)).first r.waits) in
+    (s, pops, ap (λ (k : PacketCounters). record (waited r h c ws) { counters = k }) (sym twice) ∙ ap (λ (xs : List Wait). record (waited r h (counted_pop c 0 0 (left_of s None s pops)) ws) { waits = xs }) (sym left))
 
 -- a jitter buffer that is settled pops as it is
 as_settled : (now : ℕ) (t : Receiving) (wait : Option ℕ) → settled t ≡ t → waiting_at t now ≡ wait → PopsWith wait t None t → PopsNothing now t
@@ -185,7 +195,7 @@ again_by now later r t None waits pops same few before =
     let early : IsBefore (deadline_of (settled r)) later = subst (λ (x : Receiving). IsBefore (deadline_of x) later) is before in
     let on : waiting_at (settled r) later ≡ None = waits_same (settled r) now later (λ pressed. let no = rw pressed at waits in absurd (cc)) few early ∙ waits in
     subst (λ (x : Receiving). PopsNothing later x) (sym is)
-    (as_settled later (settled r) None (settled_again r (settled r).buffer.hold_back (settled r).counters) on (refl, refl))
+    (as_settled later (settled r) None (settled_again r (settled r).buffer.hold_back (settled r).counters (settled r).waits) on (refl, refl))
 again_by now later r t (Some h) waits pops same few before = by_pass (passes_same (record (settled r).buffer { hold_back = h }) pops.0 pops.1.0 pops.1.1.0)
   where
     by_pass : IsSameOrFewer (record (settled r).buffer { hold_back = h }) pops.0 → PopsNothing later t
@@ -195,15 +205,19 @@ again_by now later r t (Some h) waits pops same few before = by_pass (passes_sam
     by_pass (inl stays) =
         let l : Left = left_of (record (settled r).buffer { hold_back = h }) None pops.0 pops.1 in
         let c : PacketCounters = counted_pop (settled r).counters 0 0 l in
-        let is : t ≡ waited r h c = pops.2 ∙ ap (λ (x : State). record (settled r) { buffer = x; counters = c }) stays in
+        let ws : List Wait = waits_left (settled r).buffer.held r.waits in
+        let is : t ≡ waited r h c ws = pops.2 ∙ ap (λ (x : State). record (settled r) { buffer = x; counters = c; waits = waits_left x.held r.waits }) stays in
         let due : due_of (record (settled r).buffer { hold_back = h }) ≡ None = subst (λ (x : State). due_of x ≡ None) stays pops.1.1.1 in
         let some : length (frames pops.0.held) ≤ h = leaves_few (record (settled r).buffer { hold_back = h }) pops.0 pops.1 in
         let left : frames pops.0.held ≡ frames (settled r).buffer.held = ap (λ (x : State). frames x.held) stays in
         let drained : is_pressed (settled r) now ≡ true → frames (settled r).buffer.held ≡ [] = λ pressed.
         none_left (frames (settled r).buffer.held) (omega (arith, some, ap length left, pressed_waits_for_none (settled r) now h pressed waits)) in
-        let early : IsBefore (deadline_of (settled r)) later = subst (λ (x : Receiving). IsBefore (deadline_of x) later) is before in
+        let same_since : waits_since (waited r h c ws) ≡ waits_since (settled r) = ap first_wait (held_twice (outer_of (frames (settled r).buffer.held)).first r.waits) in
+        let early : IsBefore (deadline_of (settled r)) later =
+        subst (λ (since : Option Ticks). IsBefore (deadline_by r.wait_limits.max_wait since) later) same_since (subst (λ (x : Receiving). IsBefore (deadline_of x) later) is before) in
         let on : waiting_at (settled r) later ≡ Some h = waits_same (settled r) now later drained few early ∙ waits in
-        subst (λ (x : Receiving). PopsNothing later x) (sym is) (as_settled later (waited r h c) (Some h) (settled_again r h c) on (waits_on r h c l due refl))
+        let on_after : waiting_at (waited r h c ws) later ≡ Some h = ap (waiting_since_then (settled r) later) same_since ∙ on in
+        subst (λ (x : Receiving). PopsNothing later x) (sym is) (as_settled later (waited r h c ws) (Some h) (settled_again r h c ws) on_after (waits_on r h c l ws due refl refl))
 
 pub pops_again : (now later : ℕ) (r t : Receiving) → PopsWith (waiting_at (settled r) now) (settled r) None t → length t.buffer.held ≡ length r.buffer.held
     → later < 2 ^ 64 → IsBefore (deadline_of t) later → PopsNothing later t

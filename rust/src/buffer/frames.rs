@@ -13,6 +13,13 @@ pub struct CompleteFrame {
     pub last: u64,
 }
 
+/// The first and the last complete frame of a buffer; both `None` if no frame is complete.
+#[derive(Clone, Copy, Debug, PartialEq, Eq)]
+pub struct OuterFrames {
+    pub first: Option<CompleteFrame>,
+    pub last: Option<CompleteFrame>,
+}
+
 /// A frame takes the place of another one.
 impl Noted<CompleteFrame> for CompleteFrame {
     #[inline(always)]
@@ -36,6 +43,15 @@ pub(super) fn frame_of(row: &Row) -> Option<CompleteFrame> {
 #[inline(always)]
 pub(super) fn lowest_frame(complete: &TieredQueue<CompleteFrame>) -> Option<CompleteFrame> {
     complete.front().copied()
+}
+
+/// Returns the lowest and the highest frame.
+#[inline(always)]
+pub(super) fn outer_frames(complete: &TieredQueue<CompleteFrame>) -> OuterFrames {
+    OuterFrames {
+        first: complete.front().copied(),
+        last: complete.back().copied(),
+    }
 }
 
 /// Returns whether the frame in front of this place ends right before this number. No other frame is inspected.

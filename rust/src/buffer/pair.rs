@@ -4,7 +4,7 @@
 
 use super::DepacketizingBuffer;
 use super::ends::{evict, place_at, row_with};
-use super::frames::{CompleteFrame, frame_of, mend_first, note};
+use super::frames::{CompleteFrame, OuterFrames, frame_of, mend_first, note, outer_frames};
 use super::held_packet::{HeldPacket, Packet};
 use super::known::PackedMeta;
 use super::packets::{find_place, hold, is_at, is_too_late};
@@ -25,6 +25,15 @@ pub struct Incoming {
     pub payload: Vec<u8>,
 }
 
+/// What was done with two packets that were stored one after the other.
+#[derive(Clone, Copy, Debug)]
+pub struct StoredTwo {
+    pub first: Placed,
+    /// The first and the last complete frame after the first packet.
+    pub between: OuterFrames,
+    pub second: Placed,
+}
+
 /// The number up to which packets are late, and the largest number of held packets.
 #[derive(Clone, Copy, Debug)]
 struct Bounds {
@@ -43,7 +52,7 @@ impl<B: Depacketizer> DepacketizingBuffer<B> {
         &mut self,
         first: Incoming,
         second: Incoming,
-    ) -> Result<(Placed, Placed), PacketError> {
+    ) -> Result<StoredTwo, PacketError> {
         self.packets.reserve(2)?;
         self.complete.reserve(2)?;
         let first = entry_of(&mut self.spare, &self.depacketizer, first)?;
@@ -60,6 +69,7 @@ impl<B: Depacketizer> DepacketizingBuffer<B> {
         );
         self.cutoff = gone.or(self.cutoff);
         self.evicted = is_marked(gone, self.evicted);
+        let between = outer_frames(&self.complete);
         let (two, gone) = store_entry(
             &mut self.packets,
             &mut self.complete,
@@ -72,7 +82,11 @@ impl<B: Depacketizer> DepacketizingBuffer<B> {
         );
         self.cutoff = gone.or(self.cutoff);
         self.evicted = is_marked(gone, self.evicted);
-        Ok((one, two))
+        Ok(StoredTwo {
+            first: one,
+            between,
+            second: two,
+        })
     }
 }
 

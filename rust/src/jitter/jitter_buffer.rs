@@ -27,6 +27,7 @@ use crate::jitter::outcome::{
 };
 pub use crate::jitter::waiting::WaitLimits;
 use crate::jitter::waiting::{deadline, room_for};
+use crate::jitter::waits::Waits;
 use crate::wire::{Frequency, MediaTime, RtpHeader, SeqNo, Ticks};
 
 /// The largest number of packets that one push stores: the pushed packet, and a suspect packet.
@@ -62,6 +63,8 @@ pub struct JitterBuffer<B = NoBox> {
     lowest: Option<u64>,
     /// While fewer places than this are free, pops wait for nothing.
     room: usize,
+    /// Since when complete frames wait.
+    waits: Waits,
     clock_rate: Frequency,
     ended: bool,
     /// The caller announced a restart, and no packet has arrived since.
@@ -107,6 +110,7 @@ impl<B: Depacketizer> JitterBuffer<B> {
             lowest: None,
             is_restarting: false,
             room,
+            waits: Waits::new(),
         }
     }
 
@@ -284,8 +288,8 @@ impl<B: Depacketizer> JitterBuffer<B> {
     }
 
     /// Returns the next unit, if one is due at time `now`. A frame is due if it directly follows the last released unit, if
-    /// more than `hold_back` complete frames are held, or if `max_wait` has passed since its last packet arrived. The first
-    /// unit is due once more than `start` complete frames are held, or `max_wait` has passed. Pops wait for nothing after
+    /// more than `hold_back` complete frames are held, or if any complete frame has waited for `max_wait`. The first unit is due
+    /// once more than `start` complete frames are held, or `max_wait` has passed. Pops wait for nothing after
     /// `finish`, and while little room is left ([`JitterBuffer::with_room_for`]). So a caller that pops until `None` after each
     /// push loses no complete frame to a full buffer.
     ///
@@ -300,6 +304,7 @@ impl<B: Depacketizer> JitterBuffer<B> {
         };
         self.buffer.set_hold_back(hold_back);
         let (answer, left) = self.buffer.pop_counted();
+        self.waits.keep_held(self.buffer.outer_frames().first);
         let units = units_in(&answer);
         let released = packets_in(&answer);
         self.counters = with_pop(self.counters, units, released, left);
@@ -322,17 +327,18 @@ impl<B: Depacketizer> JitterBuffer<B> {
         };
         self.buffer.set_hold_back(hold_back);
         let (answer, left) = self.buffer.pop_counted_into(bytes, metas);
+        self.waits.keep_held(self.buffer.outer_frames().first);
         let units = units_into(&answer);
         let released = packets_into(&answer, metas);
         self.counters = with_pop(self.counters, units, released, left);
         answer
     }
 
-    /// Returns the time from which a pop waits for nothing, even if no packet arrives: `max_wait` ticks after the last packet
-    /// of the first complete frame arrived. Returns `None` if no frame is complete or if `max_wait` is `None`. Use it as the
-    /// timeout of a poll.
+    /// Returns the time from which a pop waits for nothing, even if no packet arrives: `max_wait` ticks after the first of the
+    /// held complete frames became complete, which can be any of them. Returns `None` if no frame is complete or if `max_wait` is
+    /// `None`. Use it as the timeout of a poll.
     pub fn next_deadline(&self) -> Option<Ticks> {
-        deadline(self.wait_limits.max_wait, self.buffer.ready_since())
+        deadline(self.wait_limits.max_wait, self.waits_since())
     }
 
     /// Replaces the wait limits of a running stream. Held packets stay. The next pop and the next deadline use the new values:
@@ -483,7 +489,13 @@ impl<B: Depacketizer> JitterBuffer<B> {
             time: packet.header.timestamp(),
         };
         self.noted_times.make_room(noted)?;
-        let outcome = store(&mut self.buffer, self.clock_rate, packet, number)?;
+        let outcome = store(
+            &mut self.buffer,
+            &mut self.waits,
+            self.clock_rate,
+            packet,
+            number,
+        )?;
         self.noted_times.note(noted);
         self.counters = with_outcome(self.counters, outcome);
         Ok(outcome)
@@ -546,7 +558,13 @@ impl<B: Depacketizer> JitterBuffer<B> {
     /// Stores a packet under its number, and counts the outcome.
     #[inline(always)]
     fn accept(&mut self, number: u64, packet: KeptPacket) -> Result<Outcome, PacketError> {
-        let outcome = store(&mut self.buffer, self.clock_rate, packet, number)?;
+        let outcome = store(
+            &mut self.buffer,
+            &mut self.waits,
+            self.clock_rate,
+            packet,
+            number,
+        )?;
         count(&mut self.counters, outcome);
         Ok(outcome)
     }
@@ -556,12 +574,17 @@ impl<B: Depacketizer> JitterBuffer<B> {
 #[inline(always)]
 fn store<B: Depacketizer>(
     buffer: &mut DepacketizingBuffer<B>,
+    waits: &mut Waits,
     clock_rate: Frequency,
     packet: KeptPacket,
     number: u64,
 ) -> Result<Outcome, PacketError> {
-    let meta = meta_for(clock_rate, packet.received, packet.header, number);
+    waits.make_room(1)?;
+    let now = packet.received;
+    let before = buffer.outer_frames();
+    let meta = meta_for(clock_rate, now, packet.header, number);
     let placed = buffer.store_packed(meta, packet.payload)?;
+    waits.note(now, before, buffer.outer_frames());
     Ok(outcome_of(placed))
 }
 

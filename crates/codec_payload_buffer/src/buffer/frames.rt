@@ -2,6 +2,7 @@
 
 ghost use Rattle.std.specs.Prelude.{◌≡◌, ◌≤◌, ◌<◌, ◌+◌, IfSome, IsTrue, drop, length, nat_lt, true, ℕ};
 ghost use Rattle.codec_payload_buffer.specs.Rows.{EndsRise, first_mended, frame_of_row, frame_place, has_end, noted, noted_if};
+ghost use Rattle.codec_payload_buffer.specs.OuterFrames.{last_of, outer_of};
 ghost use Rattle.codec_payload_buffer.specs.Scan.{first_of};
 
 use super::rows::{Row, is_next};
@@ -12,6 +13,13 @@ use codec_payload_queue::tiers::{Noted, TieredQueue};
 pub struct CompleteFrame {
     pub first: u64,
     pub last: u64,
+}
+
+/// The first and the last complete frame of a buffer; both `None` if no frame is complete.
+#[derive(Clone, Copy, Debug, PartialEq, Eq)]
+pub struct OuterFrames {
+    pub first: Option<CompleteFrame>,
+    pub last: Option<CompleteFrame>,
 }
 
 /// A frame takes the place of another one.
@@ -43,6 +51,28 @@ pub(super) fn lowest_frame(complete: &TieredQueue<CompleteFrame>) -> Option<Comp
     ensures { result ≡ first_of complete.now.items }
 {
     complete.front().copied()
+}
+
+/// Returns the lowest and the highest frame.
+#[inline(always)]
+pub(super) fn outer_frames(complete: &TieredQueue<CompleteFrame>) -> OuterFrames
+    ensures { result ≡ outer_of complete.now.items }
+{
+    OuterFrames {
+        first: lowest_frame(complete),
+        last: highest_frame(complete),
+    }
+}
+
+/// Returns the highest frame.
+#[inline(always)]
+fn highest_frame(complete: &TieredQueue<CompleteFrame>) -> Option<CompleteFrame>
+    ensures { result ≡ last_of complete.now.items }
+{
+    match complete.back() {
+        Some(frame) => Some(*frame),
+        None => None,
+    }
 }
 
 /// Returns whether the frame in front of this place ends right before this number. No other frame is inspected.

@@ -13,7 +13,7 @@ ghost use Rattle.codec_payload_buffer.specs.Pairs.{StoresTwo, stored, IsAt, is_t
 
 use super::DepacketizingBuffer;
 use super::ends::{evict, place_at, row_with};
-use super::frames::{CompleteFrame, frame_of, mend_first, note};
+use super::frames::{CompleteFrame, OuterFrames, frame_of, mend_first, note, outer_frames};
 use super::held_packet::{HeldPacket, Packet};
 use super::known::PackedMeta;
 use super::packets::{find_place, hold, is_at, is_too_late};
@@ -32,6 +32,15 @@ pub struct Incoming {
     pub payload: Vec<u8>,
 }
 
+/// What was done with two packets that were stored one after the other.
+#[derive(Clone, Copy, Debug)]
+pub struct StoredTwo {
+    pub first: Placed,
+    /// The first and the last complete frame after the first packet.
+    pub between: OuterFrames,
+    pub second: Placed,
+}
+
 /// The number up to which packets are late, and the largest number of held packets.
 #[derive(Clone, Copy, Debug)]
 struct Bounds {
@@ -46,11 +55,7 @@ impl<B: Depacketizer> DepacketizingBuffer<B> {
     /// # Errors
     ///
     /// Out of memory: neither packet is stored.
-    pub fn store_two(
-        &mut self,
-        first: Incoming,
-        second: Incoming,
-    ) -> Result<(Placed, Placed), PacketError>
+    pub fn store_two(&mut self, first: Incoming, second: Incoming) -> Result<StoredTwo, PacketError>
         ensures ok { IfOk result (λ both. StoresTwo self.old first second both self.new) }
         ensures err { OnErr result (self.new ≡ self.old) }
         ensures fault { IfErr result (λ f. f ≡ OutOfMemory) }
@@ -75,6 +80,7 @@ impl<B: Depacketizer> DepacketizingBuffer<B> {
         );
         self.cutoff = gone.or(self.cutoff);
         self.evicted = is_marked(gone, self.evicted);
+        let between = outer_frames(&self.complete);
         let (two, gone) = store_entry(
             &mut self.packets,
             &mut self.complete,
@@ -87,7 +93,11 @@ impl<B: Depacketizer> DepacketizingBuffer<B> {
         );
         self.cutoff = gone.or(self.cutoff);
         self.evicted = is_marked(gone, self.evicted);
-        Ok((one, two))
+        Ok(StoredTwo {
+            first: one,
+            between,
+            second: two,
+        })
     }
 }
 

@@ -1,7 +1,7 @@
 //! Which frames are due at a time.
 
 ghost use Rattle.std.specs.Prelude.{◌≡◌};
-ghost use Rattle.codec_payload_jitter.specs.Receiving.{has_little_room, is_pressed, settled, waiting_at};
+ghost use Rattle.codec_payload_jitter.specs.Receiving.{has_little_room, is_pressed, settled, waiting_at, waits_since};
 
 use super::JitterBuffer;
 use crate::waiting::overdue;
@@ -21,8 +21,16 @@ impl<B: Depacketizer> JitterBuffer<B> {
         ensures { result ≡ is_pressed self.now now.0 }
     {
         self.ended
-            || overdue(self.wait_limits.max_wait, now, self.buffer.ready_since())
+            || overdue(self.wait_limits.max_wait, now, self.waits_since())
             || self.has_little_room()
+    }
+
+    /// Returns since when a complete frame waits: the longest time of all.
+    #[inline(always)]
+    pub(super) fn waits_since(&self) -> Option<Ticks>
+        ensures { result ≡ waits_since self.now }
+    {
+        self.waits.since(self.buffer.outer_frames().first)
     }
 
     /// Returns whether fewer places are free than `room`.

@@ -4,17 +4,19 @@
 ghost use Rattle.std.specs.Prelude.{◌≡◌, IfOk, OnOk, OnErr, IfErr, Option, false};
 ghost use Rattle.std.specs.Option.{option_map};
 ghost use Rattle.codec_payload_base.specs.declared.error.PacketError.TheVariants.{OutOfMemory};
-ghost use Rattle.codec_payload_jitter.specs.Receiving.{Confirms, GoesInAgain, GoesOn, NotesAs, Restarts, TakesInBoth, arrival_of, counted, first_past, first_with, kept_number, meta_for, restarted, RestartsWith};
+ghost use Rattle.codec_payload_jitter.specs.Receiving.{Confirms, GoesInAgain, GoesOn, NotesAs, Restarts, RestartsWith, TakesIn, TakesInBoth, arrival_of, counted, first_past, first_with, kept_number, meta_for, outcome_at, restarted};
+ghost use Rattle.codec_payload_jitter.specs.Waits.{lowered, waits_after};
 ghost use Rattle.codec_payload_codec.specs.Depacketizers.{is_built_in_depacketizer};
 ghost use Rattle.codec_payload_jitter.specs.NoMediaNumbers.{noted_no_media};
 ghost use Rattle.codec_payload_jitter.specs.OwnReceiving.{OwnStores};
 ghost use Rattle.codec_payload_jitter.specs.declared.numbers.Extended.TheVariants as extended;
 ghost use Rattle.codec_payload_jitter.specs.declared.outcome.Outcome.TheVariants as outcomes;
 
-use super::{JitterBuffer, KeptPacket, meta_for, store};
+use super::{JitterBuffer, KeptPacket, meta_for};
 use crate::noted_times::NotedTime;
 use crate::numbers::{Extended, kept_number};
 use crate::outcome::{Outcome, outcome_of, with_kept, with_outcome, with_restart};
+use crate::waits::Waits;
 use codec_payload_base::error::PacketError;
 use codec_payload_base::wire::Frequency;
 use codec_payload_buffer::buffer::{DepacketizingBuffer, Incoming, PackedHeader};
@@ -94,6 +96,7 @@ impl<B: Depacketizer> JitterBuffer<B> {
         let before = kept_number(number, kept.header.sequence_number());
         let outcomes = store_two(
             &mut self.buffer,
+            &mut self.waits,
             self.clock_rate,
             (packet, number),
             (kept, before),
@@ -114,7 +117,13 @@ impl<B: Depacketizer> JitterBuffer<B> {
     {
         self.no_media_numbers.make_room()?;
         let before = kept_number(number, kept.header.sequence_number());
-        let outcome = store(&mut self.buffer, self.clock_rate, kept, before)?;
+        let outcome = store_kept(
+            &mut self.buffer,
+            &mut self.waits,
+            self.clock_rate,
+            kept,
+            before,
+        )?;
         self.no_media_numbers.note(number);
         let counters = with_restart(with_outcome(self.counters, Outcome::NoMedia));
         self.counters = with_kept(counters, outcome);
@@ -156,6 +165,32 @@ impl<B: Depacketizer> JitterBuffer<B> {
     }
 }
 
+/// Stores the suspect packet in the buffer under its number, and returns the outcome. All complete frames wait since it came, at the
+/// latest.
+fn store_kept<B: Depacketizer>(
+    buffer: &mut DepacketizingBuffer<B>,
+    waits: &mut Waits,
+    clock_rate: Frequency,
+    packet: KeptPacket,
+    number: u64,
+) -> Result<Outcome, PacketError>
+    ensures takes { OnOk result (TakesIn clock_rate (arrival_of packet) number buffer.old buffer.new) }
+    ensures outcome { IfOk result (λ outcome. outcome ≡ outcome_at buffer.old number) }
+    ensures waits { OnOk result (waits.new.items ≡ waits_after packet.received.0 buffer.old.held buffer.new.held (lowered packet.received.0 waits.old.items)) }
+    ensures err { OnErr result ((buffer.new ≡ buffer.old) × (waits.new.items ≡ waits.old.items)) }
+    ensures fault { IfErr result (λ f. f ≡ OutOfMemory) }
+    ensures own { is_built_in_depacketizer buffer.old.depacketizer ≡ false → OwnStores B.is_head B.is_tail buffer.old buffer.new }
+{
+    waits.make_room(1)?;
+    let now = packet.received;
+    let before = buffer.outer_frames();
+    let meta = meta_for(clock_rate, now, packet.header, number);
+    let placed = buffer.store_packed(meta, packet.payload)?;
+    waits.lower(now);
+    waits.note(now, before, buffer.outer_frames());
+    Ok(outcome_of(placed))
+}
+
 /// Copies a packet. Allocates for its payload.
 fn copy_of(packet: &KeptPacket) -> Result<KeptPacket, AllocError>
     ensures { IfOk result (λ copy. arrival_of copy ≡ arrival_of packet.now) }
@@ -170,20 +205,27 @@ fn copy_of(packet: &KeptPacket) -> Result<KeptPacket, AllocError>
 /// Stores two packets in the buffer, each under its number, or neither.
 fn store_two<B: Depacketizer>(
     buffer: &mut DepacketizingBuffer<B>,
+    waits: &mut Waits,
     clock_rate: Frequency,
     first: (KeptPacket, u64),
     second: (KeptPacket, u64),
 ) -> Result<(Outcome, Outcome), PacketError>
-    ensures takes { IfOk result (λ both. TakesInBoth clock_rate (arrival_of first.0) first.1 (arrival_of second.0) second.1 buffer.old both buffer.new) }
-    ensures err { OnErr result (buffer.new ≡ buffer.old) }
+    ensures takes { IfOk result (λ both. TakesInBoth clock_rate (arrival_of first.0) first.1 (arrival_of second.0) second.1 buffer.old waits.old.items both buffer.new waits.new.items) }
+    ensures err { OnErr result ((buffer.new ≡ buffer.old) × (waits.new.items ≡ waits.old.items)) }
     ensures fault { IfErr result (λ f. f ≡ OutOfMemory) }
     ensures own { is_built_in_depacketizer buffer.old.depacketizer ≡ false → OwnStores B.is_head B.is_tail buffer.old buffer.new }
 {
-    let places = buffer.store_two(
+    waits.make_room(2)?;
+    let before = buffer.outer_frames();
+    let times = (first.0.received, second.0.received);
+    let stored = buffer.store_two(
         incoming(clock_rate, first.0, first.1),
         incoming(clock_rate, second.0, second.1),
     )?;
-    Ok((outcome_of(places.0), outcome_of(places.1)))
+    waits.note(times.0, before, stored.between);
+    waits.lower(times.1);
+    waits.note(times.1, stored.between, buffer.outer_frames());
+    Ok((outcome_of(stored.first), outcome_of(stored.second)))
 }
 
 /// Returns a packet with this number, as the buffer takes it.

@@ -25,8 +25,7 @@ impl<B: Depacketizer> JitterBuffer<B> {
         ensures some { HasPacketsIn result unit.new }
         // Each answer except `None` and out of memory leaves fewer packets, so a loop of pops ends.
         ensures fewer { HasTaken (popped_to result unit.new) self.old.buffer self.new.buffer }
-        // If the stream has ended, the first complete frame is overdue, or little room is left, `None` says that no frame is
-        // complete.
+        // If the stream has ended, a complete frame is overdue, or little room is left, `None` says that no frame is complete.
         ensures drained { is_pressed (settled self.old) now.0 ≡ true → result ≡ Option.None → length (frames self.new.buffer.held) ≤ 0 }
         // While little room is left, a pop never answers `None` as long as a frame is complete.
         ensures crowded { has_little_room self.old ≡ true → result ≡ Option.None → frames self.new.buffer.held ≡ [] }
@@ -40,6 +39,7 @@ impl<B: Depacketizer> JitterBuffer<B> {
         };
         self.buffer.set_hold_back(hold_back);
         let (answer, left) = self.buffer.pop_unit_counted(unit);
+        self.waits.keep_held(self.buffer.outer_frames().first);
         let units = units_to(&answer);
         let released = packets_to(&answer, unit);
         self.counters = with_pop(self.counters, units, released, left);

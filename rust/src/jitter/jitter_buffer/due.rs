@@ -16,8 +16,15 @@ impl<B: Depacketizer> JitterBuffer<B> {
     /// Returns whether pops wait for nothing at that time.
     fn is_pressed(&self, now: Ticks) -> bool {
         self.ended
-            || overdue(self.wait_limits.max_wait, now, self.buffer.ready_since())
+            || overdue(self.wait_limits.max_wait, now, self.waits_since())
             || self.has_little_room()
+    }
+
+    /// Returns since when a complete frame waits: the longest time of all.
+    #[inline(always)]
+    pub(super) fn waits_since(&self) -> Option<Ticks> {
+        self.buffer.outer_frames().first?;
+        self.waits.first()
     }
 
     /// Returns whether fewer places are free than `room`.

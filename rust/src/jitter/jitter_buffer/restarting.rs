@@ -10,6 +10,7 @@ use crate::error::PacketError;
 use crate::jitter::noted_times::NotedTime;
 use crate::jitter::numbers::{Extended, kept_number};
 use crate::jitter::outcome::{Outcome, outcome_of, with_kept, with_outcome, with_restart};
+use crate::jitter::waits::Waits;
 use crate::memory::{AllocError, TryVec};
 use crate::wire::Frequency;
 use alloc::vec::Vec;
@@ -70,6 +71,7 @@ impl<B: Depacketizer> JitterBuffer<B> {
         let before = kept_number(number, kept.header.sequence_number());
         let outcomes = store_two(
             &mut self.buffer,
+            &mut self.waits,
             self.clock_rate,
             (packet, number),
             (kept, before),
@@ -85,7 +87,13 @@ impl<B: Depacketizer> JitterBuffer<B> {
     fn note_and_store(&mut self, number: u64, kept: KeptPacket) -> Result<(), PacketError> {
         self.no_media_numbers.make_room()?;
         let before = kept_number(number, kept.header.sequence_number());
-        let outcome = store(&mut self.buffer, self.clock_rate, kept, before)?;
+        let outcome = store(
+            &mut self.buffer,
+            &mut self.waits,
+            self.clock_rate,
+            kept,
+            before,
+        )?;
         self.no_media_numbers.note(number);
         let counters = with_restart(with_outcome(self.counters, Outcome::NoMedia));
         self.counters = with_kept(counters, outcome);
@@ -133,15 +141,21 @@ fn copy_of(packet: &KeptPacket) -> Result<KeptPacket, AllocError> {
 /// Stores two packets in the buffer, each under its number, or neither.
 fn store_two<B: Depacketizer>(
     buffer: &mut DepacketizingBuffer<B>,
+    waits: &mut Waits,
     clock_rate: Frequency,
     first: (KeptPacket, u64),
     second: (KeptPacket, u64),
 ) -> Result<(Outcome, Outcome), PacketError> {
-    let places = buffer.store_two(
+    waits.make_room(2)?;
+    let before = buffer.outer_frames();
+    let times = (first.0.received, second.0.received);
+    let stored = buffer.store_two(
         incoming(clock_rate, first.0, first.1),
         incoming(clock_rate, second.0, second.1),
     )?;
-    Ok((outcome_of(places.0), outcome_of(places.1)))
+    waits.note(times.0, before, stored.between);
+    waits.note(times.1, stored.between, buffer.outer_frames());
+    Ok((outcome_of(stored.first), outcome_of(stored.second)))
 }
 
 /// Returns a packet with this number, as the buffer takes it.

@@ -2,7 +2,9 @@ use Rattle.std.proofs.Common.{◌≡◌, ◌∙◌, ap, sym, subst, refl, map}
 use Rattle.codec_payload_codec.specs.Depacketizers.{DepacketizerState, depacketizer_state_of, is_built_in_depacketizer}
 use Rattle.codec_payload_codec.proofs.CodecLemmas.{own_depacketizer}
 use Rattle.codec_payload_buffer.specs.Buffer.{state_of}
+use Rattle.codec_payload_buffer.specs.Frames.{frames}
 use Rattle.codec_payload_buffer.specs.Held.{Held, held_of}
+use Rattle.codec_payload_buffer.specs.OuterFrames.{outer_of}
 use Rattle.codec_payload_buffer.specs.Pairs.{stored}
 use Rattle.codec_payload_buffer.specs.Steps.{IsArrived, IsSound, State, arrived_by, placed_at, pushed}
 use Rattle.codec_payload_buffer.specs.declared.buffer.unit.RtpMeta.{RtpMeta}
@@ -50,6 +52,8 @@ returns-clause-ok g c =
           ∙ (ap (λ (m : RtpMeta). placed_at s1 m.seq_no.0) second.0
           ∙ (ap (λ (x : State). placed_at x c.args.second.meta.seq_no.0) one ∙ ap (λ (x : State). placed_at (pushed x p) c.args.second.meta.seq_no.0) c.self.view_is)),
       whole ∙ ap (λ (x : State). pushed (pushed x p) q) c.self.view_is,
+      c.outer_frames-between.ensures ∙ (ap outer_of c.store_entry-one.ensures.complete
+          ∙ (ap (λ (x : State). outer_of (frames x.held)) one ∙ ap (λ (x : State). outer_of (frames (pushed x p).held)) c.self.view_is)),
     )
 
 pub returns-clause-own : goal.returns-clause-own

@@ -1,7 +1,8 @@
-use Rattle.std.proofs.Common.{ap, sym, subst, length}
+use Rattle.std.proofs.Common.{◌∙◌, ap, sym, subst, length, List}
 use Rattle.std.specs.Option.{option_map}
 use Rattle.codec_payload_jitter.specs.Receiving.{Receiving, Accepts, IsCounted, arrival_of, counted}
 use Rattle.codec_payload_jitter.specs.declared.outcome.PacketCounters.{PacketCounters}
+use Rattle.codec_payload_jitter.specs.declared.waits.Wait.{Wait}
 use Rattle.codec_payload_jitter.proofs.ReceivingLemmas.{conserved_in}
 use Rattle.codec_payload_jitter.proofs.jitter.JitterBuffer.accept.Goals as goal
 
@@ -28,13 +29,16 @@ returns-clause-ok g c =
       lowest = c.self.inside.lowest;
       is_restarting = c.self.inside.is_restarting;
       room = c.self.inside.room;
+      waits = c.self.inside.waits.items;
     } in
     let after = c.store.new.buffer in
-    let t : Receiving = record r { buffer = after; counters = c.count.new.counters } in
+    let waits = c.store.new.waits.items in
+    let t : Receiving = record r { buffer = after; counters = c.count.new.counters; waits = waits } in
     let made : Accepts (arrival_of c.args.packet) c.args.number r c.in_ok-outcome.outcome t = (
       after,
       c.in_ok-outcome.ensures.takes,
       c.in_ok-outcome.ensures.outcome,
-      ap (λ (k : PacketCounters). record r { buffer = after; counters = k }) c.count.ensures,
+      ap (λ (k : PacketCounters). record r { buffer = after; counters = k; waits = waits }) c.count.ensures
+          ∙ ap (λ (ws : List Wait). record r { buffer = after; counters = counted r.counters c.in_ok-outcome.outcome; waits = ws }) c.in_ok-outcome.ensures.waits,
     ) in
     subst (λ (x : Receiving). Accepts (arrival_of c.args.packet) c.args.number x c.in_ok-outcome.outcome t) c.self.view_is made

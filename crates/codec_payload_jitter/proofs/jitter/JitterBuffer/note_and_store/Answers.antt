@@ -13,9 +13,9 @@ invariant_of-self-2 g c =
     let o = c.in_ok-outcome.outcome in
     let counters : c.with_kept-self-inside.result ≡ counted_again (counted_restart (counted c.self.inside.counters outcomes.NoMedia)) o =
     c.with_kept-self-inside.ensures ∙ (ap (λ (k : PacketCounters). counted_again k o) c.with_restart-counters.ensures ∙ ap (λ (k : PacketCounters). counted_again (counted_restart k) o) c.with_outcome.ensures) in
-    let kept = conserved_noted c.self.inside.clock_rate (arrival_of c.args.kept) c.kept_number-before.result c.self.inside.buffer c.store.new.buffer o c.self.inside.counters
+    let kept = conserved_noted c.self.inside.clock_rate (arrival_of c.args.kept) c.kept_number-before.result c.self.inside.buffer c.store_kept.new.buffer o c.self.inside.counters
     c.in_ok-outcome.ensures.takes c.in_ok-outcome.ensures.outcome c.self.invariant in
-    subst (λ (k : PacketCounters). IsCounted k (length c.store.new.buffer.held)) (sym counters) kept
+    subst (λ (k : PacketCounters). IsCounted k (length c.store_kept.new.buffer.held)) (sym counters) kept
 
 pub returns-clause-ok : goal.returns-clause-ok
 returns-clause-ok g c =
@@ -33,11 +33,12 @@ returns-clause-ok g c =
       lowest = c.self.inside.lowest;
       is_restarting = c.self.inside.is_restarting;
       room = c.self.inside.room;
+      waits = c.self.inside.waits.items;
     } in
     let o = c.in_ok-outcome.outcome in
     let counters : c.with_kept-self-inside.result ≡ counted_again (counted_restart (counted r.counters outcomes.NoMedia)) o =
     c.with_kept-self-inside.ensures ∙ (ap (λ (k : PacketCounters). counted_again k o) c.with_restart-counters.ensures ∙ ap (λ (k : PacketCounters). counted_again (counted_restart k) o) c.with_outcome.ensures) in
     let numbers : c.note.new.self.items ≡ noted_no_media c.args.number r.no_media_numbers =
     c.note.ensures ∙ ap (λ (ns : List ℕ). noted_no_media c.args.number ns) c.make_room.ensures.same in
-    noted_both c.args.number (arrival_of c.args.kept) r c.args.self.now _ c.store.new.buffer o c.note.new.self.items c.with_kept-self-inside.result c.self.view_is
-    (rw (c.kept_number-before.ensures, c.sequence_number.ensures) at c.in_ok-outcome.ensures.takes) (rw (c.kept_number-before.ensures, c.sequence_number.ensures) at c.in_ok-outcome.ensures.outcome) numbers counters refl
+    noted_both c.args.number (arrival_of c.args.kept) r c.args.self.now _ c.store_kept.new.buffer o c.note.new.self.items c.with_kept-self-inside.result c.store_kept.new.waits.items c.self.view_is
+    (rw (c.kept_number-before.ensures, c.sequence_number.ensures) at c.in_ok-outcome.ensures.takes) (rw (c.kept_number-before.ensures, c.sequence_number.ensures) at c.in_ok-outcome.ensures.outcome) numbers counters c.in_ok-outcome.ensures.waits refl

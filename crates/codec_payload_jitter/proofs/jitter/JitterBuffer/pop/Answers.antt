@@ -3,12 +3,14 @@ use Rattle.codec_payload_base.specs.declared.error.PacketError.{PacketError}
 use Rattle.codec_payload_codec.specs.Depacketizers.{is_built_in_depacketizer}
 use Rattle.codec_payload_buffer.specs.Frames.{frames}
 use Rattle.codec_payload_buffer.specs.Leaving.{IsWhole}
+use Rattle.codec_payload_buffer.specs.declared.buffer.frames.OuterFrames.{OuterFrames}
 use Rattle.codec_payload_buffer.specs.Release.{Release}
 use Rattle.codec_payload_buffer.specs.Steps.{State, OwnPops, Pops}
 use Rattle.codec_payload_jitter.specs.Receiving.{IsCounted, PopsWith, Receiving, arrival_of, counted_pop, is_pressed, settled, units_in, waiting_at}
 use Rattle.std.specs.Option.{option_map}
 use Rattle.codec_payload_jitter.specs.declared.outcome.PacketCounters.{PacketCounters}
 use Rattle.codec_payload_jitter.specs.OwnReceiving.{OwnPopsWith}
+use Rattle.codec_payload_jitter.specs.Waits.{held_waits, waits_left}
 use Rattle.codec_payload_jitter.proofs.OwnLemmas.{settled_stays}
 use Rattle.codec_payload_jitter.proofs.ReceivingLemmas.{conserved_pop, pops_with_is, pressed_waits_for_none}
 use Rattle.codec_payload_jitter.proofs.PressureLemmas.{crowded_presses, crowded_waits, none_left, settled_holds, taken_from}
@@ -41,18 +43,21 @@ returns-clause-pops g c =
       lowest = c.self.inside.lowest;
       is_restarting = c.self.inside.is_restarting;
       room = c.self.inside.room;
+      waits = c.self.inside.waits.items;
     } in
     let r : Receiving = settled c.args.self.now in
     let is : inside ≡ r = c.self.view_is ∙ c.settle.ensures in
     let answer = c.pop_counted-answer.result.0 in
     let waits : waiting_at r c.args.now.0 ≡ Some h = ap (λ (x : Receiving). waiting_at x c.args.now.0) (sym c.settle.ensures) ∙ (sym c.waiting.ensures ∙ c.in-Some.is) in
-    let made : PopsWith (Some h) inside answer (record inside { buffer = c.pop_counted-answer.new.self; counters = c.with_pop-self-inside.result }) =
-    pops_with_is (Some h) h inside c.set_hold_back.new.self c.pop_counted-answer.new.self answer c.pop_counted-answer.result.1 c.with_pop-self-inside.result refl c.set_hold_back.ensures
+    let keeps : c.keep_held.new.self.items ≡ waits_left c.pop_counted-answer.new.self.held inside.waits =
+    c.keep_held.ensures.items ∙ ap (λ (x : OuterFrames). held_waits x.first inside.waits) c.outer_frames.ensures in
+    let made : PopsWith (Some h) inside answer (record inside { buffer = c.pop_counted-answer.new.self; counters = c.with_pop-self-inside.result; waits = c.keep_held.new.self.items }) =
+    pops_with_is (Some h) h inside c.set_hold_back.new.self c.pop_counted-answer.new.self answer c.pop_counted-answer.result.1 c.with_pop-self-inside.result c.keep_held.new.self.items refl c.set_hold_back.ensures
     c.pop_counted-answer.ensures.pops
     (c.with_pop-self-inside.ensures ∙ (ap (λ n. counted_pop c.self.inside.counters n c.packets_in-released.result c.pop_counted-answer.result.1) c.units_in-units.ensures
-    ∙ ap (λ n. counted_pop c.self.inside.counters (units_in answer) n c.pop_counted-answer.result.1) c.packets_in-released.ensures)) in
-    subst (λ (w : Option ℕ). PopsWith w r answer (record inside { buffer = c.pop_counted-answer.new.self; counters = c.with_pop-self-inside.result })) (sym waits)
-    (subst (λ (x : Receiving). PopsWith (Some h) x answer (record inside { buffer = c.pop_counted-answer.new.self; counters = c.with_pop-self-inside.result })) is made)
+    ∙ ap (λ n. counted_pop c.self.inside.counters (units_in answer) n c.pop_counted-answer.result.1) c.packets_in-released.ensures)) keeps in
+    subst (λ (w : Option ℕ). PopsWith w r answer (record inside { buffer = c.pop_counted-answer.new.self; counters = c.with_pop-self-inside.result; waits = c.keep_held.new.self.items })) (sym waits)
+    (subst (λ (x : Receiving). PopsWith (Some h) x answer (record inside { buffer = c.pop_counted-answer.new.self; counters = c.with_pop-self-inside.result; waits = c.keep_held.new.self.items })) is made)
 
 pub returns-clause-drained : goal.returns-clause-drained
 returns-clause-drained g c = λ pressed none.

@@ -31,8 +31,9 @@ returns-clause-ok g c =
       lowest = c.self.inside.lowest;
       is_restarting = c.self.inside.is_restarting;
       room = c.self.inside.room;
+      waits = c.self.inside.waits.items;
     } in
     let x : NotedTime = record { number = c.args.number; time = c.args.packet.header.timestamp } in
     let noted : c.note.new.self.noted ≡ noted_with r.noted x = (rw c.timestamp.ensures at c.note.ensures) ∙ ap (λ (s : Noted). noted_with s x) c.make_room.ensures.same in
-    went_on c.args.number (arrival_of c.args.packet) r c.args.self.now _ c.store.new.buffer c.in_ok-outcome.outcome c.note.new.self.noted c.with_outcome-self-inside.result c.self.view_is
-    c.in_ok-outcome.ensures.takes c.in_ok-outcome.ensures.outcome noted c.with_outcome-self-inside.ensures refl
+    went_on c.args.number (arrival_of c.args.packet) r c.args.self.now _ c.store.new.buffer c.in_ok-outcome.outcome c.note.new.self.noted c.with_outcome-self-inside.result c.store.new.waits.items c.self.view_is
+    c.in_ok-outcome.ensures.takes c.in_ok-outcome.ensures.outcome noted c.with_outcome-self-inside.ensures c.in_ok-outcome.ensures.waits refl

@@ -14,7 +14,7 @@ invariant_of-self-2 g c =
     let counters : c.with_kept-self-inside.result ≡ counted_again (counted_restart (counted c.self.inside.counters both.0)) both.1 =
     c.with_kept-self-inside.ensures ∙ (ap (λ (k : PacketCounters). counted_again k both.1) c.with_restart-counters.ensures
     ∙ ap (λ (k : PacketCounters). counted_again (counted_restart k) both.1) c.with_outcome.ensures) in
-    let kept = conserved_both c.self.inside.clock_rate (arrival_of c.args.packet) c.args.number (arrival_of c.args.kept) c.kept_number-before.result c.self.inside.buffer c.store_two.new.buffer both
+    let kept = conserved_both c.self.inside.clock_rate (arrival_of c.args.packet) c.args.number (arrival_of c.args.kept) c.kept_number-before.result c.self.inside.buffer c.store_two.new.buffer c.self.inside.waits.items c.store_two.new.waits.items both
     c.self.inside.counters c.in_ok-outcomes.ensures.takes c.self.invariant in
     subst (λ (k : PacketCounters). IsCounted k (length c.store_two.new.buffer.held)) (sym counters) kept
 
@@ -34,6 +34,7 @@ returns-clause-ok g c =
       lowest = c.self.inside.lowest;
       is_restarting = c.self.inside.is_restarting;
       room = c.self.inside.room;
+      waits = c.self.inside.waits.items;
     } in
     let both = c.in_ok-outcomes.outcomes in
     let counters : c.with_kept-self-inside.result ≡ counted_again (counted_restart (counted r.counters both.0)) both.1 =
@@ -41,5 +42,5 @@ returns-clause-ok g c =
     ∙ ap (λ (k : PacketCounters). counted_again (counted_restart k) both.1) c.with_outcome.ensures) in
     let x : NotedTime = record { number = c.args.number; time = c.args.packet.header.timestamp } in
     let noted : c.note.new.self.noted ≡ noted_with r.noted x = (rw c.timestamp.ensures at c.note.ensures) ∙ ap (λ (s : Noted). noted_with s x) c.make_room.ensures.same in
-    stored_both c.args.number (arrival_of c.args.packet) (arrival_of c.args.kept) r c.args.self.now _ c.store_two.new.buffer both c.note.new.self.noted c.with_kept-self-inside.result c.self.view_is
+    stored_both c.args.number (arrival_of c.args.packet) (arrival_of c.args.kept) r c.args.self.now _ c.store_two.new.buffer both c.note.new.self.noted c.with_kept-self-inside.result c.store_two.new.waits.items c.self.view_is
     (rw (c.kept_number-before.ensures, c.sequence_number.ensures) at c.in_ok-outcomes.ensures.takes) noted counters refl
