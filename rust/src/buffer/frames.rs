@@ -49,8 +49,17 @@ pub(super) fn lowest_frame(complete: &TieredQueue<CompleteFrame>) -> Option<Comp
 #[inline(always)]
 pub(super) fn outer_frames(complete: &TieredQueue<CompleteFrame>) -> OuterFrames {
     OuterFrames {
-        first: complete.front().copied(),
-        last: complete.back().copied(),
+        first: lowest_frame(complete),
+        last: highest_frame(complete),
+    }
+}
+
+/// Returns the highest frame.
+#[inline(always)]
+fn highest_frame(complete: &TieredQueue<CompleteFrame>) -> Option<CompleteFrame> {
+    match complete.back() {
+        Some(frame) => Some(*frame),
+        None => None,
     }
 }
 

@@ -62,6 +62,11 @@ impl Waits {
         }
     }
 
+    /// Lets all entries wait since this time at the latest.
+    pub(crate) fn lower(&mut self, at: Ticks) {
+        lower_all(&mut self.waits, at);
+    }
+
     /// Removes the entries of frames that have left: those that end below the first complete frame.
     #[inline(always)]
     pub(crate) fn keep_held(&mut self, first: Option<CompleteFrame>) {
@@ -71,11 +76,12 @@ impl Waits {
         }
     }
 
-    /// Returns the time of the first entry.
+    /// Returns since when a complete frame waits: the time of the first entry that ends at the first complete frame or above. Entries
+    /// below have left already.
     #[inline(always)]
-    pub(crate) fn first(&self) -> Option<Ticks> {
-        match self.waits.front() {
-            Some(wait) => Some(wait.since),
+    pub(crate) fn since(&self, first: Option<CompleteFrame>) -> Option<Ticks> {
+        match first {
+            Some(frame) => since_from(&self.waits, frame.last),
             None => None,
         }
     }
@@ -83,10 +89,11 @@ impl Waits {
     /// Returns the time, or that of the last entry if it is later: times of entries never fall, whatever the clock does.
     #[inline(always)]
     fn latest_since(&self, now: Ticks) -> Ticks {
-        match self.waits.back() {
-            Some(wait) if wait.since.0 > now.0 => wait.since,
-            _ => now,
+        let count = self.waits.len();
+        if count == 0 {
+            return now;
         }
+        Ticks(self.waits[count - 1].since.0.max(now.0))
     }
 }
 
@@ -96,6 +103,28 @@ fn ends_below(frame: Option<CompleteFrame>, number: u64) -> bool {
     match frame {
         Some(frame) => frame.last < number,
         None => true,
+    }
+}
+
+/// Returns the time of the first entry that ends at this number or above.
+#[inline(always)]
+fn since_from(waits: &VecDeque<Wait>, number: u64) -> Option<Ticks> {
+    for i in 0..waits.len() {
+        if waits[i].last >= number {
+            return Some(waits[i].since);
+        }
+    }
+    None
+}
+
+/// Lets all entries wait since this time at the latest.
+fn lower_all(waits: &mut VecDeque<Wait>, at: Ticks) {
+    for i in 0..waits.len() {
+        let Wait { last, since } = waits[i];
+        waits[i] = Wait {
+            last,
+            since: Ticks(since.0.min(at.0)),
+        };
     }
 }
 

@@ -5,12 +5,12 @@
 use crate::buffer::{Depacketized, PoppedUnit};
 use crate::codec::CodecDepacketizer;
 use crate::error::PacketError;
+use crate::frame_notes::note::FrameNote;
+use crate::frame_notes::notes::FrameNotes;
 use crate::jitter::jitter_buffer::Outcome;
 use crate::keyframes::references::UnitReferences;
 use crate::keyframes::unit_gate::FromKeyframe;
 use crate::memory::{AllocError, One};
-use crate::references::note::FrameNote;
-use crate::references::notes::FrameNotes;
 use crate::rtp::packet::HeaderExtension;
 use crate::rtp::values::extension_value;
 use crate::stream::datagram::{Datagram, RedPacket, StreamKinds};
@@ -156,24 +156,32 @@ impl StreamNotes {
 
 /// Stores the note of a packet with this outcome, and for a restart that of the suspect packet before it.
 fn settle_in(notes: &mut FrameNotes, pending: PendingNote, outcome: Outcome, highest: Option<u64>) {
+    let PendingNote { number, note } = pending;
     match outcome {
-        Outcome::Held | Outcome::HeldAndEvicted => insert(notes, pending, highest),
-        Outcome::Suspect => notes.keep_suspect(pending.number, pending.note),
+        Outcome::Held | Outcome::HeldAndEvicted => insert(notes, number, note, highest),
+        Outcome::Suspect => notes.keep_suspect(number, note),
         Outcome::Restarted(with_kept) => {
-            let kept = notes.take_suspect();
-            if with_kept && let Some((number, note)) = kept {
-                notes.insert(near(highest, number), note);
-            }
-            insert(notes, pending, highest);
+            insert_kept(notes, with_kept, highest);
+            insert(notes, number, note, highest);
         }
         _ => {}
     }
 }
 
+/// Takes the note of the suspect packet, and inserts it if that packet was stored.
+fn insert_kept(notes: &mut FrameNotes, is_stored: bool, highest: Option<u64>) {
+    let Some((number, note)) = notes.take_suspect() else {
+        return;
+    };
+    if is_stored {
+        notes.insert(near(highest, number), note);
+    }
+}
+
 /// Inserts the note of a packet, if it has one.
-fn insert(notes: &mut FrameNotes, pending: PendingNote, highest: Option<u64>) {
-    if let Some(note) = pending.note {
-        notes.insert(near(highest, pending.number), note);
+fn insert(notes: &mut FrameNotes, number: u16, note: Option<FrameNote>, highest: Option<u64>) {
+    if let Some(note) = note {
+        notes.insert(near(highest, number), note);
     }
 }
 

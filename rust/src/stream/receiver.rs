@@ -331,7 +331,8 @@ impl<B: Depacketizer> Receiver<B> {
     ///
     /// It allocates for the payload and metadata of the packet, for a datagram that waits, and for redundant blocks. The
     /// payloads of all blocks are copied before anything changes. The first packet with media of a stream with RED also
-    /// allocates 324 bytes, for the times of the latest packets and blocks.
+    /// allocates 324 bytes, for the times of the latest packets and blocks. For VP9, and for VP8 and AV1 with an id of the dependency
+    /// descriptor, it allocates for what a packet says of the frame that it begins: at most one such note for each place of the buffer.
     ///
     /// # Errors
     ///
@@ -450,9 +451,13 @@ impl<B: Depacketizer> Receiver<B> {
         self.arrived = turned_away(self.arrived, count as u64);
     }
 
-    /// Returns whether a decoder can show the latest popped unit: it is a keyframe, or it follows a decodable unit without a
-    /// gap. True for audio, and with [`FromKeyframe::Off`]. False for video before the first unit, and after a refused
-    /// frame or a unit above `max_unit`.
+    /// Returns whether a decoder can show the latest popped unit: it is a keyframe, or all units to which it refers were released and
+    /// can be shown. What it refers to is said by the dependency descriptors of its frames, if the settings name their id; else by the
+    /// P_DIFFs of VP9 in the flexible mode (RFC 9628, section 4.2) or by the layers of VP8 (RFC 7741, section 4.2); without these it is
+    /// the unit before, without a gap. The keyframe decides which of them counts until the next keyframe.
+    ///
+    /// True for audio, and with [`FromKeyframe::Off`]. False for video before the first unit, and after a refused frame or a unit above
+    /// `max_unit`.
     pub fn unit_is_decodable(&self) -> bool {
         self.gates.is_decodable()
     }
@@ -464,9 +469,9 @@ impl<B: Depacketizer> Receiver<B> {
     }
 
     /// Returns whether to request a keyframe, by PLI (RFC 4585, section 6.3.1) or FIR (RFC 5104, section 4.3.1). It is true
-    /// from one of these events until a pop releases a keyframe:
+    /// from one of these events until a pop releases a keyframe, or a unit of the base layer that a decoder can show:
     ///
-    /// - A pop found a unit that a decoder cannot show.
+    /// - A pop found a unit of the base layer that a decoder cannot show. Without layers this is each such unit.
     /// - A pop refused a frame, or its unit was above `max_unit` of the settings.
     /// - A pop returned no unit and discarded packets, for example because the picture ids of the sender jumped back.
     /// - You called [`Receiver::restart`].

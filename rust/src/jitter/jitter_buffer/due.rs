@@ -23,8 +23,7 @@ impl<B: Depacketizer> JitterBuffer<B> {
     /// Returns since when a complete frame waits: the longest time of all.
     #[inline(always)]
     pub(super) fn waits_since(&self) -> Option<Ticks> {
-        self.buffer.outer_frames().first?;
-        self.waits.first()
+        self.waits.since(self.buffer.outer_frames().first)
     }
 
     /// Returns whether fewer places are free than `room`.

@@ -3,7 +3,7 @@
 //! The first packets after a restart: the suspect packet is stored with the packet that confirms the restart. If memory runs out
 //! for one of them, nothing changes.
 
-use super::{JitterBuffer, KeptPacket, meta_for, store};
+use super::{JitterBuffer, KeptPacket, meta_for};
 use crate::buffer::{DepacketizingBuffer, Incoming, PackedHeader};
 use crate::codec::Depacketizer;
 use crate::error::PacketError;
@@ -87,7 +87,7 @@ impl<B: Depacketizer> JitterBuffer<B> {
     fn note_and_store(&mut self, number: u64, kept: KeptPacket) -> Result<(), PacketError> {
         self.no_media_numbers.make_room()?;
         let before = kept_number(number, kept.header.sequence_number());
-        let outcome = store(
+        let outcome = store_kept(
             &mut self.buffer,
             &mut self.waits,
             self.clock_rate,
@@ -129,6 +129,25 @@ impl<B: Depacketizer> JitterBuffer<B> {
     }
 }
 
+/// Stores the suspect packet in the buffer under its number, and returns the outcome. All complete frames wait since it came, at the
+/// latest.
+fn store_kept<B: Depacketizer>(
+    buffer: &mut DepacketizingBuffer<B>,
+    waits: &mut Waits,
+    clock_rate: Frequency,
+    packet: KeptPacket,
+    number: u64,
+) -> Result<Outcome, PacketError> {
+    waits.make_room(1)?;
+    let now = packet.received;
+    let before = buffer.outer_frames();
+    let meta = meta_for(clock_rate, now, packet.header, number);
+    let placed = buffer.store_packed(meta, packet.payload)?;
+    waits.lower(now);
+    waits.note(now, before, buffer.outer_frames());
+    Ok(outcome_of(placed))
+}
+
 /// Copies a packet. Allocates for its payload.
 fn copy_of(packet: &KeptPacket) -> Result<KeptPacket, AllocError> {
     Ok(KeptPacket {
@@ -154,6 +173,7 @@ fn store_two<B: Depacketizer>(
         incoming(clock_rate, second.0, second.1),
     )?;
     waits.note(times.0, before, stored.between);
+    waits.lower(times.1);
     waits.note(times.1, stored.between, buffer.outer_frames());
     Ok((outcome_of(stored.first), outcome_of(stored.second)))
 }
