@@ -102,7 +102,6 @@ still_sorted a wait r t answer pops is =
 
 module _ (now : ℕ) (s t : Session) (answer : Answer) (packets : Receiving) (references : UnitReferences) (notes : Option Noting)
     (pops : PopsWith (waiting_at (settled s.packets) now) (settled s.packets) answer packets) (takes : TakesNotes answer s.notes references notes) where
-
   -- a unit above the bound
   pub over_after : is_large s.bound.most answer ≡ true
       → t ≡ record s { packets = packets; gates = with_loss s.gates; bound = bound_if (is_large s.bound.most answer) s.bound answer; notes = notes } → PassesOnce now s answer true t

@@ -182,12 +182,7 @@ impl StreamNotes {
 }
 
 /// Stores the note of a packet with this outcome, and for a restart that of the suspect packet before it.
-fn settle_in(
-    notes: &mut FrameNotes,
-    pending: PendingNote,
-    outcome: Outcome,
-    highest: Option<u64>,
-)
+fn settle_in(notes: &mut FrameNotes, pending: PendingNote, outcome: Outcome, highest: Option<u64>)
     requires { 2 ≤ notes.old.room }
     ensures { without_room notes.new ≡ noted pending outcome highest (without_room notes.old) }
 {

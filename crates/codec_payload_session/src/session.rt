@@ -86,7 +86,10 @@ pub enum Arrival {
 pub enum Event<U = PoppedUnit> {
     /// A stream is announced. This is the first event of the stream. [`Session::names_of`] returns its MID and RID, as far as its
     /// packets had them before.
-    Begun { ssrc: u32, payload_type: u8 },
+    Begun {
+        ssrc: u32,
+        payload_type: u8,
+    },
     /// A unit of a stream. If memory ran out for it, the frame is kept, and the next poll tries again. `rtp_time` is in ticks of
     /// the RTP clock, without wrapping. A decoder can show the unit if it is `decodable`: see [`Receiver::unit_is_decodable`],
     /// and [`Receiver::unit_is_keyframe`] for `keyframe`.

@@ -10,8 +10,8 @@ ghost use Rattle.codec_payload_receiver.specs.declared.datagram.Malformation.The
 
 use super::{ReceiveError, Receiver, with_datagram};
 use crate::answers::answer_for;
-use crate::notes::{prepare_note, settle_note};
 use crate::datagram::{Datagram, Found, Malformation, observe, observe_media, ssrc_after};
+use crate::notes::{prepare_note, settle_note};
 use crate::parsed::ParsedDatagram;
 use codec_payload_base::wire::Ticks;
 use codec_payload_codec::codec::Depacketizer;
