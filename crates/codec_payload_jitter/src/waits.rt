@@ -10,6 +10,9 @@ use std::alloc::{AllocError, Global};
 use std::collections::VecDeque;
 use std::marker::Model;
 
+/// The number of entries whose memory is kept.
+const KEPT: usize = 64;
+
 /// A complete frame was above all other complete frames when it became complete.
 #[derive(Clone, Copy, Debug)]
 pub struct Wait {
@@ -98,13 +101,24 @@ impl Waits {
 
     /// Removes the entries of frames that have left: those that end below the first complete frame.
     #[inline(always)]
-    pub(crate) fn keep_held(&mut self, first: Option<CompleteFrame>)
+    fn keep_held(&mut self, first: Option<CompleteFrame>)
         ensures items { self.new.items ≡ held_waits first self.old.items }
         ensures room { self.old.room ≤ self.new.room }
     {
         match first {
             Some(frame) => drop_below(&mut self.waits, frame.last),
             None => self.waits.clear(),
+        }
+    }
+
+    /// Does the same after a pop, and gives memory back if at most a quarter is in use: down to twice the entries, or room for 64.
+    #[inline(always)]
+    pub(crate) fn leave(&mut self, first: Option<CompleteFrame>)
+        ensures { self.new.items ≡ held_waits first self.old.items }
+    {
+        self.keep_held(first);
+        if self.waits.capacity() > KEPT && self.waits.len() <= self.waits.capacity() / 4 {
+            shrink(&mut self.waits);
         }
     }
 
@@ -131,6 +145,14 @@ impl Waits {
         }
         Ticks(self.waits[count - 1].since.0.max(now.0))
     }
+}
+
+/// Gives memory back.
+#[inline(never)]
+fn shrink(waits: &mut VecDeque<Wait>)
+    ensures { waits.new.items ≡ waits.old.items }
+{
+    waits.shrink_to((2 * waits.len()).max(KEPT));
 }
 
 /// Returns whether no frame ends at this number or above.
@@ -185,6 +207,7 @@ fn push(waits: &mut VecDeque<Wait>, wait: Wait)
 #[inline(always)]
 fn drop_below(waits: &mut VecDeque<Wait>, number: u64)
     ensures items { waits.new.items ≡ from_end number waits.old.items }
+    ensures few { deque_len waits.new ≤ deque_len waits.old }
     ensures capacity { deque_capacity waits.old ≤ deque_capacity waits.new }
 {
     while let Some(wait) = waits.front() {

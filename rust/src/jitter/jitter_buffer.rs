@@ -304,7 +304,7 @@ impl<B: Depacketizer> JitterBuffer<B> {
         };
         self.buffer.set_hold_back(hold_back);
         let (answer, left) = self.buffer.pop_counted();
-        self.waits.keep_held(self.buffer.outer_frames().first);
+        self.waits.leave(self.buffer.outer_frames().first);
         let units = units_in(&answer);
         let released = packets_in(&answer);
         self.counters = with_pop(self.counters, units, released, left);
@@ -327,7 +327,7 @@ impl<B: Depacketizer> JitterBuffer<B> {
         };
         self.buffer.set_hold_back(hold_back);
         let (answer, left) = self.buffer.pop_counted_into(bytes, metas);
-        self.waits.keep_held(self.buffer.outer_frames().first);
+        self.waits.leave(self.buffer.outer_frames().first);
         let units = units_into(&answer);
         let released = packets_into(&answer, metas);
         self.counters = with_pop(self.counters, units, released, left);

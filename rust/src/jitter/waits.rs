@@ -7,6 +7,9 @@ use crate::memory::{AllocError, TryQueue};
 use crate::wire::Ticks;
 use alloc::collections::VecDeque;
 
+/// The number of entries whose memory is kept.
+const KEPT: usize = 64;
+
 /// A complete frame was above all other complete frames when it became complete.
 #[derive(Clone, Copy, Debug)]
 pub struct Wait {
@@ -69,10 +72,19 @@ impl Waits {
 
     /// Removes the entries of frames that have left: those that end below the first complete frame.
     #[inline(always)]
-    pub(crate) fn keep_held(&mut self, first: Option<CompleteFrame>) {
+    fn keep_held(&mut self, first: Option<CompleteFrame>) {
         match first {
             Some(frame) => drop_below(&mut self.waits, frame.last),
             None => self.waits.clear(),
+        }
+    }
+
+    /// Does the same after a pop, and gives memory back if at most a quarter is in use: down to twice the entries, or room for 64.
+    #[inline(always)]
+    pub(crate) fn leave(&mut self, first: Option<CompleteFrame>) {
+        self.keep_held(first);
+        if self.waits.capacity() > KEPT && self.waits.len() <= self.waits.capacity() / 4 {
+            shrink(&mut self.waits);
         }
     }
 
@@ -95,6 +107,12 @@ impl Waits {
         }
         Ticks(self.waits[count - 1].since.0.max(now.0))
     }
+}
+
+/// Gives memory back.
+#[inline(never)]
+fn shrink(waits: &mut VecDeque<Wait>) {
+    waits.shrink_if_possible((2 * waits.len()).max(KEPT));
 }
 
 /// Returns whether no frame ends at this number or above.

@@ -194,7 +194,7 @@ fn memory_of_sessions_and_streams() {
     );
     assert!(size_of::<Session>() + session <= 880);
     println!("a receiver: {} bytes", size_of::<Receiver>());
-    assert!(size_of::<Receiver>() <= 1_130);
+    assert!(size_of::<Receiver>() <= 1_160);
     type Datagram = fn(u32, u16) -> Vec<u8>;
     let audio: Datagram = opus;
     let video: Datagram = |ssrc, number| vp8(ssrc, number, number == 0);

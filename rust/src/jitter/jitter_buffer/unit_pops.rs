@@ -25,7 +25,7 @@ impl<B: Depacketizer> JitterBuffer<B> {
         };
         self.buffer.set_hold_back(hold_back);
         let (answer, left) = self.buffer.pop_unit_counted(unit);
-        self.waits.keep_held(self.buffer.outer_frames().first);
+        self.waits.leave(self.buffer.outer_frames().first);
         let units = units_to(&answer);
         let released = packets_to(&answer, unit);
         self.counters = with_pop(self.counters, units, released, left);

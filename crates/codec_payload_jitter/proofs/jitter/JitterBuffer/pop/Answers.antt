@@ -49,15 +49,15 @@ returns-clause-pops g c =
     let is : inside ≡ r = c.self.view_is ∙ c.settle.ensures in
     let answer = c.pop_counted-answer.result.0 in
     let waits : waiting_at r c.args.now.0 ≡ Some h = ap (λ (x : Receiving). waiting_at x c.args.now.0) (sym c.settle.ensures) ∙ (sym c.waiting.ensures ∙ c.in-Some.is) in
-    let keeps : c.keep_held.new.self.items ≡ waits_left c.pop_counted-answer.new.self.held inside.waits =
-    c.keep_held.ensures.items ∙ ap (λ (x : OuterFrames). held_waits x.first inside.waits) c.outer_frames.ensures in
-    let made : PopsWith (Some h) inside answer (record inside { buffer = c.pop_counted-answer.new.self; counters = c.with_pop-self-inside.result; waits = c.keep_held.new.self.items }) =
-    pops_with_is (Some h) h inside c.set_hold_back.new.self c.pop_counted-answer.new.self answer c.pop_counted-answer.result.1 c.with_pop-self-inside.result c.keep_held.new.self.items refl c.set_hold_back.ensures
+    let keeps : c.leave.new.self.items ≡ waits_left c.pop_counted-answer.new.self.held inside.waits =
+    c.leave.ensures ∙ ap (λ (x : OuterFrames). held_waits x.first inside.waits) c.outer_frames.ensures in
+    let made : PopsWith (Some h) inside answer (record inside { buffer = c.pop_counted-answer.new.self; counters = c.with_pop-self-inside.result; waits = c.leave.new.self.items }) =
+    pops_with_is (Some h) h inside c.set_hold_back.new.self c.pop_counted-answer.new.self answer c.pop_counted-answer.result.1 c.with_pop-self-inside.result c.leave.new.self.items refl c.set_hold_back.ensures
     c.pop_counted-answer.ensures.pops
     (c.with_pop-self-inside.ensures ∙ (ap (λ n. counted_pop c.self.inside.counters n c.packets_in-released.result c.pop_counted-answer.result.1) c.units_in-units.ensures
     ∙ ap (λ n. counted_pop c.self.inside.counters (units_in answer) n c.pop_counted-answer.result.1) c.packets_in-released.ensures)) keeps in
-    subst (λ (w : Option ℕ). PopsWith w r answer (record inside { buffer = c.pop_counted-answer.new.self; counters = c.with_pop-self-inside.result; waits = c.keep_held.new.self.items })) (sym waits)
-    (subst (λ (x : Receiving). PopsWith (Some h) x answer (record inside { buffer = c.pop_counted-answer.new.self; counters = c.with_pop-self-inside.result; waits = c.keep_held.new.self.items })) is made)
+    subst (λ (w : Option ℕ). PopsWith w r answer (record inside { buffer = c.pop_counted-answer.new.self; counters = c.with_pop-self-inside.result; waits = c.leave.new.self.items })) (sym waits)
+    (subst (λ (x : Receiving). PopsWith (Some h) x answer (record inside { buffer = c.pop_counted-answer.new.self; counters = c.with_pop-self-inside.result; waits = c.leave.new.self.items })) is made)
 
 pub returns-clause-drained : goal.returns-clause-drained
 returns-clause-drained g c = λ pressed none.

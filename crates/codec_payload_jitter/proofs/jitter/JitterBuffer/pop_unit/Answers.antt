@@ -6,6 +6,7 @@ use Rattle.codec_payload_buffer.specs.Frames.{frames}
 use Rattle.codec_payload_buffer.specs.Leaving.{IsWhole}
 use Rattle.codec_payload_buffer.specs.Steps.{State, OwnPops, Pops, popped_to}
 use Rattle.std.specs.Prelude.{⊤}
+use Rattle.codec_payload_buffer.specs.declared.buffer.frames.OuterFrames.{OuterFrames}
 use Rattle.codec_payload_jitter.specs.Receiving.{IsCounted, PopsWith, Receiving, arrival_of, counted_pop, is_pressed, settled, units_in, waiting_at}
 use Rattle.codec_payload_jitter.specs.declared.outcome.PacketCounters.{PacketCounters}
 use Rattle.std.specs.Option.{option_map}
@@ -54,15 +55,15 @@ returns-clause-pops g c =
     let waits : waiting_at r c.args.now.0 ≡ Some h = ap (λ (x : Receiving). waiting_at x c.args.now.0) (sym c.settle.ensures) ∙ (sym c.waiting.ensures ∙ c.in-Some.is) in
     let released : c.packets_to-released.result ≡ released_packets answer =
     c.packets_to-released.ensures in
-    let keeps : c.keep_held.new.self.items ≡ waits_left c.pop_unit_counted.new.self.held inside.waits =
-    c.keep_held.ensures.items ∙ ap (λ (x : OuterFrames). held_waits x.first inside.waits) c.outer_frames.ensures in
-    let made : PopsWith (Some h) inside answer (record inside { buffer = c.pop_unit_counted.new.self; counters = c.with_pop-self-inside.result; waits = c.keep_held.new.self.items }) =
-    pops_with_is (Some h) h inside c.set_hold_back.new.self c.pop_unit_counted.new.self answer c.pop_unit_counted.result.1 c.with_pop-self-inside.result c.keep_held.new.self.items refl c.set_hold_back.ensures
+    let keeps : c.leave.new.self.items ≡ waits_left c.pop_unit_counted.new.self.held inside.waits =
+    c.leave.ensures ∙ ap (λ (x : OuterFrames). held_waits x.first inside.waits) c.outer_frames.ensures in
+    let made : PopsWith (Some h) inside answer (record inside { buffer = c.pop_unit_counted.new.self; counters = c.with_pop-self-inside.result; waits = c.leave.new.self.items }) =
+    pops_with_is (Some h) h inside c.set_hold_back.new.self c.pop_unit_counted.new.self answer c.pop_unit_counted.result.1 c.with_pop-self-inside.result c.leave.new.self.items refl c.set_hold_back.ensures
     c.pop_unit_counted.ensures.pops
     (c.with_pop-self-inside.ensures ∙ (ap (λ n. counted_pop c.self.inside.counters n c.packets_to-released.result c.pop_unit_counted.result.1) (c.units_to-units.ensures c.pop_unit_counted.new.unit)
     ∙ ap (λ n. counted_pop c.self.inside.counters (units_in answer) n c.pop_unit_counted.result.1) released)) keeps in
-    subst (λ (w : Option ℕ). PopsWith w r answer (record inside { buffer = c.pop_unit_counted.new.self; counters = c.with_pop-self-inside.result; waits = c.keep_held.new.self.items })) (sym waits)
-    (subst (λ (x : Receiving). PopsWith (Some h) x answer (record inside { buffer = c.pop_unit_counted.new.self; counters = c.with_pop-self-inside.result; waits = c.keep_held.new.self.items })) is made)
+    subst (λ (w : Option ℕ). PopsWith w r answer (record inside { buffer = c.pop_unit_counted.new.self; counters = c.with_pop-self-inside.result; waits = c.leave.new.self.items })) (sym waits)
+    (subst (λ (x : Receiving). PopsWith (Some h) x answer (record inside { buffer = c.pop_unit_counted.new.self; counters = c.with_pop-self-inside.result; waits = c.leave.new.self.items })) is made)
 
 pub returns-clause-drained : goal.returns-clause-drained
 returns-clause-drained g c = λ pressed none.
