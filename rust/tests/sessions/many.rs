@@ -199,10 +199,10 @@ fn memory_of_sessions_and_streams() {
     let audio: Datagram = opus;
     let video: Datagram = |ssrc, number| vp8(ssrc, number, number == 0);
     let lines = [
-        ("audio", audio, 40, 2_505),
-        ("audio", audio, 1_500, 4_420),
-        ("video", video, 40, 2_620),
-        ("video", video, 6_000, 7_610),
+        ("audio", audio, 40, 2_610),
+        ("audio", audio, 1_500, 4_520),
+        ("video", video, 40, 2_720),
+        ("video", video, 6_000, 7_710),
     ];
     for (name, datagram, packets, most) in lines {
         // The list of streams has places for a power of two.
