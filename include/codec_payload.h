@@ -822,7 +822,7 @@ enum {
 
 /** What settings are for. Any other number counts as CPAY_FOR_LIVE. */
 typedef enum {
-    CPAY_FOR_LIVE = 0,           /**< live media without retransmission: after a loss the first complete frame waits at most 100 ms */
+    CPAY_FOR_LIVE = 0,           /**< live media without retransmission: after a loss a complete frame waits at most 100 ms */
     CPAY_FOR_LIVE_WITH_NACK = 1, /**< live media with retransmission (RFC 4585): at most 200 ms. For a known round-trip time, set
                                       `max_wait` to twice that time plus 100 ms */
     CPAY_FOR_FILE = 2            /**< packets from a file: a frame after a gap waits for the missing packets until the end, or until
@@ -839,8 +839,8 @@ typedef struct {
                                    no frame waits */
     size_t max_unit;          /**< maximum size of a unit in bytes, or CPAY_NO_MAX_UNIT. A larger unit is CPAY_UNIT_TOO_LARGE in
                                    `fault` of its description, and counts as a refused frame */
-    uint64_t max_wait;        /**< with has_max_wait: the first complete frame is released once this number of ticks of your
-                                   clock has passed since its last packet was received; frames behind it wait with it */
+    uint64_t max_wait;        /**< with has_max_wait: no complete frame waits longer than this number of ticks of your clock after
+                                   its last packet was received; it is released with all complete frames before it */
     uint32_t ssrc;            /**< with has_ssrc: SSRC of the stream; otherwise two packets choose it: see cpay_receiver_receive */
     uint32_t tick_rate;       /**< ticks per second of your clock, above 0; used for the jitter in reports, and for two seconds
                                    without packets */
@@ -951,8 +951,8 @@ CPAY_CHECKED cpay_status cpay_receiver_next_deadline(cpay_receiver *receiver, ui
 
 /** How long frames wait for missing packets. */
 typedef struct {
-    uint64_t max_wait; /**< with has_max_wait: the first complete frame is released once this number of ticks of your clock has
-                            passed since its last packet was received; frames behind it wait with it */
+    uint64_t max_wait; /**< with has_max_wait: no complete frame waits longer than this number of ticks of your clock after its
+                            last packet was received; it is released with all complete frames before it */
     size_t hold_back;  /**< a complete frame after a gap is released once more than this many complete frames are held.
                             CPAY_NO_HOLD_BACK: no frame is released by count alone */
     size_t start;      /**< the first frame is released once more than this many complete frames are held */
