@@ -107,7 +107,16 @@ impl Writes for DescribedAv1 {
             .map(|piece| {
                 let (first, last) = (piece == 0, piece + 1 == pieces);
                 // Z Y, one OBU, N for the first packet of a keyframe.
-                let flags = [!first, !last, false, true, first && frame.is_key, false, false, false];
+                let flags = [
+                    !first,
+                    !last,
+                    false,
+                    true,
+                    first && frame.is_key,
+                    false,
+                    false,
+                    false,
+                ];
                 let mut bytes = vec![bits(&flags)];
                 if first {
                     bytes.extend([0x30, if frame.is_key { 0x10 } else { 0x30 }]);
@@ -120,7 +129,9 @@ impl Writes for DescribedAv1 {
 }
 
 fn bits(flags: &[bool]) -> u8 {
-    flags.iter().fold(0, |byte, flag| byte << 1 | u8::from(*flag))
+    flags
+        .iter()
+        .fold(0, |byte, flag| byte << 1 | u8::from(*flag))
 }
 
 /// The descriptor of a packet. A keyframe has the structure in its first packet, and no other packet has one. Each other frame has its
@@ -138,7 +149,16 @@ fn descriptor(number: usize, frame: &Frame, first: bool, last: bool) -> Vec<u8> 
         if frame.is_key {
             // One decode target; three templates of the temporal layers 0, 1 and 2, without references; no chain, no resolution.
             fields.extend([(0, 6), (0, 5), (1, 2), (1, 2), (3, 2)]);
-            fields.extend([(2, 2), (2, 2), (2, 2), (0, 1), (0, 1), (0, 1), (0, 1), (0, 1)]);
+            fields.extend([
+                (2, 2),
+                (2, 2),
+                (2, 2),
+                (0, 1),
+                (0, 1),
+                (0, 1),
+                (0, 1),
+                (0, 1),
+            ]);
         }
         for distance in &frame.distances {
             fields.extend([(1, 2), (*distance as u32 - 1, 4)]);
@@ -155,7 +175,13 @@ fn descriptor(number: usize, frame: &Frame, first: bool, last: bool) -> Vec<u8> 
 }
 
 /// A datagram with a descriptor in the one-byte form, or in the two-byte form if `two` (RFC 8285).
-fn datagram(number: u16, time: u32, marker: bool, payload: &[u8], element: Option<&[u8]>) -> Vec<u8> {
+fn datagram(
+    number: u16,
+    time: u32,
+    marker: bool,
+    payload: &[u8],
+    element: Option<&[u8]>,
+) -> Vec<u8> {
     let mut bytes = vec![0x80, 96 | u8::from(marker) << 7];
     bytes.extend(number.to_be_bytes());
     bytes.extend(time.to_be_bytes());
@@ -213,7 +239,13 @@ fn packets<W: Writes>(frames: &[Frame], start: u16, random: &mut Random) -> Vec<
             let number = number_at(start, packets.len());
             let marker = piece + 1 == count;
             let bytes = datagram(number, time_at(at), marker, payload, element.as_deref());
-            packets.push((at, Packet { at: at as u64 * STEP, bytes }));
+            packets.push((
+                at,
+                Packet {
+                    at: at as u64 * STEP,
+                    bytes,
+                },
+            ));
         }
     }
     packets
@@ -288,7 +320,8 @@ fn can_be_shown(released: &[Said], frames: &[Frame]) -> Vec<bool> {
             .find(|before| frames[released[*before].at].is_key && !released[*before].is_lost);
         let has = |distance: &usize| {
             since.is_some_and(|since| {
-                (since..place).any(|before| shown[before] && released[before].at + distance == unit.at)
+                (since..place)
+                    .any(|before| shown[before] && released[before].at + distance == unit.at)
             })
         };
         let refers = !frame.is_key && since.is_some() && frame.distances.iter().all(has);
@@ -342,15 +375,25 @@ fn through_network(packets: &[(usize, Packet)], losses: u64, random: &mut Random
         if random.below(100) < losses {
             if random.below(2) == 0 {
                 let at = packet.at + 40 + random.below(100);
-                arrived.push(Packet { at, bytes: again(&packet.bytes) });
+                arrived.push(Packet {
+                    at,
+                    bytes: again(&packet.bytes),
+                });
             }
             continue;
         }
         let at = packet.at + jitter;
-        arrived.push(Packet { at, bytes: packet.bytes.clone() });
+        arrived.push(Packet {
+            at,
+            bytes: packet.bytes.clone(),
+        });
         if random.below(20) == 0 {
             let at = at + random.below(120);
-            let bytes = if random.below(2) == 0 { again(&packet.bytes) } else { packet.bytes.clone() };
+            let bytes = if random.below(2) == 0 {
+                again(&packet.bytes)
+            } else {
+                packet.bytes.clone()
+            };
             arrived.push(Packet { at, bytes });
         }
     }
@@ -466,7 +509,11 @@ fn loses_large_units<W: Writes>() {
     let arrived: Vec<Packet> = packets.into_iter().map(|(_, packet)| packet).collect();
     let mut receiver = receiver::<W>(|settings| settings.max_unit = Some(300));
     let said = run(&mut receiver, &arrived, &mut random);
-    let lost: Vec<usize> = said.iter().filter(|unit| unit.is_lost).map(|unit| unit.at).collect();
+    let lost: Vec<usize> = said
+        .iter()
+        .filter(|unit| unit.is_lost)
+        .map(|unit| unit.at)
+        .collect();
     assert_eq!(lost, [9, 20]);
     check(&said, &frames);
     // Nothing refers to frame 9.
@@ -518,9 +565,14 @@ fn a_structure_that_comes_late_counts() {
     let packets = packets::<DescribedAv1>(&frames, 1, &mut random);
     let mut receiver = receiver::<DescribedAv1>(|_| {});
     for (_, packet) in &packets[1..] {
-        assert_eq!(receiver.receive(Ticks(0), &packet.bytes).unwrap(), Outcome::Held);
+        assert_eq!(
+            receiver.receive(Ticks(0), &packet.bytes).unwrap(),
+            Outcome::Held
+        );
     }
-    receiver.receive(Ticks(1), &again(&packets[0].1.bytes)).unwrap();
+    receiver
+        .receive(Ticks(1), &again(&packets[0].1.bytes))
+        .unwrap();
     let mut said = vec![];
     receiver.finish().unwrap();
     pop_all(&mut receiver, 1, &mut random, &mut said);
