@@ -862,6 +862,8 @@ typedef struct {
     bool has_rtx; /**< retransmissions arrive in a separate stream (RFC 4588) */
     bool has_red_rtx; /**< with has_red and has_rtx: RED packets are retransmitted in that stream too; otherwise it is ignored */
     cpay_extension_ids extension_ids; /**< for cpay_receiver_values; two equal ids read the same element */
+    uint8_t dependency_descriptor;    /**< id of the header extension with the dependency descriptor (AV1 RTP specification, appendix
+                                           A), 1 to 255: `decodable` of VP8, VP9 and AV1 follows it. 0: it is not read */
 } cpay_receiver_settings;
 
 /** Sets how a receiver of this codec, clock rate and payload type begins, for a purpose (CPAY_FOR_LIVE and so on). Then change what
@@ -893,7 +895,7 @@ typedef enum {
     CPAY_LATE = 3,             /**< dropped: its number was already released, discarded or evicted */
     CPAY_SUSPECT = 4,          /**< its number is outside the windows, arrived before with another RTP time, or is below the first
                                     number with an RTP time that does not fit; it is kept aside until another suspect packet or
-                                    a restart */
+                                    a restart. Or it is of the former sender after a restart, and was dropped */
     CPAY_RESTARTED = 5,        /**< the sender has restarted: this packet and the suspect packet before it were stored */
     CPAY_RESTARTED_ALONE = 6,  /**< the sender has restarted, and only this packet was stored: the packet before it had no media,
                                     or you called cpay_receiver_restart */
@@ -1280,6 +1282,9 @@ typedef struct {
     cpay_extension_ids extension_ids; /**< for cpay_session_values; two equal ids read the same element */
     cpay_session_transport transport; /**< with has_transport */
     cpay_stream_name_ids name_ids;    /**< for cpay_session_names */
+    uint8_t dependency_descriptor;    /**< id of the header extension with the dependency descriptor (AV1 RTP specification, appendix
+                                           A), 1 to 255, which streams of VP8, VP9 and AV1 may have: `decodable` follows it. Set it
+                                           exactly if your session description accepts the extension. 0: it is not read */
 } cpay_session_settings;
 
 /** Sets how a session begins, for a purpose (CPAY_FOR_LIVE and so on) and a clock of milliseconds. Audio waits as the purpose says,

@@ -80,6 +80,7 @@ typedef struct {
     uint8_t transport_cc_id;          /**< transport-wide sequence numbers */
     uint8_t send_time_id;             /**< abs-send-time */
     uint8_t offset_id;                /**< transmission time offset (RFC 5450) */
+    uint8_t dependency_descriptor_id; /**< dependency descriptor (AV1 RTP specification, appendix A) */
     size_t format_count;
     size_t source_count;
     cpay_sdp_format formats[CPAY_SDP_MAX_FORMATS]; /**< in the order of the `m=` line */
@@ -127,7 +128,7 @@ const cpay_sdp_format *cpay_sdp_format_of(const cpay_sdp_media *media, uint8_t p
  *   of the RTP clock, 1 to 16383. If a format of RTX has the payload type of RED as `apt`, retransmitted RED is set too.
  * - If the section has exactly one SSRC of media, it is the SSRC of the stream. If it has retransmissions, and a format of RTX has the
  *   payload type as `apt`, they are set too.
- * - Ids of header extensions.
+ * - Ids of header extensions, with `dependency_descriptor`.
  *
  * CPAY_INVALID: the section has no media of this payload type. */
 CPAY_CHECKED cpay_status cpay_sdp_receiver(const cpay_sdp_media *media, uint8_t payload_type, cpay_receiver_settings *settings,
@@ -168,8 +169,8 @@ typedef struct {
  *   packets or keyframes of it are requested only if both agree on that. If RED that names no payload type would be over two
  *   formats, it is over the first.
  * - `no_media`: comfort noise, error correction, and telephone events, whose packets polls report.
- * - Pairs of SSRCs (`a=ssrc-group:FID`), and ids of header extensions, of all sections: those of values, and those of MID, RID and
- *   repaired RID (`name_ids`).
+ * - Pairs of SSRCs (`a=ssrc-group:FID`), and ids of header extensions, of all sections: those of values, those of MID, RID and
+ *   repaired RID (`name_ids`), and `dependency_descriptor`.
  * - Wait limits: for live audio and video, with retransmission if a format of the kind has `nack`.
  * - Transport: the id of transport-wide-cc, if a section has its `a=extmap` and a format of media has `transport-cc`. So pass the
  *   description that both sides agreed on, or the offer if you accept both.

@@ -4,6 +4,7 @@
   scripts/assembly.py          proves the crates that are not proved yet, and writes both files
   scripts/assembly.py check    fails if the sources changed since the files were made; then, with the kit that made them, makes them
                                again and compares each byte. With another kit, or without one, it says that it did not
+  scripts/assembly.py sources  the first step of `check` alone
 
 The kit's compiler passes its clang one LLVM module for codec_payload_c with all crates below it, once the prover has said
 `logic=proved`; an unproved crate gives no module. The kit's clang makes the assembly from that module, with the options by which
@@ -194,6 +195,9 @@ def check(total, folder, version):
 
 def main():
     total, (folder, version) = sum_of_sources(), kit()
+    if sys.argv[1:] == ["sources"]:
+        print(f"assembly: {len(ARCHITECTURES)} files, {check(total, None, None)}")
+        return
     if folder is None and sys.argv[1:] != ["check"]:
         stop("rt is not there")
     if folder is not None:

@@ -308,7 +308,7 @@ def changed(path, pairs, more=""):
 def hostile_crate(folder):
     """A copy of rust/ whose receivers and sessions have a hostile peer."""
     crate = f"{folder}/rust"
-    shutil.copytree(f"{ROOT}/rust", crate, ignore=shutil.ignore_patterns("target", "tests"))
+    shutil.copytree(f"{ROOT}/rust", crate, ignore=shutil.ignore_patterns("target", "tests", "Cargo.lock"))
     changed(f"{crate}/src/lib.rs", [], RUST)
     changed(f"{crate}/src/stream/receiver.rs", [("pub fn receive(", "pub(crate) fn receive_plain(")], RECEIVER)
     changed(f"{crate}/src/jitter/jitter_buffer.rs", [("    counters: PacketCounters,\n", "    pub(crate) counters: PacketCounters,\n"),

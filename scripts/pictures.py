@@ -216,10 +216,10 @@ LAYERS = (
     (("library for C", "c/handle"), ("packets and frames, in Rattle", "core"), ("theorems on whole runs", "session_runs forward_runs/datagram_runs buffer_runs"),
      ("tests", "codec_tests run_tests/datagram_tests"), ("a program", "vectors/lines")),
     (("all streams of a port", "session"),),
-    (("receiving", "receiver jitter keyframes/buffer queue index"),
+    (("receiving", "receiver jitter/keyframes references/buffer queue index"),
      ("feedback", "feedback feedback_requests feedback_transport/feedback_wait feedback_congestion feedback_ccfb"),
      ("sending", "payloader sending sending_red/sending_history sending_forward")),
-    (("payload formats", "codec audio vp8 vp9 av1"), ("repetition", "red"), ("what frames say", "media vpx descriptor"), ("packets", "rtp rtcp")),
+    (("payload formats", "codec audio vp8 vp9 av1"), ("repetition", "red"), ("what frames say", "media vpx descriptor syntax"), ("packets", "rtp rtcp")),
     (("what all share", "base"),),
 )
 # Pixels: of the picture's width, of a letter, of a crate's box, between things.

@@ -23,6 +23,7 @@ cd "$root/rust"
 export CARGO_NET_OFFLINE=true
 work=$(mktemp -d)
 trap 'rm -rf "$work"' EXIT
+. "$root/scripts/lanes.sh"
 
 # step WORDS..: one command, whose output is shown if it fails
 step() {
@@ -33,52 +34,77 @@ step() {
     }
 }
 
-step "$root/tools/eraser/erase.py" --check
-step cargo fmt --check
-step cargo clippy --quiet --all-targets -- -D warnings
-step cargo clippy --quiet --all-targets --features fallible -- -D warnings
-step cargo check --quiet --lib --no-default-features
-step cargo test --quiet
-passed=$(sed -n 's/^test result: ok. \([0-9]*\) passed.*/\1/p' "$work/log" | awk '{ sum += $1 } END { print sum }')
-step "$root/scripts/try.sh" vp9
-step cargo test --quiet --features fallible
-fallible=$(sed -n 's/^test result: ok. \([0-9]*\) passed.*/\1/p' "$work/log" | awk '{ sum += $1 } END { print sum }')
-RUSTDOCFLAGS="-D warnings" step cargo doc --quiet --no-deps
-# Some examples print a table of a page.
-tables="waiting:LIMITS restarts:LIMITS adaptive_wait:LIMITS session_requests:FEEDBACK"
-for example in examples/*.rs; do
-    example=$(basename "$example" .rs)
-    case " $tables " in
-    *" $example:"*) ;;
-    *) step cargo run --quiet --example "$example" ;;
-    esac
-done
-for table in $tables; do
-    example=${table%:*} page=docs/use/${table#*:}.md
-    step cargo run --quiet --example "$example"
-    while read -r row; do
-        grep -qxF -- "$row" "$root/$page" || {
-            echo "rust: $page lacks this row of examples/$example.rs: $row"
-            exit 1
-        }
-    done <"$work/log"
-done
-step cargo run --quiet --release --manifest-path "$root/tools/speed/Cargo.toml" --bin orders -- spike
-longest=$(cat "$work/log")
-if command -v valgrind >/dev/null; then
-    step "$root/tools/measure/rust_speed.py" --hostile
-fi
-step cargo fmt --check --manifest-path "$root/tools/lines/Cargo.toml"
-step cargo clippy --quiet --all-targets --manifest-path "$root/tools/lines/Cargo.toml" -- -D warnings
-step "$root/tests/vectors/process.py"
-programs="programs over lines: $(tail -n 1 "$work/log")"
-if [ "${1:-}" != quick ]; then
-    step cargo package --quiet --allow-dirty
+# The crate itself.
+crate() {
+    step cargo fmt --check
+    step cargo clippy --quiet --all-targets -- -D warnings
+    step cargo clippy --quiet --all-targets --features fallible -- -D warnings
+    step cargo check --quiet --lib --no-default-features
+    step cargo test --quiet
+    passed=$(sed -n 's/^test result: ok. \([0-9]*\) passed.*/\1/p' "$work/log" | awk '{ sum += $1 } END { print sum }')
+    step "$root/scripts/try.sh" vp9
+    step cargo test --quiet --features fallible
+    fallible=$(sed -n 's/^test result: ok. \([0-9]*\) passed.*/\1/p' "$work/log" | awk '{ sum += $1 } END { print sum }')
+    RUSTDOCFLAGS="-D warnings" step cargo doc --quiet --no-deps
+    # Some examples print a table of a page.
+    tables="waiting:LIMITS restarts:LIMITS adaptive_wait:LIMITS session_requests:FEEDBACK"
+    for example in examples/*.rs; do
+        example=$(basename "$example" .rs)
+        case " $tables " in
+        *" $example:"*) ;;
+        *) step cargo run --quiet --example "$example" ;;
+        esac
+    done
+    for table in $tables; do
+        example=${table%:*} page=docs/use/${table#*:}.md
+        step cargo run --quiet --example "$example"
+        while read -r row; do
+            grep -qxF -- "$row" "$root/$page" || {
+                echo "rust: $page lacks this row of examples/$example.rs: $row"
+                exit 1
+            }
+        done <"$work/log"
+    done
+    [ "$how" = quick ] || step cargo package --quiet --allow-dirty
+    echo "$passed tests, $fallible with \`fallible\`, $(ls examples/*.rs | wc -l) examples"
+}
+
+# What hostile packets cost.
+speed() {
+    step cargo build --quiet --release --manifest-path "$root/tools/speed/Cargo.toml"
+    ! command -v valgrind >/dev/null || step "$root/tools/measure/rust_speed.py" --hostile
+}
+
+# The programs over lines.
+lines() {
+    step cargo fmt --check --manifest-path "$root/tools/lines/Cargo.toml"
+    step cargo clippy --quiet --all-targets --manifest-path "$root/tools/lines/Cargo.toml" -- -D warnings
+    step "$root/tests/vectors/process.py"
+    echo "programs over lines: $(tail -n 1 "$work/log")"
+}
+
+plants() {
     step "$root/tools/eraser/plants.py"
+}
+
+extras() {
     step "$root/rust-extras/test.sh"
-    if ls /usr/lib/llvm-*/lib/clang/*/lib/linux/libclang_rt.fuzzer-x86_64.a >/dev/null 2>&1; then
-        step "$root/tools/fuzz/fuzz.sh" 2
-        programs="$programs; $(tail -n 1 "$work/log")"
-    fi
+}
+
+fuzzing() {
+    ls /usr/lib/llvm-*/lib/clang/*/lib/linux/libclang_rt.fuzzer-x86_64.a >/dev/null 2>&1 || return 0
+    step "$root/tools/fuzz/fuzz.sh" 2
+    echo "; $(tail -n 1 "$work/log")"
+}
+
+how=${1:-}
+# The parts read what the eraser writes, so the eraser comes before them. In scripts/try.sh it then finds nothing to write.
+step "$root/tools/eraser/erase.py" --check
+if [ "$how" = quick ]; then
+    side_by_side crate lines speed
+else
+    side_by_side crate plants fuzzing lines extras speed
 fi
-echo "rust: $passed tests, $fallible with \`fallible\`, $(ls examples/*.rs | wc -l) examples; $longest; $programs"
+# This step measures time, so no part runs beside it.
+step cargo run --quiet --release --manifest-path "$root/tools/speed/Cargo.toml" --bin orders -- spike
+echo "rust: $(said crate); $(cat "$work/log"); $(said lines)$([ "$how" = quick ] || said fuzzing)"

@@ -301,11 +301,17 @@ class Theorem:
         return out
 
     def merged_names(self):
-        """A name for each definition in the one file: with its module if two have the same."""
-        many = {}
+        """A name for each definition in the one file: with its module if two have the same, and with its crate if two modules have the
+        same name too."""
+        many, named = {}, {}
         for d in self.defs.values():
             many.setdefault(d.name, []).append(d)
-        return {d.key: d.name if len(ds) == 1 else f'{d.name}_of_{d.module.split(".")[-2 if d.kind == "rust" else -1]}' for ds in many.values() for d in ds}
+        for ds in many.values():
+            modules = {d.key: d.module.split('.')[-2 if d.kind == 'rust' else -1] for d in ds}
+            for d in ds:
+                crate = d.module.split('.')[0].removeprefix('codec_payload_') + '_' if list(modules.values()).count(modules[d.key]) > 1 else ''
+                named[d.key] = d.name if len(ds) == 1 else f'{d.name}_of_{crate}{modules[d.key]}'
+        return named
 
     def cut_parts(self, d, lines):
         """A type of many parts with those that the statement speaks of; comments go with their part."""
@@ -345,7 +351,10 @@ class Theorem:
             known = {}
             for t, r in self.p.names(d, [code]):
                 first, dot, field = t.partition('.')
-                if r is not None and r.key in merged and d.imports.get(first, ('', first))[1] in ('*', r.name):
+                named = d.imports.get(first, ('', first))[1]
+                if named == '*' and r is not None and r.kind != 'rust':
+                    _, dot, field = field.partition('.')  # the alias of a module goes
+                if r is not None and r.key in merged and named in ('*', r.name):
                     known[t] = merged[r.key] + dot + field
             code = TOKEN.sub(lambda m: known.get(m.group(0), m.group(0)), code)
             if merged[d.key] != d.name:

@@ -296,7 +296,7 @@ static cpay_sdp_error read_feedback(section *it, text value) {
 
 /* ---- Ids of header extensions (RFC 8285) ---- */
 
-enum { EXTENSIONS = 12, TRANSPORT_CC = 9, MOST_ID = 255, FIRST_UNASSIGNED_ID = 4096, LAST_UNASSIGNED_ID = 4351 };
+enum { EXTENSIONS = 13, TRANSPORT_CC = 9, DEPENDENCY_DESCRIPTOR = 12, MOST_ID = 255, FIRST_UNASSIGNED_ID = 4096, LAST_UNASSIGNED_ID = 4351 };
 
 static const char *const uris[EXTENSIONS] = {
     "http://www.webrtc.org/experiments/rtp-hdrext/abs-capture-time",
@@ -311,6 +311,7 @@ static const char *const uris[EXTENSIONS] = {
     "http://www.ietf.org/id/draft-holmer-rmcat-transport-wide-cc-extensions-01",
     "http://www.webrtc.org/experiments/rtp-hdrext/abs-send-time",
     "urn:ietf:params:rtp-hdrext:toffset",
+    "https://aomediacodec.github.io/av1-rtp-spec/#dependency-descriptor-rtp-header-extension",
 };
 
 /* The field for the id of each URI. */
@@ -319,7 +320,7 @@ static void ids_of(cpay_sdp_media *media, uint8_t *ids[EXTENSIONS]) {
     uint8_t *const found[EXTENSIONS] = {
         &known->abs_capture_time, &known->video_orientation, &known->video_content_type, &known->video_timing,
         &known->layers_allocation, &known->audio_level, &media->mid_id, &media->rid_id, &media->repaired_rid_id,
-        &media->transport_cc_id, &media->send_time_id, &media->offset_id,
+        &media->transport_cc_id, &media->send_time_id, &media->offset_id, &media->dependency_descriptor_id,
     };
     memcpy(ids, found, sizeof found);
 }
@@ -595,6 +596,7 @@ cpay_status cpay_sdp_receiver(const cpay_sdp_media *media, uint8_t payload_type,
     settings->spec.octet_align = format->octet_align;
     settings->payload_type = payload_type;
     settings->extension_ids = media->extension_ids;
+    settings->dependency_descriptor = media->dependency_descriptor_id;
     if (red) set_red(settings, media, red);
     set_source(settings, media);
     for (size_t i = 0; i < media->format_count; i++)
@@ -821,6 +823,7 @@ cpay_status cpay_sdp_session(const cpay_sdp_media *media, size_t media_len, cpay
     }
     found.settings.extension_ids = extension_ids_of(it.ids);
     found.settings.name_ids = name_ids_of(it.ids);
+    found.settings.dependency_descriptor = it.ids[DEPENDENCY_DESCRIPTOR];
     set_transport(&found.settings, &it);
     set_wait_limits(&found);
     *session = found;

@@ -45,7 +45,7 @@ static void print_ids(const cpay_sdp_media *it) {
                {"content-type", known->video_content_type}, {"timing", known->video_timing},
                {"layers", known->layers_allocation}, {"level", known->audio_level}, {"mid", it->mid_id},
                {"rid", it->rid_id}, {"repaired-rid", it->repaired_rid_id}, {"transport-cc", it->transport_cc_id},
-               {"send-time", it->send_time_id}, {"toffset", it->offset_id}};
+               {"send-time", it->send_time_id}, {"toffset", it->offset_id}, {"descriptor", it->dependency_descriptor_id}};
     printf("ids:");
     for (size_t i = 0; i < sizeof ids / sizeof *ids; i++)
         if (ids[i].id) printf(" %s %u", ids[i].name, ids[i].id);
@@ -66,6 +66,7 @@ static void print_receiver(const cpay_sdp_media *it, uint8_t payload_type) {
     if (settings.has_red_rtx) printf(" RTX %u", settings.red_rtx_payload_type);
     if (settings.has_ssrc) printf(", SSRC %u", settings.ssrc);
     if (settings.has_rtx) printf(", RTX %u SSRC %u", settings.rtx_payload_type, settings.rtx_ssrc);
+    if (settings.dependency_descriptor) printf(", descriptor %u", settings.dependency_descriptor);
     if (no_media_len > 0) printf(", no media in");
     for (size_t i = 0; i < no_media_len; i++) printf(" %u", no_media[i]);
     printf("\n");
@@ -99,14 +100,16 @@ static void print_session_format(const cpay_session_format *it) {
     printf("%s%s\n", it->nack ? ", nack" : "", it->pli ? ", pli" : "");
 }
 
-static void print_session_ids(const cpay_extension_ids *it, const cpay_stream_name_ids *names) {
+static void print_session_ids(const cpay_session_settings *settings) {
+    const cpay_extension_ids *it = &settings->extension_ids;
+    const cpay_stream_name_ids *names = &settings->name_ids;
     const struct {
         const char *name;
         uint8_t id;
     } ids[] = {{"capture-time", it->abs_capture_time}, {"orientation", it->video_orientation},
                {"content-type", it->video_content_type}, {"timing", it->video_timing},
                {"layers", it->layers_allocation}, {"level", it->audio_level}, {"mid", names->mid},
-               {"rid", names->rid}, {"repaired-rid", names->repaired_rid}};
+               {"rid", names->rid}, {"repaired-rid", names->repaired_rid}, {"descriptor", settings->dependency_descriptor}};
     printf("session ids:");
     for (size_t i = 0; i < sizeof ids / sizeof *ids; i++)
         if (ids[i].id) printf(" %s %u", ids[i].name, ids[i].id);
@@ -140,7 +143,7 @@ static void print_session(size_t count) {
         printf(" %u%s", session.no_media[i] % CPAY_TELEPHONE, is_telephone ? " (events)" : "");
     }
     printf("\n");
-    print_session_ids(&session.settings.extension_ids, &session.settings.name_ids);
+    print_session_ids(&session.settings);
     for (size_t i = 0; i < session.pairs_len; i++) printf("pair %u %u\n", session.pairs[i].ssrc, session.pairs[i].rtx_ssrc);
 }
 

@@ -597,6 +597,45 @@ static void names(void) {
     cpay_session_free(&session);
 }
 
+/* A frame of VP8 in one packet with a dependency descriptor (AV1 RTP specification, appendix A), whose frame number is its sequence
+ * number: 1 is a keyframe with a structure, later odd numbers are of temporal layer 0 and refer to the frame 2 before, even numbers are
+ * of layer 1 and refer to the frame before. Returns whether its unit is decodable. */
+static bool is_shown(cpay_session *session, uint16_t number) {
+    const uint8_t template = number == 1 ? 0 : (uint8_t)(2 - number % 2);
+    const uint8_t structure[6] = {0x80, 0x00, 0x1f, 0xf4, 0x50, 0x00};
+    const uint8_t key[11] = {0x10, 0x10, 0, 0, 0x9d, 0x01, 0x2a, 16, 0, 16, 0};
+    uint8_t payload[27] = {0xbe, 0xde, 0, 3, 0x60 | 2, 0xc0 | template, (uint8_t)(number >> 8), (uint8_t)number};
+    uint8_t bytes[64], out[64];
+    cpay_arrival arrival;
+    cpay_event event;
+    bool shown = false;
+    if (number == 1) payload[4] = 0x60 | 8, memcpy(payload + 8, structure, sizeof structure);
+    memcpy(payload + 16, key, sizeof key);
+    if (number != 1) payload[17] = 0x11; /* P of the frame header (RFC 6386, section 9.1) */
+    size_t size = packet(bytes, 0x80 | VIDEO, 3, number, payload, sizeof payload);
+    bytes[0] |= 0x10;
+    CHECK(cpay_session_receive(session, 1000u * number, bytes, size, &arrival) == CPAY_OK);
+    while (cpay_session_poll(session, 1000u * number + 500, &event, out, sizeof out) == CPAY_OK)
+        if (event.kind == CPAY_EVENT_UNIT) shown = event.unit.decodable;
+    return shown;
+}
+
+/* A lost frame of the upper layer holds back nothing if the descriptor is read, and else all. */
+static void descriptors(void) {
+    cpay_session_settings settings;
+    cpay_session_settings_init(&settings, CPAY_FOR_LIVE);
+    CHECK(settings.dependency_descriptor == 0);
+    settings.probation = 1;
+    for (uint8_t id = 0; id <= 6; id += 6) {
+        settings.dependency_descriptor = id;
+        cpay_session session = session_of(&settings);
+        CHECK(is_shown(&session, 1));
+        CHECK(is_shown(&session, 3) == (id == 6) && is_shown(&session, 4) == (id == 6) && is_shown(&session, 5) == (id == 6));
+        CHECK(!is_shown(&session, 8) && !is_shown(&session, 9)); /* both refer to frame 7 */
+        cpay_session_free(&session);
+    }
+}
+
 /* Figure 2 of RFC 3550: a sender report of 46,853.125 s arrives, and 5.250 s later a block is made. */
 static void reports(void) {
     static const uint8_t sender_report[28] = {0x80, 200, 0, 6, 0, 0, 0, 1, 0xb4, 0x4d, 0xb7, 0x05, 0x20, 0, 0, 0, 0, 0, 0x1e, 0x61};
@@ -995,6 +1034,7 @@ int main(void) {
     telephone();
     video();
     names();
+    descriptors();
     reports();
     small_buffers();
     values_and_places();

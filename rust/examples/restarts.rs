@@ -1,4 +1,4 @@
-//! Senders that restart on their SSRC within or near the windows, and hostile networks in which none does. It prints three tables
+//! Senders that restart on their SSRC within or near the windows, and hostile networks in which none does. It prints four tables
 //! of docs/use/LIMITS.md, and fails if a restart takes longer to find than documented, or if a restart is reported although the sender
 //! did not restart:
 //!
@@ -26,8 +26,10 @@ const PAYLOAD: usize = 100;
 const DESCRIPTOR: usize = 4;
 /// The longest time between two units at a restart, in milliseconds; of slow streams it is five frame intervals.
 const LONGEST: u64 = 300;
-/// The same while packets of the former sender still arrive.
-const LONGEST_BESIDE: u64 = 2_000;
+/// The same if the end of the former sender arrives late.
+const LONGEST_AFTER_END: u64 = 700;
+/// How old the packets are that are still sent again, in milliseconds.
+const RECENT: u64 = 5_000;
 /// How far behind the greatest number the second sender begins: within the windows, at their ends, and outside.
 const DISTANCES: [u16; 12] = [
     1, 2, 16, 100, 360, 900, 1_000, 1_001, 1_100, 2_500, 5_000, 5_001,
@@ -189,18 +191,38 @@ fn put(arriving: &mut BTreeMap<u64, Vec<Vec<u8>>>, at: u64, datagram: &[u8]) {
     arriving.entry(at).or_default().push(datagram.to_vec());
 }
 
+/// What still arrives of the former sender after a restart.
+#[derive(Clone, Copy, PartialEq)]
+enum Former {
+    /// Nothing.
+    Ends,
+    /// For three seconds a retransmission each 10 ms.
+    Retransmissions,
+    /// The second copies: all packets of both senders arrive twice, the second time 50 to 800 ms later.
+    Twice,
+    /// Its last 300 ms, half a second late.
+    LateEnd,
+}
+
+const STILL_ARRIVING: [(Former, &str); 3] = [
+    (Former::Twice, "everything twice"),
+    (Former::Retransmissions, "retransmissions"),
+    (Former::LateEnd, "its end late"),
+];
+
 /// How a sender restarts: after this many frames of the former sender, `distance` numbers below the highest one, with another RTP
-/// offset or with times that continue, and with or without retransmissions of the former sender.
+/// offset or with times that continue, and what still arrives of the former sender.
 #[derive(Clone, Copy)]
 struct Restart {
     frames: u64,
     distance: u16,
     offset: u64,
-    beside_former: bool,
+    former: Former,
 }
 
 /// Runs a sender, and another sender for three seconds. Returns how many frames of the second were not released.
 fn restart(stream: Stream, how: Restart) -> Result<(Outcome, usize), Fault> {
+    let mut random = Random(1);
     let mut arriving = BTreeMap::new();
     let mut former = Vec::new();
     let mut sender = stream.sender(30_000)?;
@@ -218,14 +240,29 @@ fn restart(stream: Stream, how: Restart) -> Result<(Outcome, usize), Fault> {
         times.push(time as u32);
         for sent in stream.frame(&mut sender, time, at)? {
             put(&mut arriving, at + NETWORK, &sent.datagram);
+            if how.former == Former::Twice {
+                let again = at + NETWORK + random.within(50, 800);
+                put(&mut arriving, again, &sent.datagram);
+            }
         }
     }
     for sent in &former {
-        put(&mut arriving, sent.at + NETWORK, &sent.datagram);
+        let at = if how.former == Former::LateEnd && sent.at + 300 >= begins {
+            begins + 500
+        } else {
+            sent.at
+        };
+        put(&mut arriving, at + NETWORK, &sent.datagram);
+        if how.former == Former::Twice {
+            let again = sent.at + NETWORK + random.within(50, 800);
+            put(&mut arriving, again, &sent.datagram);
+        }
     }
-    if how.beside_former {
+    if how.former == Former::Retransmissions {
+        let recent = former.iter().filter(|it| it.at + RECENT >= begins);
+        let recent = 200.min(recent.count());
         for step in 0..300 {
-            let old = &former[former.len() - 1 - step as usize % 200];
+            let old = &former[former.len() - 1 - step as usize % recent];
             put(
                 &mut arriving,
                 begins + NETWORK + 5 + 10 * step,
@@ -359,41 +396,77 @@ fn hostile(
 }
 
 /// Makes a table row of restarts, and prints it for some distances. Returns the number of restarts that were not found in time.
-fn print_restarts(distance: u16, beside_former: bool) -> Result<u32, Fault> {
+fn print_restarts(distance: u16) -> Result<u32, Fault> {
     let mut wrong = 0;
-    let beside = if beside_former {
-        ", with retransmissions"
-    } else {
-        ""
-    };
-    let mut row = format!("| {distance}{beside} |");
+    let mut row = format!("| {distance} |");
     for stream in STREAMS {
-        // The former sender sent all numbers of the distance.
-        let packets = 1_200.max(u64::from(distance) + 100);
         let how = Restart {
-            frames: packets / stream.packets as u64 + 1,
+            frames: frames_before(stream, distance),
             distance,
             offset: 0x1234_5678,
-            beside_former,
+            former: Former::Ends,
         };
         let (outcome, lost) = restart(stream, how)?;
         row += &format!(" {}; {lost} |", outcome.longest_pause);
-        let longest = if beside_former {
-            LONGEST_BESIDE
-        } else {
-            LONGEST.max(5 * stream.interval)
-        };
+        let longest = LONGEST.max(5 * stream.interval);
         wrong += u32::from(outcome.longest_pause > longest);
         // Times that go on make no difference.
         let (going_on, _) = restart(stream, Restart { offset: 0, ..how })?;
         wrong += u32::from(going_on.longest_pause > longest);
         // One or two numbers behind, the second sender passes the first before a restart is found.
         let expected = 2 * u64::from(distance > 2);
-        wrong += u32::from(!beside_former && outcome.restarts + going_on.restarts != expected);
+        wrong += u32::from(outcome.restarts + going_on.restarts != expected);
     }
-    if beside_former || PRINTED.contains(&distance) {
+    if PRINTED.contains(&distance) {
         println!("{row}");
     }
+    Ok(wrong)
+}
+
+/// Frames of a former sender that sent all numbers of the distance.
+fn frames_before(stream: Stream, distance: u16) -> u64 {
+    1_200.max(u64::from(distance) + 100) / stream.packets as u64 + 1
+}
+
+/// Prints a table row of restarts after which packets of the former sender still arrive: the longest pause and the most frames that
+/// were lost, over all distances above 2, and below the first number. Returns the number of restarts after which the pause is too
+/// long.
+fn print_still_arriving(former: Former, name: &str, offset: u64) -> Result<u32, Fault> {
+    let mut wrong = 0;
+    let times = if offset == 0 {
+        "times continue"
+    } else {
+        "another offset"
+    };
+    let at_most = match former {
+        Former::LateEnd => LONGEST_AFTER_END,
+        _ => LONGEST,
+    };
+    print!("| {name}, {times} |");
+    for stream in STREAMS {
+        let (mut pause, mut lost) = (0, 0);
+        // The receiver heard more of the former sender than its late end.
+        let young = AGES.into_iter().filter(|it| *it > 1_000).map(|age| {
+            let frames = age / stream.interval + 1;
+            (frames, (frames * stream.packets as u64) as u16 - 1 + 100)
+        });
+        let distances = DISTANCES.into_iter().filter(|it| *it > 2);
+        let old = distances.map(|distance| (frames_before(stream, distance), distance));
+        for (frames, distance) in old.chain(young) {
+            let how = Restart {
+                frames,
+                distance,
+                offset,
+                former,
+            };
+            let (outcome, missing) = restart(stream, how)?;
+            pause = outcome.longest_pause.max(pause);
+            lost = missing.max(lost);
+        }
+        print!(" {pause}; {lost} |");
+        wrong += u32::from(pause > at_most.max(5 * stream.interval));
+    }
+    println!();
     Ok(wrong)
 }
 
@@ -411,7 +484,7 @@ fn print_young(age: u64) -> Result<u32, Fault> {
                 frames,
                 distance: (frames * stream.packets as u64) as u16 - 1 + below,
                 offset,
-                beside_former: false,
+                former: Former::Ends,
             };
             let (outcome, missing) = restart(stream, how)?;
             pause = outcome.longest_pause.max(pause);
@@ -450,10 +523,13 @@ fn main() -> Result<(), Fault> {
     let mut wrong = 0;
     println!("| numbers behind | {names} |\n|---|---|---|---|---|");
     for distance in DISTANCES {
-        wrong += print_restarts(distance, false)?;
+        wrong += print_restarts(distance)?;
     }
-    for distance in [360, 1_100] {
-        wrong += print_restarts(distance, true)?;
+    println!("\n| still arrives | {names} |\n|---|---|---|---|---|");
+    for (former, name) in STILL_ARRIVING {
+        for offset in [0x1234_5678, 0] {
+            wrong += print_still_arriving(former, name, offset)?;
+        }
     }
     println!("\n| age | {names} |\n|---|---|---|---|---|");
     for age in AGES {

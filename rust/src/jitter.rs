@@ -25,7 +25,7 @@ pub use jitter_buffer::{JitterBuffer, KeptPacket, Outcome, PacketCounters, WaitL
 pub use missing::MissingNumbers;
 
 #[doc(inline)]
-pub use noted_times::NotedTime;
+pub use noted_times::{FormerSender, NotedTime};
 
 #[doc(inline)]
 pub use numbers::{Extended, SequenceNumbers, WindowError};

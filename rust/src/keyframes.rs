@@ -15,7 +15,7 @@ pub mod vp8_layers;
 pub use gate::{KeyframeGate, is_keyframe, is_video};
 
 #[doc(inline)]
-pub use references::{References, Referring};
+pub use references::{References, Referring, UnitReferences};
 
 #[doc(inline)]
 pub use unit_gate::{FromKeyframe, UnitGate};

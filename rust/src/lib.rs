@@ -128,6 +128,8 @@ pub mod feedback;
 #[doc(hidden)]
 pub mod forward;
 #[doc(hidden)]
+pub mod frame_notes;
+#[doc(hidden)]
 pub mod history;
 mod index;
 #[doc(hidden)]
@@ -167,6 +169,7 @@ pub mod sender;
 pub mod session;
 #[doc(hidden)]
 pub mod stream;
+mod syntax;
 #[doc(hidden)]
 pub mod tele;
 #[doc(hidden)]

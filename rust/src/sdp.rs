@@ -98,10 +98,11 @@ pub struct Source {
     pub retransmission: Option<u32>,
 }
 
-/// Ids of further header extensions: of names of streams ([`SessionSettings::name_ids`]), of the transport, and of times that this
-/// crate neither reads nor writes. `None` if absent.
+/// Ids of further header extensions: of names of streams ([`SessionSettings::name_ids`]), of the transport, of the dependency
+/// descriptor ([`SessionSettings::dependency_descriptor`]), and of times that this crate neither reads nor writes. `None` if absent.
 ///
 /// [`SessionSettings::name_ids`]: crate::session::SessionSettings::name_ids
+/// [`SessionSettings::dependency_descriptor`]: crate::session::SessionSettings::dependency_descriptor
 #[derive(Clone, Copy, Debug, Default, PartialEq, Eq)]
 pub struct OtherIds {
     /// `sdes:mid` (RFC 9143).
@@ -116,6 +117,8 @@ pub struct OtherIds {
     pub send_time: Option<u8>,
     /// Transmission time offset (RFC 5450).
     pub transmission_offset: Option<u8>,
+    /// Dependency descriptor (AV1 RTP specification, appendix A).
+    pub dependency_descriptor: Option<u8>,
 }
 
 /// The kind of media of a section.
@@ -274,7 +277,8 @@ impl<'a> Media<'a> {
     ///   ticks of the RTP clock, 1 to 16,383. Its retransmissions have the first format of RTX whose `apt` is the RED format.
     /// - If the section has exactly one SSRC of media, it is the SSRC of the stream. If it has retransmissions, and a format of
     ///   RTX has the payload type as `apt`, they are set too.
-    /// - Types without media: telephone events, comfort noise, error correction. Ids of header extensions.
+    /// - Types without media: telephone events, comfort noise, error correction. Ids of header extensions, with the id of the
+    ///   dependency descriptor.
     ///
     /// # Errors
     ///
@@ -297,6 +301,7 @@ impl<'a> Media<'a> {
         };
         let mut settings = limits(payload_type, spec.clock_rate);
         settings.extension_ids = self.extension_ids;
+        settings.dependency_descriptor = self.other_ids.dependency_descriptor;
         settings.red = self.red_settings(payload_type, spec.clock_rate, true);
         if let [source] = self.sources[..] {
             settings.ssrc = Some(source.ssrc);

@@ -12,6 +12,7 @@ mod choice;
 mod datagram;
 mod defaults;
 mod gated;
+mod notes;
 #[doc(hidden)]
 pub mod parsed;
 #[doc(hidden)]

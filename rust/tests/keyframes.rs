@@ -1,12 +1,17 @@
 //! The keyframe gate over units of VP8, VP9 and AV1.
 
-use codec_payload::keyframes::{KeyframeGate, is_keyframe};
+use codec_payload::keyframes::{KeyframeGate, UnitReferences, is_keyframe};
 use codec_payload::{Codec, CodecExtra};
 
 /// Frame headers of VP8 (RFC 6386, section 9.1): bit 0 of the first byte is 0 for a keyframe, which goes on with a start code and
 /// its size.
 const VP8_KEY: &[u8] = &[0x10, 0, 0, 0x9D, 0x01, 0x2A, 0x10, 0, 0x10, 0];
 const VP8_DELTA: &[u8] = &[0x11, 0, 0];
+
+/// A unit of which nothing is known beside its bytes and whether it is contiguous.
+fn release(gate: &mut KeyframeGate, unit: &[u8], contiguous: bool) -> bool {
+    gate.release(unit, contiguous, &CodecExtra::None, &UnitReferences::none())
+}
 
 #[test]
 fn a_keyframe_is_told_by_its_bits() {
@@ -24,40 +29,37 @@ fn a_keyframe_is_told_by_its_bits() {
 fn delta_frames_after_a_gap_wait_for_a_keyframe() {
     let mut gate = KeyframeGate::new(Codec::Vp8);
     assert!(!gate.wants_keyframe(), "nothing was released yet");
-    assert!(
-        !gate.release(VP8_DELTA, true, &CodecExtra::None),
-        "no keyframe came yet"
-    );
+    assert!(!release(&mut gate, VP8_DELTA, true), "no keyframe came yet");
     assert!(gate.wants_keyframe());
-    assert!(gate.release(VP8_KEY, false, &CodecExtra::None));
+    assert!(release(&mut gate, VP8_KEY, false));
     assert!(!gate.wants_keyframe());
-    assert!(gate.release(VP8_DELTA, true, &CodecExtra::None));
-    assert!(!gate.release(VP8_DELTA, false, &CodecExtra::None), "a gap");
+    assert!(release(&mut gate, VP8_DELTA, true));
+    assert!(!release(&mut gate, VP8_DELTA, false), "a gap");
     assert!(
-        !gate.release(VP8_DELTA, true, &CodecExtra::None),
+        !release(&mut gate, VP8_DELTA, true),
         "contiguous, after a unit that cannot be shown"
     );
     assert!(gate.wants_keyframe());
-    assert!(gate.release(VP8_KEY, true, &CodecExtra::None));
+    assert!(release(&mut gate, VP8_KEY, true));
     assert!(!gate.wants_keyframe());
 }
 
 #[test]
 fn a_lost_unit_and_skipped_units_want_a_keyframe() {
     let mut gate = KeyframeGate::new(Codec::Vp8);
-    assert!(gate.release(VP8_KEY, true, &CodecExtra::None));
+    assert!(release(&mut gate, VP8_KEY, true));
     gate.skip();
     assert!(gate.wants_keyframe());
     assert!(
-        gate.release(VP8_DELTA, true, &CodecExtra::None),
+        release(&mut gate, VP8_DELTA, true),
         "by its picture ids it follows"
     );
     assert!(gate.wants_keyframe(), "only a keyframe ends it");
-    assert!(gate.release(VP8_KEY, true, &CodecExtra::None));
+    assert!(release(&mut gate, VP8_KEY, true));
     gate.lose();
     assert!(gate.wants_keyframe());
     assert!(!gate.shows_last());
-    assert!(!gate.release(VP8_DELTA, true, &CodecExtra::None));
+    assert!(!release(&mut gate, VP8_DELTA, true));
 }
 
 #[test]
@@ -65,6 +67,6 @@ fn audio_needs_no_keyframe() {
     let mut gate = KeyframeGate::new(Codec::Opus);
     gate.lose();
     gate.skip();
-    assert!(gate.release(&[0x78], false, &CodecExtra::None));
+    assert!(release(&mut gate, &[0x78], false));
     assert!(!gate.wants_keyframe());
 }

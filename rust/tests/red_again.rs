@@ -359,3 +359,45 @@ fn by_the_session_description() -> Result<(), Fail> {
     assert_eq!((format.red, format.retransmission), (Some(red), Some(97)));
     Ok(())
 }
+
+/// Another sender begins at number 20, with another RTP offset, after frames 0 to 39 with the numbers 10 to 49. What still arrives of
+/// the first one is dropped: its RED packets and their blocks, and its retransmissions. The report is about the second sender.
+#[test]
+fn former_sender() -> Result<(), Fail> {
+    let former = frames(40)?;
+    let mut receiver = receiver_by(settings())?;
+    // The last two are lost at first.
+    for (number, time, payload) in &former[..38] {
+        receiver.receive(Ticks(0), &sent(*number, *time, payload))?;
+    }
+    assert_eq!(units(&mut receiver, 1)?.len(), 38);
+    let mut red = red_sender(&[1]);
+    let mut outcomes = Vec::new();
+    for frame in 0..20 {
+        let time = 3_000_000_000 + u32::from(frame) * STEP;
+        let payload = red.wrap(vec![100 + frame; 9], time, 1_200)?;
+        let number = 20 + u16::from(frame);
+        outcomes.push(receiver.receive(Ticks(2), &sent(number, time, &payload))?);
+        if frame < 4 {
+            continue;
+        }
+        for place in [0, 30, 37, 38, 39] {
+            let (number, time, payload) = &former[place];
+            let answer = receiver.receive(Ticks(2), &sent(*number, *time, payload));
+            assert_eq!(answer, Ok(Outcome::Suspect), "packet {place}");
+            let answer = receiver.receive(Ticks(2), &again(*number, *time, payload));
+            assert_eq!(answer, Ok(Outcome::Late), "packet {place}");
+        }
+    }
+    assert_eq!(outcomes[0], Outcome::Suspect);
+    assert_eq!(outcomes[4], Outcome::Restarted(true));
+    assert!(outcomes[5..].iter().all(|it| *it == Outcome::Held));
+    // The suspect packet of frame 100 is stored with frame 104, which brings frame 103 too. The three packets between were late.
+    let stored = units(&mut receiver, 1_000)?;
+    assert_eq!(stored[0], 100);
+    assert_eq!(stored[1..], (103..120).collect::<Vec<u8>>());
+    let report = receiver.report().ok_or("no report")?;
+    assert_eq!(report.highest, 39);
+    assert_eq!(receiver.counters().packets.suspect, 80);
+    Ok(())
+}

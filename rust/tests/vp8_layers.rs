@@ -1,6 +1,6 @@
 //! Which units of VP8 with temporal layers a decoder can show (RFC 7741, section 4.2), against a model of the decoder.
 
-use codec_payload::keyframes::KeyframeGate;
+use codec_payload::keyframes::{KeyframeGate, UnitReferences};
 use codec_payload::{Codec, CodecExtra, Vp8CodecExtra};
 
 /// Frame headers (RFC 6386, section 9.1): a keyframe and another frame.
@@ -31,7 +31,8 @@ impl Picture {
     }
 
     fn release(&self, gate: &mut KeyframeGate) -> bool {
-        gate.release(if self.key { KEY } else { DELTA }, true, &self.extra())
+        let unit = if self.key { KEY } else { DELTA };
+        gate.release(unit, true, &self.extra(), &UnitReferences::none())
     }
 }
 
@@ -142,10 +143,13 @@ fn ids_that_come_and_go_hold_back_all_until_a_keyframe() {
     });
     let mut gate = KeyframeGate::new(Codec::Vp8);
     assert!(pictures[0].release(&mut gate));
-    assert!(!gate.release(DELTA, true, &without) && gate.wants_keyframe());
+    let plain = |gate: &mut KeyframeGate, unit: &[u8]| {
+        gate.release(unit, true, &without, &UnitReferences::none())
+    };
+    assert!(!plain(&mut gate, DELTA) && gate.wants_keyframe());
     assert!(!pictures[2].release(&mut gate), "of all ids none is known");
-    assert!(gate.release(KEY, true, &without) && gate.release(DELTA, true, &without));
-    assert!(!pictures[2].release(&mut gate) && !gate.release(DELTA, true, &without));
+    assert!(plain(&mut gate, KEY) && plain(&mut gate, DELTA));
+    assert!(!pictures[2].release(&mut gate) && !plain(&mut gate, DELTA));
     assert!(gate.wants_keyframe());
 }
 

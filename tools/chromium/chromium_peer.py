@@ -13,11 +13,16 @@ requests missing packets and keyframes, which Chromium answers. A call fails unl
   OBU with its size;
 - no frame is released twice, and the frames of each stream are in the encoder's order;
 - `keyframe` is what the encoder says, and a unit is only `decodable` if all frames to which the encoder refers are;
-- at least 99 % of the frames whose packets arrived in time, at first or again, are released (not asked of temporal layers: a frame
-  above the base layer is skipped if the one before it is missing); and 99 % of the frames that follow a keyframe without a gap
-  are decodable;
+- at least 99 % of the frames whose packets arrived in time, at first or again, are released; and 99 % of the frames that follow a
+  keyframe without a gap are decodable. A frame of VP8 above the base layer counts only if the frame before it is released: else the
+  buffer skips it. The calls `temporal` and `simulcast` have such frames: Chromium gives each size of a simulcast three layers;
+- in the calls that end in `-layers`, 99 % of the released frames all of whose references were decodable are decodable, also after a
+  gap. They are by the dependency descriptor, which the answer accepts, or in `vp9-plain-layers` by the P_DIFFs of VP9 without it;
 - at least half of the lost packets of video arrive again, and a keyframe is requested if a gap stays;
 - Chromium reads the receiver reports: it has the relay's round trip, and no more losses than the relay made.
+
+A busy machine can drop datagrams at a full socket of the relay or of the program. Then the relay does not know what arrived: such a
+call is not judged by its shares, and a line says so.
 
 It prints a row for each sender. Needs Chromium of a distribution (Chrome's stable builds encrypt always) and cargo, and no
 network. The seed fixes the relay's chances; Chromium's times differ from run to run.
@@ -66,7 +71,15 @@ CALLS = {
     "layers": "video=VP9,rtx&layers=L2T2",
     "temporal": "video=VP8,rtx&layers=L1T3",
     "simulcast": "video=VP8&simulcast=1&width=640",
+    "vp9-layers": "video=VP9,rtx&layers=L1T3",
+    "vp9-spatial-layers": "video=VP9,rtx&layers=L3T3_KEY&width=640",
+    "av1-layers": "video=AV1,rtx&layers=L1T3",
+    "vp9-plain-layers": "video=VP9,rtx&layers=L1T3",
 }
+# The calls whose offers must have the dependency descriptor (AV1 RTP specification, appendix A), and the one that refuses it.
+DESCRIBED = {"vp9-layers", "vp9-spatial-layers", "av1-layers"}
+PLAIN = "vp9-plain-layers"
+DESCRIPTOR = re.compile(r"(?m)^a=extmap:\d+ https://aomediacodec\.github\.io/av1-rtp-spec/#dependency-descriptor.*\r?\n")
 # What the relay changes in the middle of a call.
 RESTARTS = {"restart": {"numbers": 20_000, "times": 1_000_000_000}, "swap": {"ssrc_change": 0x10}}
 TIME_LIMIT = 60
@@ -111,6 +124,7 @@ class Call:
         self.name, self.settings, self.program, self.folder = name, settings, program, folder
         self.frames, self.lines, self.statistics = [], [], []
         self.offer = self.relay = self.process = self.reader = self.failure = None
+        self.dropped = 0  # datagrams at full sockets
         self.ended = threading.Event()
 
     def post(self, path, text):
@@ -128,6 +142,8 @@ class Call:
         return ""
 
     def answer(self, offer):
+        if self.name == PLAIN:
+            offer = DESCRIPTOR.sub("", offer)
         if self.offer is None:
             self.offer = offer
             self.start()
@@ -156,6 +172,7 @@ class Call:
     def finish(self):
         """Ends the program and the relay."""
         if self.relay:
+            self.dropped = dropped_at({self.relay.port, self.relay.inner_port, self.relay.program})
             self.relay.stop()
         if self.reader is None:
             self.failure = self.failure or "the program does not start"
@@ -166,6 +183,14 @@ class Call:
         self.reader.join(5)
         if self.process.wait() and not self.failure:
             self.failure = f"port_peer: status {self.process.returncode}"
+
+
+def dropped_at(ports):
+    """How many datagrams the system has dropped at the full sockets of these ports. Linux alone says it."""
+    with contextlib.suppress(FileNotFoundError):
+        rows = [line.split() for line in pathlib.Path("/proc/net/udp").read_text(encoding="ascii").splitlines()[1:]]
+        return sum(int(row[-1]) for row in rows if int(row[1].split(":")[1], 16) in ports)
+    return 0
 
 
 def frame_of(line):
@@ -224,12 +249,12 @@ def browse(call, address):
             browser.wait()
 
 
-def made(name, settings, program, folder):
+def made(name, page_query, settings, program, folder):
     """A call that has ended."""
     call = Call(name, settings, program, folder)
     server = server_of(call)
     threading.Thread(target=server.serve_forever, daemon=True).start()
-    query = f"{CALLS[name]}&seconds={settings.seconds}"
+    query = f"{page_query}&seconds={settings.seconds}"
     try:
         browse(call, f"http://127.0.0.1:{server.server_address[1]}/chromium_peer.html?{query}")
     finally:
@@ -240,6 +265,14 @@ def made(name, settings, program, folder):
 
 
 # ---- the comparison ----
+
+
+def vp8_layer(payload):
+    """The temporal layer in a payload of VP8 (RFC 7741, section 4.2), or 0."""
+    if not payload[0] & 0x80 or not payload[1] & 0x20:
+        return 0
+    picture_id = (1 + (payload[2] >> 7)) if payload[1] & 0x80 else 0
+    return payload[2 + picture_id + (payload[1] >> 6 & 1)] >> 6
 
 
 @dataclasses.dataclass
@@ -266,7 +299,7 @@ class Comparison:
     """The units of a call beside its frames."""
 
     def __init__(self, call):
-        self.call, self.faults, self.frames = call, [], joined(call.frames)
+        self.call, self.faults, self.remarks, self.frames = call, [], [], joined(call.frames)
         self.codecs = {int(number): codec.lower() for number, codec in re.findall(r"a=rtpmap:(\d+) ([^/]+)/", call.offer or "")}
         self.units = [unit_of(line) for line in call.lines if line.startswith("unit ")]
         self.by_frame = {self.sent_as(unit): unit for unit in self.units}
@@ -324,11 +357,19 @@ class Comparison:
         restart = self.call.relay.restart
         return restart is not None and restart.first_time == frame.time
 
+    def is_above_base(self, frame):
+        """Whether the frame is one of VP8 above the base layer."""
+        return self.codec(frame) == "vp8" and vp8_layer(self.packets[frame.ssrc, frame.time][0].packet.payload) > 0
+
     def rows(self):
         """The figures of each sender that sent something. Faults are kept."""
         if self.call.failure or not self.units:
             self.fault(self.call.failure or "no unit is released")
             return
+        if self.call.name in DESCRIBED and not DESCRIPTOR.search(self.call.offer):
+            self.fault("the offer has no dependency descriptor")
+        if self.call.dropped:
+            self.remarks.append(f"{self.call.name}: not judged by shares, {self.call.dropped} datagrams were dropped at full sockets")
         self.check_units()
         self.check_counts()
         self.check_reports()
@@ -341,7 +382,8 @@ class Comparison:
             journal = self.call.relay.journal
             row.counts["requested"] = journal.requests[ssrc, payload_type]
             row.counts["keyframes requested"] = journal.keyframe_requests[ssrc, payload_type]
-            self.check_shares(row)
+            if not self.call.dropped:
+                self.check_shares(row)
             if frames[0].kind in ("key", "delta"):
                 self.check_requests(row)
             yield row
@@ -392,7 +434,7 @@ class Comparison:
     def figures(self, frames):
         """Counts of frames and packets of one sender. A chain of video begins with a keyframe, and ends at a frame that did not
         arrive, or where the sender began again."""
-        counts, chained, shown, shown_ids = collections.Counter(frames=len(frames)), False, False, set()
+        counts, chained, shown, shown_ids, follows = collections.Counter(frames=len(frames)), False, False, set(), True
         for frame, arrived in zip(frames, self.arrivals(frames)):
             packets, unit = self.packets[frame.ssrc, frame.time], self.by_frame.get((frame.ssrc, frame.time))
             begins = frame.kind != "delta"
@@ -403,16 +445,21 @@ class Comparison:
             if shown and not can_show:
                 self.fault(f"frame of SSRC {frame.ssrc} at {frame.time}: decodable, and a frame that it refers to is missing")
             chained = arrived and (begins or chained and goes_on)
+            due = arrived and (follows or not self.is_above_base(frame))
+            follows = unit is not None
             counts += collections.Counter({
                 "packets": len(packets), "lost": sum(sent.lost for sent in packets), "arrived": arrived, "chained": chained,
                 "again": sum(sent.lost and sent.arrived is not None for sent in packets),
-                "released": unit is not None, "decodable": shown, "arrived, released": arrived and unit is not None,
-                "chained, decodable": chained and shown})
+                "released": unit is not None, "decodable": shown, "due": due, "due, released": due and unit is not None,
+                "chained, decodable": chained and shown, "referring": unit is not None and can_show,
+                "referring, decodable": can_show and shown})
         return counts
 
     def check_shares(self, row):
-        parts = [("arrived", "arrived, released"), ("chained", "chained, decodable")]
-        for of, part in parts[self.call.name == "temporal":]:
+        parts = [("due", "due, released"), ("chained", "chained, decodable")]
+        if self.call.name.endswith("-layers"):
+            parts.append(("referring", "referring, decodable"))
+        for of, part in parts:
             if row.counts[part] < SHARE_WANTED * row.counts[of]:
                 self.fault(f"{row.codec}: {row.counts[part]} of {row.counts[of]} frames: {part}")
 
@@ -468,17 +515,18 @@ def main(words):
         return 0
     # The browser and the program end with this script.
     signal.signal(signal.SIGTERM, lambda *_: sys.exit("terminated"))
-    faults, compared, names = [], 0, settings.calls or list(CALLS)
+    faults, remarks, compared, names = [], [], 0, settings.calls or list(CALLS)
     print(f"| call: codec | {' | '.join(COLUMNS)} |\n{'|---' * (len(COLUMNS) + 1)}|")
     with tempfile.TemporaryDirectory() as folder:
         program = built(folder)
         for name in names:
-            comparison = Comparison(made(name, settings, program, folder))
+            comparison = Comparison(made(name, CALLS[name], settings, program, folder))
             for row in comparison.rows():
                 print(printed(row), flush=True)
             compared += len(comparison.units)
             faults += comparison.faults
-    print("\n".join([*faults, f"chromium_peer: {len(names)} calls, {compared} units compared, {len(faults)} faults"]))
+            remarks += comparison.remarks
+    print("\n".join([*remarks, *faults, f"chromium_peer: {len(names)} calls, {compared} units compared, {len(faults)} faults"]))
     return 1 if faults else 0
 
 

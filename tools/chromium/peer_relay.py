@@ -21,6 +21,7 @@ import threading
 import time
 
 LOOPBACK = "127.0.0.1"
+RECEIVE_BUFFER = 1 << 22  # bytes that a socket is to hold; the system may give less
 STUN_COOKIE = 0x2112A442
 BINDING_REQUEST, BINDING_SUCCESS = 0x0001, 0x0101
 XOR_MAPPED_ADDRESS, MESSAGE_INTEGRITY, FINGERPRINT = 0x0020, 0x0008, 0x8028
@@ -275,6 +276,7 @@ class Relay(threading.Thread):
         self.user, self.password = secrets.token_hex(4), secrets.token_hex(16)
         self.outside, self.inside = (socket.socket(socket.AF_INET, socket.SOCK_DGRAM) for _ in range(2))
         for one in (self.outside, self.inside):
+            one.setsockopt(socket.SOL_SOCKET, socket.SO_RCVBUF, RECEIVE_BUFFER)
             one.bind((LOOPBACK, 0))
         self.port, self.inner_port = self.outside.getsockname()[1], self.inside.getsockname()[1]
         self.browser = None

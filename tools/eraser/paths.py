@@ -10,7 +10,6 @@ DOC_LINKS = {("codec/depacketizer.rt", "[`BoxedDepacketizer`]"): "[`BoxedDepacke
              ("codec/packetizer.rt", "[`BoxedPacketizer`]"): "[`BoxedPacketizer`](super::BoxedPacketizer)",
              ("session/src/session.rt", "(crate `codec_payload_rtcp`)"): "(module `parts::rtcp`)",
              ("base/src/interface.rt", "`codec_payload_vpx`"): "`parts::media::vp9`",
-             ("keyframes/src/references.rt", "`codec_payload_descriptor`"): "`parts::descriptor`",
              ("base/src/interface.rt", "`codec_payload_media`"): "`parts::media`"}
 CORE = {"fmt", "mem", "ops", "cmp", "str", "error", "convert", "iter", "slice"}
 

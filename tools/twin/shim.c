@@ -184,6 +184,7 @@ void *twin_session(uint32_t codec, uint32_t rate, uint32_t flags, const uint64_t
     settings.bye_wait = values[6];
     settings.from_keyframe = (uint8_t)values[7];
     settings.name_ids = (cpay_stream_name_ids){ .mid = 3, .rid = 4, .repaired_rid = 5 };
+    settings.dependency_descriptor = 2;
     if (cpay_session_settings_feedback(&settings, 77, name, sizeof name)) return NULL;
     formats[0].nack = formats[0].pli = formats[1].nack = formats[1].pli = true;
     cpay_session *made = calloc(1, sizeof *made);

@@ -70,6 +70,7 @@ receiver_that_waits limits wide codec rate payload_type = record {
   has_rtx = false;
   has_red_rtx = false;
   extension_ids = no_ids;
+  dependency_descriptor = 0;
 }
 
 -- a stream of the codec, without RED and retransmissions; units of video are marked
@@ -120,6 +121,7 @@ pub record IsSessionFor (purpose : ℕ) (s : SessionSettings) : Type 0 where
   pub has_transport : s.has_transport ≡ false
   pub transport : s.transport ≡ record { interval = 100; size = 1100; window = 2048; extension_id = 0 }
   pub name_ids : s.name_ids ≡ no_name_ids
+  pub dependency_descriptor : s.dependency_descriptor ≡ 0
 
 -- the session sends feedback with this SSRC and this name of 1 to 255 bytes; all else stays
 pub record Named (ssrc : ℕ) (name : List ℕ) (s t : SessionSettings) : Type 0 where

@@ -5,7 +5,7 @@ use Rattle.codec_payload_media.specs.Av1Records.{av1c_bytes}
 use Rattle.codec_payload_media.specs.Av1SequenceHeaders.{sequence_header}
 use Rattle.codec_payload_media.specs.Av1Units.{Obu, obu_at}
 use Rattle.codec_payload_media.specs.OpusPackets.{head_bytes}
-use Rattle.codec_payload_vpx.specs.Syntax.{told_by}
+use Rattle.codec_payload_vpx.specs.Syntax.{value_of}
 use Rattle.codec_payload_media.specs.declared.av1.obu.Av1Extension.{Av1Extension}
 use Rattle.codec_payload_media.specs.declared.av1.sequence_header.Av1SequenceHeader.{Av1SequenceHeader}
 use Rattle.codec_payload_vpx.specs.declared.error.MediaError.{MediaError}
@@ -111,7 +111,7 @@ with_status (Err e) = Err (media_status e)
 
 -- the sequence header of an OBU without bytes after it
 abbrev pub header_of : Obu × List ℕ → Result Av1SequenceHeader ℕ
-header_of x = if (x.0.obu_type == 1) && (length x.1 == 0) then with_status (told_by sequence_header (bits_of x.0.payload)) else Err 37
+header_of x = if (x.0.obu_type == 1) && (length x.1 == 0) then with_status (value_of sequence_header (bits_of x.0.payload)) else Err 37
 
 abbrev pub header_found : Result (Obu × List ℕ) MediaError → Result Av1SequenceHeader ℕ
 header_found (Ok x) = header_of x

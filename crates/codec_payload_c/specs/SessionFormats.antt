@@ -17,7 +17,7 @@ use Rattle.codec_payload_session.specs.declared.formats.Waiting.{Waiting}
 use Rattle.codec_payload_session.specs.declared.formats.Waiting.TheVariants as waitings
 use Rattle.codec_payload_receiver.specs.declared.receiver.RedSettings.{RedSettings}
 use Rattle.codec_payload_c.specs.AdaptiveWaits.{settings_given}
-use Rattle.codec_payload_c.specs.Ids.{ids_given}
+use Rattle.codec_payload_c.specs.Ids.{id_given, ids_given}
 use Rattle.codec_payload_c.specs.Inspect.{given_if}
 use Rattle.codec_payload_c.specs.SessionNames.{names_given}
 use Rattle.codec_payload_c.specs.StreamReceivers.{bound_given, from_keyframe_numbered, wait_limits_given}
@@ -105,6 +105,7 @@ transport_given s =
 -- the settings, from C, without formats, other lists and feedback
 pub record HasPlainSettings (s : SessionSettings) (t : Settings) : Type 0 where
   pub ids : t.extension_ids ≡ ids_given s.extension_ids
+  pub dependency_descriptor : t.dependency_descriptor ≡ id_given s.dependency_descriptor
   pub name_ids : t.name_ids ≡ names_given s.name_ids
   pub audio : t.audio ≡ wait_limits_given s.audio
   pub video : t.video ≡ wait_limits_given s.video

@@ -100,7 +100,7 @@ telephone_unit rtp_time marker bytes = record no_unit { rtp_time = rtp_time; byt
 
 -- the description of an event
 abbrev pub TellsEvent : Event → CEvent → Type 0
-TellsEvent (events.Begun ssrc payload_type names) e = e ≡ event_with 0 ssrc payload_type no_unit
+TellsEvent (events.Begun ssrc payload_type) e = e ≡ event_with 0 ssrc payload_type no_unit
 TellsEvent (events.Unit ssrc payload_type time decodable keyframe (Ok u)) e = TellsUnitOf ssrc payload_type (TellsJudgedBy time decodable keyframe u) e
 TellsEvent (events.Unit ssrc payload_type time decodable keyframe (Err fault)) e = e ≡ event_with 1 ssrc payload_type no_unit
 TellsEvent (events.TooLarge ssrc payload_type unit) e =
@@ -117,7 +117,7 @@ TellsEvent (events.Ended ssrc payload_type why) e =
 
 -- memory ran out for the unit or the RTCP packet of the event
 abbrev pub is_no_memory : Event → Bool
-is_no_memory (events.Begun ssrc payload_type names) = false
+is_no_memory (events.Begun ssrc payload_type) = false
 is_no_memory (events.Unit ssrc payload_type time decodable keyframe (Ok u)) = false
 is_no_memory (events.Unit ssrc payload_type time decodable keyframe (Err e)) = true
 is_no_memory (events.TooLarge ssrc payload_type unit) = false
@@ -133,7 +133,7 @@ is_no_memory (events.Ended ssrc payload_type why) = false
 
 -- the bytes of the event: of its unit, of its RTCP packet, or of its telephone events
 abbrev pub bytes_in : Event → List ℕ
-bytes_in (events.Begun ssrc payload_type names) = []
+bytes_in (events.Begun ssrc payload_type) = []
 bytes_in (events.Unit ssrc payload_type time decodable keyframe (Ok u)) = u.bytes
 bytes_in (events.Unit ssrc payload_type time decodable keyframe (Err e)) = []
 bytes_in (events.TooLarge ssrc payload_type unit) = []

@@ -29,7 +29,7 @@ use Rattle.codec_payload_handle.specs.declared.object.Object.{Object}
 use Rattle.codec_payload_handle.specs.declared.object.Object.TheVariants as objects
 use Rattle.codec_payload_handle.specs.declared.object.StreamReceiver.{StreamReceiver}
 use Rattle.codec_payload_handle.specs.declared.unit.Unit.{Unit as CUnit}
-use Rattle.codec_payload_c.specs.Ids.{ids_given}
+use Rattle.codec_payload_c.specs.Ids.{id_given, ids_given}
 use Rattle.codec_payload_c.specs.Inspect.{given_if}
 use Rattle.codec_payload_c.specs.RtpFields.{rtp_status}
 use Rattle.codec_payload_c.specs.declared.receiver.WaitLimits.{WaitLimits as CWaitLimits}
@@ -93,6 +93,7 @@ pub record AreSettings (s : ReceiverSettings) (types : List ℕ) (t : Settings) 
   pub forward : t.forward ≡ s.forward
   pub backward : t.backward ≡ s.backward
   pub from_keyframe : t.from_keyframe ≡ from_keyframe_numbered s.from_keyframe
+  pub dependency_descriptor : t.dependency_descriptor ≡ id_given s.dependency_descriptor
 
 -- a new receiver with these settings
 pub record IsNewStream (s : ReceiverSettings) (no_media : List ℕ) (depacketizer : Option DepacketizerState) (r : StreamReceiver) : Type 0 where

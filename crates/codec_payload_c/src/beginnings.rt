@@ -171,6 +171,7 @@ fn receiver_that_waits(
         has_rtx: false,
         has_red_rtx: false,
         extension_ids: no_ids(),
+        dependency_descriptor: 0,
     }
 }
 
@@ -247,6 +248,7 @@ pub extern "C" fn cpay_session_settings_init(settings: &mut SessionSettings, pur
             rid: 0,
             repaired_rid: 0,
         },
+        dependency_descriptor: 0,
     };
 }
 

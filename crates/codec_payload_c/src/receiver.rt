@@ -11,7 +11,7 @@ ghost use Rattle.codec_payload_c.specs.StreamReceivers.{AreSettings, EndsWith, I
 ghost use Rattle.codec_payload_handle.specs.Kinds.{Makes, OnStreamReceiver, Refuses, is_stream_receiver};
 ghost use Rattle.codec_payload_handle.specs.Settings.{depacketizer_set};
 
-use crate::extension::{ExtensionIds, ids_of};
+use crate::extension::{ExtensionIds, id_of, ids_of};
 use crate::rtp::status_of;
 use codec_payload_core::codec::CodecDepacketizer;
 use codec_payload_core::wire::{Frequency, Ticks};
@@ -76,6 +76,8 @@ pub struct ReceiverSettings {
     pub has_red_rtx: bool,
     /// The ids of the header extensions to read.
     pub extension_ids: ExtensionIds,
+    /// The id of the header extension with the dependency descriptor. 0: it is not read.
+    pub dependency_descriptor: u8,
 }
 
 /// How long to wait for missing packets.
@@ -260,6 +262,7 @@ fn settings_of(
         forward: settings.forward,
         backward: settings.backward,
         from_keyframe,
+        dependency_descriptor: id_of(settings.dependency_descriptor),
     })
 }
 

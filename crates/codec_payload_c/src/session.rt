@@ -246,11 +246,7 @@ fn event_of(event: &SessionEvent<()>, popped: &PoppedUnit) -> Event
     ensures { TellsEvent (with_unit event.now popped.now) result }
 {
     match event {
-        SessionEvent::Begun {
-            ssrc,
-            payload_type,
-            ..
-        } => event_without_unit(0, *ssrc, *payload_type),
+        SessionEvent::Begun { ssrc, payload_type } => event_without_unit(0, *ssrc, *payload_type),
         SessionEvent::Unit {
             ssrc,
             payload_type,

@@ -5,7 +5,7 @@ ghost use Rattle.std.specs.List.{list_all};
 ghost use Rattle.codec_payload_c.specs.SessionFormats.{AreSessionSettings, HasPlainSettings, IsNewSession, MatchFeedback, RefusesSession, can_convert, format_given, format_in_range, is_in_range, no_media_given, pair_given, red_given, session_in_range, telephone_given, transport_given, waiting_given};
 
 use crate::adaptive_wait::{AdaptiveWaitSettings, bounds_of};
-use crate::extension::{ExtensionIds, ids_of};
+use crate::extension::{ExtensionIds, id_of, ids_of};
 use crate::receiver::{WaitLimits, bound_of, from_keyframe_of, waiting_for};
 use crate::session_names::{StreamNameIds, name_ids_of};
 use codec_payload_core::wire::{CodecSpec, Frequency};
@@ -156,6 +156,8 @@ pub struct SessionSettings {
     pub transport: SessionTransport,
     /// The ids of the header extensions with names of streams.
     pub name_ids: StreamNameIds,
+    /// The id of the header extension with the dependency descriptor. 0: it is not read.
+    pub dependency_descriptor: u8,
 }
 
 /// Returns how the format uses RED.
@@ -376,6 +378,7 @@ fn settings_of(alloc: Global, settings: &SessionSettings) -> Option<Settings>
         telephone_events: Vec::new(alloc),
         pairs: Vec::new(alloc),
         extension_ids: ids_of(settings.extension_ids),
+        dependency_descriptor: id_of(settings.dependency_descriptor),
         name_ids: name_ids_of(settings.name_ids),
         audio: waiting_for(settings.audio),
         video: waiting_for(settings.video),

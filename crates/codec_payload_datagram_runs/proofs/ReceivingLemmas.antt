@@ -18,9 +18,9 @@ use Rattle.codec_payload_jitter.specs.NoMediaNumbers.{passed_no_media, no_media_
 use Rattle.codec_payload_jitter.specs.NotedTimes.{AreTimesOf, is_untimely, noted_with}
 use Rattle.codec_payload_jitter.specs.Numbers.{Numbering, answer_for, number_within, numbering_after, numbering_with}
 use Rattle.codec_payload_jitter.specs.Receiving.{Arrival, GoesOn, PopsWith, Receives, ReceivesAgain, ReceivesAgainAs, ReceivesAs, Receiving}
-use Rattle.codec_payload_jitter.specs.Receiving.{answer_to, counted_in_again, first_with, is_starting, meta_for, number_again, numbered, settled, waiting_at, with_first, with_noted, would_store}
+use Rattle.codec_payload_jitter.specs.Receiving.{answer_to, counted_in_again, first_with, is_starting, meta_for, number_again_for, numbered, settled, waiting_at, with_first, with_noted, would_store}
 use Rattle.codec_payload_jitter.specs.Waiting.{most_held_back}
-use Rattle.codec_payload_jitter.proofs.RestartLemmas.{answer_to_is}
+use Rattle.codec_payload_jitter.proofs.RestartLemmas.{again_without_former, answer_to_is}
 use Rattle.codec_payload_jitter.proofs.TimesLemmas.{still_times}
 use Rattle.codec_payload_jitter.specs.declared.noted_times.NotedTime.{NotedTime}
 use Rattle.codec_payload_jitter.specs.declared.numbers.Extended.{Extended}
@@ -178,8 +178,9 @@ pub takes_in_again : (time_of : ℕ → ℕ) (n : ℕ) (a : Arrival) (r t : Rece
     → answer_for r.numbering a.header.sequence_number ≡ extended.Number n → AreTimesOf time_of r.noted → a.header.timestamp ≡ time_of n
     → ReceivesAgain a r outcome t → TakesIn time_of (answer_for r.numbering a.header.sequence_number) n a r t
 takes_in_again time_of n a r t outcome running of_codec is times time receives =
-    let number : number_again r a.header.sequence_number ≡ Some n =
-    ap (λ (b : Bool). cond b None (number_within (answer_for r.numbering a.header.sequence_number))) running ∙ ap number_within is in
+    let low : ℕ = a.header.sequence_number in
+    let number : number_again_for r low a.header.timestamp ≡ Some n =
+    again_without_former r low a.header.timestamp times.1 ∙ (ap (λ (b : Bool). cond b None (number_within (answer_for r.numbering low))) running ∙ ap number_within is) in
     let here : ReceivesAgainAs (Some n) a r outcome t = subst (λ (o : Option ℕ). ReceivesAgainAs o a r outcome t) number receives in
     subst (λ (e : Extended). TakesIn time_of e n a r t) (sym is)
     (went_in time_of n a r here.0 t outcome (counted_in_again here.0.counters outcome) here.0.kept (extended.Number n) of_codec times time here.1 here.2)
@@ -426,9 +427,9 @@ pops_as again stream now answer s t listening not_memory gated =
     let r : Receiving = s.packets in
     let settled_is : settled r ≡ r = settled_none r listening.none_noted in
     let wait : Option ℕ = waiting_at r now.0 in
-    let pops : PopsWith wait r answer popped.0 = subst (λ (x : Receiving). PopsWith (waiting_at x now.0) x answer popped.0) settled_is popped.1 in
-    let turn = turn_of wait r answer popped.0 listening.of_codec not_memory pops in
-    let packets : t.packets ≡ popped.0 = ap (λ (x : Session). x.packets) popped.2 in
+    let pops : PopsWith wait r answer popped.packets = subst (λ (x : Receiving). PopsWith (waiting_at x now.0) x answer popped.packets) settled_is popped.pops in
+    let turn = turn_of wait r answer popped.packets listening.of_codec not_memory pops in
+    let packets : t.packets ≡ popped.packets = ap (λ (x : Session). x.packets) popped.left in
     record {
       wait = wait;
       at_end = waits_for_nothing r now.0;
@@ -437,19 +438,19 @@ pops_as again stream now answer s t listening not_memory gated =
       first = ap (λ (x : Receiving). x.first) packets ∙ turn.first;
       numbering = ap (λ (x : Receiving). x.numbering) packets ∙ turn.numbering;
       listening = record {
-        payload_type = ap (λ (x : Session). x.stream.payload_type) popped.2 ∙ listening.payload_type;
-        named = ap (λ (x : Session). x.named) popped.2 ∙ listening.named;
-        ssrc = ap (λ (x : Session). x.ssrc) popped.2 ∙ listening.ssrc;
-        not_again = ap (λ (x : Session). is_sent_again_by x.stream.retransmission stream) popped.2 ∙ listening.not_again;
+        payload_type = ap (λ (x : Session). x.stream.payload_type) popped.left ∙ listening.payload_type;
+        named = ap (λ (x : Session). x.named) popped.left ∙ listening.named;
+        ssrc = ap (λ (x : Session). x.ssrc) popped.left ∙ listening.ssrc;
+        not_again = ap (λ (x : Session). is_sent_again_by x.stream.retransmission stream) popped.left ∙ listening.not_again;
         rate = ap (λ (x : Receiving). x.rate) packets ∙ (turn.rate ∙ listening.rate);
         running = ap (λ (x : Receiving). x.is_restarting) packets ∙ (turn.is_restarting ∙ listening.running);
         none_noted = ap (λ (x : Receiving). x.no_media_numbers) packets ∙ (turn.no_media_numbers ∙ listening.none_noted);
         of_codec = ap (λ (x : Receiving). is_built_in_depacketizer x.buffer.depacketizer) packets ∙ turn.of_codec;
-        no_block_seen = subst HasNoBlock (sym (ap (λ (x : Session). x.seen) popped.2)) listening.no_block_seen;
-        drops_none = ap (λ (x : Session). x.gates.drops) popped.2 ∙ (drops_stay _ s.gates _ answer ∙ listening.drops_none);
-        heard = subst (λ (x : Session). AreHeard again x.stream.retransmission) (sym popped.2) listening.heard;
+        no_block_seen = subst HasNoBlock (sym (ap (λ (x : Session). x.seen) popped.left)) listening.no_block_seen;
+        drops_none = ap (λ (x : Session). x.gates.drops) popped.left ∙ (drops_stay _ s.gates _ answer popped.references ∙ listening.drops_none);
+        heard = subst (λ (x : Session). AreHeard again x.stream.retransmission) (sym popped.left) listening.heard;
       };
-      kinds = ap (λ (x : Session). x.stream) popped.2;
+      kinds = ap (λ (x : Session). x.stream) popped.left;
       limits = record { wait_limits = ap (λ (x : Receiving). x.wait_limits) packets ∙ turn.limits.wait_limits; room = ap (λ (x : Receiving). x.room) packets ∙ turn.limits.room };
       wait_is = refl;
       ended = ap (λ (x : Receiving). x.ended) packets ∙ turn.ended;

@@ -14,8 +14,9 @@ use Rattle.codec_payload_buffer.specs.Steps.{State, arrived, is_at_most, is_drop
 use Rattle.codec_payload_buffer.specs.declared.buffer.unit.RtpMeta.{RtpMeta}
 use Rattle.codec_payload_jitter.specs.NoMediaNumbers.{is_in}
 use Rattle.codec_payload_jitter.specs.Numbers.{Numbering, ahead, answer_by, answer_for, behind, greater, number_within, numbering_after, numbering_with}
+use Rattle.codec_payload_jitter.proofs.RestartLemmas.{again_without_former}
 use Rattle.codec_payload_jitter.specs.Receiving.{Arrival, Receiving, RecoversAs, RecoversIf}
-use Rattle.codec_payload_jitter.specs.Receiving.{is_stored, may_recover, meta_for, number_again, outcome_at, settled, would_store, would_store_at}
+use Rattle.codec_payload_jitter.specs.Receiving.{is_stored, may_recover, meta_for, number_again, number_again_for, outcome_at, settled, would_store, would_store_at}
 use Rattle.codec_payload_jitter.specs.declared.numbers.Extended.{Extended}
 use Rattle.codec_payload_jitter.specs.declared.numbers.Extended.TheVariants as extended
 use Rattle.codec_payload_jitter.specs.declared.outcome.Outcome.TheVariants as outcomes
@@ -367,7 +368,8 @@ module _ (l : RedSide) (start : State) (small : length (packets_of l.c.units) �
       block_answer r.numbering (first + tight.highest) (first + is.index) tight.is (omega (arith, below, over)) (omega (arith, near_block, near, backward_is))
       (omega (arith, forward_is, backward_is, l.apart)) (omega (arith, forward_is, l.some)) in
       let answer_low : answer_for r.numbering a.header.sequence_number ≡ extended.Number (first + is.index) = ap (answer_for r.numbering) is.low ∙ answer in
-      let number : number_again r a.header.sequence_number ≡ Some (first + is.index) = number_again_is r a.header.sequence_number (first + is.index) steady.running answer_low in
+      let number : number_again_for r a.header.sequence_number a.header.timestamp ≡ Some (first + is.index) =
+      again_without_former r a.header.sequence_number a.header.timestamp steady.times.1 ∙ number_again_is r a.header.sequence_number (first + is.index) steady.running answer_low in
       let recovers : RecoversIf (may_recover r (first + is.index)) (first + is.index) a r done.0 y.packets = subst (λ (o : Option ℕ). RecoversAs o a r done.0 y.packets) number done.1 in
       let may : may_recover r (first + is.index) ≡ is_stored (outcome_at r.buffer (first + is.index)) =
       ap (λ (ns : List ℕ). is_stored (outcome_at r.buffer (first + is.index)) && not (is_in (first + is.index) ns)) up.no_media ∙ and_true (is_stored (outcome_at r.buffer (first + is.index))) in

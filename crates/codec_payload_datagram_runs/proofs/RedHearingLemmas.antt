@@ -283,8 +283,8 @@ module _ (l : RedSide) where
       let up = raised s.packets.buffer s.packets.no_media_numbers in
       let wait : Option ℕ = waiting_at r now.0 in
       let of_codec : is_built_in_depacketizer r.buffer.depacketizer ≡ true = ap (λ (x : State). is_built_in_depacketizer x.depacketizer) up.is ∙ tuned.steady.of_codec in
-      let turn = turn_of wait r answer popped.0 of_codec not_memory popped.1 in
-      let packets_is : t.packets ≡ popped.0 = ap (λ (x : Session). x.packets) popped.2 in
+      let turn = turn_of wait r answer popped.packets of_codec not_memory popped.pops in
+      let packets_is : t.packets ≡ popped.packets = ap (λ (x : Session). x.packets) popped.left in
       record {
         up = r.buffer;
         up_is = refl;
@@ -295,17 +295,17 @@ module _ (l : RedSide) where
         pops = subst (λ (x : Receiving). PopsWaiting wait r.buffer answer x.buffer) (sym packets_is) turn.pops;
         numbering = ap (λ (x : Receiving). x.numbering) packets_is ∙ turn.numbering;
         ended = ap (λ (x : Receiving). x.ended) packets_is ∙ turn.ended;
-        seen = ap (λ (x : Session). x.seen) popped.2;
+        seen = ap (λ (x : Session). x.seen) popped.left;
         limits = record {
           wait_limits = ap (λ (x : Receiving). x.wait_limits) packets_is ∙ turn.limits.wait_limits;
           room = ap (λ (x : Receiving). x.room) packets_is ∙ turn.limits.room;
         };
-        timely = λ ks. timely_same l ks s t (ap (λ (x : Session). x.seen) popped.2) (ap (λ (x : Receiving). x.first) packets_is ∙ turn.first);
+        timely = λ ks. timely_same l ks s t (ap (λ (x : Session). x.seen) popped.left) (ap (λ (x : Receiving). x.first) packets_is ∙ turn.first);
         tuned = record {
-          kinds_are = ap (λ (x : Session). x.stream) popped.2 ∙ tuned.kinds_are;
-          named = ap (λ (x : Session). x.named) popped.2 ∙ tuned.named;
-          ssrc = ap (λ (x : Session). x.ssrc) popped.2 ∙ tuned.ssrc;
-          drops_none = ap (λ (x : Session). x.gates.drops) popped.2 ∙ (drops_stay _ s.gates _ answer ∙ tuned.drops_none);
+          kinds_are = ap (λ (x : Session). x.stream) popped.left ∙ tuned.kinds_are;
+          named = ap (λ (x : Session). x.named) popped.left ∙ tuned.named;
+          ssrc = ap (λ (x : Session). x.ssrc) popped.left ∙ tuned.ssrc;
+          drops_none = ap (λ (x : Session). x.gates.drops) popped.left ∙ (drops_stay _ s.gates _ answer popped.references ∙ tuned.drops_none);
           steady = record {
             rate = ap (λ (x : Receiving). x.rate) packets_is ∙ (turn.rate ∙ tuned.steady.rate);
             running = ap (λ (x : Receiving). x.is_restarting) packets_is ∙ (turn.is_restarting ∙ tuned.steady.running);

@@ -14,8 +14,9 @@ use Rattle.codec_payload_buffer.specs.Stretches.{after_pushes}
 use Rattle.codec_payload_codec.specs.Depacketizers.{DepacketizerState}
 use Rattle.codec_payload_jitter.specs.NoMediaNumbers.{is_in}
 use Rattle.codec_payload_jitter.specs.Numbers.{Numbering, ahead, answer_by, answer_for, behind, fitting, follows_suspect, is_restarting, number_within, numbering_after}
+use Rattle.codec_payload_jitter.proofs.RestartLemmas.{again_without_former}
 use Rattle.codec_payload_jitter.specs.Receiving.{Arrival, Receiving, RecoversAs, RecoversIf}
-use Rattle.codec_payload_jitter.specs.Receiving.{is_stored, may_recover, meta_for, number_again, outcome_at, would_store}
+use Rattle.codec_payload_jitter.specs.Receiving.{is_stored, may_recover, meta_for, number_again_for, outcome_at, would_store}
 use Rattle.codec_payload_jitter.specs.declared.numbers.Extended.TheVariants as extended
 use Rattle.codec_payload_jitter.specs.declared.outcome.Outcome.TheVariants as outcomes
 use Rattle.codec_payload_red.specs.RedLevels.{Entry}
@@ -271,7 +272,8 @@ module _ (l : RedSide) (jump : ℕ) (turn : most l jump * l.red.receiver.step �
       block_answer r.numbering (first + highest) n before.at.is (omega (arith, below, over)) (omega (arith, within, backward_is))
       (omega (arith, forward_is, backward_is, l.apart)) (omega (arith, forward_is, l.some)) in
       let answer_low : answer_for r.numbering a.header.sequence_number ≡ extended.Number n = ap (answer_for r.numbering) is.low ∙ answer in
-      let number : number_again r a.header.sequence_number ≡ Some n = number_again_is r a.header.sequence_number n before.steady.running answer_low in
+      let number : number_again_for r a.header.sequence_number a.header.timestamp ≡ Some n =
+      again_without_former r a.header.sequence_number a.header.timestamp before.steady.times.1 ∙ number_again_is r a.header.sequence_number n before.steady.running answer_low in
       let recovers : RecoversIf (may_recover r n) n a r done.0 y.packets = subst (λ (o : Option ℕ). RecoversAs o a r done.0 y.packets) number done.1 in
       let may : may_recover r n ≡ is_stored (outcome_at r.buffer n) =
       ap (λ (ns : List ℕ). is_stored (outcome_at r.buffer n) && not (is_in n ns)) before.no_media ∙ and_true (is_stored (outcome_at r.buffer n)) in
@@ -298,8 +300,9 @@ module _ (l : RedSide) (jump : ℕ) (turn : most l jump * l.red.receiver.step �
       let outside : number_within (answer_for r.numbering (n % 65536)) ≡ None =
       block_outside r.numbering (first + highest) n before.at.is (omega (arith, below, over)) (omega (arith, near, near_block, backward_is)) (omega (arith, far, backward_is))
       (omega (arith, forward_is, backward_is, l.apart)) (omega (arith, forward_is, l.some)) in
-      let none : number_again r a.header.sequence_number ≡ None =
-      ap (λ (b : Bool). cond b None (number_within (answer_for r.numbering a.header.sequence_number))) before.steady.running
+      let none : number_again_for r a.header.sequence_number a.header.timestamp ≡ None =
+      again_without_former r a.header.sequence_number a.header.timestamp before.steady.times.1
+      ∙ ap (λ (b : Bool). cond b None (number_within (answer_for r.numbering a.header.sequence_number))) before.steady.running
       ∙ (ap (λ (m : ℕ). number_within (answer_for r.numbering m)) is.low ∙ outside) in
       let recovers : RecoversAs None a r done.0 y.packets = subst (λ (o : Option ℕ). RecoversAs o a r done.0 y.packets) none done.1 in
       let seen_same : y.seen ≡ x.seen = done.2 ∙ ap (λ (b : Bool). block_seen b a.header.timestamp x.seen) recovers.0 in

@@ -11,11 +11,11 @@ use Rattle.codec_payload_buffer.specs.Held.{Held}
 use Rattle.codec_payload_buffer.specs.Steps.{State, arrived, pushed}
 use Rattle.codec_payload_buffer.specs.declared.buffer.unit.RtpMeta.{RtpMeta}
 use Rattle.codec_payload_codec.specs.Depacketizers.{is_built_in_depacketizer}
-use Rattle.codec_payload_jitter.proofs.RestartLemmas.{answer_in_is, answer_to_is}
+use Rattle.codec_payload_jitter.proofs.RestartLemmas.{again_without_former, answer_in_is, answer_to_is}
 use Rattle.codec_payload_jitter.specs.NotedTimes.{AreTimesOf, first_or, is_untimely}
 use Rattle.codec_payload_jitter.specs.Numbers.{Numbering, answer_for, greater, number_within, numbering_after, numbering_with}
 use Rattle.codec_payload_jitter.specs.Receiving.{Arrival, GoesOn, Notes, NotesAs, Receives, ReceivesAs, Receiving, RecoversAs, RecoversIf}
-use Rattle.codec_payload_jitter.specs.Receiving.{answer_in, answer_to, first_past, first_with, may_recover, meta_for, number_again, outcome_at}
+use Rattle.codec_payload_jitter.specs.Receiving.{answer_in, answer_to, first_past, first_with, may_recover, meta_for, number_again_for, outcome_at}
 use Rattle.codec_payload_jitter.specs.declared.noted_times.NotedTime.{NotedTime}
 use Rattle.codec_payload_jitter.specs.declared.numbers.Extended.{Extended}
 use Rattle.codec_payload_jitter.specs.declared.numbers.Extended.TheVariants as extended
@@ -283,8 +283,9 @@ module _ (l : RedSide) where
   stores_own k now q r t outcome there inside steady is timely (inr again) =
       let a : Arrival = own_arrival now q in
       let one = takes_in_again time_of q.number a r t outcome steady.running steady.of_codec is steady.times (own_time k q there) again in
-      let number : number_again r a.header.sequence_number ≡ Some q.number =
-      ap (λ (b : Bool). cond b None (number_within (answer_for r.numbering a.header.sequence_number))) steady.running ∙ ap number_within is in
+      let low : ℕ = a.header.sequence_number in
+      let number : number_again_for r low a.header.timestamp ≡ Some q.number =
+      again_without_former r low a.header.timestamp steady.times.1 ∙ (ap (λ (b : Bool). cond b None (number_within (answer_for r.numbering low))) steady.running ∙ ap number_within is) in
       let here : ReceivesAgainAs (Some q.number) a r outcome t = subst (λ (o : Option ℕ). ReceivesAgainAs o a r outcome t) number again in
       stored_own k now q r t outcome there inside steady is one here.1.1.2
 
@@ -403,12 +404,13 @@ module _ (l : RedSide) where
         };
       }
 
-  recovered_as : (o : Option ℕ) (went_in : Bool) (k : ℕ) (now : Ticks) (a : Arrival) (r t : Receiving) → number_again r a.header.sequence_number ≡ o
+  recovered_as : (o : Option ℕ) (went_in : Bool) (k : ℕ) (now : Ticks) (a : Arrival) (r t : Receiving) → number_again_for r a.header.sequence_number a.header.timestamp ≡ o
       → Contains received (steps.Deliver k now) → IsBlock packets w first k now a → IsPast (first + k) backward r.numbering → Steady r → RecoversAs o a r went_in t → StoresBlocks now r t
   recovered_as None went_in k now a r t at inside is past steady recovers = stores_none now r t recovers.1 steady
   recovered_as (Some n) went_in k now a r t at inside is past steady recovers =
       let within : number_within (answer_for r.numbering a.header.sequence_number) ≡ Some n =
-      ap (λ (b : Bool). cond b None (number_within (answer_for r.numbering a.header.sequence_number))) (sym steady.running) ∙ at in
+      ap (λ (b : Bool). cond b None (number_within (answer_for r.numbering a.header.sequence_number))) (sym steady.running)
+      ∙ (sym (again_without_former r a.header.sequence_number a.header.timestamp steady.times.1) ∙ at) in
       let low : number_within (answer_for r.numbering ((first + is.index) % 65536)) ≡ Some n = ap (λ (m : ℕ). number_within (answer_for r.numbering m)) (sym is.low) ∙ within in
       let forward_is = steady.forward_is in
       let backward_is = steady.backward_is in
@@ -424,7 +426,7 @@ module _ (l : RedSide) where
       → IsPast (first + k) backward x.packets.numbering → Steady x.packets → RecoversUnseen seen a x y → StoresBlocks now x.packets y.packets
   one_recovered true k now a x y inside is past steady same = stores_none now x.packets y.packets (ap (λ (z : Holding). z.packets) same) steady
   one_recovered false k now a x y inside is past steady done =
-      recovered_as (number_again x.packets a.header.sequence_number) done.0 k now a x.packets y.packets refl inside is past steady done.1
+      recovered_as (number_again_for x.packets a.header.sequence_number a.header.timestamp) done.0 k now a x.packets y.packets refl inside is past steady done.1
 
   pub past_same : (n : ℕ) (s t : Numbering) → t ≡ s → IsPast n backward s → IsPast n backward t
   past_same n s t same past = subst (IsPast n backward) (sym same) past

@@ -317,7 +317,7 @@ module _ (again : Option RetransmissionStream) (samples : List Sample) (all_step
   }
 
   nothing_noted : AreTimesOf (times_from first packets) receiver.packets.noted
-  nothing_noted = subst (λ (x : Session). AreTimesOf (times_from first packets) x.packets.noted) (sym begun.is) tt
+  nothing_noted = subst (λ (x : Session). AreTimesOf (times_from first packets) x.packets.noted) (sym begun.is) (tt, refl)
 
   tuned : IsTuned sender.stream receiver.stream forward backward (times_from first packets) receiver
   tuned = record {

@@ -1,10 +1,11 @@
 -- The units that a run over datagrams releases, from three parts: what it sends, what it receives, and the theorem of the
 -- buffer.
-use Rattle.std.proofs.Common.{◌≡◌, ◌∙◌, refl, sym, ap, subst, ℕ, ◌+◌, ◌-◌, ◌*◌, ◌/◌, ◌%◌, ◌^◌, ◌<◌, max, List, [], ◌∷◌, map, false, Bool, Option, None, Some, length, arith}
+use Rattle.std.proofs.Common.{◌≡◌, ◌∙◌, refl, sym, ap, subst, ℕ, ◌+◌, ◌-◌, ◌*◌, ◌/◌, ◌%◌, ◌^◌, ◌<◌, max, List, [], ◌∷◌, map, false, Bool, Option, None, Some, Ok, length, arith}
 use Rattle.std.proofs.lemmas.Option.{same_Some, slice_get_within}
 use Rattle.codec_payload_buffer.proofs.MemberLemmas.{contains_in, in_contains}
 use Rattle.codec_payload_buffer.specs.ContiguityTable.{contiguity_for}
-use Rattle.codec_payload_codec.specs.Depacketizers.{DepacketizerKind, is_built_in_depacketizer, is_codec, kind_of_depacketizer, tail_in}
+use Rattle.codec_payload_buffer.specs.Steps.{State}
+use Rattle.codec_payload_codec.specs.Depacketizers.{DepacketizerKind, DepacketizerState, is_built_in_depacketizer, is_codec, kind_of_depacketizer, tail_in}
 use Rattle.codec_payload_codec.proofs.CodecLemmas.{codec_payloads}
 use Rattle.codec_payload_codec.specs.Packetizers.{payloads_by, may_split}
 use Rattle.codec_payload_buffer.specs.declared.buffer.unit.RtpMeta.{RtpMeta}
@@ -24,7 +25,7 @@ use Rattle.codec_payload_buffer_runs.specs.Log as runs
 use Rattle.codec_payload_buffer_runs.specs.RunValues.{values_of_run}
 use Rattle.codec_payload_buffer_runs.specs.SentStream.{SentUnit, packets_of}
 use Rattle.codec_payload_buffer_runs.specs.declared.run.Step.{Step}
-use Rattle.codec_payload_payloader.specs.Packets.{Packet}
+use Rattle.codec_payload_payloader.specs.Packets.{AreNumbered, Packet}
 use Rattle.codec_payload_buffer_runs.specs.Schedule.{Answer, RunState}
 use Rattle.codec_payload_payloader.specs.Sending.{Sample}
 use Rattle.codec_payload_buffer_runs.specs.ReportedIds.{read_by}
@@ -34,7 +35,8 @@ use Rattle.codec_payload_jitter.specs.Numbers.{StayNear, GoOn, IsNumbering, Numb
 use Rattle.codec_payload_jitter.specs.declared.numbers.Extended.{Extended}
 use Rattle.codec_payload_jitter.specs.declared.numbers.Extended.TheVariants as extended
 use Rattle.codec_payload_sending.specs.Senders.{Sending}
-use Rattle.codec_payload_receiver.specs.Sessions.{Session}
+use Rattle.codec_payload_receiver.specs.Sessions.{Session, session_by}
+use Rattle.codec_payload_receiver.specs.declared.receiver.Settings.{Settings}
 use Rattle.codec_payload_receiver.specs.RedOnce.{HasNoBlock}
 use Rattle.codec_payload_receiver.proofs.BlockTimeLemmas.{new_has_no_block}
 use Rattle.codec_payload_datagram_runs.proofs.BroughtLemmas.{Came, pops_came}
@@ -46,12 +48,12 @@ use Rattle.codec_payload_datagram_runs.proofs.GapLemmas.{only_past_gap}
 use Rattle.codec_payload_datagram_runs.proofs.LogLemmas.{Chained, all_follow, all_in_time, chained, log_known, none_is_lost, none_passed, stretches}
 use Rattle.codec_payload_datagram_runs.proofs.NewReceivers.{IsBegun, new_is_begun}
 use Rattle.codec_payload_datagram_runs.proofs.ReceivingLemmas.{AllNumbered, IsListening}
-use Rattle.codec_payload_datagram_runs.proofs.SendingLemmas.{SendsRun, running, same_count, sends_run}
+use Rattle.codec_payload_datagram_runs.proofs.SendingLemmas.{SendsRun, running, same_count, sends_run, times_in}
 use Rattle.codec_payload_datagram_runs.proofs.HeldLemmas.{AllHeld}
 use Rattle.codec_payload_datagram_runs.proofs.StepLemmas.{ComesTo, Takes, comes_to}
 use Rattle.codec_payload_datagram_runs.proofs.ValueLemmas.{has_values}
 use Rattle.codec_payload_datagram_runs.specs.HistoryReleases.{AreHeard}
-use Rattle.codec_payload_datagram_runs.specs.Releases.{is_sent_again_by, AllComeFirst, AreDatagrams, ComeWithin, HasValuesOf, StayWithin, IsDelivery, times_sent}
+use Rattle.codec_payload_datagram_runs.specs.Releases.{is_sent_again_by, AllComeFirst, AreDatagrams, AreOfOneStream, ComeWithin, HasValuesOf, StayWithin, IsDelivery, times_sent}
 use Rattle.codec_payload_datagram_runs.specs.Releases.{IsWithinWindows, ReleaseOverDatagrams, ReleasesUnits, delivered, received_steps, sending_steps}
 use Rattle.codec_payload_datagram_runs.specs.WireLogs.{IsLogOf, KeepsPromises, PromisesOverDatagrams, WireLog}
 use Rattle.codec_payload_datagram_runs.specs.WireRuns.{Wire, begins}
@@ -136,11 +138,44 @@ numbered_within forward backward number bound (k ∷ ks) windows low few below w
     all_numbered number (first_for number (k ∷ ks)) (number + k) (no_numbers forward backward) (k ∷ ks) (omega (arith, low, within.0))
     (are_true_numbers forward backward windows (number + k) (trues number ks) fits near) (none_restarts forward backward windows (number + k) (trues number ks) fits near)
 
--- The theorem
+-- What a run sends
+
+-- The packets that a run sends, if the first has this number: the datagrams read as these packets, which are the stream of units
+pub record SentFrom (buffer : State) (samples : List Sample) (all_steps : List DatagramStep) (sender : Sending) (t : Wire) (start : ℕ) : Type 0 where
+  pub all : List Packet
+  pub reads : AreDatagrams sender.stream all t.datagrams
+  pub numbered : AreNumbered start all
+  pub few : length all < 2 ^ 63
+  pub times : times_in all ≡ times_sent sender.stream.clock_rate samples all_steps t.sends
+  pub end : Sending
+  pub stream : Streams samples (sending_steps sender.mtu all_steps) (running buffer start sender.stream.clock_rate sender []) (running buffer start sender.stream.clock_rate end all)
+
+-- from each number with the low bits of the sender's number on
+abbrev pub SendsFrom : List Sample → List DatagramStep → Sending → Session → Wire → Type 0
+SendsFrom samples all_steps sender receiver t =
+    (start : ℕ) → start < 2 ^ 63 → sender.stream.number % 2 ^ 16 ≡ (start + 0) % 2 ^ 16 → SentFrom receiver.packets.buffer samples all_steps sender t start
+
+-- sender and buffer before any step
+pub starts_unused : (settings : Settings) (depacketizer : DepacketizerState) (sender : Sending) (receiver : Session) (first : ℕ) → session_by settings depacketizer ≡ Ok receiver
+    → AreOfOneStream sender settings depacketizer → IsUnused (running receiver.packets.buffer first sender.stream.clock_rate sender [])
+starts_unused settings depacketizer sender receiver first new one_stream =
+    let begun : IsBegun settings depacketizer receiver = new_is_begun settings depacketizer receiver new in
+    record {
+      built_in = one_stream.built_in;
+      nothing_sent = refl;
+      nothing_held = ap (λ (x : Session). x.packets.buffer.held) begun.is;
+      no_cutoff = ap (λ (x : Session). x.packets.buffer.cutoff) begun.is;
+      no_mark = ap (λ (x : Session). x.packets.buffer.evicted) begun.is;
+      alike = ap (λ (x : Session). kind_of_depacketizer x.packets.buffer.depacketizer) begun.is ∙ one_stream.alike;
+      nothing_read = ap (λ (x : Session). read_by x.packets.buffer.depacketizer) begun.is ∙ one_stream.nothing_read;
+      nothing_kept = ap (λ (x : Session). x.packets.buffer.contiguity) begun.is ∙ sym (ap (λ (x : Session). contiguity_for (kind_of_depacketizer x.packets.buffer.depacketizer)) begun.is);
+    }
+
+-- The theorem, for what a run sends and what its receiver gets
 
 module _ (again : Option RetransmissionStream) (samples : List Sample) (all_steps : List DatagramStep) (sender : Sending) (receiver : Session) (t : Wire)
-    (run : Proceeds again samples all_steps (begins sender receiver) t) (hears : AreHeard again receiver.stream.retransmission)
-    (within : IsWithinWindows samples all_steps sender receiver t.sends) where
+    (takes : Takes again (received_steps samples 0 all_steps t.sends) t.datagrams receiver t.pops t.session) (sends_from : SendsFrom samples all_steps sender receiver t)
+    (hears : AreHeard again receiver.stream.retransmission) (within : IsWithinWindows samples all_steps sender receiver t.sends) where
   abbrev received : List DatagramStep
   received = received_steps samples 0 all_steps t.sends
 
@@ -155,13 +190,6 @@ module _ (again : Option RetransmissionStream) (samples : List Sample) (all_step
 
   abbrev first : ℕ
   first = first_for number (delivered received)
-
-  comes : ComesTo again samples all_steps (begins sender receiver) t
-  comes = comes_to again samples all_steps (begins sender receiver) t run
-
-  takes : Takes again received t.datagrams receiver t.pops t.session
-  takes = subst (λ (answers : List Answer). Takes again received t.datagrams receiver answers t.session) (sym comes.pops)
-      (subst (λ (sends : List SentSample). Takes again (received_steps samples 0 all_steps sends) t.datagrams receiver comes.answers t.session) (sym comes.sends) comes.takes)
 
   abbrev forward : ℕ
   forward = within.settings.forward
@@ -187,59 +215,42 @@ module _ (again : Option RetransmissionStream) (samples : List Sample) (all_step
     heard = hears;
   }
 
-  -- from a number with these low bits on
-  sends_from : (start : ℕ) → start < 2 ^ 63 → sender.stream.number % 2 ^ 16 ≡ (start + 0) % 2 ^ 16
-      → SendsRun receiver.packets.buffer sender.stream sender.mtu start 0 samples all_steps (begins sender receiver) t []
-  sends_from start small same =
-      sends_run receiver.packets.buffer sender.stream sender.mtu start small samples again 0 all_steps (begins sender receiver) t []
-      (record { mtu = refl; built_in = within.one_stream.built_in; kept = refl; number = same; reads = tt; numbered = tt; few = omega arith }) run
-
   few : length t.datagrams < 2 ^ 63
-  few = let any = sends_from number (omega arith) (omega arith) in omega (arith, any.at.few, same_count sender.stream any.all t.datagrams any.at.reads)
+  few = let any = sends_from number (omega arith) (omega arith) in omega (arith, any.few, same_count sender.stream any.all t.datagrams any.reads)
 
   numbers : AllNumbered first receiver.packets.numbering (delivered received)
   numbers = subst (λ (n : Numbering). AllNumbered first n (delivered received)) (sym (ap (λ (x : Session). x.packets.numbering) begun.is))
       (numbered_within forward backward number (length t.datagrams) (delivered received) begun.windows low few (takes_below again received t.datagrams receiver t.session t.pops takes) within.within)
 
-  sent : SendsRun receiver.packets.buffer sender.stream sender.mtu first 0 samples all_steps (begins sender receiver) t []
+  sent : SentFrom receiver.packets.buffer samples all_steps sender t first
   sent = sends_from first (first_small forward backward number (delivered received) low within.within) (first_low forward backward sender.stream.number (delivered received) within.within)
 
   nothing_noted : AreTimesOf (times_from first sent.all) receiver.packets.noted
-  nothing_noted = subst (λ (x : Session). AreTimesOf (times_from first sent.all) x.packets.noted) (sym begun.is) tt
+  nothing_noted = subst (λ (x : Session). AreTimesOf (times_from first sent.all) x.packets.noted) (sym begun.is) (tt, refl)
 
   timely : StayTimely rate first sent.all receiver.packets.first (delivered received)
   timely = subst (λ (x : Session). StayTimely rate first sent.all x.packets.first (delivered received)) (sym begun.is)
-      (stay_timely rate first sent.all (times_sent rate samples all_steps t.sends) (delivered received)
-      (sent.times ∙ ap (times_sent rate samples all_steps) (sym sent.sends_are)) within.timely)
+      (stay_timely rate first sent.all (times_sent rate samples all_steps t.sends) (delivered received) sent.times within.timely)
 
   come : IsMet receiver.packets sender.stream sent.all received receiver t.pops t.session
-  come = met again sender.stream within.one_stream.not_rtcp first sent.all t.datagrams sent.at.reads sent.at.numbered receiver.packets received receiver t.session t.pops listening (record { wait_limits = refl; room = refl }) numbers timely nothing_noted takes
+  come = met again sender.stream within.one_stream.not_rtcp first sent.all t.datagrams sent.reads sent.numbered receiver.packets received receiver t.session t.pops listening (record { wait_limits = refl; room = refl }) numbers timely nothing_noted takes
 
   abbrev start : RunState
   start = running receiver.packets.buffer first rate sender []
 
   unused : IsUnused start
-  unused = record {
-    built_in = within.one_stream.built_in;
-    nothing_sent = refl;
-    nothing_held = ap (λ (x : Session). x.packets.buffer.held) begun.is;
-    no_cutoff = ap (λ (x : Session). x.packets.buffer.cutoff) begun.is;
-    no_mark = ap (λ (x : Session). x.packets.buffer.evicted) begun.is;
-    alike = ap (λ (x : Session). kind_of_depacketizer x.packets.buffer.depacketizer) begun.is ∙ within.one_stream.alike;
-    nothing_read = ap (λ (x : Session). read_by x.packets.buffer.depacketizer) begun.is ∙ within.one_stream.nothing_read;
-    nothing_kept = ap (λ (x : Session). x.packets.buffer.contiguity) begun.is ∙ sym (ap (λ (x : Session). contiguity_for (kind_of_depacketizer x.packets.buffer.depacketizer)) begun.is);
-  }
+  unused = starts_unused within.settings within.depacketizer sender receiver first within.new within.one_stream
 
   -- the units of the samples
 
   abbrev after : RunState
-  after = running receiver.packets.buffer first rate t.sending sent.all
+  after = running receiver.packets.buffer first rate sent.end sent.all
 
   abbrev sends : List Step
   sends = sending_steps sender.mtu all_steps
 
   units_sent : Streams samples sends start after
-  units_sent = streams plainly samples 0 sends start after sent.entries [] (unused_exactly samples sends start sent.entries [] after unused sent.runs)
+  units_sent = sent.stream
 
   whole : SendsAll start after units_sent.units
   whole = sends_all samples sends start after unused units_sent
@@ -284,7 +295,7 @@ module _ (again : Option RetransmissionStream) (samples : List Sample) (all_step
   all_come come_first =
       let split = split_at_end receiver.packets.ended come_first.before come_first.after come.events come_first.no_pops
       (subst (λ (es : List DatagramStep). Brings receiver.packets.ended es come.events) come_first.whole come.brings) in
-      let count : length sent.all ≡ length t.datagrams = same_count sender.stream sent.all t.datagrams sent.at.reads in
+      let count : length sent.all ≡ length t.datagrams = same_count sender.stream sent.all t.datagrams sent.reads in
       record {
         few = omega (arith, come_first.few, count);
         before = split.first;
@@ -308,7 +319,7 @@ module _ (again : Option RetransmissionStream) (samples : List Sample) (all_step
   releases_units = record {
     units = units;
     canonical = units_sent.canonical;
-    datagrams = subst (λ (ps : List Packet). AreDatagrams sender.stream ps t.datagrams) whole.whole sent.at.reads;
+    datagrams = subst (λ (ps : List Packet). AreDatagrams sender.stream ps t.datagrams) whole.whole sent.reads;
     ends = all_end kind splits units lawful;
     in_order = met_in_order here 0 come.events receiver.packets.buffer t.session.packets.buffer t.pops known
         (fresh samples sends start after units_sent unused within.readable Known faithful units lawful (sym whole.whole)) meets;
@@ -337,8 +348,8 @@ module _ (again : Option RetransmissionStream) (samples : List Sample) (all_step
   chain : (l : WireLog samples all_steps (begins sender receiver) t units) → Chained here receiver.packets.buffer l.turns l.end
   chain l = chained here receiver.packets receiver.packets.ended received 0 (runs.begun receiver.packets.buffer) l.turns l.end readies (record { sent = tt; now = refl }) l.is_log
 
-  pub keeps_promises : KeepsPromises samples all_steps (begins sender receiver) t
-  keeps_promises = record {
+  pub keeps_all : KeepsPromises samples all_steps (begins sender receiver) t
+  keeps_all = record {
     released = releases_units;
     first = first;
     numbered = whole.numbered;
@@ -355,8 +366,47 @@ module _ (again : Option RetransmissionStream) (samples : List Sample) (all_step
         (nothing samples sends start after units_sent unused within.readable Known faithful units lawful (sym whole.whole)) (chain l);
   }
 
+  pub releases_each : ReleasesUnits samples all_steps (begins sender receiver) t
+  releases_each = releases_units
+
+-- The theorem, for a run
+
+-- what the receiver gets
+pub takes_of : (again : Option RetransmissionStream) (samples : List Sample) (all_steps : List DatagramStep) (sender : Sending) (receiver : Session) (t : Wire)
+    → Proceeds again samples all_steps (begins sender receiver) t → Takes again (received_steps samples 0 all_steps t.sends) t.datagrams receiver t.pops t.session
+takes_of again samples all_steps sender receiver t run =
+    let comes : ComesTo again samples all_steps (begins sender receiver) t = comes_to again samples all_steps (begins sender receiver) t run in
+    subst (λ (answers : List Answer). Takes again (received_steps samples 0 all_steps t.sends) t.datagrams receiver answers t.session) (sym comes.pops)
+    (subst (λ (sends : List SentSample). Takes again (received_steps samples 0 all_steps sends) t.datagrams receiver comes.answers t.session) (sym comes.sends) comes.takes)
+
+module _ (again : Option RetransmissionStream) (samples : List Sample) (all_steps : List DatagramStep) (sender : Sending) (receiver : Session) (t : Wire)
+    (run : Proceeds again samples all_steps (begins sender receiver) t) (hears : AreHeard again receiver.stream.retransmission)
+    (within : IsWithinWindows samples all_steps sender receiver t.sends) where
+  -- from a number with these low bits on
+  sends_from : SendsFrom samples all_steps sender receiver t
+  sends_from start small same =
+      let runs : SendsRun receiver.packets.buffer sender.stream sender.mtu start 0 samples all_steps (begins sender receiver) t [] =
+      sends_run receiver.packets.buffer sender.stream sender.mtu start small samples again 0 all_steps (begins sender receiver) t []
+      (record { mtu = refl; built_in = within.one_stream.built_in; kept = refl; number = same; reads = tt; numbered = tt; few = omega arith }) run in
+      let before : RunState = running receiver.packets.buffer start sender.stream.clock_rate sender [] in
+      let after : RunState = running receiver.packets.buffer start sender.stream.clock_rate t.sending runs.all in
+      let sends : List Step = sending_steps sender.mtu all_steps in
+      let unused : IsUnused before = starts_unused within.settings within.depacketizer sender receiver start within.new within.one_stream in
+      record {
+        all = runs.all;
+        reads = runs.at.reads;
+        numbered = runs.at.numbered;
+        few = runs.at.few;
+        times = runs.times ∙ ap (times_sent sender.stream.clock_rate samples all_steps) (sym runs.sends_are);
+        end = t.sending;
+        stream = streams plainly samples 0 sends before after runs.entries [] (unused_exactly samples sends before runs.entries [] after unused runs.runs);
+      }
+
+  pub keeps_promises : KeepsPromises samples all_steps (begins sender receiver) t
+  keeps_promises = keeps_all again samples all_steps sender receiver t (takes_of again samples all_steps sender receiver t run) sends_from hears within
+
   pub releases_all : ReleasesUnits samples all_steps (begins sender receiver) t
-  releases_all = releases_units
+  releases_all = releases_each again samples all_steps sender receiver t (takes_of again samples all_steps sender receiver t run) sends_from hears within
 
 -- Runs without retransmissions
 

@@ -473,7 +473,7 @@ module _ (samples : List Sample) (settings : Settings) (depacketizer : Depacketi
     kinds = refl;
     numbering = ap (λ (x : Session). x.packets.numbering) begun.is;
     time_of = λ n. 0;
-    noted = λ t agrees. subst (λ (x : Session). AreTimesOf t x.packets.noted) (sym begun.is) tt;
+    noted = λ t agrees. subst (λ (x : Session). AreTimesOf t x.packets.noted) (sym begun.is) (tt, refl);
     limits = record { wait_limits = refl; room = refl };
   }
 

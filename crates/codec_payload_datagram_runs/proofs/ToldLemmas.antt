@@ -11,6 +11,8 @@ use Rattle.codec_payload_buffer.specs.declared.buffer.unit.RtpMeta.{RtpMeta}
 use Rattle.codec_payload_codec.specs.Depacketizers.{is_built_in_depacketizer}
 use Rattle.codec_payload_jitter.specs.NotedTimes.{AreTimesOf, contradicts, is_untimely}
 use Rattle.codec_payload_jitter.specs.Numbers.{Numbering, answer_anew, begun_with, number_in}
+use Rattle.codec_payload_jitter.proofs.FormerLemmas.{announced_leaves_none, goes_on_former, same_former}
+use Rattle.codec_payload_jitter.proofs.RestartLemmas.{answer_without_former}
 use Rattle.codec_payload_jitter.specs.Receiving.{Arrival, Confirms, GoesOn, PopsWith, Receives, ReceivesAs, Receiving}
 use Rattle.codec_payload_jitter.specs.Receiving.{answer_by_time, answer_in, answer_to, answer_to_contradiction, begun_anew, is_contradicted, numbered, settled, waiting_at, with_first}
 use Rattle.codec_payload_jitter.specs.Receiving as jitter
@@ -122,35 +124,43 @@ none_contradicts true x = refl
 none_contradicts false x = refl
 
 -- after an announced restart no time contradicts
-answer_told : (r : Receiving) (header : RtpHeader) (e : Extended) → r.is_restarting ≡ true → answer_in r header.sequence_number ≡ e → answer_to r header ≡ e
-answer_told r header (extended.Number n) waiting is =
+answer_timed : (r : Receiving) (header : RtpHeader) (e : Extended) → r.is_restarting ≡ true → answer_in r header.sequence_number ≡ e
+    → answer_by_time r header (answer_in r header.sequence_number) ≡ e
+answer_timed r header (extended.Number n) waiting is =
     let x : NotedTime = record { number = n; time = header.timestamp } in
     let never : is_contradicted r n header.timestamp ≡ false =
     ap (λ (b : Bool). not (r.ended || b) && (contradicts r.noted x || is_untimely r.rate r.first x)) waiting
     ∙ none_contradicts r.ended (contradicts r.noted x || is_untimely r.rate r.first x) in
     ap (answer_by_time r header) is ∙ ap (λ (b : Bool). cond b (answer_to_contradiction r header) (extended.Number n)) never
-answer_told r header (extended.Restarted n) waiting is = ap (answer_by_time r header) is
-answer_told r header extended.Suspect waiting is = ap (answer_by_time r header) is
-answer_told r header extended.Spent waiting is = ap (answer_by_time r header) is
+answer_timed r header (extended.Restarted n) waiting is = ap (answer_by_time r header) is
+answer_timed r header extended.Suspect waiting is = ap (answer_by_time r header) is
+answer_timed r header extended.Spent waiting is = ap (answer_by_time r header) is
 
-first_as : (time_of : ℕ → ℕ) (n : ℕ) (a : Arrival) (e : Extended) (r mid t : Receiving) (outcome : Outcome) → r.kept ≡ None → is_built_in_depacketizer r.buffer.depacketizer ≡ true
+answer_told : (r : Receiving) (header : RtpHeader) (e : Extended) → r.is_restarting ≡ true → r.noted.former ≡ None → answer_in r header.sequence_number ≡ e → answer_to r header ≡ e
+answer_told r header e waiting none is = answer_without_former r header none ∙ answer_timed r header e waiting is
+
+first_as : (time_of : ℕ → ℕ) (n : ℕ) (a : Arrival) (e : Extended) (r mid t : Receiving) (outcome : Outcome) → r.is_restarting ≡ true → r.kept ≡ None
+    → is_built_in_depacketizer r.buffer.depacketizer ≡ true
     → number_in e ≡ Some n → AreTimesOf time_of r.noted → a.header.timestamp ≡ time_of n → ReceivesAs e a r outcome mid
     → t ≡ with_first e a.header.timestamp (numbered r e a.header.sequence_number mid) → TakesIn time_of e n a r t
-first_as time_of n a (extended.Number m) r mid t outcome none of_codec is times time went left =
+first_as time_of n a (extended.Number m) r mid t outcome waiting none of_codec is times time went left =
     let same : m ≡ n = same_Some m n is in
     let here : GoesOn n a r outcome mid = subst (λ (k : ℕ). GoesOn k a r outcome mid) same went in
     went_in time_of n a r mid t outcome mid.counters mid.kept (extended.Number m) of_codec times time here left
-first_as time_of n a (extended.Restarted m) r mid t outcome none of_codec is times time restarts left =
+first_as time_of n a (extended.Restarted m) r mid t outcome waiting none of_codec is times time got left =
     let same : m ≡ n = same_Some m n is in
+    let restarts = got.1 in
     let x : Receiving = restarts.1 in
     let went : GoesOn m a r restarts.0 x = restarts.3 in
     let kept : x.kept ≡ None = ap (λ (y : Receiving). y.kept) went.2 ∙ (ap (λ (y : Receiving). y.kept) went.1.3 ∙ none) in
-    let confirms = subst (λ (o : Option Arrival). Confirms m o (jitter.restarted x) restarts.2 mid) kept restarts.4 in
+    let confirms = subst (λ (o : Option Arrival). Confirms m o (jitter.restarted x) restarts.2 got.0) kept restarts.4 in
+    let no_former : got.0.noted.former ≡ None = ap (λ (y : Receiving). y.noted.former) confirms.1 ∙ (goes_on_former m a r restarts.0 x went ∙ times.1) in
+    let is_mid : mid ≡ jitter.restarted x = got.2 ∙ (same_former r got.0 (announced_leaves_none r waiting ∙ sym no_former) ∙ confirms.1) in
     let here : GoesOn n a r restarts.0 x = subst (λ (k : ℕ). GoesOn k a r restarts.0 x) same went in
     went_in time_of n a r x t restarts.0 (jitter.counted_restart x.counters) None (extended.Restarted m) of_codec times time here
-    (left ∙ ap (λ (x : Receiving). with_first (extended.Restarted m) a.header.timestamp (numbered r (extended.Restarted m) a.header.sequence_number x)) confirms.1)
-first_as time_of n a extended.Suspect r mid t outcome none of_codec is times time went left = absurd (cc)
-first_as time_of n a extended.Spent r mid t outcome none of_codec is times time went left = absurd (cc)
+    (left ∙ ap (λ (x : Receiving). with_first (extended.Restarted m) a.header.timestamp (numbered r (extended.Restarted m) a.header.sequence_number x)) is_mid)
+first_as time_of n a extended.Suspect r mid t outcome waiting none of_codec is times time went left = absurd (cc)
+first_as time_of n a extended.Spent r mid t outcome waiting none of_codec is times time went left = absurd (cc)
 
 takes_first : (time_of : ℕ → ℕ) (n : ℕ) (a : Arrival) (r t : Receiving) (outcome : Outcome) → r.is_restarting ≡ true → r.kept ≡ None → is_built_in_depacketizer r.buffer.depacketizer ≡ true
     → number_in (answer_anew r.numbering a.header.sequence_number) ≡ Some n → AreTimesOf time_of r.noted → a.header.timestamp ≡ time_of n
@@ -160,8 +170,8 @@ takes_first time_of n a r t outcome waiting none of_codec is times time receives
     let e : Extended = answer_anew r.numbering low in
     let mid : Receiving = receives.0 in
     let here : answer_in r low ≡ e = rw waiting refl in
-    let answer : answer_to r a.header ≡ e = answer_told r a.header e waiting here in
-    first_as time_of n a e r mid t outcome none of_codec is times time (subst (λ (x : Extended). ReceivesAs x a r outcome mid) answer receives.1)
+    let answer : answer_to r a.header ≡ e = answer_told r a.header e waiting times.1 here in
+    first_as time_of n a e r mid t outcome waiting none of_codec is times time (subst (λ (x : Extended). ReceivesAs x a r outcome mid) answer receives.1)
     (receives.2 ∙ ap (λ (x : Extended). with_first x a.header.timestamp (numbered r x low mid)) answer)
 
 pub pushes_first : (time_of : ℕ → ℕ) (stream : Outgoing) (now : Ticks) (q : Packet) (bytes : List ℕ) (s t : Session) (receipt : Receipt) → (stream.payload_type < 64) ⊎ (95 < stream.payload_type)
@@ -217,9 +227,9 @@ pops_told stream now answer s t is_told not_memory gated =
     let r : Receiving = s.packets in
     let settled_is : settled r ≡ r = settled_none r listening.none_noted in
     let wait : Option ℕ = waiting_at r now.0 in
-    let pops : PopsWith wait r answer popped.0 = subst (λ (x : Receiving). PopsWith (waiting_at x now.0) x answer popped.0) settled_is popped.1 in
-    let turn = turn_of wait r answer popped.0 listening.of_codec not_memory pops in
-    let packets : t.packets ≡ popped.0 = ap (λ (x : Session). x.packets) popped.2 in
+    let pops : PopsWith wait r answer popped.packets = subst (λ (x : Receiving). PopsWith (waiting_at x now.0) x answer popped.packets) settled_is popped.pops in
+    let turn = turn_of wait r answer popped.packets listening.of_codec not_memory pops in
+    let packets : t.packets ≡ popped.packets = ap (λ (x : Session). x.packets) popped.left in
     record {
       wait = wait;
       at_end = waits_for_nothing r now.0;
@@ -229,23 +239,23 @@ pops_told stream now answer s t is_told not_memory gated =
       numbering = ap (λ (x : Receiving). x.numbering) packets ∙ turn.numbering;
       is_told = record {
         calm = record {
-          payload_type = ap (λ (x : Session). x.stream.payload_type) popped.2 ∙ listening.payload_type;
-          named = ap (λ (x : Session). x.named) popped.2 ∙ listening.named;
-          ssrc = ap (λ (x : Session). x.ssrc) popped.2 ∙ listening.ssrc;
-          not_again = ap (λ (x : Session). is_sent_again_by x.stream.retransmission stream) popped.2 ∙ listening.not_again;
+          payload_type = ap (λ (x : Session). x.stream.payload_type) popped.left ∙ listening.payload_type;
+          named = ap (λ (x : Session). x.named) popped.left ∙ listening.named;
+          ssrc = ap (λ (x : Session). x.ssrc) popped.left ∙ listening.ssrc;
+          not_again = ap (λ (x : Session). is_sent_again_by x.stream.retransmission stream) popped.left ∙ listening.not_again;
           rate = ap (λ (x : Receiving). x.rate) packets ∙ (turn.rate ∙ listening.rate);
           running = refl;
           none_noted = ap (λ (x : Receiving). x.no_media_numbers) packets ∙ (turn.no_media_numbers ∙ listening.none_noted);
           of_codec = ap (λ (x : Receiving). is_built_in_depacketizer x.buffer.depacketizer) packets ∙ turn.of_codec;
-          no_block_seen = subst HasNoBlock (sym (ap (λ (x : Session). x.seen) popped.2)) listening.no_block_seen;
-          drops_none = ap (λ (x : Session). x.gates.drops) popped.2 ∙ (drops_stay _ s.gates _ answer ∙ listening.drops_none);
+          no_block_seen = subst HasNoBlock (sym (ap (λ (x : Session). x.seen) popped.left)) listening.no_block_seen;
+          drops_none = ap (λ (x : Session). x.gates.drops) popped.left ∙ (drops_stay _ s.gates _ answer popped.references ∙ listening.drops_none);
           heard = tt;
         };
         waiting = ap (λ (x : Receiving). x.is_restarting) packets ∙ (turn.is_restarting ∙ is_told.waiting);
         kept = ap (λ (x : Receiving). x.kept) packets ∙ (turn.kept ∙ is_told.kept);
         fresh = ap (λ (x : Receiving). x.first) packets ∙ (turn.first ∙ is_told.fresh);
       };
-      kinds = ap (λ (x : Session). x.stream) popped.2;
+      kinds = ap (λ (x : Session). x.stream) popped.left;
       limits = record { wait_limits = ap (λ (x : Receiving). x.wait_limits) packets ∙ turn.limits.wait_limits; room = ap (λ (x : Receiving). x.room) packets ∙ turn.limits.room };
       wait_is = refl;
       ended = ap (λ (x : Receiving). x.ended) packets ∙ turn.ended;

@@ -56,6 +56,7 @@ opus_settings no_media = record {
   backward = 1000;
   from_keyframe = modes.Mark;
   max_unit = None;
+  dependency_descriptor = None;
 }
 
 abbrev pub opus_receiver : Vec ℕ → Session

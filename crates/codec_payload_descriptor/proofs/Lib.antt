@@ -1,3 +1,2 @@
-pub mod SpellingLemmas
+pub mod ResultLemmas
 pub mod StructureLemmas
-pub mod SyntaxLemmas

@@ -6,9 +6,10 @@ use Rattle.std.proofs.Math.Nat.{pow-suc}
 use Rattle.codec_payload_descriptor.specs.declared.error.DescriptorFault.{DescriptorFault}
 use Rattle.codec_payload_descriptor.specs.declared.error.DescriptorFault.TheVariants as faults
 use Rattle.codec_payload_descriptor.specs.declared.structure.Layer.{Layer}
-use Rattle.codec_payload_descriptor.specs.Syntax.{field, then_read, read}
+use Rattle.codec_payload_syntax.specs.Syntax.{field, then_read}
+use Rattle.codec_payload_descriptor.specs.Syntax.{read}
 use Rattle.codec_payload_descriptor.specs.Structures.{is_layer, next_layer, layers_from}
-use Rattle.codec_payload_descriptor.proofs.SyntaxLemmas.{after, after_one}
+use Rattle.codec_payload_syntax.proofs.RepeatLemmas.{after, after_one}
 
 -- ---- values below a number
 

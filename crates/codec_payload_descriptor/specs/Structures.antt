@@ -3,7 +3,8 @@ use Rattle.std.specs.Prelude.{ℕ, zero, suc, ◌+◌, ◌-◌, ◌*◌, ◌^◌
 use Rattle.std.specs.Int.{leading_zeros, w8}
 use Rattle.codec_payload_descriptor.specs.declared.error.DescriptorFault.TheVariants as faults
 use Rattle.codec_payload_descriptor.specs.declared.structure.Layer.{Layer}
-use Rattle.codec_payload_descriptor.specs.Syntax.{Syntax, tells, refuses, field, skips, branch, ◌>>=◌, flag, times, until_none}
+use Rattle.codec_payload_syntax.specs.Syntax.{value, refuses, field, skips, branch, ◌>>=◌, flag, times, until_none}
+use Rattle.codec_payload_descriptor.specs.Syntax.{Syntax}
 
 -- ---- fields
 
@@ -19,12 +20,12 @@ shorter n = 2 ^ digits n - n
 abbrev pub below : ℕ → Syntax ℕ
 below n = do
   v ← field (digits n - 1)
-  branch (nat_lt v (shorter n)) (tells v) (longer v)
+  branch (nat_lt v (shorter n)) (value v) (longer v)
   where
     longer : ℕ → Syntax ℕ
     longer v = do
       last ← field 1
-      tells (2 * v - shorter n + last)
+      value (2 * v - shorter n + last)
 
 -- ---- references
 
@@ -32,12 +33,12 @@ below n = do
 abbrev pub next_reference : Bool → Syntax (Option ℕ)
 next_reference own = do
   size ← field (if own then 2 else 1)
-  branch (size == 0) (tells None) (told (if own then 4 * size else 4))
+  branch (size == 0) (value None) (told (if own then 4 * size else 4))
   where
     told : ℕ → Syntax (Option ℕ)
     told bits = do
       less ← field bits
-      tells (Some (less + 1))
+      value (Some (less + 1))
 
 -- at most 16 frame differences
 unfoldable pub references : Bool → Syntax (List ℕ)
@@ -62,12 +63,12 @@ first_layer = record { spatial_id = 0; temporal_id = 0 }
 abbrev pub with_next : Layer → (ℕ → Syntax (List Layer)) → Syntax (List Layer)
 with_next l others = do
   idc ← field 2
-  branch (idc == 3) (tells (l ∷ [])) (before (others idc))
+  branch (idc == 3) (value (l ∷ [])) (before (others idc))
   where
     before : Syntax (List Layer) → Syntax (List Layer)
     before others = do
       ls ← others
-      tells (l ∷ ls)
+      value (l ∷ ls)
 
 -- the layers of at most n templates, the first of them l
 unfoldable pub layers_from : ℕ → Layer → Syntax (List Layer)
@@ -100,7 +101,7 @@ pub record Structure : Type 0 where
 
 -- decode_target_protected_by
 abbrev pub protected : ℕ → ℕ → Syntax (List ℕ)
-protected targets chains = branch (chains == 0) (tells []) (times targets (below chains))
+protected targets chains = branch (chains == 0) (value []) (times targets (below chains))
 
 -- the spatial id of the last template, which is the highest
 abbrev pub highest : List Layer → ℕ
@@ -110,7 +111,7 @@ highest ls = (get_or ls (length ls - 1) first_layer).spatial_id
 unfoldable pub resolutions : List Layer → Syntax ℕ
 resolutions ls = do
   present ← flag
-  branch present (skips (32 * (highest ls + 1))) (tells 0)
+  branch present (skips (32 * (highest ls + 1))) (value 0)
 
 -- the layers of the templates, for each template the indications (template_dtis) and the frame differences (template_fdiffs)
 unfoldable pub templates : ℕ → Syntax (List Layer × List (List ℕ) × List (List ℕ))
@@ -118,7 +119,7 @@ templates targets = do
   ls ← layers
   indications ← times (length ls) (times targets (field 2))
   differences ← times (length ls) (references false)
-  tells (ls, indications, differences)
+  value (ls, indications, differences)
 
 -- template_chains: the number of chains, the chain of each decode target, for each template its difference in each chain
 unfoldable pub chains : ℕ → ℕ → Syntax (ℕ × List ℕ × List (List ℕ))
@@ -126,7 +127,7 @@ chains count targets = do
   n ← below (targets + 1)
   chain_of ← protected targets n
   differences ← times count (times n (field 4))
-  tells (n, chain_of, differences)
+  value (n, chain_of, differences)
 
 -- template_dependency_structure after the number of decode targets
 abbrev pub with_targets : ℕ → ℕ → Syntax Structure
@@ -134,7 +135,7 @@ with_targets first targets = do
   t ← templates targets
   c ← chains (length t.0) targets
   passed ← resolutions t.0
-  tells (record { first = first; targets = targets; layers = t.0; indications = t.1; references = t.2; chains = c.0; protected = c.1; chain_differences = c.2 })
+  value (record { first = first; targets = targets; layers = t.0; indications = t.1; references = t.2; chains = c.0; protected = c.1; chain_differences = c.2 })
 
 -- template_dependency_structure: the template id of the first template, the number of decode targets less one, and the rest
 unfoldable pub structure : Syntax Structure

@@ -2,18 +2,20 @@
 
 ghost use Rattle.std.specs.Prelude.{◌≡◌, ◌≢◌, ◌≤◌, IfOk, OnErr, Option, None, Ok, Err, true};
 ghost use Rattle.std.specs.Option.{option_map};
-ghost use Rattle.codec_payload_base.specs.Bits.{bits_of, left};
+ghost use Rattle.codec_payload_base.specs.Bits.{bits_of};
+ghost use Rattle.codec_payload_syntax.specs.FieldReaders.{left};
 ghost use Rattle.codec_payload_descriptor.specs.declared.dependency.DependencyDescriptor.{DependencyDescriptor};
 ghost use Rattle.codec_payload_descriptor.specs.declared.error.DescriptorError.TheVariants.{OutOfMemory};
-ghost use Rattle.codec_payload_descriptor.specs.Descriptors.{active_targets, descriptor, descriptor_in, descriptor_of, flags_if, frame, header, own_or, stream_read, structure_if, with_structure};
+ghost use Rattle.codec_payload_descriptor.specs.Descriptors.{HasStructure, active_targets, descriptor, descriptor_in, descriptor_of, flags_if, frame, header, own_or, stream_read, structure_flag, structure_if, with_structure};
 ghost use Rattle.codec_payload_descriptor.specs.Structures.{Structure, references};
-ghost use Rattle.codec_payload_descriptor.specs.Syntax.{Gives, IsSpelled, field, paired, read, times};
+ghost use Rattle.codec_payload_syntax.specs.Syntax.{IsSpelled, field, paired, times};
+ghost use Rattle.codec_payload_descriptor.specs.Syntax.{Gives, read, value_of};
 
 use crate::error::{DescriptorError, DescriptorFault};
 use crate::fields::{read_field, read_flag, read_mask, read_numbers, read_references, read_wide};
 use crate::numbers::Numbers;
 use crate::structure::{Layer, TemplateStructure};
-use codec_payload_base::bits::BitReader;
+use codec_payload_syntax::reader::FieldReader;
 use std::alloc::Global;
 use std::marker::Model;
 
@@ -61,7 +63,7 @@ pub struct DependencyDescriptor {
 
 /// Reads the fields that every descriptor has.
 #[tactic(auto, unfolding(crate::specs::Descriptors::header))]
-fn read_header(reader: &mut BitReader<'_>) -> Result<Header, DescriptorFault>
+fn read_header(reader: &mut FieldReader<'_>) -> Result<Header, DescriptorFault>
     ensures { paired result (left reader.new) ≡ read header (left reader.old) }
 {
     let start_of_frame = read_flag(reader)?;
@@ -78,7 +80,7 @@ fn read_header(reader: &mut BitReader<'_>) -> Result<Header, DescriptorFault>
 
 /// Reads which parts follow. A descriptor of three bytes has no such field.
 #[tactic(auto, unfolding(crate::specs::Descriptors::flags_if))]
-fn read_flags(reader: &mut BitReader<'_>, there: bool) -> Result<Flags, DescriptorFault>
+fn read_flags(reader: &mut FieldReader<'_>, there: bool) -> Result<Flags, DescriptorFault>
     ensures { paired result (left reader.new) ≡ read (flags_if there) (left reader.old) }
 {
     if !there {
@@ -106,7 +108,7 @@ fn read_flags(reader: &mut BitReader<'_>, there: bool) -> Result<Flags, Descript
 
 /// Reads the active decode targets. With a new structure all are active, unless the descriptor says which.
 fn read_active(
-    reader: &mut BitReader<'_>,
+    reader: &mut FieldReader<'_>,
     flags: Flags,
     targets: u8,
 ) -> Result<Option<u32>, DescriptorFault>
@@ -125,7 +127,7 @@ fn read_active(
 
 /// Reads a frame's own numbers, each of the same size, or returns the numbers of its template.
 fn read_numbers_or(
-    reader: &mut BitReader<'_>,
+    reader: &mut FieldReader<'_>,
     own: bool,
     count: u8,
     bits: usize,
@@ -143,7 +145,7 @@ fn read_numbers_or(
 
 /// Reads a frame's own references, or returns the references of its template.
 fn read_references_or(
-    reader: &mut BitReader<'_>,
+    reader: &mut FieldReader<'_>,
     own: bool,
     template: Numbers,
 ) -> Result<Numbers, DescriptorFault>
@@ -158,7 +160,7 @@ fn read_references_or(
 /// Reads the part after the active decode targets.
 #[tactic(auto, unfolding(crate::specs::Descriptors::frame))]
 fn read_frame(
-    reader: &mut BitReader<'_>,
+    reader: &mut FieldReader<'_>,
     header: Header,
     flags: Flags,
     active: Option<u32>,
@@ -190,7 +192,7 @@ fn read_frame(
 
 /// Reads the part after the structure.
 fn read_with(
-    reader: &mut BitReader<'_>,
+    reader: &mut FieldReader<'_>,
     header: Header,
     flags: Flags,
     structure: Option<&TemplateStructure>,
@@ -207,10 +209,11 @@ fn read_with(
 /// Reads the structure, if the descriptor has one.
 fn read_structure_if(
     alloc: Global,
-    reader: &mut BitReader<'_>,
+    reader: &mut FieldReader<'_>,
     there: bool,
 ) -> Result<Option<TemplateStructure>, DescriptorError>
-    ensures { Gives (λ s. (s, left reader.new)) result (read (structure_if there) (left reader.old)) }
+    ensures exact { Gives (λ s. (s, left reader.new)) result (read (structure_if there) (left reader.old)) }
+    ensures memory { result ≡ Err OutOfMemory → there ≡ true }
 {
     if !there {
         return Ok(None);
@@ -222,14 +225,15 @@ fn read_structure_if(
 }
 
 /// Reads a descriptor over a reader of its bits.
-#[tactic(auto, unfolding(crate::specs::Descriptors::descriptor))]
+#[tactic(auto, unfolding(crate::specs::Descriptors::descriptor, crate::specs::Descriptors::structure_flag))]
 fn read_fields(
     alloc: Global,
-    reader: &mut BitReader<'_>,
+    reader: &mut FieldReader<'_>,
     extended: bool,
     before: Option<&TemplateStructure>,
 ) -> Result<(DependencyDescriptor, Option<TemplateStructure>), DescriptorError>
-    ensures { Gives (λ d. (d, left reader.new)) result (read (descriptor extended (option_map (λ s. s.now) before.entry)) (left reader.old)) }
+    ensures exact { Gives (λ d. (d, left reader.new)) result (read (descriptor extended (option_map (λ s. s.now) before.entry)) (left reader.old)) }
+    ensures memory { result ≡ Err OutOfMemory → value_of (structure_flag extended) (left reader.old) ≡ Ok true }
 {
     let header = read_header(reader)?;
     let flags = read_flags(reader, extended)?;
@@ -247,9 +251,10 @@ fn read_bytes(
     bytes: &[u8],
     before: Option<&TemplateStructure>,
 ) -> Result<(DependencyDescriptor, Option<TemplateStructure>), DescriptorError>
-    ensures { Gives (λ d. d) result (descriptor_of (option_map (λ s. s.now) before.entry) bytes.now) }
+    ensures exact { Gives (λ d. d) result (descriptor_of (option_map (λ s. s.now) before.entry) bytes.now) }
+    ensures memory { result ≡ Err OutOfMemory → HasStructure bytes.now }
 {
-    let mut reader = BitReader::new(bytes);
+    let mut reader = FieldReader::new(bytes);
     read_fields(alloc, &mut reader, bytes.len() > 3, before)
 }
 
@@ -279,6 +284,8 @@ impl DependencyDescriptor {
         ensures accepted { (d : DependencyDescriptor × Option Structure) → IsSpelled (descriptor_in bytes.now (option_map (λ s. s.now) structure.entry)) (bits_of bytes.now) d → result ≢ Err OutOfMemory → result ≡ Ok d }
         // Which fault comes first.
         ensures exact { Gives (λ d. d) result (descriptor_of (option_map (λ s. s.now) structure.entry) bytes.now) }
+        // Only a structure takes memory.
+        ensures memory { result ≡ Err OutOfMemory → HasStructure bytes.now }
     {
         read_bytes(alloc, bytes, structure)
     }
@@ -335,6 +342,7 @@ impl DescriptorReader {
     /// The errors of [`DependencyDescriptor::read`]. The reader is unchanged.
     pub fn read(&mut self, bytes: &[u8]) -> Result<DependencyDescriptor, DescriptorError>
         ensures exact { Gives (λ d. (d, self.new)) result (stream_read self.old bytes.now) }
+        ensures memory { result ≡ Err OutOfMemory → HasStructure bytes.now }
         ensures unchanged { OnErr result (self.new ≡ self.old) }
     {
         let (descriptor, own) = DependencyDescriptor::read(

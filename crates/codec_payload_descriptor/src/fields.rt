@@ -1,46 +1,42 @@
 //! Fields of a given number of bits, as in the tables of standards.
 
 ghost use Rattle.std.specs.Prelude.{◌≡◌, ◌≤◌, ◌<◌, ◌^◌, length, IfOk};
-ghost use Rattle.codec_payload_base.specs.Bits.{left};
+ghost use Rattle.codec_payload_syntax.specs.FieldReaders.{left};
 ghost use Rattle.codec_payload_descriptor.specs.Structures.{below, next_reference, references};
-ghost use Rattle.codec_payload_descriptor.specs.Syntax.{field, flag, paired, read, skips, times};
+ghost use Rattle.codec_payload_syntax.specs.Syntax.{field, flag, paired, skips, times};
+ghost use Rattle.codec_payload_descriptor.specs.Syntax.{read};
 
 use crate::error::DescriptorFault;
 use crate::numbers::Numbers;
-use codec_payload_base::bits::{BitRead, BitReader};
+use codec_payload_syntax::fields;
+use codec_payload_syntax::reader::FieldReader;
 
 /// How many references a template or a frame has at most.
 pub(crate) const MOST_REFERENCES: usize = 16;
 
+/// The fault of bytes that end in a field.
+const SHORT: DescriptorFault = DescriptorFault::Short;
+
 /// Reads a field of at most eight bits.
-pub(crate) fn read_field(reader: &mut BitReader<'_>, bits: usize) -> Result<u8, DescriptorFault>
+pub(crate) fn read_field(reader: &mut FieldReader<'_>, bits: usize) -> Result<u8, DescriptorFault>
     requires { bits ≤ 8 }
     ensures value { paired result (left reader.new) ≡ read (field bits) (left reader.old) }
     ensures small { IfOk result (λ v. v < 2 ^ bits) }
 {
-    match reader.get_bits(bits) {
-        Some(value) => Ok(value),
-        None => Err(DescriptorFault::Short),
-    }
+    fields::read_field(reader, bits, SHORT)
 }
 
 /// Reads a field of at most sixteen bits.
-pub(crate) fn read_wide(reader: &mut BitReader<'_>, bits: usize) -> Result<u16, DescriptorFault>
+pub(crate) fn read_wide(reader: &mut FieldReader<'_>, bits: usize) -> Result<u16, DescriptorFault>
     requires { bits ≤ 16 }
     ensures value { paired result (left reader.new) ≡ read (field bits) (left reader.old) }
     ensures small { IfOk result (λ v. v < 2 ^ bits) }
 {
-    if bits <= 8 {
-        let value = read_field(reader, bits)?;
-        return Ok(u16::from(value));
-    }
-    let high = read_field(reader, bits - 8)?;
-    let low = read_field(reader, 8)?;
-    Ok(u16::from(high) * 256 + u16::from(low))
+    fields::read_wide(reader, bits, SHORT)
 }
 
 /// Reads a field of at most 32 bits.
-pub(crate) fn read_mask(reader: &mut BitReader<'_>, bits: usize) -> Result<u32, DescriptorFault>
+pub(crate) fn read_mask(reader: &mut FieldReader<'_>, bits: usize) -> Result<u32, DescriptorFault>
     requires { bits ≤ 32 }
     ensures { paired result (left reader.new) ≡ read (field bits) (left reader.old) }
 {
@@ -54,15 +50,14 @@ pub(crate) fn read_mask(reader: &mut BitReader<'_>, bits: usize) -> Result<u32, 
 }
 
 /// Reads a field of one bit.
-pub(crate) fn read_flag(reader: &mut BitReader<'_>) -> Result<bool, DescriptorFault>
+pub(crate) fn read_flag(reader: &mut FieldReader<'_>) -> Result<bool, DescriptorFault>
     ensures { paired result (left reader.new) ≡ read flag (left reader.old) }
 {
-    let bit = read_field(reader, 1)?;
-    Ok(bit == 1)
+    fields::read_flag(reader, SHORT)
 }
 
 /// Reads a value below `count`: `ns(count)` of the AV1 bitstream specification, section 4.10.7.
-pub(crate) fn read_below(reader: &mut BitReader<'_>, count: u8) -> Result<u8, DescriptorFault>
+pub(crate) fn read_below(reader: &mut FieldReader<'_>, count: u8) -> Result<u8, DescriptorFault>
     requires some { 0 < count }
     requires few { count ≤ 33 }
     ensures value { paired result (left reader.new) ≡ read (below count) (left reader.old) }
@@ -80,19 +75,15 @@ pub(crate) fn read_below(reader: &mut BitReader<'_>, count: u8) -> Result<u8, De
 }
 
 /// Skips a given number of bits.
-pub(crate) fn skip_bits(reader: &mut BitReader<'_>, bits: usize) -> Result<u8, DescriptorFault>
+pub(crate) fn skip_bits(reader: &mut FieldReader<'_>, bits: usize) -> Result<u8, DescriptorFault>
     ensures { paired result (left reader.new) ≡ read (skips bits) (left reader.old) }
 {
-    if reader.skip_bits(bits) {
-        Ok(0)
-    } else {
-        Err(DescriptorFault::Short)
-    }
+    reader.skip_bits(bits, SHORT)
 }
 
 /// Reads `count` fields of the same size.
 pub(crate) fn read_numbers(
-    reader: &mut BitReader<'_>,
+    reader: &mut FieldReader<'_>,
     count: usize,
     bits: usize,
 ) -> Result<Numbers, DescriptorFault>
@@ -110,7 +101,7 @@ pub(crate) fn read_numbers(
 
 /// Reads `count` values below `limit`.
 pub(crate) fn read_numbers_below(
-    reader: &mut BitReader<'_>,
+    reader: &mut FieldReader<'_>,
     count: usize,
     limit: u8,
 ) -> Result<Numbers, DescriptorFault>
@@ -129,7 +120,7 @@ pub(crate) fn read_numbers_below(
 
 /// Reads the next reference of a template, or a frame's own next reference; `None` at the end of the list.
 pub(crate) fn read_next_reference(
-    reader: &mut BitReader<'_>,
+    reader: &mut FieldReader<'_>,
     own: bool,
 ) -> Result<Option<u16>, DescriptorFault>
     ensures { paired result (left reader.new) ≡ read (next_reference own) (left reader.old) }
@@ -149,7 +140,7 @@ pub(crate) fn read_next_reference(
 
 /// Reads the references of a template, or a frame's own references.
 pub(crate) fn read_references(
-    reader: &mut BitReader<'_>,
+    reader: &mut FieldReader<'_>,
     own: bool,
 ) -> Result<Numbers, DescriptorFault>
     ensures { paired result (left reader.new) ≡ read (references own) (left reader.old) }

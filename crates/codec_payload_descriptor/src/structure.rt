@@ -1,16 +1,17 @@
 //! The template structure: what the frames of a stream have in common (AV1 RTP specification, appendix A.8.2).
 
 ghost use Rattle.std.specs.Prelude.{◌≡◌, ◌<◌, ◌≤◌, [], get_or, slice_get, false, true, IfOk};
-ghost use Rattle.codec_payload_base.specs.Bits.{left};
+ghost use Rattle.codec_payload_syntax.specs.FieldReaders.{left};
 ghost use Rattle.codec_payload_descriptor.specs.Structures.{chains, highest, is_layer, layers, next_layer, place_of, protected, references, resolutions, structure, templates, with_targets};
-ghost use Rattle.codec_payload_descriptor.specs.Syntax.{Gives, field, paired, read, times};
+ghost use Rattle.codec_payload_syntax.specs.Syntax.{field, paired, times};
+ghost use Rattle.codec_payload_descriptor.specs.Syntax.{Gives, read};
 
 use crate::error::{DescriptorError, DescriptorFault};
 use crate::fields::{
     read_below, read_field, read_flag, read_numbers, read_numbers_below, read_references, skip_bits,
 };
 use crate::numbers::Numbers;
-use codec_payload_base::bits::BitReader;
+use codec_payload_syntax::reader::FieldReader;
 use std::alloc::Global;
 use std::marker::Model;
 
@@ -54,7 +55,7 @@ impl Layer {
 }
 
 /// Reads the layers of the templates.
-fn read_layers(alloc: Global, reader: &mut BitReader<'_>) -> Result<Vec<Layer>, DescriptorError>
+fn read_layers(alloc: Global, reader: &mut FieldReader<'_>) -> Result<Vec<Layer>, DescriptorError>
     ensures { Gives (λ v. (v.items, left reader.new)) result (read layers (left reader.old)) }
 {
     let mut layers = Vec::new(alloc);
@@ -78,7 +79,7 @@ fn read_layers(alloc: Global, reader: &mut BitReader<'_>) -> Result<Vec<Layer>, 
 /// Reads the references of each template.
 fn read_reference_rows(
     alloc: Global,
-    reader: &mut BitReader<'_>,
+    reader: &mut FieldReader<'_>,
     templates: usize,
 ) -> Result<Vec<Numbers>, DescriptorError>
     ensures { Gives (λ v. (v.items, left reader.new)) result (read (times templates (references false)) (left reader.old)) }
@@ -96,7 +97,7 @@ fn read_reference_rows(
 /// Reads `count` fields of the same size for each template.
 fn read_rows(
     alloc: Global,
-    reader: &mut BitReader<'_>,
+    reader: &mut FieldReader<'_>,
     templates: usize,
     count: usize,
     bits: usize,
@@ -117,7 +118,7 @@ fn read_rows(
 
 /// Reads the chain that protects each decode target. Without chains the list is empty.
 fn read_protected(
-    reader: &mut BitReader<'_>,
+    reader: &mut FieldReader<'_>,
     targets: usize,
     chains: u8,
 ) -> Result<Numbers, DescriptorFault>
@@ -138,7 +139,7 @@ type Rows = Vec<Numbers>;
 #[tactic(auto, unfolding(crate::specs::Structures::templates))]
 fn read_templates(
     alloc: Global,
-    reader: &mut BitReader<'_>,
+    reader: &mut FieldReader<'_>,
     targets: usize,
 ) -> Result<(Vec<Layer>, Rows, Rows), DescriptorError>
     requires { targets ≤ 32 }
@@ -154,7 +155,7 @@ fn read_templates(
 #[tactic(auto, unfolding(crate::specs::Structures::chains))]
 fn read_chains(
     alloc: Global,
-    reader: &mut BitReader<'_>,
+    reader: &mut FieldReader<'_>,
     templates: usize,
     targets: u8,
 ) -> Result<(u8, Numbers, Rows), DescriptorError>
@@ -180,7 +181,7 @@ fn highest(layers: &[Layer]) -> u8
 
 /// Skips the size of the pictures of each spatial layer, if the structure has them.
 #[tactic(auto, unfolding(crate::specs::Structures::resolutions))]
-fn skip_resolutions(reader: &mut BitReader<'_>, layers: &[Layer]) -> Result<u8, DescriptorFault>
+fn skip_resolutions(reader: &mut FieldReader<'_>, layers: &[Layer]) -> Result<u8, DescriptorFault>
     ensures { paired result (left reader.new) ≡ read (resolutions layers.now) (left reader.old) }
 {
     if !read_flag(reader)? {
@@ -229,7 +230,7 @@ impl TemplateStructure {
     #[tactic(auto, unfolding(crate::specs::Structures::structure))]
     pub(crate) fn read(
         alloc: Global,
-        reader: &mut BitReader<'_>,
+        reader: &mut FieldReader<'_>,
     ) -> Result<TemplateStructure, DescriptorError>
         ensures { Gives (λ s. (s, left reader.new)) result (read structure (left reader.old)) }
     {
@@ -241,7 +242,7 @@ impl TemplateStructure {
     /// Reads the part after the number of decode targets.
     fn read_rest(
         alloc: Global,
-        reader: &mut BitReader<'_>,
+        reader: &mut FieldReader<'_>,
         first: u8,
         targets: u8,
     ) -> Result<TemplateStructure, DescriptorError>

@@ -19,17 +19,19 @@ use Rattle.codec_payload_sending.specs.Senders.{Sending}
 use Rattle.codec_payload_sending_forward.specs.Forwarding.{Forward}
 use Rattle.codec_payload_sending_forward.specs.Times.{time_as}
 use Rattle.codec_payload_sending_forward.specs.declared.forwarder.Forwarded.{Forwarded}
-use Rattle.codec_payload_datagram_runs.proofs.ReleaseLemmas.{promises_over_datagrams, release_over_datagrams}
-use Rattle.codec_payload_datagram_runs.specs.Releases.{AreOfOneStream, AreTimely, ComeTimely, ComeWithin, IsTimely, IsWithinWindows, ReleasesUnits, delivered, received_steps, sending_steps, sends_after, sent_after, times_of, times_sent}
+use Rattle.codec_payload_datagram_runs.proofs.Courses.{proceeds}
+use Rattle.codec_payload_datagram_runs.proofs.RedStepLemmas.{only_sends}
+use Rattle.codec_payload_datagram_runs.specs.Releases.{AreOfOneStream, AreTimely, ComeTimely, ComeWithin, IsTimely, IsWithinWindows, delivered, received_steps, sending_steps, sends_after, sent_after, times_of, times_sent}
 use Rattle.codec_payload_datagram_runs.specs.WireRuns.{Runs, begins}
 use Rattle.codec_payload_datagram_runs.specs.declared.run.DatagramStep.{DatagramStep}
 use Rattle.codec_payload_datagram_runs.specs.declared.run.DatagramStep.TheVariants as plain
 use Rattle.codec_payload_datagram_runs.specs.declared.run.SentSample.{SentSample}
 use Rattle.codec_payload_forward_runs.proofs.MovedPayloads.{after_moves, same_fact}
-use Rattle.codec_payload_forward_runs.proofs.SenderLemmas.{map_append, viewer_time}
+use Rattle.codec_payload_forward_runs.proofs.SenderLemmas.{View, map_append, seen_wire, viewer_time}
 use Rattle.codec_payload_forward_runs.proofs.ViewerLemmas.{GoesOn}
-use Rattle.codec_payload_forward_runs.proofs.ViewerRuns.{Comes, Fit, IsAt, comes, ends_on}
-use Rattle.codec_payload_forward_runs.specs.ForwardReleases.{AreForwarded, ForwardsStream, IsForwardedWithinWindows, PacketsForwarded, PromisesForwarded, ReleaseForwarded, forwarded_in, forwarded_of, viewer_sample, viewer_packetizer, viewer_samples, viewer_sender, viewer_steps, viewer_steps_of, keeps_packetizer, viewer_wire}
+use Rattle.codec_payload_forward_runs.proofs.ViewerReleases.{IsSeen, viewer_keeps, viewer_releases}
+use Rattle.codec_payload_forward_runs.proofs.ViewerRuns.{Comes, Fit, IsAt, alone_from, comes, ends_on, is_at_end}
+use Rattle.codec_payload_forward_runs.specs.ForwardReleases.{AreForwarded, ForwardsStream, IsForwardedWithinWindows, PacketsForwarded, PromisesForwarded, ReleaseForwarded, forwarded_in, forwarded_of, viewer_sample, viewer_packetizer, viewer_samples, viewer_sender, viewer_steps, viewer_steps_of, keeps_packetizer, keeps_payloads}
 use Rattle.codec_payload_forward_runs.specs.ForwardRuns.{ForwardRuns, Hops, begins_forwarding}
 use Rattle.codec_payload_forward_runs.specs.declared.run.ForwardStep.{ForwardStep}
 
@@ -265,55 +267,75 @@ module _ (samples : List Sample) (all_steps : List ForwardStep) (sender : Sendin
   abbrev kind : Bool
   kind = keeps_packetizer codec sender.packetizer
 
+  -- whether the payloads have no ids that close up
+  abbrev steady : Bool
+  steady = keeps_payloads codec sender.packetizer
+
   abbrev seen : List DatagramStep
   seen = viewer_steps_of samples all_steps t
 
-  begun : IsAt sender.stream.ssrc rate codec kind (begins_forwarding sender forwarder receiver)
-  begun = record { source = record { source = refl; clock = refl; keeps = forwards.keeps; of_codec = λ on. on; all = tt }; codec_is = refl; none = forwards.none_left_out }
+  begun : IsAt sender.stream.ssrc rate codec kind steady (begins_forwarding sender forwarder receiver)
+  begun = record {
+    source = record { source = refl; clock = refl; keeps = λ on. on; of_codec = λ on. on; all = tt };
+    codec_is = refl;
+    none = λ on. (forwards.none_left_out on, λ moves. forwards.none_closed moves on);
+  }
 
-  came : Comes sender.stream.ssrc rate codec kind samples all_steps (begins_forwarding sender forwarder receiver) t []
-  came = comes sender.stream.ssrc rate codec kind samples all_steps (begins_forwarding sender forwarder receiver) t [] begun tt run
+  came : Comes sender.stream.ssrc rate codec kind steady samples all_steps (begins_forwarding sender forwarder receiver) t []
+  came = comes sender.stream.ssrc rate codec kind steady samples all_steps (begins_forwarding sender forwarder receiver) t [] begun tt run
 
   on : GoesOn sender.stream.ssrc forwarder e
-  on = ends_on sender.stream.ssrc rate codec kind samples all_steps (begins_forwarding sender forwarder receiver) t begun run
+  on = ends_on sender.stream.ssrc rate codec kind steady samples all_steps (begins_forwarding sender forwarder receiver) t begun run
+
+  at_end : IsAt sender.stream.ssrc rate codec kind steady t
+  at_end = is_at_end sender.stream.ssrc rate codec kind steady samples all_steps (begins_forwarding sender forwarder receiver) t begun run
 
   pub written : AreForwarded e t.wire.datagrams t.written (forwarded_of samples all_steps t)
   written = subst (λ (rs : List Forwarded). AreForwarded e t.wire.datagrams t.written (forwarded_in samples 0 [] all_steps t.wire.sends rs)) (sym came.results)
       (subst (λ (es : List SentSample). AreForwarded e t.wire.datagrams t.written (forwarded_in samples 0 [] all_steps es came.more)) (sym came.sends) came.written)
 
   module _ (within : IsForwardedWithinWindows samples all_steps (begins_forwarding sender forwarder receiver) t) where
-    fit : Fit sender.stream.ssrc rate codec kind samples e
-    fit = (
-      within.widths.clock_rate,
-      subst (λ (s : _). s.payload_type < 128) (sym on.settings) within.widths.payload_type,
-      subst (λ (s : _). s.ssrc < 2 ^ 32) (sym on.settings) within.widths.ssrc,
-      ap (λ (s : _). s.codec) on.settings,
-      within.of_codec,
-    )
-
-    pub course : Runs (viewer_samples e rate samples) seen (begins (viewer_sender e sender) receiver) (viewer_wire e t.wire)
-    course = subst (λ (rs : List Forwarded). Runs (viewer_samples e rate samples) (viewer_steps samples 0 [] all_steps t.wire.sends rs) (begins (viewer_sender e sender) receiver) (viewer_wire e t.wire)) (sym came.results)
-        (subst (λ (es : List SentSample). Runs (viewer_samples e rate samples) (viewer_steps samples 0 [] all_steps es came.more) (begins (viewer_sender e sender) receiver) (viewer_wire e t.wire)) (sym came.sends) (came.course fit))
-
-    pub is_within : IsWithinWindows (viewer_samples e rate samples) seen (viewer_sender e sender) receiver t.wire.sends
+    is_within : IsWithinWindows (viewer_samples e rate samples) seen (viewer_sender e sender) receiver t.wire.sends
     is_within = moved_within e samples seen sender receiver t.wire.sends within.settings within.depacketizer within.widths.clock_rate within.new within.one_stream within.readable within.within within.timely
 
-    pub releases : ReleasesUnits (viewer_samples e rate samples) seen (begins (viewer_sender e sender) receiver) (viewer_wire e t.wire)
-    releases = release_over_datagrams (viewer_samples e rate samples) seen (viewer_sender e sender) receiver (viewer_wire e t.wire) course is_within
+    course : (view : View) → Fit sender.stream.ssrc rate codec kind steady samples e view → Runs (viewer_samples e rate samples) seen (seen_wire view e (begins sender receiver)) (seen_wire view e t.wire)
+    course view fit =
+        subst (λ (rs : List Forwarded). Runs (viewer_samples e rate samples) (viewer_steps samples 0 [] all_steps t.wire.sends rs) (seen_wire view e (begins sender receiver)) (seen_wire view e t.wire)) (sym came.results)
+        (subst (λ (es : List SentSample). Runs (viewer_samples e rate samples) (viewer_steps samples 0 [] all_steps es came.more) (seen_wire view e (begins sender receiver)) (seen_wire view e t.wire)) (sym came.sends) (came.course view fit))
+
+    alone : (x : Forward) (view : View) (other : Session) → Fit sender.stream.ssrc rate codec kind steady samples x view
+        → Runs (viewer_samples x rate samples) (only_sends seen) (alone_from other view x (begins sender receiver)) (alone_from other view x t.wire)
+    alone x view other fit =
+        subst (λ (rs : List Forwarded). Runs (viewer_samples x rate samples) (only_sends (viewer_steps samples 0 [] all_steps t.wire.sends rs)) (alone_from other view x (begins sender receiver)) (alone_from other view x t.wire)) (sym came.results)
+        (subst (λ (es : List SentSample). Runs (viewer_samples x rate samples) (only_sends (viewer_steps samples 0 [] all_steps es came.more)) (alone_from other view x (begins sender receiver)) (alone_from other view x t.wire)) (sym came.sends)
+        (came.alone x view other fit))
+
+    pub is_seen : IsSeen None codec samples seen e sender receiver t.wire
+    is_seen = record {
+      course = λ view fit. proceeds None (viewer_samples e rate samples) seen (seen_wire view e (begins sender receiver)) (seen_wire view e t.wire) (course view fit);
+      alone = alone;
+      of = at_end.source.all;
+      codec_is = ap (λ (s : _). s.codec) on.settings;
+      of_codec = within.of_codec;
+      some = within.widths.clock_rate;
+      fits_type = subst (λ (s : _). s.payload_type < 128) (sym on.settings) within.widths.payload_type;
+      fits_ssrc = subst (λ (s : _). s.ssrc < 2 ^ 32) (sym on.settings) within.widths.ssrc;
+      hears = tt;
+      within = is_within;
+    }
 
 pub packets_forwarded : PacketsForwarded
 packets_forwarded samples all_steps sender forwarder receiver t run forwards = written samples all_steps sender forwarder receiver t run forwards
 
 pub release_forwarded : ReleaseForwarded
 release_forwarded samples all_steps sender forwarder receiver t run within =
-    let units = releases samples all_steps sender forwarder receiver t run within.forwards within in
+    let seen : List DatagramStep = viewer_steps_of samples all_steps t in
+    let units = viewer_releases None forwarder.settings.codec samples seen t.forwarder sender receiver t.wire (is_seen samples all_steps sender forwarder receiver t run within.forwards within) in
     record {
       released = units;
-      canonical = units.canonical
-          ∙ same_units t.forwarder sender.stream.clock_rate sender.packetizer samples (sending_steps sender.mtu (viewer_steps_of samples all_steps t));
+      canonical = units.canonical ∙ same_units t.forwarder sender.stream.clock_rate sender.packetizer samples (sending_steps sender.mtu seen);
     }
 
 pub promises_forwarded : PromisesForwarded
 promises_forwarded samples all_steps sender forwarder receiver t run within =
-    promises_over_datagrams (viewer_samples t.forwarder sender.stream.clock_rate samples) (viewer_steps_of samples all_steps t) (viewer_sender t.forwarder sender) receiver (viewer_wire t.forwarder t.wire)
-    (course samples all_steps sender forwarder receiver t run within.forwards within) (is_within samples all_steps sender forwarder receiver t run within.forwards within)
+    viewer_keeps None forwarder.settings.codec samples (viewer_steps_of samples all_steps t) t.forwarder sender receiver t.wire (is_seen samples all_steps sender forwarder receiver t run within.forwards within)

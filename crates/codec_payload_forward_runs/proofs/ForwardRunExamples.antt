@@ -9,11 +9,11 @@ use Rattle.codec_payload_datagram_runs.specs.WireRunExample.{at, frames_sent, on
 use Rattle.codec_payload_datagram_runs.specs.declared.run.DatagramStep.{DatagramStep}
 use Rattle.codec_payload_datagram_runs.specs.declared.run.DatagramStep.TheVariants as plain
 use Rattle.codec_payload_forward_runs.specs.ForwardReleases.{IsForwardedWithinWindows, viewer_steps_of}
-use Rattle.codec_payload_forward_runs.specs.ForwardRunExample.{ForwardingCanBeMet, forward_steps, opus_after, opus_before, viewer_settings, vp8_after, vp8_before, vp8_frames, vp8_steps}
+use Rattle.codec_payload_forward_runs.specs.ForwardRunExample.{ForwardingCanBeMet, forward_steps, ids_after, ids_before, opus_after, opus_before, viewer_settings, vp8_after, vp8_before, vp8_frames, vp8_steps}
 
 is_within : (no_media : Vec ℕ) → IsForwardedWithinWindows frames_sent forward_steps (opus_before no_media) (opus_after no_media)
 is_within no_media = record {
-  forwards = record { keeps = refl; none_left_out = λ on. refl };
+  forwards = record { none_left_out = λ on. refl; none_closed = λ moves on. refl };
   of_codec = refl;
   widths = record { clock_rate = lit< tt; payload_type = lit< tt; ssrc = lit< tt };
   settings = viewer_settings no_media;
@@ -35,9 +35,33 @@ is_within no_media = record {
   timely = (λ l. lit≤ tt, (λ l. lit≤ tt, (λ l. absurd (omega (arith, l)), tt)));
 }
 
+ids_are_within : (d : Vp8Depacketizer) (no_media : Vec ℕ) → IsForwardedWithinWindows vp8_frames vp8_steps (ids_before d no_media) (ids_after d no_media)
+ids_are_within d no_media = record {
+  forwards = record { none_left_out = λ on. refl; none_closed = λ moves on. refl };
+  of_codec = refl;
+  widths = record { clock_rate = lit< tt; payload_type = lit< tt; ssrc = lit< tt };
+  settings = viewer_settings no_media;
+  depacketizer = Vp8Depacketizing d;
+  new = refl;
+  one_stream = record {
+    built_in = refl;
+    alike = refl;
+    nothing_read = refl;
+    clock_rate = refl;
+    payload_type = refl;
+    not_rtcp = inr (lit< tt);
+    ssrc = refl;
+    not_again = refl;
+    drops_none = refl;
+  };
+  readable = (refl, tt);
+  within = (lit< tt, tt);
+  timely = tt;
+}
+
 vp8_is_within : (d : Vp8Depacketizer) (no_media : Vec ℕ) → IsForwardedWithinWindows vp8_frames vp8_steps (vp8_before d no_media) (vp8_after d no_media)
 vp8_is_within d no_media = record {
-  forwards = record { keeps = refl; none_left_out = λ on. refl };
+  forwards = record { none_left_out = λ on. refl; none_closed = λ moves on. refl };
   of_codec = refl;
   widths = record { clock_rate = lit< tt; payload_type = lit< tt; ssrc = lit< tt };
   settings = viewer_settings no_media;
@@ -83,5 +107,7 @@ can_be_met = record {
   within = is_within;
   all_come = all_comes;
   vp8_within = vp8_is_within;
+  ids_within = ids_are_within;
+  ids_moved = refl;
   are_delivered = λ no_media. refl;
 }

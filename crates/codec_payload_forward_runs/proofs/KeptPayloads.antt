@@ -1,20 +1,28 @@
--- Payloads that a forwarder keeps: those of VP8 without picture ids; and packetizers that stay of one kind.
-use Rattle.std.proofs.Common.{◌≡◌, ◌∙◌, refl, sym, ap, subst, ℕ, zero, suc, ◌<◌, List, [], ◌∷◌, ◌++◌, Bool, true, false, ltb, Option, Some, None, Result, Ok, Err, length, arith}
+-- Payloads that a forwarder keeps: those of VP8 without picture ids. Payloads whose ids are moved by the same offsets. And packetizers
+-- that stay of one kind.
+use Rattle.std.proofs.Common.{◌≡◌, ◌∙◌, refl, sym, ap, subst, ℕ, zero, suc, ◌+◌, ◌-◌, ◌%◌, ◌<◌, List, [], ◌∷◌, ◌++◌, Bool, true, false, ltb, Option, Some, None, Result, Ok, Err, length, arith}
 use Rattle.std.specs.Prelude.{slice_index_or}
+use Rattle.std.specs.Option.{option_map}
 use Rattle.std.proofs.lemmas.Bool.{ltb-false, ltb-true}
 use Rattle.codec_payload_base.specs.Answers.{Lands}
 use Rattle.codec_payload_base.specs.Described.{AnswersDescribed, described}
 use Rattle.codec_payload_base.specs.declared.error.PacketError.{PacketError}
+use Rattle.codec_payload_base.specs.declared.picture_id.PictureId.{PictureId}
+use Rattle.codec_payload_base.specs.declared.picture_id.PictureId.TheVariants.{Long, Short}
 use Rattle.codec_payload_base.specs.declared.wire.Codec.{Codec}
 use Rattle.codec_payload_base.specs.declared.wire.Codec.TheVariants as codecs
 use Rattle.codec_payload_codec.specs.Packetizers.{PacketizerState, PacketizerStep, is_built_in}
 use Rattle.codec_payload_codec.specs.Packetizers as packetizers
 use Rattle.codec_payload_sending_forward.specs.Forwarding.{offsets_for, payload_for}
-use Rattle.codec_payload_sending_forward.specs.Ids.{Ids, offsets_at}
+use Rattle.codec_payload_sending_forward.specs.Ids.{Ids, moved_picture, moved_tl0, offsets_at}
+use Rattle.codec_payload_sending_forward.specs.Numbers.{above}
 use Rattle.codec_payload_vp9.specs.Vp9Sent.{Sender}
-use Rattle.codec_payload_sending_forward.specs.Vp8Numbers.{payload_as}
+use Rattle.codec_payload_sending_forward.specs.Vp8Numbers.{patch_by, patch_with, patched_by, payload_as}
 use Rattle.codec_payload_sending_forward.specs.declared.ids.IdOffsets.{IdOffsets}
+use Rattle.codec_payload_vp8.specs.Vp8Descriptor.{Descriptor, parsed}
+use Rattle.codec_payload_vp8.specs.Vp8Patch.{Patch}
 use Rattle.codec_payload_vp8.specs.Vp8Sent.{advanced, gives_packets, header}
+use Rattle.codec_payload_vp8.specs.declared.vp8.descriptor.Vp8DescriptorError.{Vp8DescriptorError}
 use Rattle.codec_payload_forward_runs.specs.ForwardReleases.{keeps_packetizer, keeps_payloads}
 
 -- a payload without ids
@@ -84,6 +92,26 @@ vp8_kept packetizer after mtu frame payloads plain asks o i l =
     let step : PacketizerStep (packetizers.Vp8Packetizing None) mtu frame (Ok payloads) after = subst (λ (p : PacketizerState). Asks p mtu frame (Ok payloads) after) plain asks refl in
     vp8_each o mtu frame payloads step.2.0 i l
 
+-- a packetizer of VP8
+pub is_vp8 : (packetizer : PacketizerState) → keeps_packetizer codecs.Vp8 packetizer ≡ true → (id : Option ℕ) × (packetizer ≡ packetizers.Vp8Packetizing id)
+is_vp8 packetizers.G711Packetizing keeps = absurd (cc)
+is_vp8 packetizers.G722Packetizing keeps = absurd (cc)
+is_vp8 packetizers.OpusPacketizing keeps = absurd (cc)
+is_vp8 packetizers.ComfortNoisePacketizing keeps = absurd (cc)
+is_vp8 packetizers.TelePacketizing keeps = absurd (cc)
+is_vp8 (packetizers.Vp8Packetizing id) keeps = (id, refl)
+is_vp8 (packetizers.Vp9Packetizing sender) keeps = absurd (cc)
+is_vp8 packetizers.Av1Packetizing keeps = absurd (cc)
+is_vp8 (packetizers.AmrWbPacketizing octet) keeps = absurd (cc)
+is_vp8 packetizers.NullPacketizing keeps = absurd (cc)
+is_vp8 packetizers.BoxedPacketizing keeps = absurd (cc)
+
+vp8_stays : (packetizer after : PacketizerState) (mtu : ℕ) (frame : List ℕ) (answer : Result (List (List ℕ)) PacketError) (id : Option ℕ) → packetizer ≡ packetizers.Vp8Packetizing id
+    → Asks packetizer mtu frame answer after → keeps_packetizer codecs.Vp8 after ≡ true
+vp8_stays packetizer after mtu frame answer id is asks =
+    let step : PacketizerStep (packetizers.Vp8Packetizing id) mtu frame answer after = subst (λ (p : PacketizerState). Asks p mtu frame answer after) is asks refl in
+    ap (keeps_packetizer codecs.Vp8) step.3
+
 -- a packetizer of VP9
 pub is_vp9 : (packetizer : PacketizerState) → keeps_packetizer codecs.Vp9 packetizer ≡ true → (sender : Sender) × (packetizer ≡ packetizers.Vp9Packetizing sender)
 is_vp9 packetizers.G711Packetizing keeps = absurd (cc)
@@ -129,7 +157,7 @@ still_kept codecs.Unknown packetizer after mtu frame answer keeps asks = refl
 pub still_keeps : (codec : Codec) (packetizer after : PacketizerState) (mtu : ℕ) (frame : List ℕ) (answer : Result (List (List ℕ)) PacketError) → keeps_packetizer codec packetizer ≡ true
     → Asks packetizer mtu frame answer after → keeps_packetizer codec after ≡ true
 still_keeps codecs.Vp9 packetizer after mtu frame answer keeps asks = let is = is_vp9 packetizer keeps in vp9_keeps packetizer after mtu frame answer is.0 is.1 asks
-still_keeps codecs.Vp8 packetizer after mtu frame answer keeps asks = refl
+still_keeps codecs.Vp8 packetizer after mtu frame answer keeps asks = let is = is_vp8 packetizer keeps in vp8_stays packetizer after mtu frame answer is.0 is.1 asks
 still_keeps codecs.Opus packetizer after mtu frame answer keeps asks = refl
 still_keeps codecs.PCMU packetizer after mtu frame answer keeps asks = refl
 still_keeps codecs.PCMA packetizer after mtu frame answer keeps asks = refl
@@ -162,6 +190,12 @@ vp9_declines packetizer after mtu frame fault sender is declines =
     let step = subst (λ (p : PacketizerState). Declines p mtu frame fault after) is declines refl in
     vp9_keeps (packetizers.Vp9Packetizing sender) after mtu frame step.0 sender refl (λ built. step.1)
 
+vp8_refused : (packetizer after : PacketizerState) (mtu : ℕ) (frame : List ℕ) (fault : PacketError) (id : Option ℕ) → packetizer ≡ packetizers.Vp8Packetizing id
+    → Declines packetizer mtu frame fault after → keeps_packetizer codecs.Vp8 after ≡ true
+vp8_refused packetizer after mtu frame fault id is declines =
+    let step = subst (λ (p : PacketizerState). Declines p mtu frame fault after) is declines refl in
+    vp8_stays (packetizers.Vp8Packetizing id) after mtu frame step.0 id refl (λ built. step.1)
+
 pub refused_kept : (codec : Codec) (packetizer after : PacketizerState) (mtu : ℕ) (frame : List ℕ) (fault : PacketError) → keeps_payloads codec packetizer ≡ true
     → Declines packetizer mtu frame fault after → keeps_payloads codec after ≡ true
 refused_kept codecs.Vp8 packetizer after mtu frame fault keeps declines = vp8_declines packetizer after mtu frame fault (is_plain_vp8 packetizer keeps) declines
@@ -185,7 +219,7 @@ refused_kept codecs.Unknown packetizer after mtu frame fault keeps declines = re
 pub refused_still : (codec : Codec) (packetizer after : PacketizerState) (mtu : ℕ) (frame : List ℕ) (fault : PacketError) → keeps_packetizer codec packetizer ≡ true
     → Declines packetizer mtu frame fault after → keeps_packetizer codec after ≡ true
 refused_still codecs.Vp9 packetizer after mtu frame fault keeps declines = let is = is_vp9 packetizer keeps in vp9_declines packetizer after mtu frame fault is.0 is.1 declines
-refused_still codecs.Vp8 packetizer after mtu frame fault keeps declines = refl
+refused_still codecs.Vp8 packetizer after mtu frame fault keeps declines = let is = is_vp8 packetizer keeps in vp8_refused packetizer after mtu frame fault is.0 is.1 declines
 refused_still codecs.Opus packetizer after mtu frame fault keeps declines = refl
 refused_still codecs.PCMU packetizer after mtu frame fault keeps declines = refl
 refused_still codecs.PCMA packetizer after mtu frame fault keeps declines = refl
@@ -227,22 +261,67 @@ kept_each codecs.Rtx packetizer after mtu frame payloads keeps asks i l = tt
 kept_each codecs.Red packetizer after mtu frame payloads keeps asks i l = tt
 kept_each codecs.Unknown packetizer after mtu frame payloads keeps asks i l = tt
 
+-- Offsets that differ by multiples of 2^16 are the same for ids of 7 and of 15 bits
+same_id : (p q : ℕ) (id : PictureId) → p % 65536 ≡ q % 65536 → moved_picture p id ≡ moved_picture q id
+same_id p q (Short n) same = ap Short (omega (arith, same))
+same_id p q (Long n) same = ap Long (omega (arith, same))
+
+same_picture : (p q : ℕ) (id : Option PictureId) → p % 65536 ≡ q % 65536 → option_map (moved_picture p) id ≡ option_map (moved_picture q) id
+same_picture p q None same = refl
+same_picture p q (Some id) same = ap (λ (x : PictureId). Some x) (same_id p q id same)
+
+same_patch : (p q tl0 : ℕ) (r : Result Descriptor Vp8DescriptorError) → p % 65536 ≡ q % 65536 → patch_by (record { picture = p; tl0 = tl0 }) r ≡ patch_by (record { picture = q; tl0 = tl0 }) r
+same_patch p q tl0 (Ok d) same =
+    ap (λ (id : Option PictureId). patch_with d (record { picture_id = id; tl0_pic_idx = option_map (moved_tl0 tl0) d.tl0_pic_idx })) (same_picture p q d.picture_id same)
+same_patch p q tl0 (Err error) same = refl
+
+-- no picture was left out, so none of the ids close up
+unclosed : (ids : Ids) (n : ℕ) (payload : List ℕ) → ids.left_out ≡ [] → payload_as (offsets_at ids n) payload ≡ payload_as ids.offsets payload
+unclosed ids n payload none =
+    ap (λ (patch : Option Patch). patched_by patch payload)
+    (same_patch (offsets_at ids n).picture ids.offsets.picture ids.offsets.tl0 (parsed payload)
+    (ap (λ (left : List ℕ). (ids.offsets.picture + (65536 - (length left - above n left))) % 65536 % 65536) none ∙ omega arith))
+
 -- a payload is sent with the offsets that the forwarder began with
-pub same_payload : (codec : Codec) (ids : Ids) (n : ℕ) (payload : List ℕ) → IsKept codec payload → payload_for codec (offsets_for codec ids n) payload ≡ payload_for codec ids.offsets payload
-same_payload codecs.Vp8 ids n payload kept = kept (offsets_at ids n) ∙ sym (kept ids.offsets)
-same_payload codecs.Vp9 ids n payload kept = refl
-same_payload codecs.Opus ids n payload kept = refl
-same_payload codecs.PCMU ids n payload kept = refl
-same_payload codecs.PCMA ids n payload kept = refl
-same_payload codecs.G722 ids n payload kept = refl
-same_payload codecs.CN ids n payload kept = refl
-same_payload codecs.AmrWb ids n payload kept = refl
-same_payload codecs.H264 ids n payload kept = refl
-same_payload codecs.H265 ids n payload kept = refl
-same_payload codecs.H266 ids n payload kept = refl
-same_payload codecs.Av1 ids n payload kept = refl
-same_payload codecs.Null ids n payload kept = refl
-same_payload codecs.Tele ids n payload kept = refl
-same_payload codecs.Rtx ids n payload kept = refl
-same_payload codecs.Red ids n payload kept = refl
-same_payload codecs.Unknown ids n payload kept = refl
+same_kept : (codec : Codec) (ids : Ids) (n : ℕ) (payload : List ℕ) → IsKept codec payload → payload_for codec (offsets_for codec ids n) payload ≡ payload_for codec ids.offsets payload
+same_kept codecs.Vp8 ids n payload kept = kept (offsets_at ids n) ∙ sym (kept ids.offsets)
+same_kept codecs.Vp9 ids n payload kept = refl
+same_kept codecs.Opus ids n payload kept = refl
+same_kept codecs.PCMU ids n payload kept = refl
+same_kept codecs.PCMA ids n payload kept = refl
+same_kept codecs.G722 ids n payload kept = refl
+same_kept codecs.CN ids n payload kept = refl
+same_kept codecs.AmrWb ids n payload kept = refl
+same_kept codecs.H264 ids n payload kept = refl
+same_kept codecs.H265 ids n payload kept = refl
+same_kept codecs.H266 ids n payload kept = refl
+same_kept codecs.Av1 ids n payload kept = refl
+same_kept codecs.Null ids n payload kept = refl
+same_kept codecs.Tele ids n payload kept = refl
+same_kept codecs.Rtx ids n payload kept = refl
+same_kept codecs.Red ids n payload kept = refl
+same_kept codecs.Unknown ids n payload kept = refl
+
+same_unclosed : (codec : Codec) (ids : Ids) (n : ℕ) (payload : List ℕ) → ids.left_out ≡ [] → payload_for codec (offsets_for codec ids n) payload ≡ payload_for codec ids.offsets payload
+same_unclosed codecs.Vp8 ids n payload none = unclosed ids n payload none
+same_unclosed codecs.Vp9 ids n payload none = refl
+same_unclosed codecs.Opus ids n payload none = refl
+same_unclosed codecs.PCMU ids n payload none = refl
+same_unclosed codecs.PCMA ids n payload none = refl
+same_unclosed codecs.G722 ids n payload none = refl
+same_unclosed codecs.CN ids n payload none = refl
+same_unclosed codecs.AmrWb ids n payload none = refl
+same_unclosed codecs.H264 ids n payload none = refl
+same_unclosed codecs.H265 ids n payload none = refl
+same_unclosed codecs.H266 ids n payload none = refl
+same_unclosed codecs.Av1 ids n payload none = refl
+same_unclosed codecs.Null ids n payload none = refl
+same_unclosed codecs.Tele ids n payload none = refl
+same_unclosed codecs.Rtx ids n payload none = refl
+same_unclosed codecs.Red ids n payload none = refl
+same_unclosed codecs.Unknown ids n payload none = refl
+
+pub same_payload : (plain : Bool) (codec : Codec) (ids : Ids) (n : ℕ) (payload : List ℕ) → (plain ≡ true → IsKept codec payload) → (plain ≡ false → ids.left_out ≡ [])
+    → payload_for codec (offsets_for codec ids n) payload ≡ payload_for codec ids.offsets payload
+same_payload true codec ids n payload kept none = same_kept codec ids n payload (kept refl)
+same_payload false codec ids n payload kept none = same_unclosed codec ids n payload (none refl)

@@ -1,7 +1,10 @@
+pub mod FirstHopLemmas
 pub mod ForwardLemmas
 pub mod ForwardRunExamples
 pub mod KeptPayloads
 pub mod MovedPayloads
+pub mod MovedStreams
+pub mod MovedVp8
 pub mod PlainSteps
 pub mod SenderLemmas
 pub mod SourceLemmas
@@ -10,4 +13,5 @@ pub mod StoreReleaseLemmas
 pub mod StoreRunExamples
 pub mod StoreViewerRuns
 pub mod ViewerLemmas
+pub mod ViewerReleases
 pub mod ViewerRuns

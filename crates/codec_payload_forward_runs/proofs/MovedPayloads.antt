@@ -1,5 +1,5 @@
 -- The payloads of a packetizer, as the viewer gets them, are those of the moved packetizer.
-use Rattle.std.proofs.Common.{◌≡◌, ◌∙◌, refl, sym, ap, subst, ℕ, zero, suc, ◌+◌, ◌%◌, ◌^◌, ◌<◌, List, [], ◌∷◌, ◌++◌, Bool, true, false, ◌||◌, cond, inl, inr, Option, Some, None, Result, Ok, Err, length, map, arith}
+use Rattle.std.proofs.Common.{◌≡◌, ◌∙◌, refl, sym, ap, subst, ℕ, suc, ◌+◌, ◌%◌, ◌^◌, ◌<◌, List, [], ◌∷◌, ◌++◌, Bool, true, false, ◌||◌, cond, inl, inr, Option, Some, None, Result, Ok, Err, length, map, arith}
 use Rattle.std.specs.Prelude.{◌==◌, ◌⊎◌, not, slice_index_or}
 use Rattle.std.proofs.lemmas.List.{length-map}
 use Rattle.codec_payload_base.proofs.PictureIdLemmas.{takes_spelled}
@@ -23,7 +23,7 @@ use Rattle.codec_payload_sending_forward.specs.Vp8Numbers.{payload_as}
 use Rattle.codec_payload_sending_forward.specs.Vp9Numbers.{Fronted, front_of, has_tl0, moved_by, some_id, taken_byte, taken_id, then_layers, then_rest, then_tl0, vp9_payload_as}
 use Rattle.codec_payload_sending_forward.specs.declared.ids.IdOffsets.{IdOffsets}
 use Rattle.codec_payload_vp9.specs.Vp9Keyframe.{is_key_frame}
-use Rattle.codec_payload_vp9.specs.Vp9Sent.{Sender, Vp9Sends, advanced, begun, flexible_flags, header, next_tl0_in, nonflexible_flags, reserve_in, sender_after}
+use Rattle.codec_payload_vp9.specs.Vp9Sent.{Sender, Vp9Sends, advanced, begun, flexible_flags, header, next_tl0_in, nonflexible_flags, reserve_in}
 use Rattle.codec_payload_forward_runs.specs.ForwardReleases.{keeps_packetizer, keeps_payloads, moved_packetizer, moved_sender}
 use Rattle.codec_payload_forward_runs.proofs.KeptPayloads.{IsPlainVp8, is_plain_vp8, vp8_kept}
 
@@ -172,7 +172,7 @@ same_answer : (codec : Codec) (o : IdOffsets) (answer : Result (List (List ℕ))
 same_answer codec o (Ok payloads) same = ap Ok (map_same (payload_for codec o) payloads same)
 same_answer codec o (Err fault) same = refl
 
-plain_step : (codec : Codec) (o : IdOffsets) (packetizer after : PacketizerState) (mtu : ℕ) (frame : List ℕ) (answer : Result (List (List ℕ)) PacketError) → ((x : List ℕ) → payload_for codec o x ≡ x)
+pub plain_step : (codec : Codec) (o : IdOffsets) (packetizer after : PacketizerState) (mtu : ℕ) (frame : List ℕ) (answer : Result (List (List ℕ)) PacketError) → ((x : List ℕ) → payload_for codec o x ≡ x)
     → PacketizerStep packetizer mtu frame answer after → PacketizerStep packetizer mtu frame (moved_answer codec o answer) after
 plain_step codec o packetizer after mtu frame answer same step =
     subst (λ (a : Result (List (List ℕ)) PacketError). PacketizerStep packetizer mtu frame a after) (sym (same_answer codec o answer same)) step

@@ -95,7 +95,7 @@ once_in datagrams datagram once.New h t here all keeps = keeps_in datagrams data
 once_in datagrams datagram once.Known h t here all keeps = subst (λ (x : Past). AllIn datagrams x.packets) (sym keeps.3) all
 once_in datagrams datagram once.TooOld h t here all keeps = keeps_in datagrams datagram h t _ keeps.left here all
 
-packet_in_store : (datagrams : List (List ℕ)) (k : ℕ) (o : Option (List ℕ)) (h t : Past) → slice_get datagrams k ≡ o → AllIn datagrams h.packets → KeepsPacket o h t → AllIn datagrams t.packets
+pub packet_in_store : (datagrams : List (List ℕ)) (k : ℕ) (o : Option (List ℕ)) (h t : Past) → slice_get datagrams k ≡ o → AllIn datagrams h.packets → KeepsPacket o h t → AllIn datagrams t.packets
 packet_in_store datagrams k None h t is all same = subst (λ (x : Past). AllIn datagrams x.packets) (sym same) all
 packet_in_store datagrams k (Some datagram) h t is all keeps = by (packet_read (rtp_at datagram)) keeps
   where

@@ -20,7 +20,7 @@ use Rattle.codec_payload_forward_runs.specs.StoreRunExample.{PopsAllAgain, Store
 use Rattle.codec_payload_forward_runs.specs.StoreRuns.{StoreRuns, Stored}
 
 forwards_stream : ForwardsStream opus_sender again_forwarder
-forwards_stream = record { keeps = refl; none_left_out = λ on. refl }
+forwards_stream = record { none_left_out = λ on. refl; none_closed = λ moves on. refl }
 
 -- the steps of the viewer, with these results
 abbrev steps_by : List SentSample → List Forwarded → List Bool → List ℕ → List DatagramStep

@@ -15,16 +15,17 @@ use Rattle.codec_payload_sending_forward.specs.declared.forwarder.Forwarded.{For
 use Rattle.codec_payload_sending_history.specs.Packets.{Past}
 use Rattle.codec_payload_sending_history.specs.declared.retransmission.RetransmissionStream.{RetransmissionStream}
 use Rattle.codec_payload_datagram_runs.proofs.Courses.{DeliversCopy, IsCopy, Proceeds, makes}
+use Rattle.codec_payload_datagram_runs.proofs.RedStepLemmas.{only_sends}
 use Rattle.codec_payload_datagram_runs.proofs.StepLemmas.{get_append}
 use Rattle.codec_payload_datagram_runs.specs.WireRuns.{Delivers, Receipt, Runs, Wire}
 use Rattle.codec_payload_datagram_runs.specs.declared.run.DatagramStep.{DatagramStep}
 use Rattle.codec_payload_datagram_runs.specs.declared.run.SentSample.{SentSample}
-use Rattle.codec_payload_forward_runs.proofs.SenderLemmas.{reads}
+use Rattle.codec_payload_forward_runs.proofs.SenderLemmas.{View, reads, seen_wire}
 use Rattle.codec_payload_forward_runs.proofs.SourceLemmas.{IsDatagramOf, of_at}
-use Rattle.codec_payload_forward_runs.proofs.StoreLemmas.{AllIn, in_more, is_sent, kept_in}
+use Rattle.codec_payload_forward_runs.proofs.StoreLemmas.{AllIn, in_more, is_sent, kept_in, packet_in_store}
 use Rattle.codec_payload_forward_runs.proofs.ViewerLemmas.{GoesOn, IsOf, goes_further, goes_nowhere, same_viewer, written_packet}
-use Rattle.codec_payload_forward_runs.proofs.ViewerRuns.{Fit, IsAt, IsMore, One, Stays, one_step, stays}
-use Rattle.codec_payload_forward_runs.specs.ForwardReleases.{AreForwarded, viewer_bytes, viewer_datagram, viewer_packet, viewer_samples, viewer_wire}
+use Rattle.codec_payload_forward_runs.proofs.ViewerRuns.{Fit, IsAt, IsMore, One, Stays, alone_append, alone_from, one_step, stays}
+use Rattle.codec_payload_forward_runs.specs.ForwardReleases.{AreForwarded, viewer_bytes, viewer_datagram, viewer_packet, viewer_samples}
 use Rattle.codec_payload_forward_runs.specs.ForwardRuns.{DoesForwardStep, Hops, packet_read}
 use Rattle.codec_payload_forward_runs.specs.StoreReleases.{AreAgain, IsAgain, left_after, repeated_by, store_steps}
 use Rattle.codec_payload_forward_runs.specs.StoreRuns.{DoesStoreStep, Requests, StoreRuns, Stored, again_by}
@@ -77,7 +78,7 @@ is_copy f fits_type fits_ssrc None d bytes p is few same = inl (same ∙ ap (λ 
 is_copy f fits_type fits_ssrc (Some stream) d bytes p is few wrapped_is =
     inr (wrapped_is.0, record { original = viewer_packet f p; was = reads f fits_type fits_ssrc d p is few; reads = wrapped_is.1 })
 
-module _ (ssrc rate : ℕ) (codec : Codec) (kind : Bool) (samples : List Sample) where
+module _ (ssrc rate : ℕ) (codec : Codec) (kind steady : Bool) (samples : List Sample) where
   pub record StoreComes (e : Forward) (all_steps : List StoreStep) (s t : Stored) (forwarded repeated : List ℕ) : Type 0 where
     pub later : List SentSample
     pub sends : t.hops.wire.sends ≡ s.hops.wire.sends ++ later
@@ -86,9 +87,12 @@ module _ (ssrc rate : ℕ) (codec : Codec) (kind : Bool) (samples : List Sample)
     pub found : List Bool
     pub founds : t.found ≡ s.found ++ found
     pub left : List ℕ
-    pub course : Fit ssrc rate codec kind samples e
+    pub course : (view : View) → Fit ssrc rate codec kind steady samples e view
         → Proceeds e.settings.retransmissions (viewer_samples e rate samples) (store_steps samples (length s.hops.wire.datagrams) forwarded repeated all_steps later more found left)
-        (viewer_wire e s.hops.wire) (viewer_wire e t.hops.wire)
+        (seen_wire view e s.hops.wire) (seen_wire view e t.hops.wire)
+    pub alone : (x : Forward) (view : View) (receiver : Session) → Fit ssrc rate codec kind steady samples x view
+        → Runs (viewer_samples x rate samples) (only_sends (store_steps samples (length s.hops.wire.datagrams) forwarded repeated all_steps later more found left))
+        (alone_from receiver view x s.hops.wire) (alone_from receiver view x t.hops.wire)
     pub again : AreAgain e t.hops.wire.datagrams t.again (repeated ++ left)
 
   proceeds_after : (again : Option RetransmissionStream) (all_samples : List Sample) (first later : List DatagramStep) (s mid t : Wire) → Runs all_samples first s mid
@@ -100,7 +104,7 @@ module _ (ssrc rate : ℕ) (codec : Codec) (kind : Bool) (samples : List Sample)
   -- A request
 
   same_on : (f t : Forward) (next : ℕ) → t ≡ record f { next = next } → GoesOn ssrc f t
-  same_on f t next is = subst (GoesOn ssrc f) (sym is) (record { settings = refl; source = λ on. on; numbers = λ on. refl; times = λ on. refl; ids = λ on. refl; none = λ none. none })
+  same_on f t next is = subst (GoesOn ssrc f) (sym is) (record { settings = refl; source = λ on. on; numbers = λ on. refl; times = λ on. refl; ids = λ on. refl; none = λ steady none. none })
 
   resent_on : (again : Option RetransmissionStream) (p : Packet) (f t : Forward) (bytes : List ℕ) → IsResentBy again p f bytes t → GoesOn ssrc f t
   resent_on None p f t bytes is = goes_nowhere ssrc f t is.1
@@ -122,28 +126,28 @@ module _ (ssrc rate : ℕ) (codec : Codec) (kind : Bool) (samples : List Sample)
   same_read : (d : List ℕ) (p q : Packet) → rtp_at d ≡ Ok p → rtp_at d ≡ Ok q → p ≡ q
   same_read d p q one two = let same : Ok p ≡ Ok q = sym one ∙ two in cc
 
-  repeats_datagram : (e : Forward) (number : ℕ) (s : Stored) (p : Packet) (t : Forward) (bytes : List ℕ) → IsAt ssrc rate codec kind s.hops → AllIn s.hops.wire.datagrams s.store.packets
+  repeats_datagram : (e : Forward) (number : ℕ) (s : Stored) (p : Packet) (t : Forward) (bytes : List ℕ) → IsAt ssrc rate codec kind steady s.hops → AllIn s.hops.wire.datagrams s.store.packets
       → IsRequested s.hops.forwarder s.store number p → Repeats p s.hops.forwarder true bytes t → GoesOn ssrc t e → (k : ℕ) × Repeated e s.hops.wire.datagrams k bytes
   repeats_datagram e number s p t bytes at kept asked repeats goes =
       let f : Forward = s.hops.forwarder in
       let datagrams : List (List ℕ) = s.hops.wire.datagrams in
       let datagram : List ℕ = asked.1.3.0 in
       let there = is_sent datagrams s.store asked.1.1 datagram kept asked.1.3.1 in
-      let of : IsDatagramOf ssrc codec datagram = of_at ssrc codec datagrams there.0 datagram at.source.all there.1 in
+      let of : IsDatagramOf steady ssrc codec datagram = of_at steady ssrc codec datagrams there.0 datagram at.source.all there.1 in
       let same : of.0 ≡ p = same_read datagram of.0 p of.1 asked.1.3.2 in
-      let own : IsOf ssrc codec p = subst (IsOf ssrc codec) same of.2 in
-      let own_here : IsOf ssrc f.settings.codec p = subst (λ (c : Codec). IsOf ssrc c p) (sym at.codec_is) own in
+      let own : IsOf steady ssrc codec p = subst (IsOf steady ssrc codec) same of.2 in
+      let own_here : IsOf steady ssrc f.settings.codec p = subst (λ (c : Codec). IsOf steady ssrc c p) (sym at.codec_is) own in
       let on : is_source f.source ssrc ≡ true = subst (λ (n : ℕ). is_source f.source n ≡ true) own.source repeats.0 in
       let onward : GoesOn ssrc f e = goes_further ssrc f t e (repeats_on true p f t bytes repeats) goes in
       let is : next_packet f repeats.2.0 p ≡ viewer_packet e p =
-      written_packet ssrc repeats.2.0 p f own_here (at.none on) repeats.2.1 ∙ sym (same_viewer f e p onward.settings (onward.numbers on) (onward.times on) (onward.ids on)) in
+      written_packet steady ssrc repeats.2.0 p f own_here (at.none on) repeats.2.1 ∙ sym (same_viewer f e p onward.settings (onward.numbers on) (onward.times on) (onward.ids on)) in
       let again = resent_is f.settings.retransmissions (next_packet f repeats.2.0 p) (viewer_packet e p) f t bytes is repeats.2.2 in
       (there.0, (datagram, p, there.1, asked.1.3.2, subst (λ (x : _). IsAgain x.retransmissions (viewer_packet e p) bytes) (sym onward.settings) again))
 
   -- Steps
 
   record Later (s mid : Stored) : Type 0 where
-    at : IsAt ssrc rate codec kind mid.hops
+    at : IsAt ssrc rate codec kind steady mid.hops
     kept : AllIn mid.hops.wire.datagrams mid.store.packets
     on : GoesOn ssrc s.hops.forwarder mid.hops.forwarder
     more : IsMore s.hops.wire.datagrams mid.hops.wire.datagrams
@@ -154,17 +158,17 @@ module _ (ssrc rate : ℕ) (codec : Codec) (kind : Bool) (samples : List Sample)
   grown_again : (f : Forward) (before after bs : List (List ℕ)) (ks : List ℕ) → IsMore before after → AreAgain f before bs ks → AreAgain f after bs ks
   grown_again f before after bs ks more are = subst (λ (ds : List (List ℕ)). AreAgain f ds bs ks) (sym more.1) (again_more f before more.0 bs ks are)
 
-  with_forwarder : (s : Hops) (f : Forward) → IsAt ssrc rate codec kind s → GoesOn ssrc s.forwarder f → IsAt ssrc rate codec kind (record s { forwarder = f })
-  with_forwarder s f at on = record { source = at.source; codec_is = ap (λ (x : _). x.codec) on.settings ∙ at.codec_is; none = on.none at.none }
+  with_forwarder : (s : Hops) (f : Forward) → IsAt ssrc rate codec kind steady s → GoesOn ssrc s.forwarder f → IsAt ssrc rate codec kind steady (record s { forwarder = f })
+  with_forwarder s f at on = record { source = at.source; codec_is = ap (λ (x : _). x.codec) on.settings ∙ at.codec_is; none = on.none steady at.none }
 
-  with_session : (s : Hops) (session : Session) (receipts : List Receipt) → IsAt ssrc rate codec kind s
-      → IsAt ssrc rate codec kind (record s { wire = record s.wire { session = session; receipts = receipts } })
+  with_session : (s : Hops) (session : Session) (receipts : List Receipt) → IsAt ssrc rate codec kind steady s
+      → IsAt ssrc rate codec kind steady (record s { wire = record s.wire { session = session; receipts = receipts } })
   with_session s session receipts at = record { source = at.source; codec_is = at.codec_is; none = at.none }
 
   no_more : (datagrams : List (List ℕ)) → IsMore datagrams datagrams
   no_more datagrams = ([], sym (append-nil datagrams))
 
-  later_again : (o : Option (List ℕ)) (now : Ticks) (s mid : Stored) → IsAt ssrc rate codec kind s.hops → AllIn s.hops.wire.datagrams s.store.packets
+  later_again : (o : Option (List ℕ)) (now : Ticks) (s mid : Stored) → IsAt ssrc rate codec kind steady s.hops → AllIn s.hops.wire.datagrams s.store.packets
       → MatchOption o (mid ≡ s) (λ bytes. (receipt : Receipt) × (session : Session) × Delivers now bytes s.hops.wire.session receipt session
       × (mid ≡ record s { hops = record s.hops { wire = record s.hops.wire { session = session; receipts = s.hops.wire.receipts ++ receipt ∷ [] } } }))
       → Later s mid
@@ -179,9 +183,9 @@ module _ (ssrc rate : ℕ) (codec : Codec) (kind : Bool) (samples : List Sample)
         more = no_more s.hops.wire.datagrams;
       })
 
-  later : (step : StoreStep) (s mid : Stored) → IsAt ssrc rate codec kind s.hops → AllIn s.hops.wire.datagrams s.store.packets → DoesStoreStep samples step s mid → Later s mid
+  later : (step : StoreStep) (s mid : Stored) → IsAt ssrc rate codec kind steady s.hops → AllIn s.hops.wire.datagrams s.store.packets → DoesStoreStep samples step s mid → Later s mid
   later (steps.Plain step) s mid at kept does =
-      let one : Stays ssrc rate codec kind samples s.hops does.1 = stays ssrc rate codec kind samples step s.hops does.1 at does.3 in
+      let one : Stays ssrc rate codec kind steady samples s.hops does.1 = stays ssrc rate codec kind steady samples step s.hops does.1 at does.3 in
       subst (Later s) (sym does.4)
       (record {
         at = one.at;
@@ -189,21 +193,36 @@ module _ (ssrc rate : ℕ) (codec : Codec) (kind : Bool) (samples : List Sample)
         on = one.on;
         more = one.more;
       })
+  later (steps.Keep k) s mid at kept does =
+      subst (Later s) (sym does.2)
+      (record {
+        at = at;
+        kept = packet_in_store s.hops.wire.datagrams k (slice_get s.hops.wire.datagrams k) s.store does.0 refl kept does.1;
+        on = goes_nowhere ssrc s.hops.forwarder s.hops.forwarder refl;
+        more = no_more s.hops.wire.datagrams;
+      })
   later (steps.Request number) s mid at kept does =
       let on : GoesOn ssrc s.hops.forwarder does.2 = request_on number does.0 s.hops.forwarder does.2 s.store does.1 does.3 in
       subst (Later s) (sym does.4) (record { at = with_forwarder s.hops does.2 at on; kept = kept; on = on; more = no_more s.hops.wire.datagrams })
   later (steps.DeliverAgain j now) s mid at kept does = later_again (slice_get s.again j) now s mid at kept does
 
-  pub store_ends_on : (all_steps : List StoreStep) (s t : Stored) → IsAt ssrc rate codec kind s.hops → AllIn s.hops.wire.datagrams s.store.packets → StoreRuns samples all_steps s t
+  pub store_ends_on : (all_steps : List StoreStep) (s t : Stored) → IsAt ssrc rate codec kind steady s.hops → AllIn s.hops.wire.datagrams s.store.packets → StoreRuns samples all_steps s t
       → GoesOn ssrc s.hops.forwarder t.hops.forwarder
   store_ends_on [] s t at kept run = goes_nowhere ssrc s.hops.forwarder t.hops.forwarder (ap (λ (x : Stored). x.hops.forwarder) run)
   store_ends_on (step ∷ rest) s t at kept run =
       let one = later step s run.0 at kept run.1 in
       goes_further ssrc s.hops.forwarder run.0.hops.forwarder t.hops.forwarder one.on (store_ends_on rest run.0 t one.at one.kept run.2)
 
+  pub store_at_end : (all_steps : List StoreStep) (s t : Stored) → IsAt ssrc rate codec kind steady s.hops → AllIn s.hops.wire.datagrams s.store.packets → StoreRuns samples all_steps s t
+      → IsAt ssrc rate codec kind steady t.hops
+  store_at_end [] s t at kept run = subst (λ (x : Stored). IsAt ssrc rate codec kind steady x.hops) (sym run) at
+  store_at_end (step ∷ rest) s t at kept run =
+      let one = later step s run.0 at kept run.1 in
+      store_at_end rest run.0 t one.at one.kept run.2
+
   -- Whole runs
 
-  plain_comes : (e : Forward) (step : ForwardStep) (rest : List StoreStep) (s mid t : Stored) (forwarded repeated : List ℕ) (o : One ssrc rate codec kind samples e step s.hops mid.hops forwarded)
+  plain_comes : (e : Forward) (step : ForwardStep) (rest : List StoreStep) (s mid t : Stored) (forwarded repeated : List ℕ) (o : One ssrc rate codec kind steady samples e step s.hops mid.hops forwarded)
       → mid.found ≡ s.found → StoreComes e rest mid t o.next repeated → StoreComes e (steps.Plain step ∷ rest) s t forwarded repeated
   plain_comes e step rest s mid t forwarded repeated o same c = record {
     later = o.sends c.later;
@@ -213,12 +232,35 @@ module _ (ssrc rate : ℕ) (codec : Codec) (kind : Bool) (samples : List Sample)
     found = c.found;
     founds = c.founds ∙ ap (λ (fs : List Bool). fs ++ c.found) same;
     left = c.left;
-    course = λ fit.
-        subst (λ (ds : List DatagramStep). Proceeds e.settings.retransmissions (viewer_samples e rate samples) ds (viewer_wire e s.hops.wire) (viewer_wire e t.hops.wire))
+    course = λ view fit.
+        subst (λ (ds : List DatagramStep). Proceeds e.settings.retransmissions (viewer_samples e rate samples) ds (seen_wire view e s.hops.wire) (seen_wire view e t.hops.wire))
         (sym (o.with_store c.later c.more rest repeated c.found c.left))
-        (proceeds_after e.settings.retransmissions (viewer_samples e rate samples) o.seen _ (viewer_wire e s.hops.wire) (viewer_wire e mid.hops.wire) (viewer_wire e t.hops.wire) (o.course fit) (c.course fit));
+        (proceeds_after e.settings.retransmissions (viewer_samples e rate samples) o.seen _ (seen_wire view e s.hops.wire) (seen_wire view e mid.hops.wire) (seen_wire view e t.hops.wire) (o.course view fit) (c.course view fit));
+    alone = λ x view receiver fit.
+        subst (λ (ds : List DatagramStep). Runs (viewer_samples x rate samples) (only_sends ds) (alone_from receiver view x s.hops.wire) (alone_from receiver view x t.hops.wire))
+        (sym (o.with_store c.later c.more rest repeated c.found c.left))
+        (alone_append ssrc rate codec kind steady samples (viewer_samples x rate samples) o.seen _ (alone_from receiver view x s.hops.wire) (alone_from receiver view x mid.hops.wire) (alone_from receiver view x t.hops.wire)
+        (o.alone x view receiver fit) (c.alone x view receiver fit));
     again = c.again;
   }
+
+  -- the store alone keeps a datagram
+  kept_comes : (e : Forward) (k : ℕ) (rest : List StoreStep) (s mid t : Stored) (store : Past) (forwarded repeated : List ℕ) → mid ≡ record s { store = store }
+      → StoreComes e rest mid t forwarded repeated → StoreComes e (steps.Keep k ∷ rest) s t forwarded repeated
+  kept_comes e k rest s mid t store forwarded repeated is comes =
+      let c : StoreComes e rest (record s { store = store }) t forwarded repeated = subst (λ (x : Stored). StoreComes e rest x t forwarded repeated) is comes in
+      record {
+        later = c.later;
+        sends = c.sends;
+        more = c.more;
+        results = c.results;
+        found = c.found;
+        founds = c.founds;
+        left = c.left;
+        course = c.course;
+        alone = c.alone;
+        again = c.again;
+      }
 
   -- a request that was answered, or not
   asked_comes : (e : Forward) (found : Bool) (number : ℕ) (bytes : List ℕ) (rest : List StoreStep) (s mid t : Stored) (forwarded repeated : List ℕ) (more : List ℕ) → mid.hops.wire ≡ s.hops.wire
@@ -236,10 +278,15 @@ module _ (ssrc rate : ℕ) (codec : Codec) (kind : Bool) (samples : List Sample)
         found = found ∷ c.found;
         founds = c.founds ∙ (ap (λ (fs : List Bool). fs ++ c.found) founds ∙ append_assoc s.found (found ∷ []) c.found);
         left = more ++ c.left;
-        course = λ fit.
-            subst (λ (ds : List DatagramStep). Proceeds e.settings.retransmissions (viewer_samples e rate samples) ds (viewer_wire e s.hops.wire) (viewer_wire e t.hops.wire))
+        course = λ view fit.
+            subst (λ (ds : List DatagramStep). Proceeds e.settings.retransmissions (viewer_samples e rate samples) ds (seen_wire view e s.hops.wire) (seen_wire view e t.hops.wire))
             (sym (asked_steps found n forwarded repeated rest c.later c.more c.found more c.left one.0 one.1))
-            (subst (λ (x : Wire). Proceeds e.settings.retransmissions (viewer_samples e rate samples) (store_steps samples (length x.datagrams) forwarded (repeated ++ more) rest c.later c.more c.found c.left) (viewer_wire e x) (viewer_wire e t.hops.wire)) wire (c.course fit));
+            (subst (λ (x : Wire). Proceeds e.settings.retransmissions (viewer_samples e rate samples) (store_steps samples (length x.datagrams) forwarded (repeated ++ more) rest c.later c.more c.found c.left) (seen_wire view e x) (seen_wire view e t.hops.wire)) wire (c.course view fit));
+        alone = λ x view receiver fit.
+            subst (λ (ds : List DatagramStep). Runs (viewer_samples x rate samples) (only_sends ds) (alone_from receiver view x s.hops.wire) (alone_from receiver view x t.hops.wire))
+            (sym (asked_steps found n forwarded repeated rest c.later c.more c.found more c.left one.0 one.1))
+            (subst (λ (w : Wire). Runs (viewer_samples x rate samples) (only_sends (store_steps samples (length w.datagrams) forwarded (repeated ++ more) rest c.later c.more c.found c.left)) (alone_from receiver view x w) (alone_from receiver view x t.hops.wire)) wire
+            (c.alone x view receiver fit));
         again = subst (AreAgain e t.hops.wire.datagrams t.again) (append_assoc repeated more c.left) c.again;
       }
     where
@@ -255,7 +302,7 @@ module _ (ssrc rate : ℕ) (codec : Codec) (kind : Bool) (samples : List Sample)
           ∙ ap (λ (ks : List ℕ). store_steps samples n forwarded (repeated ++ more) rest sends results founds ks) e2
 
   -- the datagram that a request repeats, if a packet was written again
-  asked : (e : Forward) (number : ℕ) (s : Stored) (found : Bool) (bytes : List ℕ) (t : Forward) → IsAt ssrc rate codec kind s.hops → AllIn s.hops.wire.datagrams s.store.packets
+  asked : (e : Forward) (number : ℕ) (s : Stored) (found : Bool) (bytes : List ℕ) (t : Forward) → IsAt ssrc rate codec kind steady s.hops → AllIn s.hops.wire.datagrams s.store.packets
       → Requests number s.hops.forwarder s.store found bytes t → GoesOn ssrc t e
       → (more : List ℕ) × AreAgain e s.hops.wire.datagrams (again_by found bytes) more
       × ((left : List ℕ) → (repeated_by (found ∷ []) (more ++ left) ≡ more) × (left_after (found ∷ []) (more ++ left) ≡ left))
@@ -266,7 +313,7 @@ module _ (ssrc rate : ℕ) (codec : Codec) (kind : Bool) (samples : List Sample)
       (is.0 ∷ [], (is.1, tt), λ left. (refl, refl))
 
   again_comes : (e : Forward) (o : Option (List ℕ)) (j : ℕ) (now : Ticks) (rest : List StoreStep) (s mid t : Stored) (forwarded repeated : List ℕ) → slice_get s.again j ≡ o
-      → IsAt ssrc rate codec kind s.hops → AreAgain e s.hops.wire.datagrams s.again repeated
+      → IsAt ssrc rate codec kind steady s.hops → AreAgain e s.hops.wire.datagrams s.again repeated
       → MatchOption o (mid ≡ s) (λ bytes. (receipt : Receipt) × (session : Session) × Delivers now bytes s.hops.wire.session receipt session
       × (mid ≡ record s { hops = record s.hops { wire = record s.hops.wire { session = session; receipts = s.hops.wire.receipts ++ receipt ∷ [] } } }))
       → StoreComes e rest mid t forwarded repeated → StoreComes e (steps.DeliverAgain j now ∷ rest) s t forwarded repeated
@@ -282,6 +329,7 @@ module _ (ssrc rate : ℕ) (codec : Codec) (kind : Bool) (samples : List Sample)
         founds = c.founds;
         left = c.left;
         course = rw none c.course;
+        alone = rw none c.alone;
         again = c.again;
       }
   again_comes e (Some bytes) j now rest s mid t forwarded repeated is at again done comes =
@@ -291,9 +339,9 @@ module _ (ssrc rate : ℕ) (codec : Codec) (kind : Bool) (samples : List Sample)
       let copy = again_at e s.hops.wire.datagrams s.again repeated j bytes again is in
       let datagram : List ℕ = copy.2.0 in
       let p : Packet = copy.2.1 in
-      let of : IsDatagramOf ssrc codec datagram = of_at ssrc codec s.hops.wire.datagrams copy.0 datagram at.source.all copy.2.2 in
+      let of : IsDatagramOf steady ssrc codec datagram = of_at steady ssrc codec s.hops.wire.datagrams copy.0 datagram at.source.all copy.2.2 in
       let same : of.0 ≡ p = same_read datagram of.0 p of.1 copy.2.3 in
-      let own : IsOf ssrc codec p = subst (IsOf ssrc codec) same of.2 in
+      let own : IsOf steady ssrc codec p = subst (IsOf steady ssrc codec) same of.2 in
       let there : slice_get (map (viewer_datagram e) s.hops.wire.datagrams) copy.0 ≡ Some (viewer_datagram e datagram) =
       slice_get-map (viewer_datagram e) s.hops.wire.datagrams copy.0 ∙ ap (option_map (viewer_datagram e)) copy.2.2 in
       record {
@@ -304,12 +352,13 @@ module _ (ssrc rate : ℕ) (codec : Codec) (kind : Bool) (samples : List Sample)
         found = c.found;
         founds = c.founds;
         left = c.left;
-        course = λ fit.
+        course = λ view fit.
             let is_one : IsCopy e.settings.retransmissions (viewer_datagram e datagram) bytes =
             is_copy e fit.1 fit.2 e.settings.retransmissions datagram bytes p copy.2.3 (omega (arith, own.padding)) copy.2.4 in
-            let delivers : DeliversCopy e.settings.retransmissions (slice_get (map (viewer_datagram e) s.hops.wire.datagrams) copy.0) now (viewer_wire e s.hops.wire) (viewer_wire e wire) =
+            let delivers : DeliversCopy e.settings.retransmissions (slice_get (map (viewer_datagram e) s.hops.wire.datagrams) copy.0) now (seen_wire view e s.hops.wire) (seen_wire view e wire) =
             rw there (bytes, is_one, done.0, done.1, done.2, refl) in
-            rw copy.1 (viewer_wire e wire, delivers, c.course fit);
+            rw copy.1 (seen_wire view e wire, delivers, c.course view fit);
+        alone = λ x view receiver fit. rw copy.1 (c.alone x view receiver fit);
         again = c.again;
       }
 
@@ -324,7 +373,7 @@ module _ (ssrc rate : ℕ) (codec : Codec) (kind : Bool) (samples : List Sample)
   delivered_after e (Some bytes) now s mid forwarded repeated done written again =
       subst (λ (x : Stored). AreForwarded e x.hops.wire.datagrams x.hops.written forwarded × AreAgain e x.hops.wire.datagrams x.again repeated) (sym done.3) (written, again)
 
-  pub store_comes : (all_steps : List StoreStep) (s t : Stored) (forwarded repeated : List ℕ) → IsAt ssrc rate codec kind s.hops → AllIn s.hops.wire.datagrams s.store.packets
+  pub store_comes : (all_steps : List StoreStep) (s t : Stored) (forwarded repeated : List ℕ) → IsAt ssrc rate codec kind steady s.hops → AllIn s.hops.wire.datagrams s.store.packets
       → AreForwarded t.hops.forwarder s.hops.wire.datagrams s.hops.written forwarded → AreAgain t.hops.forwarder s.hops.wire.datagrams s.again repeated → StoreRuns samples all_steps s t
       → StoreComes t.hops.forwarder all_steps s t forwarded repeated
   store_comes [] s t forwarded repeated at kept written again run = record {
@@ -335,7 +384,8 @@ module _ (ssrc rate : ℕ) (codec : Codec) (kind : Bool) (samples : List Sample)
     found = [];
     founds = ap (λ (x : Stored). x.found) run ∙ sym (append-nil s.found);
     left = [];
-    course = λ fit. ap (λ (x : Stored). viewer_wire t.hops.forwarder x.hops.wire) run;
+    course = λ view fit. ap (λ (x : Stored). seen_wire view t.hops.forwarder x.hops.wire) run;
+    alone = λ x view receiver fit. ap (λ (h : Stored). alone_from receiver view x h.hops.wire) run;
     again = subst (AreAgain t.hops.forwarder t.hops.wire.datagrams t.again) (sym (append-nil repeated)) (subst (λ (x : Stored). AreAgain t.hops.forwarder x.hops.wire.datagrams x.again repeated) (sym run) again);
   }
   store_comes (steps.Plain step ∷ rest) s t forwarded repeated at kept written again run =
@@ -345,12 +395,19 @@ module _ (ssrc rate : ℕ) (codec : Codec) (kind : Bool) (samples : List Sample)
       let next = later (steps.Plain step) s mid at kept does in
       let goes : GoesOn ssrc mid.hops.forwarder e = store_ends_on rest mid t next.at next.kept run.2 in
       let hops : mid.hops ≡ does.1 = ap (λ (x : Stored). x.hops) does.4 in
-      let o : One ssrc rate codec kind samples e step s.hops mid.hops forwarded =
-      one_step ssrc rate codec kind samples e step s.hops mid.hops forwarded at (subst (λ (x : Hops). DoesForwardStep samples step s.hops x) (sym hops) does.3) goes written in
+      let o : One ssrc rate codec kind steady samples e step s.hops mid.hops forwarded =
+      one_step ssrc rate codec kind steady samples e step s.hops mid.hops forwarded at (subst (λ (x : Hops). DoesForwardStep samples step s.hops x) (sym hops) does.3) goes written in
       let same : mid.again ≡ s.again = ap (λ (x : Stored). x.again) does.4 in
       let grown : AreAgain e mid.hops.wire.datagrams mid.again repeated =
       subst (λ (bs : List (List ℕ)). AreAgain e mid.hops.wire.datagrams bs repeated) (sym same) (grown_again e s.hops.wire.datagrams mid.hops.wire.datagrams s.again repeated next.more again) in
       plain_comes e step rest s mid t forwarded repeated o (ap (λ (x : Stored). x.found) does.4) (store_comes rest mid t o.next repeated next.at next.kept o.written grown run.2)
+  store_comes (steps.Keep k ∷ rest) s t forwarded repeated at kept written again run =
+      let e : Forward = t.hops.forwarder in
+      let does = run.1 in
+      let next = later (steps.Keep k) s run.0 at kept does in
+      kept_comes e k rest s run.0 t does.0 forwarded repeated does.2
+      (store_comes rest run.0 t forwarded repeated next.at next.kept (subst (λ (x : Stored). AreForwarded e x.hops.wire.datagrams x.hops.written forwarded) (sym does.2) written)
+      (subst (λ (x : Stored). AreAgain e x.hops.wire.datagrams x.again repeated) (sym does.2) again) run.2)
   store_comes (steps.Request number ∷ rest) s t forwarded repeated at kept written again run =
       let e : Forward = t.hops.forwarder in
       let mid : Stored = run.0 in

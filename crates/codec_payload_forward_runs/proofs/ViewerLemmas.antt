@@ -54,13 +54,17 @@ offset_stays m n = by (is_too_old m n) refl (ltb m.highest n) refl
 
 -- Packets
 
--- a packet of the sender, whose payload has no ids of VP8
-pub record IsOf (ssrc : ℕ) (codec : Codec) (p : Packet) : Type 0 where
+-- a packet of the sender. `steady` says that its payload has no ids of VP8
+pub record IsOf (steady : Bool) (ssrc : ℕ) (codec : Codec) (p : Packet) : Type 0 where
   pub source : p.header.ssrc ≡ ssrc
   pub number : p.header.sequence_number < 65536
   pub time : p.header.timestamp < 4294967296
   pub padding : p.padding ≡ 0
-  pub kept : IsKept codec p.payload
+  pub kept : steady ≡ true → IsKept codec p.payload
+
+-- no packet was left out, and, if payloads have ids of VP8, no picture
+abbrev pub HasLeftNone : Bool → Forward → Type 0
+HasLeftNone steady f = (f.numbers.left_out ≡ []) × (steady ≡ false → f.ids.left_out ≡ [])
 
 -- a packet with a payload, number and time that are the same
 same_under : (s : ForwardSettings) (n n' t t' : ℕ) (p : Packet) (payload payload' : List ℕ) → n ≡ n' → t ≡ t' → payload ≡ payload'
@@ -78,13 +82,25 @@ sent_leaves o (Some ids) m = refl
 switched_to : (ids : Option PayloadIds) (m : Ids) → (switched_ids ids m).offsets ≡ offsets_switched m ids
 switched_to ids m = sent_leaves (offsets_switched m ids) ids (record m { offsets = offsets_switched m ids; left_out = [] })
 
+-- and the pictures that were left out; a switch forgets them
+sent_left : (o : IdOffsets) (ids : Option PayloadIds) (m : Ids) → (after_picture o ids m).left_out ≡ m.left_out
+sent_left o None m = refl
+sent_left o (Some ids) m = refl
+
+left_stay : (ahead : Bool) (codec : Codec) (n : ℕ) (payload : List ℕ) (m : Ids) → (ids_when ahead codec n payload m).left_out ≡ m.left_out
+left_stay true codec n payload m = sent_left (offsets_for codec m n) (ids_in codec payload) m
+left_stay false codec n payload m = refl
+
+switched_none : (ids : Option PayloadIds) (m : Ids) → (switched_ids ids m).left_out ≡ []
+switched_none ids m = sent_left (offsets_switched m ids) ids (record m { offsets = offsets_switched m ids; left_out = [] })
+
 ids_stay : (ahead : Bool) (codec : Codec) (n : ℕ) (payload : List ℕ) (m : Ids) → (ids_when ahead codec n payload m).offsets ≡ m.offsets
 ids_stay true codec n payload m = sent_leaves (offsets_for codec m n) (ids_in codec payload) m
 ids_stay false codec n payload m = refl
 
 -- the packet with which the forwarder begins
-begun_packet : (ssrc now : ℕ) (p : Packet) (f : Forward) → IsOf ssrc f.settings.codec p → first_packet now f p ≡ viewer_packet (after_begin now p f) p
-begun_packet ssrc now p f of =
+begun_packet : (steady : Bool) (ssrc now : ℕ) (p : Packet) (f : Forward) → IsOf steady ssrc f.settings.codec p → first_packet now f p ≡ viewer_packet (after_begin now p f) p
+begun_packet steady ssrc now p f of =
     let number : next_number f.numbers ≡ (p.header.sequence_number + (next_number f.numbers + 65536 - (65536 + p.header.sequence_number) % 65536) % 65536) % 65536 = omega (arith, of.number) in
     let time : (f.times.highest + ticks_between f.written_at now) % 4294967296
     ≡ (p.header.timestamp + ((f.times.highest + ticks_between f.written_at now) % 4294967296 + (4294967296 - p.header.timestamp)) % 4294967296) % 4294967296 = omega (arith, of.time) in
@@ -93,12 +109,12 @@ begun_packet ssrc now p f of =
     (ap (λ (o : IdOffsets). payload_for f.settings.codec o p.payload) (sym (switched_to ids f.ids)))
 
 -- a later packet
-pub written_packet : (ssrc sent : ℕ) (p : Packet) (f : Forward) → IsOf ssrc f.settings.codec p → f.numbers.left_out ≡ [] → placed f.numbers (number_in f p) true ≡ places.Sent sent
+pub written_packet : (steady : Bool) (ssrc sent : ℕ) (p : Packet) (f : Forward) → IsOf steady ssrc f.settings.codec p → HasLeftNone steady f → placed f.numbers (number_in f p) true ≡ places.Sent sent
     → next_packet f sent p ≡ viewer_packet f p
-written_packet ssrc sent p f of none is =
+written_packet steady ssrc sent p f of none is =
     let low : number_in f p % 65536 ≡ p.header.sequence_number % 65536 = low_number f.numbers.highest p.header.sequence_number in
-    let number : sent ≡ (p.header.sequence_number + f.numbers.offset) % 65536 = omega (arith, placed_is f.numbers (number_in f p) sent is, sent_plainly f.numbers (number_in f p) none, low) in
-    same_under f.settings _ _ _ _ p _ _ number refl (same_payload f.settings.codec f.ids (number_in f p) p.payload of.kept)
+    let number : sent ≡ (p.header.sequence_number + f.numbers.offset) % 65536 = omega (arith, placed_is f.numbers (number_in f p) sent is, sent_plainly f.numbers (number_in f p) none.0, low) in
+    same_under f.settings _ _ _ _ p _ _ number refl (same_payload steady f.settings.codec f.ids (number_in f p) p.payload of.kept none.1)
 
 -- the packet as the viewer gets it depends on the offsets alone
 pub same_viewer : (f e : Forward) (p : Packet) → e.settings ≡ f.settings → e.numbers.offset ≡ f.numbers.offset → e.times.offset ≡ f.times.offset → e.ids.offsets ≡ f.ids.offsets
@@ -112,8 +128,8 @@ same_viewer f e p settings numbers times ids =
 -- The forwarder
 
 -- no packet of the source was left out
-abbrev pub HasNone : ℕ → Forward → Type 0
-HasNone ssrc f = is_source f.source ssrc ≡ true → f.numbers.left_out ≡ []
+abbrev pub HasNone : Bool → ℕ → Forward → Type 0
+HasNone steady ssrc f = is_source f.source ssrc ≡ true → HasLeftNone steady f
 
 -- The forwarder later: it has the same settings; once it forwards the source, its offsets stay
 pub record GoesOn (ssrc : ℕ) (f t : Forward) : Type 0 where
@@ -122,7 +138,7 @@ pub record GoesOn (ssrc : ℕ) (f t : Forward) : Type 0 where
   pub numbers : is_source f.source ssrc ≡ true → t.numbers.offset ≡ f.numbers.offset
   pub times : is_source f.source ssrc ≡ true → t.times.offset ≡ f.times.offset
   pub ids : is_source f.source ssrc ≡ true → t.ids.offsets ≡ f.ids.offsets
-  pub none : HasNone ssrc f → HasNone ssrc t
+  pub none : (steady : Bool) → HasNone steady ssrc f → HasNone steady ssrc t
 
 pub goes_nowhere : (ssrc : ℕ) (f t : Forward) → t ≡ f → GoesOn ssrc f t
 goes_nowhere ssrc f t same = record {
@@ -131,7 +147,7 @@ goes_nowhere ssrc f t same = record {
   numbers = λ on. ap (λ (x : Forward). x.numbers.offset) same;
   times = λ on. ap (λ (x : Forward). x.times.offset) same;
   ids = λ on. ap (λ (x : Forward). x.ids.offsets) same;
-  none = λ none. subst (HasNone ssrc) (sym same) none;
+  none = λ steady none. subst (HasNone steady ssrc) (sym same) none;
 }
 
 pub goes_further : (ssrc : ℕ) (f m t : Forward) → GoesOn ssrc f m → GoesOn ssrc m t → GoesOn ssrc f t
@@ -141,7 +157,7 @@ goes_further ssrc f m t one two = record {
   numbers = λ on. two.numbers (one.source on) ∙ one.numbers on;
   times = λ on. two.times (one.source on) ∙ one.times on;
   ids = λ on. two.ids (one.source on) ∙ one.ids on;
-  none = λ none. two.none (one.none none);
+  none = λ steady none. two.none steady (one.none steady none);
 }
 
 not_on : (ssrc : ℕ) (f : Forward) → is_source f.source ssrc ≡ false → is_source f.source ssrc ≡ true → ⊥
@@ -157,7 +173,7 @@ goes_over ssrc now p f t same off is =
       numbers = λ on. absurd (not_on ssrc f other on);
       times = λ on. absurd (not_on ssrc f other on);
       ids = λ on. absurd (not_on ssrc f other on);
-      none = λ none on. ap (λ (x : Forward). x.numbers.left_out) is;
+      none = λ steady none on. (ap (λ (x : Forward). x.numbers.left_out) is, λ ids. ap (λ (x : Forward). x.ids.left_out) is ∙ switched_none (ids_in f.settings.codec p.payload) f.ids);
     }
 
 goes_next : (ssrc now : ℕ) (p : Packet) (f t : Forward) → t ≡ after_next now p f → GoesOn ssrc f t
@@ -169,7 +185,11 @@ goes_next ssrc now p f t is =
       numbers = λ on. ap (λ (x : Forward). x.numbers.offset) is ∙ stays.0;
       times = λ on. ap (λ (x : Forward). x.times.offset) is;
       ids = λ on. ap (λ (x : Forward). x.ids.offsets) is ∙ ids_stay (nat_lt f.numbers.highest (number_in f p)) f.settings.codec (number_in f p) p.payload f.ids;
-      none = λ none on. ap (λ (x : Forward). x.numbers.left_out) is ∙ (stays.1 ∙ none (sym (ap (λ (x : Forward). is_source x.source ssrc) is) ∙ on));
+      none = λ steady none on.
+          let before = none (sym (ap (λ (x : Forward). is_source x.source ssrc) is) ∙ on) in (
+            ap (λ (x : Forward). x.numbers.left_out) is ∙ (stays.1 ∙ before.0),
+            λ ids. ap (λ (x : Forward). x.ids.left_out) is ∙ (left_stay (nat_lt f.numbers.highest (number_in f p)) f.settings.codec (number_in f p) p.payload f.ids ∙ before.1 ids),
+          );
     }
 
 -- What is done with a packet of the source: the forwarder goes on; and what is written is the packet as the viewer gets it
@@ -188,26 +208,26 @@ writes_none b e = cc
 is_itself : (ssrc : ℕ) → is_source (Some ssrc) ssrc ≡ true
 is_itself ssrc = eq-eqb ssrc ssrc refl
 
-pub does_one : (ssrc now : ℕ) (p : Packet) (f : Forward) (answer : Forwarded) (bytes : List ℕ) (t : Forward) → IsOf ssrc f.settings.codec p → HasNone ssrc f → Forwards now p f answer bytes t
+pub does_one : (steady : Bool) (ssrc now : ℕ) (p : Packet) (f : Forward) (answer : Forwarded) (bytes : List ℕ) (t : Forward) → IsOf steady ssrc f.settings.codec p → HasNone steady ssrc f → Forwards now p f answer bytes t
     → DoesOne ssrc p f answer bytes t
-does_one ssrc now p f answers.Began bytes t of none does = record {
+does_one steady ssrc now p f answers.Began bytes t of none does = record {
   on = goes_over ssrc now p f t of.source does.0 does.4;
   writes = λ b is.
-      let w = writes_it (viewer_packet t p) (first_packet now f p) bytes b (begun_packet ssrc now p f of ∙ ap (λ (x : Forward). viewer_packet x p) (sym does.4)) is does.3 in
+      let w = writes_it (viewer_packet t p) (first_packet now f p) bytes b (begun_packet steady ssrc now p f of ∙ ap (λ (x : Forward). viewer_packet x p) (sym does.4)) is does.3 in
       (ap (λ (x : Forward). is_source x.source ssrc) does.4 ∙ (ap (λ (n : ℕ). is_source (Some n) ssrc) of.source ∙ is_itself ssrc), w.0, w.1);
 }
-does_one ssrc now p f answers.Written bytes t of none does =
+does_one steady ssrc now p f answers.Written bytes t of none does =
     let on : is_source f.source ssrc ≡ true = subst (λ (n : ℕ). is_source f.source n ≡ true) of.source does.0 in
     let goes : GoesOn ssrc f t = goes_next ssrc now p f t does.2 in
     record {
       on = goes;
       writes = λ b is.
           let w = writes_it (viewer_packet t p) (next_packet f does.1.0 p) bytes b
-          (written_packet ssrc does.1.0 p f of (none on) does.1.1 ∙ sym (same_viewer f t p goes.settings (goes.numbers on) (goes.times on) (goes.ids on))) is does.1.2 in
+          (written_packet steady ssrc does.1.0 p f of (none on) does.1.1 ∙ sym (same_viewer f t p goes.settings (goes.numbers on) (goes.times on) (goes.ids on))) is does.1.2 in
           (goes.source on, w.0, w.1);
     }
-does_one ssrc now p f answers.NoKeyframe bytes t of none does = record { on = goes_nowhere ssrc f t does.3.1; writes = λ b is. absurd (writes_none b is) }
-does_one ssrc now p f answers.OtherSource bytes t of none does = record { on = goes_nowhere ssrc f t does.2.1; writes = λ b is. absurd (writes_none b is) }
-does_one ssrc now p f answers.TooOld bytes t of none does = record { on = goes_nowhere ssrc f t does.2.1; writes = λ b is. absurd (writes_none b is) }
-does_one ssrc now p f answers.LeftOut bytes t of none does = record { on = goes_nowhere ssrc f t does.2.1; writes = λ b is. absurd (writes_none b is) }
-does_one ssrc now p f answers.Filled bytes t of none does = absurd does
+does_one steady ssrc now p f answers.NoKeyframe bytes t of none does = record { on = goes_nowhere ssrc f t does.3.1; writes = λ b is. absurd (writes_none b is) }
+does_one steady ssrc now p f answers.OtherSource bytes t of none does = record { on = goes_nowhere ssrc f t does.2.1; writes = λ b is. absurd (writes_none b is) }
+does_one steady ssrc now p f answers.TooOld bytes t of none does = record { on = goes_nowhere ssrc f t does.2.1; writes = λ b is. absurd (writes_none b is) }
+does_one steady ssrc now p f answers.LeftOut bytes t of none does = record { on = goes_nowhere ssrc f t does.2.1; writes = λ b is. absurd (writes_none b is) }
+does_one steady ssrc now p f answers.Filled bytes t of none does = absurd does

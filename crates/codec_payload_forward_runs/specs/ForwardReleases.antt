@@ -1,8 +1,8 @@
 -- The units that a viewer's receiver releases behind a forwarder, with any loss, repetition and order of datagrams on both hops.
 --
--- The forwarder changes the same fields of all packets: numbers, times and the ids of VP9 by the same offsets. So the viewer's receiver
--- sees the datagrams of one sender: the sender of the run, with the viewer's SSRC, payload type, numbers, times and ids. Premises and
--- guarantees are those of a run over one hop from that sender.
+-- The forwarder changes the same fields of all packets: numbers, times and the ids of VP8 and VP9 by the same offsets. So the viewer's
+-- receiver sees the datagrams of one sender: the sender of the run, with the viewer's SSRC, payload type, numbers, times and ids.
+-- Premises and guarantees are those of a run over one hop from that sender.
 use Rattle.std.specs.Prelude.{◌≡◌, ℕ, ◌+◌, ◌%◌, ◌<◌, ◌^◌, nat_lt, if◌then◌else◌, Bool, true, false, List, [], ◌∷◌, ◌++◌, Option, Some, None, option_map, Ok, drop, map, slice_get}
 use Rattle.codec_payload_base.specs.declared.wire.Codec.{Codec}
 use Rattle.codec_payload_base.specs.declared.wire.Codec.TheVariants as codecs
@@ -123,7 +123,8 @@ viewer_counts f counts = record counts { rtp_time = option_map (time_as f.times)
 abbrev pub moved_sender : IdOffsets → Vp9Sender → Vp9Sender
 moved_sender o s = record s { picture_id = (s.picture_id + o.picture) % 32768; tl0picidx = (s.tl0picidx + o.tl0) % 256 }
 
--- the packetizer whose payloads the viewer gets
+-- The packetizer whose payloads the viewer gets. That of VP8 stays as it is: its units do not depend on its ids, and the viewer's
+-- datagrams have the moved ids in the width that they were sent in
 abbrev pub moved_packetizer : Codec → IdOffsets → PacketizerState → PacketizerState
 moved_packetizer codecs.Vp9 o (Vp9Packetizing s) = Vp9Packetizing (moved_sender o s)
 moved_packetizer codec o packetizer = packetizer
@@ -141,23 +142,26 @@ viewer_wire f s = record s { sending = viewer_sender f s.sending; datagrams = ma
 
 -- Premises
 
--- The payloads have no ids that close up behind pictures which are left out: the codec is not VP8, or the packetizer sends no picture ids
+-- The payloads have no ids that close up behind pictures which are left out: the codec is not VP8, or the packetizer sends no picture
+-- ids
 abbrev pub keeps_payloads : Codec → PacketizerState → Bool
 keeps_payloads codecs.Vp8 (Vp8Packetizing None) = true
 keeps_payloads codecs.Vp8 packetizer = false
 keeps_payloads codec packetizer = true
 
--- If the codec is VP9, the packetizer is that of VP9: its ids are moved
+-- If the codec is VP8 or VP9, the packetizer is that of the codec: its ids are moved
 abbrev pub keeps_packetizer : Codec → PacketizerState → Bool
+keeps_packetizer codecs.Vp8 (Vp8Packetizing id) = true
+keeps_packetizer codecs.Vp8 packetizer = false
 keeps_packetizer codecs.Vp9 (Vp9Packetizing sender) = true
 keeps_packetizer codecs.Vp9 packetizer = false
 keeps_packetizer codec packetizer = true
 
 -- The forwarder moves the ids of all payloads by the same offsets. It has not begun with the sender's stream yet, or has left out no
--- packet of it
+-- packet of it, and, if there are ids that close up, no picture
 pub record ForwardsStream (sender : Sending) (forwarder : Forward) : Type 0 where
-  pub keeps : keeps_payloads forwarder.settings.codec sender.packetizer ≡ true
   pub none_left_out : is_source forwarder.source sender.stream.ssrc ≡ true → forwarder.numbers.left_out ≡ []
+  pub none_closed : keeps_payloads forwarder.settings.codec sender.packetizer ≡ false → is_source forwarder.source sender.stream.ssrc ≡ true → forwarder.ids.left_out ≡ []
 
 -- The numbers have their width, as those of each sender and each forwarder
 pub record HaveWidths (sender : Sending) (forwarder : Forward) : Type 0 where

@@ -1,7 +1,7 @@
 -- Runs with a forwarder that meet the premises: three frames of Opus, whose datagrams come in other orders on both hops, and a keyframe of
--- VP8.
+-- VP8, without picture ids and with them.
 use Rattle.std.specs.Global.{Vec}
-use Rattle.std.specs.Prelude.{◌≡◌, ℕ, ◌+◌, List, [], ◌∷◌, Some, None}
+use Rattle.std.specs.Prelude.{◌≡◌, ℕ, ◌+◌, true, List, [], ◌∷◌, ◌++◌, Some, None}
 use Rattle.codec_payload_base.specs.declared.wire.Codec.{Codec}
 use Rattle.codec_payload_base.specs.declared.wire.Codec.TheVariants as codecs
 use Rattle.codec_payload_codec.specs.Depacketizers.{DepacketizerState, OpusDepacketizing, Vp8Depacketizing}
@@ -11,13 +11,14 @@ use Rattle.codec_payload_payloader.specs.Sending.{Sample}
 use Rattle.codec_payload_receiver.specs.Sessions.{Session, session_with}
 use Rattle.codec_payload_receiver.specs.declared.receiver.Settings.{Settings}
 use Rattle.codec_payload_sending.specs.Senders.{Sending}
-use Rattle.codec_payload_sending_forward.specs.Forwarding.{Forward}
+use Rattle.codec_payload_sending_forward.specs.Forwarding.{Forward, payload_for}
 use Rattle.codec_payload_sending_forward.specs.Numbers.{begun}
 use Rattle.codec_payload_sending_forward.specs.Times.{begun_times}
 use Rattle.codec_payload_sending_forward.specs.Ids.{first_ids}
 use Rattle.codec_payload_sending_forward.specs.declared.forwarder.Forwarded.{Forwarded}
 use Rattle.codec_payload_sending_forward.specs.declared.forwarder.Forwarded.TheVariants as answers
 use Rattle.codec_payload_sending_forward.specs.declared.forwarder.ForwardSettings.{ForwardSettings}
+use Rattle.codec_payload_vp8.specs.Vp8Sent.{header}
 use Rattle.codec_payload_vp8.specs.declared.vp8.depacketizer.Vp8Depacketizer.{Vp8Depacketizer}
 use Rattle.codec_payload_datagram_runs.specs.Releases.{AllComeFirst, delivered, received_steps}
 use Rattle.codec_payload_datagram_runs.specs.WireRunExample.{at, frame_at, frames_sent, one_each, one_sent, opus_sender, opus_settings}
@@ -101,10 +102,34 @@ vp8_before d no_media = before_run vp8_sender codecs.Vp8 (viewer_receiver (Vp8De
 abbrev pub vp8_after : Vp8Depacketizer → Vec ℕ → Hops
 vp8_after d no_media = after_run vp8_sender (forwarder_after codecs.Vp8 0 960 0) (viewer_receiver (Vp8Depacketizing d) no_media) one_sent (answers.Began ∷ [])
 
+-- The same keyframe from a packetizer whose picture ids begin at 300. The viewer gets the id 0, also in two bytes
+
+abbrev pub ids_sender : Sending
+ids_sender = record opus_sender { packetizer = Vp8Packetizing (Some 300) }
+
+abbrev pub ids_before : Vp8Depacketizer → Vec ℕ → Hops
+ids_before d no_media = before_run ids_sender codecs.Vp8 (viewer_receiver (Vp8Depacketizing d) no_media)
+
+-- 300 and this offset are 0 modulo 2^15
+abbrev pub ids_forwarder : Forward
+ids_forwarder = record (forwarder_after codecs.Vp8 0 960 0) { ids = record first_ids { offsets = record { picture = 32468; tl0 = 0 }; picture = 0 } }
+
+abbrev pub ids_after : Vp8Depacketizer → Vec ℕ → Hops
+ids_after d no_media = after_run ids_sender ids_forwarder (viewer_receiver (Vp8Depacketizing d) no_media) one_sent (answers.Began ∷ [])
+
+-- the payload of the keyframe's packet, and the payload that the viewer gets
+abbrev pub ids_payload : List ℕ
+ids_payload = header (Some 300) true true ++ (0x00 ∷ 0x01 ∷ 0x00 ∷ [])
+
+abbrev pub viewer_payload : List ℕ
+viewer_payload = 0x90 ∷ 0x80 ∷ 0x80 ∷ 0x00 ∷ 0x00 ∷ 0x01 ∷ 0x00 ∷ []
+
 -- the premises can be met, and those of the promise that all units are popped too
 pub record ForwardingCanBeMet : Type 0 where
   pub within : (no_media : Vec ℕ) → IsForwardedWithinWindows frames_sent forward_steps (opus_before no_media) (opus_after no_media)
   pub all_come : (no_media : Vec ℕ) → AllComeFirst 4096 3 (received_steps frames_sent 0 (viewer_steps_of frames_sent forward_steps (opus_after no_media)) one_each)
   pub vp8_within : (d : Vp8Depacketizer) (no_media : Vec ℕ) → IsForwardedWithinWindows vp8_frames vp8_steps (vp8_before d no_media) (vp8_after d no_media)
+  pub ids_within : (d : Vp8Depacketizer) (no_media : Vec ℕ) → IsForwardedWithinWindows vp8_frames vp8_steps (ids_before d no_media) (ids_after d no_media)
+  pub ids_moved : payload_for codecs.Vp8 ids_forwarder.ids.offsets ids_payload ≡ viewer_payload
   -- the datagrams of the sender that come to the viewer
   pub are_delivered : (no_media : Vec ℕ) → delivered (received_steps frames_sent 0 (viewer_steps_of frames_sent forward_steps (opus_after no_media)) one_each) ≡ 2 ∷ 0 ∷ 1 ∷ 2 ∷ []

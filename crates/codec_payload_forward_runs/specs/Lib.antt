@@ -1,3 +1,4 @@
+pub mod FirstHop
 pub mod ForwardReleases
 pub mod ForwardRuns
 pub mod ForwardRunExample

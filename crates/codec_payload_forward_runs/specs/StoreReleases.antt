@@ -54,6 +54,7 @@ store_steps samples sent forwarded repeated (steps.Plain (plain.Pop now) ∷ lat
     seen.Pop now ∷ store_steps samples sent forwarded repeated later sends results found left
 store_steps samples sent forwarded repeated (steps.Plain plain.Finish ∷ later) sends results found left =
     seen.Finish ∷ store_steps samples sent forwarded repeated later sends results found left
+store_steps samples sent forwarded repeated (steps.Keep k ∷ later) sends results found left = store_steps samples sent forwarded repeated later sends results found left
 store_steps samples sent forwarded repeated (steps.Request number ∷ later) sends results found left =
     store_steps samples sent forwarded (repeated ++ repeated_by found left) later sends results (drop 1 found) (left_after found left)
 store_steps samples sent forwarded repeated (steps.DeliverAgain j now ∷ later) sends results found left =

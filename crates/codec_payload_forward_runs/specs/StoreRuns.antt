@@ -67,6 +67,7 @@ abbrev pub DoesStoreStep : List Sample → StoreStep → Stored → Stored → T
 DoesStoreStep samples (steps.Plain step) s t =
     (store : Past) × (hops : Hops) × KeepsFor step s.hops.wire.datagrams s.store store × DoesForwardStep samples step s.hops hops
     × (t ≡ record s { hops = hops; store = store })
+DoesStoreStep samples (steps.Keep k) s t = (store : Past) × KeepsPacket (slice_get s.hops.wire.datagrams k) s.store store × (t ≡ record s { store = store })
 DoesStoreStep samples (steps.Request number) s t =
     (found : Bool) × (bytes : List ℕ) × (forwarder : Forward) × Requests number s.hops.forwarder s.store found bytes forwarder
     × (t ≡ record s { hops = record s.hops { forwarder = forwarder }; again = s.again ++ again_by found bytes; found = s.found ++ found ∷ [] })
@@ -85,6 +86,8 @@ abbrev pub StoreStopsAt : List Sample → StoreStep → Stored → Sending → F
 StoreStopsAt samples (steps.Plain step) s sending forwarder session store =
     ((sending ≡ s.hops.wire.sending) × (forwarder ≡ s.hops.forwarder) × (session ≡ s.hops.wire.session) × (store ≡ s.store))
     ⊎ (KeepsFor step s.hops.wire.datagrams s.store store × ForwardStopsAt samples step s.hops sending forwarder session)
+StoreStopsAt samples (steps.Keep k) s sending forwarder session store =
+    (sending ≡ s.hops.wire.sending) × (forwarder ≡ s.hops.forwarder) × (session ≡ s.hops.wire.session) × (store ≡ s.store)
 StoreStopsAt samples (steps.Request number) s sending forwarder session store =
     (sending ≡ s.hops.wire.sending) × (forwarder ≡ s.hops.forwarder) × (session ≡ s.hops.wire.session) × (store ≡ s.store)
 StoreStopsAt samples (steps.DeliverAgain j now) s sending forwarder session store =

@@ -1,12 +1,12 @@
 //! Whole runs over two hops with retransmissions to the viewer: a store keeps the datagrams that come to the forwarder, and the
 //! forwarder answers the viewer's requests from it.
 
-ghost use Rattle.std.specs.Prelude.{◌≡◌, ◌++◌, ℕ, List, map, IfOk, IfErr, OnOk, OnErr};
+ghost use Rattle.std.specs.Prelude.{◌≡◌, ◌++◌, ℕ, List, map, slice_get, IfOk, IfErr, OnOk, OnErr};
 ghost use Rattle.codec_payload_base.specs.declared.error.PacketError.TheVariants.{OutOfMemory};
 ghost use Rattle.codec_payload_payloader.specs.Sending.{sample_of};
 ghost use Rattle.codec_payload_datagram_runs.specs.WireRuns.{bytes_in};
 ghost use Rattle.codec_payload_forward_runs.specs.StoreReleases.{ReleasesWithStore};
-ghost use Rattle.codec_payload_forward_runs.specs.StoreRuns.{DoesStoreStep, KeepsFor, Requests, StoreRuns, StoreStops, StoreStopsAt, again_by, begins_with_store, stored_of};
+ghost use Rattle.codec_payload_forward_runs.specs.StoreRuns.{DoesStoreStep, KeepsFor, KeepsPacket, Requests, StoreRuns, StoreStops, StoreStopsAt, again_by, begins_with_store, stored_of};
 
 use crate::run::{ForwardLink, ForwardStep, ForwardedRun, deliver, do_forward_step, no_results};
 use codec_payload_base::error::PacketError;
@@ -21,6 +21,9 @@ use std::alloc::Global;
 pub enum StoreStep {
     /// A step of a run without a store. The store keeps each datagram that comes to the forwarder.
     Plain(ForwardStep),
+    /// Passes the datagram with this index, from 0, among the datagrams sent so far, to the store alone, as before the viewer joins.
+    /// Skipped if there is no such datagram.
+    Keep { datagram: usize },
     /// The viewer requests the packet with this sequence number. If the store has the packet that was sent under it, the forwarder
     /// writes it again.
     Request { number: u16 },
@@ -96,6 +99,9 @@ fn do_store_step<P: Packetizer, D: Depacketizer>(
             keep(&mut link.store, &run.run.run.datagrams, step)?;
             do_forward_step(alloc, &mut link.link, samples, step, &mut run.run)
         }
+        StoreStep::Keep { datagram } => {
+            keep_datagram(&mut link.store, &run.run.run.datagrams, datagram)
+        }
         StoreStep::Request { number } => {
             run.found.reserve(1)?;
             let found = write_again(
@@ -129,6 +135,19 @@ fn keep(store: &mut History, datagrams: &[Vec<u8>], step: ForwardStep) -> Result
     let ForwardStep::Forward { datagram, .. } = step else {
         return Ok(());
     };
+    keep_datagram(store, datagrams, datagram)
+}
+
+/// Keeps the datagram with this index, if there is one.
+fn keep_datagram(
+    store: &mut History,
+    datagrams: &[Vec<u8>],
+    datagram: usize,
+) -> Result<(), PacketError>
+    ensures ok { OnOk result (KeepsPacket (slice_get (bytes_in datagrams.now) datagram) store.old store.new) }
+    ensures err { OnErr result (store.new ≡ store.old) }
+    ensures fault { IfErr result (λ fault. fault ≡ OutOfMemory) }
+{
     let Some(bytes) = datagrams.get(datagram) else {
         return Ok(());
     };

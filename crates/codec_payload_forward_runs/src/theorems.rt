@@ -1,10 +1,12 @@
 //! Theorems on runs over two hops. These functions exist for their proofs and do nothing.
 
+ghost use Rattle.codec_payload_forward_runs.specs.FirstHop.{ReadsAsSent};
 ghost use Rattle.codec_payload_forward_runs.specs.ForwardRunExample.{ForwardingCanBeMet};
 ghost use Rattle.codec_payload_forward_runs.specs.StoreRunExample.{StoreCanBeMet};
 
 /// The premises of a run with a forwarder can be met: datagrams of Opus come to the forwarder in another order, and to the viewer in
-/// another one again. All come on both hops before the stream ends. Frames of VP8 meet them too, whose forwarder begins at a keyframe.
+/// another one again. All come on both hops before the stream ends. Frames of VP8 meet them too, whose forwarder begins at a keyframe,
+/// without picture ids and with them.
 pub fn forwarding_premises_can_be_met()
     ensures { ForwardingCanBeMet }
 {}
@@ -13,4 +15,10 @@ pub fn forwarding_premises_can_be_met()
 /// viewer requests the frame's number, and the forwarder writes the packet again, as a retransmission.
 pub fn store_premises_can_be_met()
     ensures { StoreCanBeMet }
+{}
+
+/// A packet that the sender sent again on the first hop, as a retransmission (RFC 4588), and that was unwrapped
+/// (`OriginalStream::write`) reads as the datagram that it repeats. So it is as good for a forwarder.
+pub fn unwrapped_reads_as_sent()
+    ensures { ReadsAsSent }
 {}

@@ -42,7 +42,7 @@ IsWritten (Some u) has_room unit before bytes = IsWrittenTo u has_room unit befo
 -- the packets of the latest unit, after a poll with this event
 abbrev pub latest_packets : Option Event → Option (List RtpMeta) → Option (List RtpMeta)
 latest_packets None taken = taken
-latest_packets (Some (events.Begun ssrc payload_type names)) taken = taken
+latest_packets (Some (events.Begun ssrc payload_type)) taken = taken
 latest_packets (Some (events.Unit ssrc payload_type time decodable keyframe (Ok unit))) taken = Some unit.metas
 latest_packets (Some (events.Unit ssrc payload_type time decodable keyframe (Err e))) taken = taken
 latest_packets (Some (events.TooLarge ssrc payload_type unit)) taken = taken

@@ -9,3 +9,4 @@ pub mod NotedLemmas
 pub mod TimesLemmas
 pub mod RestartingLemmas
 pub mod OwnLemmas
+pub mod FormerLemmas

@@ -14,7 +14,7 @@ use Rattle.codec_payload_buffer.specs.declared.buffer.frames.CompleteFrame.{Comp
 use Rattle.codec_payload_buffer.proofs.BlankLemmas.{leaves_few, takes_away}
 use Rattle.codec_payload_jitter.specs.Pressure.{Event, Packet, Retransmitted, Recovered, WithoutMedia, Comes, ComeAll, Drains, Burst, DoesBursts, SparesCompleteFrames}
 use Rattle.codec_payload_jitter.specs.Receiving.{Receiving, Arrival, Accepts, Confirms, GoesInAgain, GoesOn, NotesAs, PopsWith, ReceivesAgainAs, ReceivesAs, RecoversAs, RecoversIf, Restarts}
-use Rattle.codec_payload_jitter.specs.Receiving.{answer_in, answer_to, kept_number, with_noted, counted, counted_again, counted_in_again, counted_pop, counted_recovered, is_stored, has_little_room, is_pressed, may_recover, next, number_again, numbered, outcome_at, past_first, restarted, settled, units_in, waiting_at, with_first}
+use Rattle.codec_payload_jitter.specs.Receiving.{answer_in, answer_to, kept_number, with_noted, counted, counted_again, counted_in_again, counted_pop, counted_recovered, is_stored, has_little_room, is_pressed, may_recover, next, number_again_for, numbered, outcome_at, past_first, restarted, settled, units_in, waiting_at, with_first, with_former}
 use Rattle.codec_payload_jitter.specs.NoMediaNumbers.{noted_no_media}
 use Rattle.codec_payload_jitter.specs.Runs.{Answer}
 use Rattle.codec_payload_jitter.specs.declared.numbers.Extended.{Extended}
@@ -181,9 +181,15 @@ restarts n a r o t goes = both 1 0 r goes.1 t (goes_on n a r goes.0 goes.1 goes.
 is_kept : (a : Arrival) (r t : Receiving) → t ≡ record r { kept = Some a; counters = counted r.counters outcomes.Suspect } → Stores 1 r t
 is_kept a r t is = moved 1 r (record r { kept = Some a; counters = counted r.counters outcomes.Suspect }) t is (record { limit = refl; room = refl; held = omega arith; evicted = λ fits. refl })
 
+-- a step on a state that is given by its fields
+like_by : (r s t : Receiving) (x : Receiving) → t ≡ x → x.buffer ≡ s.buffer → x.room ≡ s.room → x.kept ≡ s.kept → x.counters.evicted ≡ s.counters.evicted → Stores 1 r s → Stores 1 r t
+like_by r s t x is buffer room kept evicted stores =
+    let same : kept_count x.kept ≡ kept_count s.kept = ap kept_count kept in
+    moved 1 r x t is (like 1 r s x (record { buffer = buffer; room = room; kept = omega (arith, same); evicted = evicted }) stores)
+
 receives_as : (answer : Extended) (a : Arrival) (r : Receiving) (o : Outcome) (t : Receiving) → ReceivesAs answer a r o t → Stores 1 r t
 receives_as (extended.Number n) a r o t got = goes_on n a r o t got
-receives_as (extended.Restarted n) a r o t got = restarts n a r o t got
+receives_as (extended.Restarted n) a r o t got = like_by r got.0 t (with_former r got.0) got.2 refl refl refl refl (restarts n a r o got.0 got.1)
 receives_as extended.Suspect a r o t got = is_kept a r t got.1
 receives_as extended.Spent a r o t got =
     weaker 0 1 r t (omega arith)
@@ -195,12 +201,6 @@ in_again c o = by_test (is_stored o)
     by_test : (b : Bool) → (cond b (record c { retransmitted = next c.retransmitted }) c).evicted ≡ c.evicted
     by_test true = refl
     by_test false = refl
-
--- a step on a state that is given by its fields
-like_by : (r s t : Receiving) (x : Receiving) → t ≡ x → x.buffer ≡ s.buffer → x.room ≡ s.room → x.kept ≡ s.kept → x.counters.evicted ≡ s.counters.evicted → Stores 1 r s → Stores 1 r t
-like_by r s t x is buffer room kept evicted stores =
-    let same : kept_count x.kept ≡ kept_count s.kept = ap kept_count kept in
-    moved 1 r x t is (like 1 r s x (record { buffer = buffer; room = room; kept = omega (arith, same); evicted = evicted }) stores)
 
 receives_again : (number : Option ℕ) (a : Arrival) (r : Receiving) (o : Outcome) (t : Receiving) → ReceivesAgainAs number a r o t → Stores 1 r t
 receives_again None a r o t got =
@@ -226,7 +226,10 @@ notes_as (extended.Number n) r t noted =
     (as_it_is r _ refl refl (omega arith) refl)
 notes_as (extended.Restarted n) r t noted =
     let s : Receiving = record r { no_media_numbers = noted_no_media n r.no_media_numbers; counters = counted r.counters outcomes.NoMedia } in
-    both 0 0 r s t (as_it_is r s refl refl (omega arith) refl) (confirms n r.kept s noted.0 t refl noted.1)
+    let mid : Receiving = noted.0 in
+    moved 0 r (with_former r mid) t noted.2
+    (like 0 r mid (with_former r mid) (record { buffer = refl; room = refl; kept = omega arith; evicted = refl })
+    (both 0 0 r s mid (as_it_is r s refl refl (omega arith) refl) (confirms n r.kept s noted.1.0 mid refl noted.1.1)))
 notes_as extended.Suspect r t noted = moved 0 r (record r { kept = None; counters = counted r.counters outcomes.NoMedia }) t noted (as_it_is r _ refl refl (omega arith) refl)
 notes_as extended.Spent r t noted = moved 0 r (record r { counters = counted r.counters outcomes.NoMedia }) t noted (as_it_is r _ refl refl (omega arith) refl)
 
@@ -235,8 +238,8 @@ comes (Packet a) r t come =
     let low = a.header.sequence_number in
     let got = come.1 in
     like_by r got.0 t (with_first (answer_to r a.header) a.header.timestamp (numbered r (answer_to r a.header) low got.0)) got.2 refl refl refl refl (receives_as (answer_to r a.header) a r come.0 got.0 got.1)
-comes (Retransmitted a) r t come = receives_again (number_again r a.header.sequence_number) a r come.0 t come.1
-comes (Recovered a) r t come = recovers_as (number_again r a.header.sequence_number) a r come.0 t come.1
+comes (Retransmitted a) r t come = receives_again (number_again_for r a.header.sequence_number a.header.timestamp) a r come.0 t come.1
+comes (Recovered a) r t come = recovers_as (number_again_for r a.header.sequence_number a.header.timestamp) a r come.0 t come.1
 comes (WithoutMedia low) r t come =
     like_by r come.0 t (past_first (answer_in r low) (numbered r (answer_in r low) low come.0)) come.2 refl refl refl refl (weaker 0 1 r come.0 (omega arith) (notes_as (answer_in r low) r come.0 come.1))
 

@@ -5,7 +5,7 @@ use Rattle.codec_payload_jitter.specs.NotedTimes.{AreTimesOf, contradicts, is_un
 use Rattle.codec_payload_jitter.specs.Numbers.{answer_for, number_within, without_restart}
 use Rattle.codec_payload_jitter.specs.Pressure.{Event, Packet, Retransmitted, Recovered, WithoutMedia, Comes}
 use Rattle.codec_payload_jitter.specs.Receiving.{Receiving, Arrival, Accepts, GoesOn, NotesAs, PopsWith, ReceivesAs, ReceivesAgainAs, RecoversAs, RecoversIf, settled, waiting_at}
-use Rattle.codec_payload_jitter.specs.Receiving.{answer_by_time, answer_in, answer_to, answer_to_contradiction, counted, counted_in_again, is_contradicted, is_stored, may_recover, next, number_again}
+use Rattle.codec_payload_jitter.specs.Receiving.{answer_by_time, answer_in, answer_to, answer_to_contradiction, counted, counted_in_again, is_contradicted, is_of_former_sender, is_stored, may_recover, next, number_again, number_again_for}
 use Rattle.codec_payload_jitter.specs.Restarts.{IsHonest, Arrives, PopsAt, NeverRestarts}
 use Rattle.codec_payload_jitter.specs.Runs.{Answer}
 use Rattle.codec_payload_jitter.specs.declared.noted_times.NotedTime.{NotedTime}
@@ -14,7 +14,7 @@ use Rattle.codec_payload_jitter.specs.declared.numbers.Extended.TheVariants as e
 use Rattle.codec_payload_jitter.specs.declared.outcome.Outcome.{Outcome}
 use Rattle.codec_payload_jitter.specs.declared.outcome.Outcome.TheVariants as outcomes
 use Rattle.codec_payload_jitter.specs.declared.outcome.PacketCounters.{PacketCounters}
-use Rattle.codec_payload_jitter.proofs.TimesLemmas.{never_contradicts, still_times}
+use Rattle.codec_payload_jitter.proofs.TimesLemmas.{never_contradicts, none_of_former, still_times}
 
 -- Answers
 
@@ -34,6 +34,16 @@ or_false : (a b : Bool) → a ≡ false → b ≡ false → (a || b) ≡ false
 or_false true b is e = is
 or_false false b is e = e
 
+-- a sender that was never reported as restarted has no former one, so the answer is by the number and the noted times
+pub answer_without_former : (r : Receiving) (header : RtpHeader) → r.noted.former ≡ None → answer_to r header ≡ answer_by_time r header (answer_in r header.sequence_number)
+answer_without_former r header none =
+    ap (λ (b : Bool). cond b extended.Spent (answer_by_time r header (answer_in r header.sequence_number)))
+    (none_of_former r.rate r.noted r.first header.sequence_number header.timestamp none)
+
+-- and the same for a retransmission
+pub again_without_former : (r : Receiving) (low time : ℕ) → r.noted.former ≡ None → number_again_for r low time ≡ number_again r low
+again_without_former r low time none = ap (λ (b : Bool). cond b None (number_again r low)) (none_of_former r.rate r.noted r.first low time none)
+
 -- the same for a packet with its RTP time, which is timely if its number is below the first one
 pub answer_to_is : (time_of : ℕ → ℕ) (r : Receiving) (header : RtpHeader) (n : ℕ) → r.is_restarting ≡ false → AreTimesOf time_of r.noted
     → answer_for r.numbering header.sequence_number ≡ extended.Number n → header.timestamp ≡ time_of n
@@ -43,7 +53,8 @@ answer_to_is time_of r header n running times within time timely =
     let fits : (contradicts r.noted x || is_untimely r.rate r.first x) ≡ false =
     or_false (contradicts r.noted x) (is_untimely r.rate r.first x) (never_contradicts time_of r.noted x time times) timely in
     let same : is_contradicted r n header.timestamp ≡ false = and_false (not (r.ended || r.is_restarting)) (contradicts r.noted x || is_untimely r.rate r.first x) fits in
-    ap (answer_by_time r header) (answer_in_is r header.sequence_number n running within)
+    answer_without_former r header times.1
+    ∙ ap (answer_by_time r header) (answer_in_is r header.sequence_number n running within)
     ∙ ap (λ (b : Bool). cond b (answer_to_contradiction r header) (extended.Number n)) same
 
 -- Events
@@ -81,7 +92,7 @@ accepts_restarts : (a : Arrival) (n : ℕ) (r t : Receiving) (o : Outcome) → A
 accepts_restarts a n r t o got = ap (λ (x : Receiving). x.counters.restarts) got.3 ∙ counted_restarts r.counters o
 
 -- a packet within the windows
-goes_on_restarts : (a : Arrival) (n : ℕ) (r t : Receiving) (o : Outcome) → GoesOn n a r o t → t.counters.restarts ≡ r.counters.restarts
+pub goes_on_restarts : (a : Arrival) (n : ℕ) (r t : Receiving) (o : Outcome) → GoesOn n a r o t → t.counters.restarts ≡ r.counters.restarts
 goes_on_restarts a n r t o got = ap (λ (x : Receiving). x.counters.restarts) got.2 ∙ accepts_restarts a n r got.0 o got.1
 
 goes_on_noted : (a : Arrival) (n : ℕ) (r t : Receiving) (o : Outcome) → GoesOn n a r o t → t.noted ≡ noted_with r.noted (record { number = n; time = a.header.timestamp })
@@ -130,8 +141,11 @@ event_goes_on time_of (Packet a) r t running times honest come =
     let goes : GoesOn honest.number a r come.0 mid = subst (λ (e : Extended). ReceivesAs e a r come.0 mid) is receives.1 in
     packet_goes_on time_of a honest.number r mid t come.0 honest.time times goes (ap (λ (x : Receiving). x.counters.restarts) receives.2) (ap (λ (x : Receiving). x.is_restarting) receives.2) (ap (λ (x : Receiving). x.noted) receives.2)
 event_goes_on time_of (Retransmitted a) r t running times honest come =
-    again_goes_on time_of (number_again r a.header.sequence_number) a r t come.0 running times (λ n is. honest n (sym (again_within r a.header.sequence_number running) ∙ is)) come.1
-event_goes_on time_of (Recovered a) r t running times honest come = recovered_as time_of (number_again r a.header.sequence_number) a r t come.0 running times come.1
+    let low : ℕ = a.header.sequence_number in
+    let within : number_again_for r low a.header.timestamp ≡ number_within (answer_for r.numbering low) =
+    again_without_former r low a.header.timestamp times.1 ∙ again_within r low running in
+    again_goes_on time_of (number_again_for r low a.header.timestamp) a r t come.0 running times (λ n is. honest n (sym within ∙ is)) come.1
+event_goes_on time_of (Recovered a) r t running times honest come = recovered_as time_of (number_again_for r a.header.sequence_number a.header.timestamp) a r t come.0 running times come.1
 event_goes_on time_of (WithoutMedia low) r t running times honest come =
     let mid : Receiving = come.0 in
     let noted = subst (λ (e : Extended). NotesAs e r mid) (answer_in_is r low honest.0 running honest.1) come.1 in

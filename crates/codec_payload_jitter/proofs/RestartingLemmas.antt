@@ -13,9 +13,8 @@ use Rattle.codec_payload_buffer.specs.declared.buffer.unit.RtpMeta.{RtpMeta}
 use Rattle.codec_payload_jitter.proofs.ReceivingLemmas.{placed_outcome}
 use Rattle.codec_payload_jitter.specs.NoMediaNumbers.{noted_no_media}
 use Rattle.codec_payload_jitter.specs.NotedTimes.{Noted, noted_with}
-use Rattle.codec_payload_jitter.specs.Receiving.{Receiving, Arrival, Confirms, GoesInAgain, GoesOn, NotesAs, Restarts, RestartsWith, TakesIn, TakesInBoth}
+use Rattle.codec_payload_jitter.specs.Receiving.{Receiving, Arrival, Confirms, GoesInAgain, GoesOn, NotesRestart, Restarts, RestartsWith, TakesIn, TakesInBoth}
 use Rattle.codec_payload_jitter.specs.Receiving.{counted, counted_again, counted_restart, kept_number, meta_for, outcome_at, outcome_of, restarted, with_noted}
-use Rattle.codec_payload_jitter.specs.declared.numbers.Extended.TheVariants as extended
 use Rattle.codec_payload_jitter.specs.declared.outcome.Outcome.{Outcome}
 use Rattle.codec_payload_jitter.specs.declared.outcome.Outcome.TheVariants as outcomes
 use Rattle.codec_payload_jitter.specs.declared.outcome.PacketCounters.{PacketCounters}
@@ -39,10 +38,10 @@ restarts_alone n a r mid t o kept goes is =
 abbrev pub noted : ℕ → Receiving → Receiving
 noted n r = record r { no_media_numbers = noted_no_media n r.no_media_numbers; counters = counted r.counters outcomes.NoMedia }
 
-pub notes_both : (n : ℕ) (b : Arrival) (r t : Receiving) → Some b ≡ r.kept → GoesInAgain b (kept_number n b.header.sequence_number) (restarted (noted n r)) t → NotesAs (extended.Restarted n) r t
+pub notes_both : (n : ℕ) (b : Arrival) (r t : Receiving) → Some b ≡ r.kept → GoesInAgain b (kept_number n b.header.sequence_number) (restarted (noted n r)) t → NotesRestart n r t
 notes_both n b r t kept goes = (true, subst (λ (k : Option Arrival). Confirms n k (restarted (noted n r)) true t) kept (refl, goes))
 
-pub notes_alone : (n : ℕ) (r t : Receiving) → None ≡ r.kept → t ≡ restarted (noted n r) → NotesAs (extended.Restarted n) r t
+pub notes_alone : (n : ℕ) (r t : Receiving) → None ≡ r.kept → t ≡ restarted (noted n r) → NotesRestart n r t
 notes_alone n r t kept is = (false, subst (λ (k : Option Arrival). Confirms n k (restarted (noted n r)) false t) kept (refl, is))
 
 -- from what the code has done

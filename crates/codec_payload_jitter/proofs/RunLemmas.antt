@@ -9,7 +9,7 @@ use Rattle.codec_payload_buffer.specs.Stretches.{after_pushes}
 use Rattle.codec_payload_jitter.specs.Numbers.{Numbering, low_bits, no_numbers, number_for, numbering_after, numbers_for, answer_for}
 use Rattle.codec_payload_jitter.specs.Numbers.{numbering_with, without_restart, number_in, is_restart, GoOn, moved}
 use Rattle.codec_payload_jitter.specs.NotedTimes.{AreTimesOf, Noted, first_or, is_untimely, noted_with}
-use Rattle.codec_payload_jitter.proofs.RestartLemmas.{answer_to_is}
+use Rattle.codec_payload_jitter.proofs.RestartLemmas.{answer_to_is, answer_without_former}
 use Rattle.codec_payload_jitter.proofs.TimesLemmas.{still_times}
 use Rattle.codec_payload_jitter.specs.Receiving.{answer_by_time, answer_to, first_with, with_noted}
 use Rattle.codec_payload_jitter.specs.Receiving.{Receiving, Arrival, answer_in, Receives, ReceivesAs, TakesIn, settled, waiting_at, PopsWith}
@@ -118,9 +118,9 @@ answer_of : (time_of : ℕ → ℕ) (r : Receiving) (a : Arrival) (answer : Exte
 answer_of time_of r a (extended.Number n) running is on times time = answer_to_is time_of r a.header n running times is time.0 time.1
 answer_of time_of r a (extended.Restarted n) running is on times time = cc
 answer_of time_of r a extended.Suspect running is on times time =
-    ap (answer_by_time r a.header) (answer_is r a.header.sequence_number running (ap is_restart is) ∙ is)
+    answer_without_former r a.header times.1 ∙ ap (answer_by_time r a.header) (answer_is r a.header.sequence_number running (ap is_restart is) ∙ is)
 answer_of time_of r a extended.Spent running is on times time =
-    ap (answer_by_time r a.header) (answer_is r a.header.sequence_number running (ap is_restart is) ∙ is)
+    answer_without_former r a.header times.1 ∙ ap (answer_by_time r a.header) (answer_is r a.header.sequence_number running (ap is_restart is) ∙ is)
 
 -- the noted times are still the sender's
 still_at : (time_of : ℕ → ℕ) (r : Receiving) (a : Arrival) (number : Option ℕ) → HasTime time_of r.rate r.first a number → AreTimesOf time_of r.noted → AreTimesOf time_of (noted_at r a number)

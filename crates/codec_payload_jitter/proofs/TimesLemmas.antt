@@ -2,7 +2,8 @@
 use Rattle.std.proofs.Common.{◌≡◌, ◌∙◌, refl, ap, sym, subst, zero, suc, ℕ, ◌+◌, ◌-◌, ◌*◌, ◌/◌, ◌%◌, ◌<◌, ◌≤◌, List, [], ◌∷◌, ◌++◌, drop, length, length-append, length-drop, Bool, true, false, not, ◌&&◌, Option, Some, None, cond, eqb, arith, slice_set}
 use Rattle.std.specs.Prelude.{IfSome, slice_index_or, nat_lt, nat_le}
 use Rattle.std.proofs.lemmas.Bool.{eq-eqb, eqb-true, leb-true, ltb-false}
-use Rattle.codec_payload_jitter.specs.NotedTimes.{AreTimesFrom, AreTimesOf, Noted, appended_to, contradicts, gone_on, index_of, is_another, is_noted, noted_at, noted_with, places_for, pushed_time, skipped, spacing_of, time_at, with_last}
+use Rattle.codec_payload_jitter.specs.NotedTimes.{AreTimesFrom, AreTimesOf, Noted, appended_to, contradicts, gone_on, index_of, is_another, is_noted, is_of_former, is_of_former_by, noted_at, noted_with, places_for, pushed_time, skipped, spacing_of, time_at, with_last}
+use Rattle.codec_payload_jitter.specs.declared.noted_times.FormerSender.{FormerSender}
 use Rattle.codec_payload_jitter.specs.declared.noted_times.NotedTime.{NotedTime}
 use Rattle.codec_payload_jitter.proofs.NotedLemmas.{length_pushed}
 
@@ -96,10 +97,13 @@ at_index time_of most index time s is all = by_test (nat_lt index s.first) (nat_
     by_test : (before within : Bool) → nat_lt index s.first ≡ before → nat_lt (index - s.first) (length s.times) ≡ within → AreTimesOf time_of (noted_at most index time s)
     by_test true within is_before is_within = rw is_before all
     by_test false true is_before is_within =
-        rw (is_before, is_within) (set_time time_of spacing s.first s.times (index - s.first) time
-        (is ∙ ap (λ (n : ℕ). time_of (n * spacing)) (omega (arith, ltb-false index s.first is_before))) all)
+        rw (is_before, is_within) (
+          set_time time_of spacing s.first s.times (index - s.first) time
+              (is ∙ ap (λ (n : ℕ). time_of (n * spacing)) (omega (arith, ltb-false index s.first is_before))) all.0,
+          all.1,
+        )
     by_test false false is_before is_within =
-        rw (is_before, is_within) (appended time_of spacing most index time s (omega (arith, ltb-false index s.first is_before, ltb-false (index - s.first) (length s.times) is_within)) is all)
+        rw (is_before, is_within) (appended time_of spacing most index time s (omega (arith, ltb-false index s.first is_before, ltb-false (index - s.first) (length s.times) is_within)) is all.0, all.1)
 
 -- a noted number is its index times the spacing
 number_is : (backward n : ℕ) → is_noted backward n ≡ true → index_of backward n * spacing_of backward ≡ n
@@ -121,7 +125,7 @@ never_contradicts time_of s x mine times = by_test (is_noted s.backward x.number
     by_test true false is_noted_is is_after = rw (is_noted_is, is_after) refl
     by_test true true is_noted_is is_after =
         let index : ℕ = index_of s.backward x.number in
-        let there = looked_up time_of (spacing_of s.backward) s.first s.times (index - s.first) times in
+        let there = looked_up time_of (spacing_of s.backward) s.first s.times (index - s.first) times.0 in
         let number : (s.first + (index - s.first)) * spacing_of s.backward ≡ x.number =
         ap (λ (n : ℕ). n * spacing_of s.backward) (omega (arith, leb-true s.first index is_after)) ∙ number_is s.backward x.number is_noted_is in
         rw (is_noted_is, is_after) (same (slice_index_or s.times (index - s.first) None)
@@ -133,3 +137,24 @@ still_times time_of s x mine times = by_test (is_noted s.backward x.number) refl
     by_test : (b : Bool) → is_noted s.backward x.number ≡ b → AreTimesOf time_of (noted_with s x)
     by_test true is = rw is (at_index time_of (places_for s.backward) (index_of s.backward x.number) x.time s (mine ∙ ap time_of (sym (number_is s.backward x.number is))) times)
     by_test false is = rw is times
+
+-- no packet is of a former sender, if none is remembered
+pub none_of_former : (rate : ℕ) (s : Noted) (begins : Option NotedTime) (low time : ℕ) → s.former ≡ None → is_of_former rate s begins low time ≡ false
+none_of_former rate s begins low time none = ap (λ (former : Option FormerSender). is_of_former_by rate s former begins low time) none
+
+-- a noted time leaves the former sender
+pub noted_former : (s : Noted) (x : NotedTime) → (noted_with s x).former ≡ s.former
+noted_former s x = by_tests (is_noted s.backward x.number) (nat_lt index s.first) (nat_lt (index - s.first) (length s.times))
+  where
+    index : ℕ
+    index = index_of s.backward x.number
+
+    most : ℕ
+    most = places_for s.backward
+
+    by_tests : (noted before within : Bool)
+        → (cond noted (cond before s (cond within (record s { times = slice_set s.times (index - s.first) (Some x.time) }) (appended_to most index x.time s))) s).former ≡ s.former
+    by_tests false before within = refl
+    by_tests true true within = refl
+    by_tests true false true = refl
+    by_tests true false false = refl

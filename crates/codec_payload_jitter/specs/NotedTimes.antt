@@ -1,6 +1,8 @@
--- Noted times: the RTP times of every fourth or every eighth of the latest numbers.
+-- Noted times: the RTP times of every fourth or every eighth of the latest numbers, and the sender before the latest restart.
 use Rattle.std.specs.Prelude.{◌≡◌, ℕ, ◌+◌, ◌-◌, ◌*◌, ◌/◌, ◌%◌, ◌^◌, ◌==◌, ◌&&◌, not, nat_le, nat_lt, min, if◌then◌else◌, zero, suc, Bool, false, List, [], ◌∷◌, ◌++◌, drop, length, Option, Some, None, IfSome, ⊤, slice_index_or, slice_set}
+use Rattle.std.specs.Option.{option_map}
 use Rattle.codec_payload_base.specs.declared.wire.RtpHeader.{RtpHeader}
+use Rattle.codec_payload_jitter.specs.declared.noted_times.FormerSender.{FormerSender}
 use Rattle.codec_payload_jitter.specs.declared.noted_times.NotedTime.{NotedTime}
 
 -- every fourth number is noted for a backward window of up to 1,000 numbers, every eighth for a wider one; 256 or 640 times are
@@ -19,14 +21,15 @@ abbrev pub is_noted : ℕ → ℕ → Bool
 is_noted backward n = n % spacing_of backward == 0
 
 -- the noted times: the backward window of the numbers; an index; the RTP times of the number with this index and of those with
--- the next ones, as far as packets with these numbers arrived
+-- the next ones, as far as packets with these numbers arrived; the sender before the latest restart, if that restart was found
 pub record Noted : Type 0 where
   pub backward : ℕ
   pub first : ℕ
   pub times : List (Option ℕ)
+  pub former : Option FormerSender
 
 abbrev pub none_noted : ℕ → Noted
-none_noted backward = record { backward = backward; first = 0; times = [] }
+none_noted backward = record { backward = backward; first = 0; times = []; former = None }
 
 -- the noted times, and for how many there is memory
 pub record Noting : Type 0 where
@@ -90,7 +93,7 @@ AreTimesFrom time_of spacing index (time ∷ times) = IfSome time (λ t. t ≡ t
 
 -- each noted time is that of its number
 abbrev pub AreTimesOf : (ℕ → ℕ) → Noted → Type 0
-AreTimesOf time_of s = AreTimesFrom time_of (spacing_of s.backward) s.first s.times
+AreTimesOf time_of s = AreTimesFrom time_of (spacing_of s.backward) s.first s.times × (s.former ≡ None)
 
 -- the number is below the first one, and the RTP time is not from 5 seconds before the first one's up to that time, modulo 2^32
 abbrev pub is_untimely : ℕ → Option NotedTime → NotedTime → Bool
@@ -101,6 +104,52 @@ is_untimely rate (Some first) x = nat_lt x.number first.number && nat_lt (5 * ra
 abbrev pub first_or : Option NotedTime → NotedTime → Option NotedTime
 first_or None x = Some x
 first_or (Some first) x = Some first
+
+-- The sender before a restart
+
+-- how many ticks a time is after an earlier one, modulo 2^32
+abbrev pub ticks_between : ℕ → ℕ → ℕ
+ticks_between earlier later = (later + 2 ^ 32 - earlier) % 2 ^ 32
+
+-- the latest number that is noted, with its time; an index and a number have 64 bits
+abbrev pub latest_noted : Noted → Option NotedTime
+latest_noted s =
+    option_map (λ (time : ℕ). record { number = (s.first + (length s.times - 1)) % 2 ^ 64 * spacing_of s.backward % 2 ^ 64; time = time })
+    (slice_index_or s.times (length s.times - 1) None)
+
+-- the sender whose times are noted, by its highest number and its latest noted one, each modulo 2^16
+abbrev pub sender_of : Noted → ℕ → Option FormerSender
+sender_of s highest = option_map (λ (latest : NotedTime). record { highest = highest % 65536; number = latest.number % 65536; time = latest.time }) (latest_noted s)
+
+-- the number is at or below another one, both modulo 2^16
+abbrev pub is_at_or_below : ℕ → ℕ → Bool
+is_at_or_below low other = nat_lt ((other + 65536 - low) % 65536) 32768
+
+-- A packet goes with the former sender, by its latest noted number and time. Its number is not above that number, and its time is from
+-- 10 seconds before up to that time. Or its number is above, and its time is after that time and before the new sender's first time:
+-- by at most 10 seconds for numbers up to the highest one, and half a second for those above
+abbrev pub goes_with : ℕ → FormerSender → ℕ → ℕ → ℕ → Bool
+goes_with rate former begins low time =
+    if is_at_or_below low former.number then nat_le (ticks_between time former.time) (10 * rate)
+    else nat_le (ticks_between former.time time) (if is_at_or_below low former.highest then 10 * rate else rate / 2)
+    && nat_lt (ticks_between former.time time) (ticks_between former.time begins)
+
+-- the latest noted time of the new sender is more than 3 seconds after that of its first packet, and less than 2^31 ticks
+abbrev pub has_gone_on : ℕ → NotedTime → Option NotedTime → Bool
+has_gone_on rate begins None = false
+has_gone_on rate begins (Some latest) =
+    nat_le begins.number latest.number && (nat_lt (3 * rate) (ticks_between begins.time latest.time) && nat_lt (ticks_between begins.time latest.time) (2 ^ 31))
+
+-- A packet is of the former sender: it goes with that sender, and the new sender has not gone on by 3 seconds. The new sender's first
+-- time is not from 20 seconds before the former's latest noted time up to it, since then times do not tell the two apart
+abbrev pub is_of_former_by : ℕ → Noted → Option FormerSender → Option NotedTime → ℕ → ℕ → Bool
+is_of_former_by rate s None begins low time = false
+is_of_former_by rate s (Some former) None low time = false
+is_of_former_by rate s (Some former) (Some begins) low time =
+    nat_lt (20 * rate) (ticks_between begins.time former.time) && (not (has_gone_on rate begins (latest_noted s)) && goes_with rate former begins.time low time)
+
+abbrev pub is_of_former : ℕ → Noted → Option NotedTime → ℕ → ℕ → Bool
+is_of_former rate s begins low time = is_of_former_by rate s s.former begins low time
 
 -- how many numbers and how many ticks the later header is after the earlier one, modulo 2^16 and 2^32
 abbrev pub numbers_after : RtpHeader → RtpHeader → ℕ

@@ -1,9 +1,9 @@
 -- Senders that do not restart: each number has one RTP time.
-use Rattle.std.specs.Prelude.{◌≡◌, ℕ, false, List, [], ◌∷◌, Some}
+use Rattle.std.specs.Prelude.{◌≡◌, ℕ, false, List, [], ◌∷◌, None, Some}
 use Rattle.codec_payload_jitter.specs.NotedTimes.{AreTimesOf, is_untimely}
 use Rattle.codec_payload_jitter.specs.Numbers.{answer_for, number_within}
 use Rattle.codec_payload_jitter.specs.Pressure.{Event, Packet, Retransmitted, Recovered, WithoutMedia, Comes}
-use Rattle.codec_payload_jitter.specs.Receiving.{Receiving, Arrival, PopsWith, settled, waiting_at}
+use Rattle.codec_payload_jitter.specs.Receiving.{Receiving, Arrival, PopsWith, is_of_former_sender, settled, waiting_at}
 use Rattle.codec_payload_jitter.specs.Runs.{Answer}
 use Rattle.codec_payload_jitter.specs.declared.numbers.Extended.TheVariants as extended
 
@@ -43,3 +43,17 @@ abbrev pub NeverRestarts : Type 0
 NeverRestarts =
     (time_of : ℕ → ℕ) (steps : List Step) (r t : Receiving) → r.is_restarting ≡ false → AreTimesOf time_of r.noted → HearsOneSender time_of steps r t
     → (t.counters.restarts ≡ r.counters.restarts) × AreTimesOf time_of t.noted
+
+-- the steps of any senders, one after another, as long as no restart is counted
+abbrev pub CountsNoRestart : List Step → Receiving → Receiving → Type 0
+CountsNoRestart [] r t = t ≡ r
+CountsNoRestart (Arrives event ∷ steps) r t =
+    (mid : Receiving) × Comes event r mid × (mid.counters.restarts ≡ r.counters.restarts) × CountsNoRestart steps mid t
+CountsNoRestart (PopsAt now ∷ steps) r t =
+    (answer : Answer) × (mid : Receiving) × PopsWith (waiting_at (settled r) now) (settled r) answer mid × CountsNoRestart steps mid t
+
+-- Until a restart is counted, no packet is taken for one of a former sender, whatever its number and its RTP time. A new jitter
+-- buffer remembers no former sender
+abbrev pub HaveNoFormer : Type 0
+HaveNoFormer =
+    (steps : List Step) (r t : Receiving) → r.noted.former ≡ None → CountsNoRestart steps r t → (low time : ℕ) → is_of_former_sender t low time ≡ false

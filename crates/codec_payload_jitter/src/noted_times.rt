@@ -1,8 +1,9 @@
 //! The RTP times of the latest numbers. If a number arrives again with another time, the sender has restarted.
 
 ghost use Rattle.std.specs.Prelude.{◌≡◌, ◌≤◌, ◌<◌, ◌+◌, ◌-◌, OnOk, length, min, None, Some};
+ghost use Rattle.std.specs.Option.{is_some};
 ghost use Rattle.std.specs.VecDeque.{deque_len, deque_capacity};
-ghost use Rattle.codec_payload_jitter.specs.NotedTimes.{contradicts, gone_on, index_of, is_noted, is_soon_after, is_untimely, none_noted, noted_with, places_for, pushed_time, appended_to, room_for, room_for_time, spacing_of};
+ghost use Rattle.codec_payload_jitter.specs.NotedTimes.{contradicts, goes_with, gone_on, has_gone_on, index_of, is_at_or_below, is_noted, is_of_former, is_soon_after, is_untimely, latest_noted, none_noted, sender_of, noted_with, places_for, pushed_time, appended_to, room_for, room_for_time, spacing_of};
 
 use codec_payload_base::wire::Frequency;
 use codec_payload_buffer::buffer::PackedHeader;
@@ -23,6 +24,14 @@ pub struct NotedTime {
     pub time: u32,
 }
 
+/// The sender before a restart: the low bits of its highest number, and its latest noted number and time.
+#[derive(Clone, Copy, Debug)]
+pub struct FormerSender {
+    pub highest: u16,
+    pub number: u16,
+    pub time: u32,
+}
+
 /// The RTP times of the latest numbers: of every fourth number, for the last 1,024 numbers; with a backward window above 1,000,
 /// of every eighth number, for the last 5,120. A number takes 8 bytes. The memory grows with the noted numbers from 128 bytes
 /// to 2 kB, or 5 kB for a wider window.
@@ -34,6 +43,8 @@ pub(crate) struct NotedTimes {
     first: u64,
     /// The time at this index and at each index after it; `None`: no packet with its number arrived.
     times: VecDeque<Option<u32>>,
+    /// The sender before the latest restart, if the jitter buffer found that restart.
+    former: Option<FormerSender>,
 }
 
 impl Model for NotedTimes {
@@ -42,7 +53,7 @@ impl Model for NotedTimes {
 
     ghost Value = { Noting };
 
-    ghost view = { λ n. record { noted = record { backward = n.backward; first = n.first; times = n.times.items }; room = deque_capacity n.times } };
+    ghost view = { λ n. record { noted = record { backward = n.backward; first = n.first; times = n.times.items; former = n.former }; room = deque_capacity n.times } };
 }
 
 impl NotedTimes {
@@ -54,6 +65,7 @@ impl NotedTimes {
             backward,
             first: 0,
             times: VecDeque::new(alloc),
+            former: None,
         }
     }
 
@@ -73,6 +85,76 @@ impl NotedTimes {
             Some(time) => time != packet.time,
             None => false,
         }
+    }
+
+    /// Returns the latest number that is noted, with its time.
+    pub(crate) fn latest(&self) -> Option<NotedTime>
+        ensures { result ≡ latest_noted self.now.noted }
+    {
+        let held = self.times.len();
+        if held == 0 {
+            return None;
+        }
+        match self.times[held - 1] {
+            Some(time) => {
+                let index = self.first.wrapping_add(held as u64 - 1);
+                Some(NotedTime {
+                    number: index.wrapping_mul(spacing_of(self.backward)),
+                    time,
+                })
+            }
+            None => None,
+        }
+    }
+
+    /// Returns the sender up to now, whose highest number is `highest`. Returns `None` if no time is noted.
+    pub(crate) fn sender(&self, highest: u64) -> Option<FormerSender>
+        ensures { result ≡ sender_of self.now.noted highest }
+    {
+        match self.latest() {
+            Some(latest) => Some(FormerSender {
+                highest: (highest % 65_536) as u16,
+                number: (latest.number % 65_536) as u16,
+                time: latest.time,
+            }),
+            None => None,
+        }
+    }
+
+    /// Remembers the former sender, or none.
+    pub(crate) fn set_former(&mut self, former: Option<FormerSender>)
+        ensures noted { self.new.noted ≡ record self.old.noted { former = former } }
+        ensures room { self.new.room ≡ self.old.room }
+    {
+        self.former = former;
+    }
+
+    /// Returns whether a former sender is known.
+    #[inline(always)]
+    pub(crate) fn has_former(&self) -> bool
+        ensures { result ≡ is_some self.now.noted.former }
+    {
+        self.former.is_some()
+    }
+
+    /// Returns whether a packet is of the former sender, by its number and its time. `begins` is the first packet since the
+    /// restart.
+    pub(crate) fn is_of_former(
+        &self,
+        clock_rate: Frequency,
+        begins: Option<NotedTime>,
+        low: u16,
+        time: u32,
+    ) -> bool
+        ensures { result ≡ is_of_former clock_rate self.now.noted begins low time }
+    {
+        let (Some(former), Some(begins)) = (self.former, begins) else {
+            return false;
+        };
+        let ticks = former.time.wrapping_sub(begins.time);
+        u64::from(ticks) > 20 * u64::from(clock_rate.get())
+            && !has_gone_on(clock_rate, begins, self.latest())
+            && goes_with(clock_rate, former, begins.time, low, time)
     }
 
     /// Makes room for the time of this packet. Allocates if more places than before are needed.
@@ -246,4 +328,39 @@ pub(crate) fn is_untimely(
     };
     let ticks = first.time.wrapping_sub(packet.time);
     packet.number < first.number && u64::from(ticks) > 5 * u64::from(clock_rate.get())
+}
+
+/// Returns whether the latest noted time of a sender is more than 3 seconds after that of its first packet.
+fn has_gone_on(clock_rate: Frequency, begins: NotedTime, latest: Option<NotedTime>) -> bool
+    ensures { result ≡ has_gone_on clock_rate begins latest }
+{
+    let Some(latest) = latest else {
+        return false;
+    };
+    let ticks = u64::from(latest.time.wrapping_sub(begins.time));
+    begins.number <= latest.number && ticks > 3 * u64::from(clock_rate.get()) && ticks < 1 << 31
+}
+
+/// Returns whether a packet goes with the former sender, by its number and its time. `begins` is the first time of the new sender.
+fn goes_with(clock_rate: Frequency, former: FormerSender, begins: u32, low: u16, time: u32) -> bool
+    ensures { result ≡ goes_with clock_rate former begins low time }
+{
+    let rate = u64::from(clock_rate.get());
+    if is_at_or_below(low, former.number) {
+        return u64::from(former.time.wrapping_sub(time)) <= 10 * rate;
+    }
+    let after = time.wrapping_sub(former.time);
+    let most = if is_at_or_below(low, former.highest) {
+        10 * rate
+    } else {
+        rate / 2
+    };
+    u64::from(after) <= most && after < begins.wrapping_sub(former.time)
+}
+
+/// Returns whether a number is at or below another one, by their low bits.
+fn is_at_or_below(low: u16, other: u16) -> bool
+    ensures { result ≡ is_at_or_below low other }
+{
+    other.wrapping_sub(low) < 32_768
 }

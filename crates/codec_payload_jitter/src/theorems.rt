@@ -4,7 +4,7 @@
 ghost use Rattle.codec_payload_jitter.specs.Numbers.{AreTrueNumbers, NoneRestarts, NeverMix, AreTrueAnew, NeverMixAnew, AreTrueBegun};
 ghost use Rattle.codec_payload_jitter.specs.NoMediaNumbers.{PassesNoMediaAlone, PassesInPlace};
 ghost use Rattle.codec_payload_jitter.specs.Pressure.{SparesCompleteFrames};
-ghost use Rattle.codec_payload_jitter.specs.Restarts.{NeverRestarts};
+ghost use Rattle.codec_payload_jitter.specs.Restarts.{HaveNoFormer, NeverRestarts};
 ghost use Rattle.codec_payload_jitter.specs.Runs.{AreChains, AreStretches, AreTrueStretches};
 
 /// Proves that extended numbers are true numbers. If each true number lies within the windows of the highest one so far, each
@@ -30,6 +30,12 @@ pub fn passes_no_media_alone()
 /// senders that give each number one RTP time, and whose packets come within the windows.
 pub fn senders_never_restart()
     ensures { NeverRestarts }
+{}
+
+/// Proves that no packet is taken for one of a former sender until a restart is counted. So of a sender that was never reported as
+/// restarted, no packet is dropped for this reason. It holds for all senders, with any numbers and RTP times.
+pub fn first_senders_have_no_former()
+    ensures { HaveNoFormer }
 {}
 
 /// Proves that pushes into a jitter buffer are pushes into its buffer, under extended numbers. The sender does not restart, and

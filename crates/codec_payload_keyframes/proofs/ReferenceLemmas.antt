@@ -1,27 +1,40 @@
--- What is known of pictures that name their references is what was released.
-use Rattle.std.proofs.Common.{◌≡◌, ◌∙◌, refl, sym, ap, subst, ℕ, zero, suc, ◌-◌, ◌*◌, ◌^◌, ◌%◌, ◌/◌, ◌<◌, ◌≤◌, ◌&&◌, ◌⊎◌, inl, inr, min, List, [], ◌∷◌, Bool, true, false, cond, eqb, ltb, arith}
+-- What is known of units that name the frames to which they refer is what was released.
+use Rattle.std.proofs.Common.{◌≡◌, ◌∙◌, refl, sym, ap, subst, ℕ, zero, suc, ◌+◌, ◌-◌, ◌*◌, ◌^◌, ◌%◌, ◌/◌, ◌<◌, ◌≤◌, ◌&&◌, ◌⊎◌, inl, inr, max, min, List, [], ◌∷◌, Bool, true, false, cond, eqb, ltb, arith}
 use Rattle.std.specs.Prelude.{◌↔◌}
-use Rattle.std.specs.Int.{bit_at}
+use Rattle.std.specs.Int.{bit_at, leading_zeros}
+use Rattle.std.specs.Int.Count.{count_leading_zeros}
 use Rattle.std.specs.Int.Width.{w128}
 use Rattle.std.specs.Int.Bits.{bit_and, bit_or}
-use Rattle.std.proofs.lemmas.Bool.{and_from, eq-eqb, eqb-true, lt-ltb, ltb-true, ltb-false}
-use Rattle.std.proofs.lemmas.Nat.{and_le_r, pow_pos}
-use Rattle.std.proofs.lemmas.Nat.Bits.{bit_at-lt, bit_at-pow_other, bit_at-pow_same, bit_at-zero, bit_at_and, bit_at_cat_high, bit_at_cat_low, bit_at_not, bit_at_or, same_from_bits_below}
+use Rattle.std.proofs.lemmas.Bool.{and_from, eq-eqb, eqb-true, false≢true, lt-ltb, ltb-true, ltb-false}
+use Rattle.std.proofs.Math.Nat.{pow-le-pow_right, pow-suc}
+use Rattle.std.proofs.lemmas.Nat.{and_le_r, leading_length, pow_pos}
+use Rattle.std.proofs.lemmas.Nat.Bits.{bit_at-lt, bit_at-zero, bit_at_and, bit_at_mask_below, bit_at_mask_inside, bit_at_cat_high, bit_at_cat_low, bit_at_not, bit_at_or, same_from_bits_below}
 use Rattle.codec_payload_keyframes.proofs.LayerLemmas.{both}
-use Rattle.codec_payload_keyframes.specs.References.{FollowsReferences, HasReferences, IsShownAt, NumbersRise, ReferenceRun, Reported, after_key_number, after_referring, begins, bit_of, latest_number, moved_on, releases, shows_referring}
+use Rattle.codec_payload_keyframes.specs.References.{FollowsReferences, HasFrame, HasReferences, IsBelow, IsShownAt, NumbersRise, ReferenceRun, Reported, after_key_frames, begins, latest_number, lower_numbers, moved_on, releases, seen_from, shows_referring, with_frames}
 use Rattle.codec_payload_keyframes.specs.declared.references.References.{References}
 use Rattle.codec_payload_keyframes.specs.declared.references.Referring.{Referring}
 
 -- ---- numbers
 
-key_low : (key : ℕ) (later : List Reported) → NumbersRise key later → key ≤ latest_number key later
-key_low key [] rise = omega arith
-key_low key (r ∷ rs) rise = omega (arith, key_low key rs rise.1, rise.0)
+-- a frame that was released has a number up to the latest one
+shown_low : (n d : ℕ) (key : Referring) (later : List Reported) → NumbersRise key later → IsShownAt n d key later → n ≤ latest_number key later + d
+shown_low n d key [] rise (inl is) = is.0
+shown_low n d key [] rise (inr is) = is.0
+shown_low n d key (r ∷ rs) rise (inl is) = is.0.0
+shown_low n d key (r ∷ rs) rise (inr is) = omega (arith, shown_low n d key rs rise.1 is, rise.0)
 
-shown_low : (n key : ℕ) (later : List Reported) → NumbersRise key later → IsShownAt n key later → n ≤ latest_number key later
-shown_low n key [] rise is = omega (arith, is)
-shown_low n key (r ∷ rs) rise (inl is) = omega (arith, is.0)
-shown_low n key (r ∷ rs) rise (inr is) = omega (arith, shown_low n key rs rise.1 is, rise.0)
+-- the same frame, from another number on
+moved_frame : (n d m e : ℕ) (u : Referring) → n + e ≡ m + d → HasFrame n d u → HasFrame m e u
+moved_frame n d m e u same has = (omega (arith, has.0, same), subst (λ (i : ℕ). bit_at u.frames i ≡ 1) (omega (arith, has.0, same)) has.1)
+
+moved_below : (n d m e : ℕ) (u : Referring) → n + e ≡ m + d → IsBelow n d u → IsBelow m e u
+moved_below n d m e u same below = (omega (arith, below.0, same), subst (λ (i : ℕ). u.frames < 2 ^ i) (omega (arith, below.0, same)) below.1)
+
+moved_shown : (n d m e : ℕ) (key : Referring) (later : List Reported) → n + e ≡ m + d → IsShownAt n d key later → IsShownAt m e key later
+moved_shown n d m e key [] same (inl is) = inl (moved_frame n d m e key same is)
+moved_shown n d m e key [] same (inr is) = inr (moved_below n d m e key same is)
+moved_shown n d m e key (r ∷ rs) same (inl is) = inl (moved_frame n d m e r.unit same is.0, is.1)
+moved_shown n d m e key (r ∷ rs) same (inr is) = inr (moved_shown n d m e key rs same is)
 
 -- ---- bits
 
@@ -79,121 +92,161 @@ none_missing wanted there fits all = same_from_bits_below 128 (bit_and wanted (2
 
 -- ---- a run
 
-pub record Knows (s : References) (key : ℕ) (later : List Reported) : Type 0 where
+pub record Knows (s : References) (key : Referring) (later : List Reported) : Type 0 where
   pub last_is : s.last ≡ latest_number key later
   pub rises_is : (s.rises ≡ true) ↔ NumbersRise key later
-  pub bits : NumbersRise key later → (d : ℕ) → d < 128 → (bit_at s.shown d ≡ 1) ↔ ((d ≤ s.last) × IsShownAt (s.last - d) key later)
+  pub bits : NumbersRise key later → (d : ℕ) → d < 128 → (bit_at s.shown d ≡ 1) ↔ IsShownAt s.last d key later
 
--- the bits in front of a picture say which pictures before it can be shown
-moved_is : (s : References) (key : ℕ) (later : List Reported) (number : ℕ) → Knows s key later → NumbersRise key later → latest_number key later < number
-    → (d : ℕ) → d < 128 → (bit_at (moved_on s.shown (number - s.last)) d ≡ 1) ↔ ((d ≤ number) × IsShownAt (number - d) key later)
+-- the bits in front of a unit say which frames before it can be shown
+moved_is : (s : References) (key : Referring) (later : List Reported) (number : ℕ) → Knows s key later → NumbersRise key later → latest_number key later < number
+    → (d : ℕ) → d < 128 → (bit_at (moved_on s.shown (number - s.last)) d ≡ 1) ↔ IsShownAt number d key later
 moved_is s key later number knows rise above d low = by (ltb d (number - s.last)) refl
   where
-    by : (b : Bool) → ltb d (number - s.last) ≡ b → (bit_at (moved_on s.shown (number - s.last)) d ≡ 1) ↔ ((d ≤ number) × IsShownAt (number - d) key later)
+    by : (b : Bool) → ltb d (number - s.last) ≡ b → (bit_at (moved_on s.shown (number - s.last)) d ≡ 1) ↔ IsShownAt number d key later
     by true e = (
       λ so. absurd (omega (arith, so, moved_low s.shown (number - s.last) d (ltb-true d (number - s.last) e) low)),
-      λ so. absurd (omega (arith, shown_low (number - d) key later rise so.1, ltb-true d (number - s.last) e, knows.last_is, above)),
+      λ so. absurd (omega (arith, shown_low number d key later rise so, ltb-true d (number - s.last) e, knows.last_is, above)),
     )
     by false e = (
-      λ so. let it = (knows.bits rise (d - (number - s.last)) (omega (arith, low))).0 (sym (moved_high s.shown (number - s.last) d (ltb-false d (number - s.last) e) low (pow_pos (number - s.last))) ∙ so) in
-          (omega (arith, it.0, ltb-false d (number - s.last) e, knows.last_is, above), subst (λ n. IsShownAt n key later) (omega (arith, it.0, ltb-false d (number - s.last) e, knows.last_is, above)) it.1),
+      λ so. moved_shown s.last (d - (number - s.last)) number d key later (omega (arith, ltb-false d (number - s.last) e, knows.last_is, above))
+          ((knows.bits rise (d - (number - s.last)) (omega (arith, low))).0 (sym (moved_high s.shown (number - s.last) d (ltb-false d (number - s.last) e) low (pow_pos (number - s.last))) ∙ so)),
       λ so. moved_high s.shown (number - s.last) d (ltb-false d (number - s.last) e) low (pow_pos (number - s.last))
-          ∙ (knows.bits rise (d - (number - s.last)) (omega (arith, low))).1 (
-            omega (arith, so.0, ltb-false d (number - s.last) e, knows.last_is, above),
-            subst (λ n. IsShownAt n key later) (omega (arith, so.0, ltb-false d (number - s.last) e, knows.last_is, above)) so.1,
-          ),
+          ∙ (knows.bits rise (d - (number - s.last)) (omega (arith, low))).1
+          (moved_shown number d s.last (d - (number - s.last)) key later (omega (arith, ltb-false d (number - s.last) e, knows.last_is, above)) so),
     )
 
-shows_is : (s : References) (key : ℕ) (later : List Reported) (p : Referring) → Knows s key later → (shows_referring s p ≡ true) ↔ HasReferences key later p
-shows_is s key later p knows = (there, back)
+pub shows_is : (s : References) (key : Referring) (later : List Reported) (u : Referring) → Knows s key later → (shows_referring s u ≡ true) ↔ HasReferences key later u
+shows_is s key later u knows = (there, back)
   where
     moved : ℕ
-    moved = moved_on s.shown (p.number - s.last)
+    moved = moved_on s.shown (u.number - s.last)
 
-    there : shows_referring s p ≡ true → HasReferences key later p
+    there : shows_referring s u ≡ true → HasReferences key later u
     there e =
-        let parts = both s.rises (ltb s.last p.number && eqb (bit_and p.distances (2 ^ 128 - 1 - moved)) 0) e in
-        let rest = both (ltb s.last p.number) (eqb (bit_and p.distances (2 ^ 128 - 1 - moved)) 0) parts.1 in
+        let parts = both s.rises (ltb s.last u.number && eqb (bit_and u.distances (2 ^ 128 - 1 - moved)) 0) e in
+        let rest = both (ltb s.last u.number) (eqb (bit_and u.distances (2 ^ 128 - 1 - moved)) 0) parts.1 in
         let rise = knows.rises_is.0 parts.0 in
-        let above : latest_number key later < p.number = omega (arith, knows.last_is, ltb-true s.last p.number rest.0) in
+        let above : latest_number key later < u.number = omega (arith, knows.last_is, ltb-true s.last u.number rest.0) in
         record {
           rise = rise;
           above = above;
-          references = λ d low is. (moved_is s key later p.number knows rise above d low).0
-              (all_there p.distances moved (moved_fits s.shown (p.number - s.last)) (eqb-true (bit_and p.distances (2 ^ 128 - 1 - moved)) 0 rest.1) d low is);
+          references = λ d low is. (moved_is s key later u.number knows rise above d low).0
+              (all_there u.distances moved (moved_fits s.shown (u.number - s.last)) (eqb-true (bit_and u.distances (2 ^ 128 - 1 - moved)) 0 rest.1) d low is);
         }
 
-    back : HasReferences key later p → shows_referring s p ≡ true
+    back : HasReferences key later u → shows_referring s u ≡ true
     back has =
-        and_from s.rises (ltb s.last p.number && eqb (bit_and p.distances (2 ^ 128 - 1 - moved)) 0) (knows.rises_is.1 has.rise)
-        (and_from (ltb s.last p.number) (eqb (bit_and p.distances (2 ^ 128 - 1 - moved)) 0) (lt-ltb s.last p.number (omega (arith, knows.last_is, has.above)))
-        (eq-eqb (bit_and p.distances (2 ^ 128 - 1 - moved)) 0
-        (none_missing p.distances moved (moved_fits s.shown (p.number - s.last))
-        (λ d low is. (moved_is s key later p.number knows has.rise has.above d low).1 (has.references d low is)))))
+        and_from s.rises (ltb s.last u.number && eqb (bit_and u.distances (2 ^ 128 - 1 - moved)) 0) (knows.rises_is.1 has.rise)
+        (and_from (ltb s.last u.number) (eqb (bit_and u.distances (2 ^ 128 - 1 - moved)) 0) (lt-ltb s.last u.number (omega (arith, knows.last_is, has.above)))
+        (eq-eqb (bit_and u.distances (2 ^ 128 - 1 - moved)) 0
+        (none_missing u.distances moved (moved_fits s.shown (u.number - s.last))
+        (λ d low is. (moved_is s key later u.number knows has.rise has.above d low).1 (has.references d low is)))))
 
-knows_key : (key : ℕ) → Knows (after_key_number key) key []
-knows_key key = record { last_is = refl; rises_is = (λ e. tt, λ so. refl); bits = λ rise d low. first d }
+pow_more : (d : ℕ) → 2 ^ suc d ≡ 2 * 2 ^ d
+pow_more d = omega (arith, pow-suc 2 d)
+
+pow_fits : (d : ℕ) → d < 128 → 2 ^ d ≤ 2 ^ 128
+pow_fits d low = pow-le-pow_right (omega arith) {i = d} {j = 128} (omega (arith, low))
+
+-- the numbers below all frames
+lower_is : (frames d : ℕ) → d < 128 → (bit_at (lower_numbers frames) d ≡ 1) ↔ (frames < 2 ^ d)
+lower_is frames d low = by (ltb frames (2 ^ 128)) refl
   where
-    first : (d : ℕ) → (bit_at 1 d ≡ 1) ↔ ((d ≤ key) × (key - d ≡ key))
-    first zero = (λ e. (omega arith, omega arith), λ so. bit_at-pow_same 0)
-    first (suc d) = (λ e. absurd (omega (arith, e, bit_at-pow_other 0 (suc d) (λ z. omega (arith, z)))), λ so. absurd (omega (arith, so.0, so.1)))
+    Wanted : ℕ → Type 0
+    Wanted x = (bit_at x d ≡ 1) ↔ (frames < 2 ^ d)
 
-own_bit : (b : Bool) → bit_at (bit_of b) 0 ≡ bit_of b
-own_bit true = bit_at-pow_same 0
-own_bit false = bit_at-zero 0
+    by : (b : Bool) → ltb frames (2 ^ 128) ≡ b → Wanted (cond b (2 ^ 128 - 2 ^ (128 - leading_zeros w128 frames)) 0)
+    by false e = (
+      λ so. absurd (omega (arith, so, bit_at-zero d)),
+      λ so. absurd (omega (arith, so, ltb-false frames (2 ^ 128) e, pow_fits d low)),
+    )
+    by true e = with_length (leading_length 128 frames (ltb-true frames (2 ^ 128) e))
+      where
+        with_length : (m : ℕ) × (count_leading_zeros 128 frames + m ≡ 128) × (frames < 2 ^ m) × (2 ^ m ≤ 2 * frames + 1) → Wanted (2 ^ 128 - 2 ^ (128 - leading_zeros w128 frames))
+        with_length m = subst (λ (k : ℕ). Wanted (2 ^ 128 - 2 ^ k)) (omega (arith, m.1)) (at (ltb d m.0) refl)
+          where
+            at : (b : Bool) → ltb d m.0 ≡ b → Wanted (2 ^ 128 - 2 ^ m.0)
+            at true below =
+                let more : 2 ^ suc d ≤ 2 ^ m.0 = pow-le-pow_right (omega arith) {i = suc d} {j = m.0} (omega (arith, ltb-true d m.0 below)) in (
+                  λ so. absurd (omega (arith, so, bit_at_mask_below m.0 128 d (ltb-true d m.0 below))),
+                  λ so. absurd (omega (arith, so, m.3, more, pow_more d)),
+                )
+            at false above =
+                let more : 2 ^ m.0 ≤ 2 ^ d = pow-le-pow_right (omega arith) {i = m.0} {j = d} (ltb-false d m.0 above) in
+                (λ so. omega (arith, m.2, more), λ so. bit_at_mask_inside m.0 128 d (ltb-false d m.0 above) low)
 
-no_bit : (b : Bool) (d : ℕ) → bit_at (bit_of b) (suc d) ≡ 0
-no_bit true d = bit_at-pow_other 0 (suc d) (λ z. omega (arith, z))
-no_bit false d = bit_at-zero (suc d)
-
-knows_next : (s : References) (key : ℕ) (later : List Reported) (p : Referring) → Knows s key later
-    → Knows (after_referring s p) key (record { picture = p; shown = shows_referring s p } ∷ later)
-knows_next s key later p knows = record { last_is = refl; rises_is = (rises_there, rises_back); bits = λ rise d low. bits_of rise d low }
+pub knows_key : (key : Referring) → Knows (after_key_frames key) key []
+knows_key key = record { last_is = refl; rises_is = (λ e. tt, λ so. refl); bits = λ rise d low. first d low }
   where
-    b : Bool
-    b = shows_referring s p
+    own : (d : ℕ) → key.number + d - key.number ≡ d
+    own d = omega arith
 
-    rises_there : (s.rises && ltb s.last p.number) ≡ true → (latest_number key later < p.number) × NumbersRise key later
-    rises_there e = let parts = both s.rises (ltb s.last p.number) e in (omega (arith, knows.last_is, ltb-true s.last p.number parts.1), knows.rises_is.0 parts.0)
+    both_bits : (d : ℕ) → bit_at (bit_or key.frames (lower_numbers key.frames)) d ≡ max (bit_at key.frames d) (bit_at (lower_numbers key.frames) d)
+    both_bits d = bit_at_or key.frames (lower_numbers key.frames) d
 
-    rises_back : (latest_number key later < p.number) × NumbersRise key later → (s.rises && ltb s.last p.number) ≡ true
-    rises_back so = and_from s.rises (ltb s.last p.number) (knows.rises_is.1 so.1) (lt-ltb s.last p.number (omega (arith, knows.last_is, so.0)))
+    first : (d : ℕ) → d < 128 → (bit_at (bit_or key.frames (lower_numbers key.frames)) d ≡ 1) ↔ (HasFrame key.number d key ⊎ IsBelow key.number d key)
+    first d low = (there (bit_is key.frames d), back)
+      where
+        there : (bit_at key.frames d ≡ 0) ⊎ (bit_at key.frames d ≡ 1) → bit_at (bit_or key.frames (lower_numbers key.frames)) d ≡ 1
+            → HasFrame key.number d key ⊎ IsBelow key.number d key
+        there (inr so) e = inl (omega arith, subst (λ (i : ℕ). bit_at key.frames i ≡ 1) (sym (own d)) so)
+        there (inl none) e =
+            inr (omega arith, subst (λ (i : ℕ). key.frames < 2 ^ i) (sym (own d)) ((lower_is key.frames d low).0 (omega (arith, none, e, both_bits d))))
 
-    bits_of : (latest_number key later < p.number) × NumbersRise key later → (d : ℕ) → d < 128
-        → (bit_at (bit_or (cond (ltb s.last p.number) (moved_on s.shown (p.number - s.last)) 0) (bit_of b)) d ≡ 1)
-        ↔ ((d ≤ p.number) × (((p.number - d ≡ p.number) × (b ≡ true)) ⊎ IsShownAt (p.number - d) key later))
-    bits_of rise d low =
-        subst (λ (m : ℕ). (bit_at (bit_or m (bit_of b)) d ≡ 1) ↔ ((d ≤ p.number) × (((p.number - d ≡ p.number) × (b ≡ true)) ⊎ IsShownAt (p.number - d) key later)))
-        (sym (ap (λ (c : Bool). cond c moved 0) (lt-ltb s.last p.number (omega (arith, knows.last_is, rise.0))))) (by d low)
+        back : HasFrame key.number d key ⊎ IsBelow key.number d key → bit_at (bit_or key.frames (lower_numbers key.frames)) d ≡ 1
+        back (inl so) = both_bits d ∙ omega (arith, subst (λ (i : ℕ). bit_at key.frames i ≡ 1) (own d) so.1, bit_at-lt (lower_numbers key.frames) d)
+        back (inr so) =
+            both_bits d ∙ omega (arith, (lower_is key.frames d low).1 (subst (λ (i : ℕ). key.frames < 2 ^ i) (own d) so.1), bit_at-lt key.frames d)
+
+-- one more unit, which is reported as one that can be shown or not
+pub knows_next : (s : References) (key : Referring) (later : List Reported) (u : Referring) (shown : Bool) → Knows s key later
+    → Knows (with_frames s u shown) key (record { unit = u; shown = shown } ∷ later)
+knows_next s key later u shown knows = record { last_is = refl; rises_is = (rises_there, rises_back); bits = λ rise d low. bits_of rise d low shown }
+  where
+    rises_there : (s.rises && ltb s.last u.number) ≡ true → (latest_number key later < u.number) × NumbersRise key later
+    rises_there e = let parts = both s.rises (ltb s.last u.number) e in (omega (arith, knows.last_is, ltb-true s.last u.number parts.1), knows.rises_is.0 parts.0)
+
+    rises_back : (latest_number key later < u.number) × NumbersRise key later → (s.rises && ltb s.last u.number) ≡ true
+    rises_back so = and_from s.rises (ltb s.last u.number) (knows.rises_is.1 so.1) (lt-ltb s.last u.number (omega (arith, knows.last_is, so.0)))
+
+    own : (d : ℕ) → u.number + d - u.number ≡ d
+    own d = omega arith
+
+    bits_of : (latest_number key later < u.number) × NumbersRise key later → (d : ℕ) → d < 128 → (b : Bool)
+        → (bit_at (cond b (bit_or (seen_from s u) u.frames) (seen_from s u)) d ≡ 1) ↔ ((HasFrame u.number d u × (b ≡ true)) ⊎ IsShownAt u.number d key later)
+    bits_of rise d low b =
+        subst (λ (m : ℕ). (bit_at (cond b (bit_or m u.frames) m) d ≡ 1) ↔ ((HasFrame u.number d u × (b ≡ true)) ⊎ IsShownAt u.number d key later))
+        (sym (ap (λ (c : Bool). cond c moved 0) (lt-ltb s.last u.number (omega (arith, knows.last_is, rise.0))))) (by b)
       where
         moved : ℕ
-        moved = moved_on s.shown (p.number - s.last)
+        moved = moved_on s.shown (u.number - s.last)
 
-        at_zero : bit_at (bit_or moved (bit_of b)) 0 ≡ bit_of b
-        at_zero = bit_at_or moved (bit_of b) 0 ∙ omega (arith, moved_low s.shown (p.number - s.last) 0 (omega (arith, knows.last_is, rise.0)) (omega arith), own_bit b)
+        before : (bit_at moved d ≡ 1) ↔ IsShownAt u.number d key later
+        before = moved_is s key later u.number knows rise.1 rise.0 d low
 
-        is_one : (c : Bool) → bit_of c ≡ 1 → c ≡ true
-        is_one true e = refl
-        is_one false e = absurd (omega (arith, e))
+        both_bits : bit_at (bit_or moved u.frames) d ≡ max (bit_at moved d) (bit_at u.frames d)
+        both_bits = bit_at_or moved u.frames d
 
-        by : (d : ℕ) → d < 128 → (bit_at (bit_or moved (bit_of b)) d ≡ 1) ↔ ((d ≤ p.number) × (((p.number - d ≡ p.number) × (b ≡ true)) ⊎ IsShownAt (p.number - d) key later))
-        by zero low = (λ e. (omega arith, inl (omega arith, is_one b (sym at_zero ∙ e))), back)
+        by : (b : Bool) → (bit_at (cond b (bit_or moved u.frames) moved) d ≡ 1) ↔ ((HasFrame u.number d u × (b ≡ true)) ⊎ IsShownAt u.number d key later)
+        by false = (λ e. inr (before.0 e), back)
           where
-            back : (zero ≤ p.number) × (((p.number - zero ≡ p.number) × (b ≡ true)) ⊎ IsShownAt (p.number - zero) key later) → bit_at (bit_or moved (bit_of b)) zero ≡ 1
-            back (fits, inl so) = at_zero ∙ ap bit_of so.1
-            back (fits, inr so) = absurd (omega (arith, shown_low (p.number - zero) key later rise.1 so, rise.0))
-        by (suc d) low = (λ e. let it = (moved_is s key later p.number knows rise.1 rise.0 (suc d) low).0 (sym here ∙ e) in (it.0, inr it.1), back)
+            back : (HasFrame u.number d u × (false ≡ true)) ⊎ IsShownAt u.number d key later → bit_at moved d ≡ 1
+            back (inl so) = absurd (false≢true so.1)
+            back (inr so) = before.1 so
+        by true = (there (bit_is moved d), back)
           where
-            here : bit_at (bit_or moved (bit_of b)) (suc d) ≡ bit_at moved (suc d)
-            here = bit_at_or moved (bit_of b) (suc d) ∙ omega (arith, no_bit b d)
+            there : (bit_at moved d ≡ 0) ⊎ (bit_at moved d ≡ 1) → bit_at (bit_or moved u.frames) d ≡ 1
+                → (HasFrame u.number d u × (true ≡ true)) ⊎ IsShownAt u.number d key later
+            there (inl none) e = inl ((omega arith, subst (λ (i : ℕ). bit_at u.frames i ≡ 1) (sym (own d)) (omega (arith, none, e, both_bits))), refl)
+            there (inr so) e = inr (before.0 so)
 
-            back : (suc d ≤ p.number) × (((p.number - suc d ≡ p.number) × (b ≡ true)) ⊎ IsShownAt (p.number - suc d) key later) → bit_at (bit_or moved (bit_of b)) (suc d) ≡ 1
-            back (fits, inl so) = absurd (omega (arith, fits, so.0))
-            back (fits, inr so) = here ∙ (moved_is s key later p.number knows rise.1 rise.0 (suc d) low).1 (fits, so)
+            back : (HasFrame u.number d u × (true ≡ true)) ⊎ IsShownAt u.number d key later → bit_at (bit_or moved u.frames) d ≡ 1
+            back (inl so) = both_bits ∙ omega (arith, subst (λ (i : ℕ). bit_at u.frames i ≡ 1) (own d) so.0.1, bit_at-lt moved d)
+            back (inr so) = both_bits ∙ omega (arith, before.1 so, bit_at-lt u.frames d)
 
-known : {key : ℕ} {later : List Reported} {s : References} → ReferenceRun key later s → Knows s key later
+known : {key : Referring} {later : List Reported} {s : References} → ReferenceRun key later s → Knows s key later
 known {key = key} begins = knows_key key
-known {key = key} (releases {later = later} {s = s} p run) = knows_next s key later p (known run)
+known {key = key} (releases {later = later} {s = s} u run) = knows_next s key later u (shows_referring s u) (known run)
 
 pub follows_references : FollowsReferences
-follows_references key later s p run = shows_is s key later p (known run)
+follows_references key later s u run = shows_is s key later u (known run)

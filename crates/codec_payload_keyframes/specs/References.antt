@@ -1,66 +1,106 @@
--- Which pictures a decoder can show, if each names those to which it refers.
-use Rattle.std.specs.Prelude.{◌≡◌, ◌≤◌, ◌<◌, ◌==◌, ◌-◌, ◌*◌, ◌^◌, ◌%◌, ◌&&◌, ◌⊎◌, ℕ, nat_lt, if◌then◌else◌, ◌↔◌, Bool, true, false, List, [], ◌∷◌}
-use Rattle.std.specs.Int.{bit_at}
+-- Which units a decoder can show, if each names the frames to which it refers.
+use Rattle.std.specs.Prelude.{◌≡◌, ◌≤◌, ◌<◌, ◌==◌, ◌+◌, ◌-◌, ◌*◌, ◌^◌, ◌%◌, ◌&&◌, ◌⊎◌, ℕ, nat_lt, if◌then◌else◌, ◌↔◌, Bool, true, List, [], ◌∷◌, Option, Some, None}
+use Rattle.std.specs.Int.{bit_at, leading_zeros}
 use Rattle.std.specs.Int.Bits.{bit_and, bit_or}
+use Rattle.std.specs.Int.Width.{w128}
+use Rattle.codec_payload_base.specs.declared.interface.CodecExtra.{CodecExtra}
+use Rattle.codec_payload_base.specs.declared.interface.CodecExtra.TheVariants as extras
 use Rattle.codec_payload_keyframes.specs.declared.references.References.{References}
 use Rattle.codec_payload_keyframes.specs.declared.references.Referring.{Referring}
+use Rattle.codec_payload_keyframes.specs.declared.references.UnitReferences.{UnitReferences}
 
--- a picture that was released, and whether it was reported as one that can be shown
+-- ---- what a unit says
+
+-- it has no dependency descriptor and no P_DIFFs
+abbrev pub no_references : UnitReferences
+no_references = record { descriptor = None; differences = None }
+
+-- temporal layer 0, or no layer
+abbrev pub is_base_layer : Option ℕ → Bool
+is_base_layer None = true
+is_base_layer (Some tid) = tid == 0
+
+abbrev pub picture_with : Option ℕ → Option ℕ → Option ℕ → Option Referring
+picture_with tid (Some id) (Some differences) = Some (record { number = id; frames = 1; distances = differences; is_base = is_base_layer tid })
+picture_with tid (Some id) None = None
+picture_with tid None differences = None
+
+-- a unit of VP9 with a picture id and these P_DIFFs: one frame under its picture id
+abbrev pub picture_by_differences : CodecExtra → Option ℕ → Option Referring
+picture_by_differences (extras.Vp9 v) differences = picture_with v.tid v.picture_id differences
+picture_by_differences _ differences = None
+
+-- ---- what was released
+
+-- a unit that was released, and whether it was reported as one that can be shown
 pub record Reported : Type 0 where
-  pub picture : Referring
+  pub unit : Referring
   pub shown : Bool
 
--- since a keyframe with this number, the latest first
-abbrev pub latest_number : ℕ → List Reported → ℕ
-latest_number key [] = key
-latest_number key (r ∷ rs) = r.picture.number
+-- since this keyframe, the latest first
+abbrev pub latest_number : Referring → List Reported → ℕ
+latest_number key [] = key.number
+latest_number key (r ∷ rs) = r.unit.number
 
-abbrev pub NumbersRise : ℕ → List Reported → Type 0
+abbrev pub NumbersRise : Referring → List Reported → Type 0
 NumbersRise key [] = Unit {0}
-NumbersRise key (r ∷ rs) = (latest_number key rs < r.picture.number) × NumbersRise key rs
+NumbersRise key (r ∷ rs) = (latest_number key rs < r.unit.number) × NumbersRise key rs
 
--- the picture with this number was released, and can be shown
-abbrev pub IsShownAt : ℕ → ℕ → List Reported → Type 0
-IsShownAt n key [] = n ≡ key
-IsShownAt n key (r ∷ rs) = ((n ≡ r.picture.number) × (r.shown ≡ true)) ⊎ IsShownAt n key rs
+-- the frame whose number is less than n by d is a frame of u
+abbrev pub HasFrame : ℕ → ℕ → Referring → Type 0
+HasFrame n d u = (n ≤ u.number + d) × (bit_at u.frames (u.number + d - n) ≡ 1)
 
--- the numbers rise, and each picture to which p refers can be shown
-pub record HasReferences (key : ℕ) (later : List Reported) (p : Referring) : Type 0 where
+-- the number that is less than n by d is below all frames of u
+abbrev pub IsBelow : ℕ → ℕ → Referring → Type 0
+IsBelow n d u = (n ≤ u.number + d) × (u.frames < 2 ^ (u.number + d - n))
+
+-- the frame whose number is less than n by d was released in a unit that can be shown. A keyframe replaces all frames before it, so a
+-- number below its frames stands for it
+abbrev pub IsShownAt : ℕ → ℕ → Referring → List Reported → Type 0
+IsShownAt n d key [] = HasFrame n d key ⊎ IsBelow n d key
+IsShownAt n d key (r ∷ rs) = (HasFrame n d r.unit × (r.shown ≡ true)) ⊎ IsShownAt n d key rs
+
+-- the numbers rise, and each frame to which u refers was released in a unit that can be shown
+pub record HasReferences (key : Referring) (later : List Reported) (u : Referring) : Type 0 where
   pub rise : NumbersRise key later
-  pub above : latest_number key later < p.number
-  pub references : (d : ℕ) → d < 128 → bit_at p.distances d ≡ 1 → (d ≤ p.number) × IsShownAt (p.number - d) key later
+  pub above : latest_number key later < u.number
+  pub references : (d : ℕ) → d < 128 → bit_at u.distances d ≡ 1 → IsShownAt u.number d key later
 
 -- ---- steps
 
-abbrev pub after_key_number : ℕ → References
-after_key_number number = record { last = number; shown = 1; rises = true }
+-- bit d: all of these frames are less by fewer than d
+abbrev pub lower_numbers : ℕ → ℕ
+lower_numbers frames = if nat_lt frames (2 ^ 128) then 2 ^ 128 - 2 ^ (128 - leading_zeros w128 frames) else 0
+
+abbrev pub after_key_frames : Referring → References
+after_key_frames key = record { last = key.number; shown = bit_or key.frames (lower_numbers key.frames); rises = true }
 
 abbrev pub moved_on : ℕ → ℕ → ℕ
 moved_on shown gap = if nat_lt gap 128 then shown * 2 ^ gap % 2 ^ 128 else 0
 
 abbrev pub shows_referring : References → Referring → Bool
-shows_referring s p = s.rises && (nat_lt s.last p.number && (bit_and p.distances (2 ^ 128 - 1 - moved_on s.shown (p.number - s.last)) == 0))
+shows_referring s u = s.rises && (nat_lt s.last u.number && (bit_and u.distances (2 ^ 128 - 1 - moved_on s.shown (u.number - s.last)) == 0))
 
-abbrev pub bit_of : Bool → ℕ
-bit_of true = 1
-bit_of false = 0
+-- the frames before u, as u sees them
+abbrev pub seen_from : References → Referring → ℕ
+seen_from s u = if nat_lt s.last u.number then moved_on s.shown (u.number - s.last) else 0
 
-abbrev pub after_referring : References → Referring → References
-after_referring s p = record {
-  last = p.number;
-  shown = bit_or (if nat_lt s.last p.number then moved_on s.shown (p.number - s.last) else 0) (bit_of (shows_referring s p));
-  rises = s.rises && nat_lt s.last p.number;
+abbrev pub with_frames : References → Referring → Bool → References
+with_frames s u shown = record {
+  last = u.number;
+  shown = if shown then bit_or (seen_from s u) u.frames else seen_from s u;
+  rises = s.rises && nat_lt s.last u.number;
 }
 
 -- ---- whole streams
 
--- pictures that are released after a keyframe with this number, the latest first, each with what is reported of it
-pub data ReferenceRun (key : ℕ) : List Reported → References → Type 0 where
-  begins : ReferenceRun key [] (after_key_number key)
-  releases : {later : List Reported} {s : References} (p : Referring) → ReferenceRun key later s
-      → ReferenceRun key (record { picture = p; shown = shows_referring s p } ∷ later) (after_referring s p)
+-- units that are released after this keyframe, the latest first, each with what is reported of it
+pub data ReferenceRun (key : Referring) : List Reported → References → Type 0 where
+  begins : ReferenceRun key [] (after_key_frames key)
+  releases : {later : List Reported} {s : References} (u : Referring) → ReferenceRun key later s
+      → ReferenceRun key (record { unit = u; shown = shows_referring s u } ∷ later) (with_frames s u (shows_referring s u))
 
--- a picture is reported as one that can be shown exactly if each picture to which it refers is
+-- a unit is reported as one that can be shown exactly if its numbers rise, and each frame to which it refers is shown
 abbrev pub FollowsReferences : Type 0
 FollowsReferences =
-    (key : ℕ) (later : List Reported) (s : References) (p : Referring) → ReferenceRun key later s → (shows_referring s p ≡ true) ↔ HasReferences key later p
+    (key : Referring) (later : List Reported) (s : References) (u : Referring) → ReferenceRun key later s → (shows_referring s u ≡ true) ↔ HasReferences key later u

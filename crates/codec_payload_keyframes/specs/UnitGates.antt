@@ -3,9 +3,10 @@ use Rattle.std.specs.Prelude.{◌||◌, ℕ, ◌+◌, ◌%◌, ◌^◌, not, Boo
 use Rattle.codec_payload_base.specs.declared.interface.CodecExtra.{CodecExtra}
 use Rattle.codec_payload_base.specs.declared.wire.Codec.{Codec}
 use Rattle.codec_payload_base.specs.declared.wire.Codec.TheVariants as codecs
-use Rattle.codec_payload_keyframes.specs.Keyframes.{after_loss, after_skip, after_unit, is_key_unit, new_gate, shows_unit}
+use Rattle.codec_payload_keyframes.specs.Keyframes.{after_loss, after_skip, after_unit, is_key_unit, new_gate, said_of, shows_unit}
 use Rattle.codec_payload_keyframes.specs.Vp8Layers.{picture_of}
 use Rattle.codec_payload_keyframes.specs.declared.gate.KeyframeGate.{KeyframeGate}
+use Rattle.codec_payload_keyframes.specs.declared.references.UnitReferences.{UnitReferences}
 use Rattle.codec_payload_keyframes.specs.declared.unit_gate.FromKeyframe.{FromKeyframe}
 use Rattle.codec_payload_keyframes.specs.declared.unit_gate.FromKeyframe.TheVariants as modes
 
@@ -37,19 +38,19 @@ undecodable_with true count = count
 undecodable_with false count = (count + 1) % 2 ^ 64
 
 -- a decoder can show the unit
-abbrev pub is_shown : Gating → List ℕ → Bool → CodecExtra → Bool
-is_shown g bytes contiguous extra = shows_unit g.gate (is_key_unit g.gate bytes) contiguous (picture_of extra)
+abbrev pub is_shown : Gating → List ℕ → Bool → CodecExtra → UnitReferences → Bool
+is_shown g bytes contiguous extra references = shows_unit g.gate (is_key_unit g.gate bytes) contiguous (picture_of extra) (said_of extra references)
 
 -- the unit is passed on
-abbrev pub is_passed : Gating → List ℕ → Bool → CodecExtra → Bool
-is_passed g bytes contiguous extra = not g.drops || is_shown g bytes contiguous extra
+abbrev pub is_passed : Gating → List ℕ → Bool → CodecExtra → UnitReferences → Bool
+is_passed g bytes contiguous extra references = not g.drops || is_shown g bytes contiguous extra references
 
-abbrev pub with_unit : Gating → List ℕ → Bool → CodecExtra → Gating
-with_unit g bytes contiguous extra = record {
-  gate = after_unit g.gate (is_key_unit g.gate bytes) contiguous (picture_of extra);
+abbrev pub with_unit : Gating → List ℕ → Bool → CodecExtra → UnitReferences → Gating
+with_unit g bytes contiguous extra references = record {
+  gate = after_unit g.gate (is_key_unit g.gate bytes) contiguous (picture_of extra) (said_of extra references);
   drops = g.drops;
   is_keyframe = is_key_unit g.gate bytes;
-  undecodable = undecodable_with (is_shown g bytes contiguous extra) g.undecodable;
+  undecodable = undecodable_with (is_shown g bytes contiguous extra references) g.undecodable;
 }
 
 abbrev pub with_loss : Gating → Gating

@@ -4,7 +4,7 @@ ghost use Rattle.std.specs.Prelude.{◌≡◌};
 ghost use Rattle.codec_payload_keyframes.specs.UnitGates.{drops_units, followed_codec, is_passed, new_gating, undecodable_with, with_loss, with_skip, with_unit};
 
 use crate::gate::KeyframeGate;
-use crate::vp8_layers::Vp8Picture;
+use crate::references::UnitReferences;
 use codec_payload_base::interface::CodecExtra;
 use codec_payload_base::wire::Codec;
 use std::marker::Model;
@@ -53,14 +53,26 @@ impl UnitGate {
         }
     }
 
-    /// Records a released unit with its flag `contiguous` and its codec-specific data. Returns whether to pass it on.
-    pub fn release(&mut self, unit: &[u8], contiguous: bool, extra: &CodecExtra) -> bool
-        ensures passed { result ≡ is_passed self.old unit.now contiguous extra.now }
-        ensures after { self.new ≡ with_unit self.old unit.now contiguous extra.now }
+    /// Records a released unit with its flag `contiguous`, its codec-specific data, and what its packets say of its references. Returns
+    /// whether to pass it on. See [`KeyframeGate::release`].
+    pub fn release(
+        &mut self,
+        unit: &[u8],
+        contiguous: bool,
+        extra: &CodecExtra,
+        references: &UnitReferences,
+    ) -> bool
+        ensures passed { result ≡ is_passed self.old unit.now contiguous extra.now references.now }
+        ensures after { self.new ≡ with_unit self.old unit.now contiguous extra.now references.now }
     {
+        self.is_keyframe = false;
+        if !self.gate.is_of_video() {
+            return true;
+        }
         self.is_keyframe = self.gate.is_key(unit);
-        let picture = Vp8Picture::of(extra);
-        let is_shown = self.gate.release_as(self.is_keyframe, contiguous, picture);
+        let is_shown = self
+            .gate
+            .release_as(self.is_keyframe, contiguous, extra, references);
         self.undecodable = undecodable_with(is_shown, self.undecodable);
         !self.drops || is_shown
     }

@@ -10,13 +10,14 @@ use Rattle.codec_payload_media.specs.Av1SequenceHeaders.{sequence_header}
 use Rattle.codec_payload_media.specs.Av1Units.{Obu, obu_at}
 use Rattle.codec_payload_media.specs.Items.{items_at}
 use Rattle.codec_payload_vpx.specs.Reading.{told}
-use Rattle.codec_payload_vpx.specs.Syntax.{Syntax, tells, field, branch, ◌>>=◌, flag, told_by}
+use Rattle.codec_payload_syntax.specs.Syntax.{value, field, branch, ◌>>=◌, flag}
+use Rattle.codec_payload_vpx.specs.Syntax.{Syntax, value_of}
 
 abbrev pub new_frame : ℕ → Syntax Av1FrameStart
 new_frame layer = do
   kind ← field 2
   shown ← flag
-  tells (record { existing = false; keyframe = kind == 0; shown = shown; temporal_id = layer })
+  value (record { existing = false; keyframe = kind == 0; shown = shown; temporal_id = layer })
 
 abbrev pub existing_frame : ℕ → Av1FrameStart
 existing_frame layer = record { existing = true; keyframe = false; shown = true; temporal_id = layer }
@@ -28,11 +29,11 @@ still_frame layer = record { existing = false; keyframe = true; shown = true; te
 abbrev pub long_start : ℕ → Syntax Av1FrameStart
 long_start layer = do
   existing ← flag
-  branch existing (tells (existing_frame layer)) (new_frame layer)
+  branch existing (value (existing_frame layer)) (new_frame layer)
 
 -- the front of uncompressed_header, for a frame of this temporal layer
 abbrev pub frame_start : Bool → ℕ → Syntax Av1FrameStart
-frame_start reduced layer = branch reduced (tells (still_frame layer)) (long_start layer)
+frame_start reduced layer = branch reduced (value (still_frame layer)) (long_start layer)
 
 abbrev pub is_reduced : Option Av1SequenceHeader → Bool
 is_reduced None = false
@@ -51,8 +52,8 @@ with_frame u f = record { sequence_header = u.sequence_header; frame = Some f }
 -- a sequence header (1), or a frame header, alone (3) or before its tiles (6); other OBUs are ignored
 abbrev pub with_obu : Av1TemporalUnit → Obu → Result Av1TemporalUnit MediaError
 with_obu u o =
-    if o.obu_type == 1 then told (with_header u) (told_by sequence_header (bits_of o.payload))
-    else if (o.obu_type == 3) || (o.obu_type == 6) then told (with_frame u) (told_by (frame_start (is_reduced u.sequence_header) (temporal_layer o.extension)) (bits_of o.payload))
+    if o.obu_type == 1 then told (with_header u) (value_of sequence_header (bits_of o.payload))
+    else if (o.obu_type == 3) || (o.obu_type == 6) then told (with_frame u) (value_of (frame_start (is_reduced u.sequence_header) (temporal_layer o.extension)) (bits_of o.payload))
     else Ok u
 
 -- no further than to the first frame header

@@ -14,7 +14,7 @@ use Rattle.codec_payload_vpx.specs.declared.vp9.Vp9FrameHeader.{Vp9FrameHeader}
 use Rattle.codec_payload_vpx.specs.declared.vp9.Vp9Picture.{Vp9Picture}
 use Rattle.codec_payload_base.specs.Bits.{bits_of}
 use Rattle.codec_payload_vpx.specs.Reading.{told}
-use Rattle.codec_payload_vpx.specs.Syntax.{told_by}
+use Rattle.codec_payload_vpx.specs.Syntax.{value_of}
 use Rattle.codec_payload_vpx.specs.Vp9Frames.{frame_header}
 use Rattle.codec_payload_media.specs.AmrWbFrames.{unit_ticks}
 use Rattle.codec_payload_media.specs.Av1TemporalUnits.{is_shown_keyframe, unit_at}
@@ -53,7 +53,7 @@ opus_info p = lasts (p.frames * p.frame_ticks)
 -- the facts in a frame of the codec, or why it is malformed; G.711 and G.722 have a tick for each byte
 abbrev pub info_of : Codec → List ℕ → Result FrameInfo MediaError
 info_of codecs.Vp8 bytes = told vp8_info (vp8_frame_at bytes)
-info_of codecs.Vp9 bytes = told vp9_info (told_by frame_header (bits_of bytes))
+info_of codecs.Vp9 bytes = told vp9_info (value_of frame_header (bits_of bytes))
 info_of codecs.Av1 bytes = told av1_info (unit_at bytes)
 info_of codecs.Opus bytes = told opus_info (opus_at bytes)
 info_of codecs.AmrWb bytes = told lasts (unit_ticks bytes)

@@ -4,11 +4,12 @@ use Rattle.std.specs.declared.alloc.AllocError.{AllocError}
 use Rattle.codec_payload_base.specs.declared.wire.Codec.{Codec}
 use Rattle.codec_payload_base.specs.declared.wire.Ticks.{Ticks}
 use Rattle.codec_payload_jitter.specs.declared.outcome.Outcome.{Outcome}
-use Rattle.codec_payload_keyframes.specs.Keyframes.{Event, Run, after_skip, is_key_unit, loses, new_gate, releases, skipped, skips}
+use Rattle.codec_payload_keyframes.specs.Keyframes.{Event, Run, after_skip, is_key_unit, loses, new_gate, releases, said_of, skipped, skips}
 use Rattle.codec_payload_keyframes.specs.Keyframes.{begins as gate_begins}
 use Rattle.codec_payload_keyframes.specs.UnitGates.{Gating, is_shown}
 use Rattle.codec_payload_keyframes.specs.Vp8Layers.{picture_of}
 use Rattle.codec_payload_keyframes.specs.declared.gate.KeyframeGate.{KeyframeGate}
+use Rattle.codec_payload_keyframes.specs.declared.references.UnitReferences.{UnitReferences}
 use Rattle.codec_payload_keyframes.proofs.GateLemmas.{gates_agree, units_follow_keyframes}
 use Rattle.codec_payload_keyframes.proofs.LayerLemmas.{layer_fits}
 use Rattle.codec_payload_receiver.specs.KeyframeRuns.{DatagramsLeaveTheGate, DropsFollowKeyframes, GateRun, PopsFollowKeyframes, answer_events, begins, fault_events, others, pop_events, pops, restarts}
@@ -29,27 +30,27 @@ fault_run codec g true false before run = run
 fault_run codec g false left before run = loses run
 
 -- after an answer
-answer_run : (codec : Codec) (g : Gating) (left : Bool) (answer : Answer) (before : List Event) → Run codec before g.gate
-    → Run codec (answer_events g left answer before) (gates_after g left answer).gate
-answer_run codec g true None before run = skips run
-answer_run codec g false None before run = run
-answer_run codec g left (Some (Err fault)) before run = fault_run codec g (is_memory fault) left before run
-answer_run codec g left (Some (Ok unit)) before run =
-    releases (is_key_unit g.gate unit.bytes) unit.contiguous (picture_of unit.codec_extra) (layer_fits unit.codec_extra) run
+answer_run : (codec : Codec) (g : Gating) (left : Bool) (answer : Answer) (references : UnitReferences) (before : List Event) → Run codec before g.gate
+    → Run codec (answer_events g left answer references before) (gates_after g left answer references).gate
+answer_run codec g true None references before run = skips run
+answer_run codec g false None references before run = run
+answer_run codec g left (Some (Err fault)) references before run = fault_run codec g (is_memory fault) left before run
+answer_run codec g left (Some (Ok unit)) references before run =
+    releases (is_key_unit g.gate unit.bytes) unit.contiguous (picture_of unit.codec_extra) (said_of unit.codec_extra references) (layer_fits unit.codec_extra) run
 
 -- after a pop
-pop_run : (codec : Codec) (large : Bool) (g : Gating) (left : Bool) (answer : Answer) (before : List Event) → Run codec before g.gate
-    → Run codec (pop_events large g left answer before) (gates_if large g left answer).gate
-pop_run codec true g left answer before run = loses run
-pop_run codec false g left answer before run = answer_run codec g left answer before run
+pop_run : (codec : Codec) (large : Bool) (g : Gating) (left : Bool) (answer : Answer) (references : UnitReferences) (before : List Event) → Run codec before g.gate
+    → Run codec (pop_events large g left answer references before) (gates_if large g left answer references).gate
+pop_run codec true g left answer references before run = loses run
+pop_run codec false g left answer references before run = answer_run codec g left answer references before run
 
 -- the gate of a receiver has the run of its events
 run_of : (codec : Codec) (s t : Session) (events : List Event) → s.gates.gate ≡ new_gate codec → GateRun s events t → Run codec events t.gates.gate
 run_of codec s t events new begins = subst (λ (k : KeyframeGate). Run codec [] k) (sym new) gate_begins
 run_of codec s t events new (pops {mid = mid} {before = before} now answer run once is) =
     subst (λ (es : List Event). Run codec es t.gates.gate) (sym is)
-    (subst (λ (x : Session). Run codec (pop_events (is_large mid.bound.most answer) mid.gates (has_left mid.packets once.0) answer before) x.gates.gate) (sym once.2)
-    (pop_run codec (is_large mid.bound.most answer) mid.gates (has_left mid.packets once.0) answer before (run_of codec s mid before new run)))
+    (subst (λ (x : Session). Run codec (pop_events (is_large mid.bound.most answer) mid.gates (has_left mid.packets once.packets) answer once.references before) x.gates.gate) (sym once.left)
+    (pop_run codec (is_large mid.bound.most answer) mid.gates (has_left mid.packets once.packets) answer once.references before (run_of codec s mid before new run)))
 run_of codec s t events new (restarts {mid = mid} {before = before} ssrc named run same is) =
     subst (λ (x : Session). Run codec (skipped ∷ before) x.gates.gate) (sym is)
     (subst (λ (k : Gating). Run codec (skipped ∷ before) (after_skip k.gate)) (sym same) (skips (run_of codec s mid before new run)))
@@ -64,10 +65,10 @@ shown_if_passed true shown dropping passed = passed
 shown_if_passed false shown dropping passed = cc
 
 pub drops_follow_keyframes : DropsFollowKeyframes
-drops_follow_keyframes codec s mid events unit video new run dropping passed =
-    units_follow_keyframes codec events mid.gates.gate (is_key_unit mid.gates.gate unit.bytes) unit.contiguous (picture_of unit.codec_extra) video
+drops_follow_keyframes codec s mid events unit references video new run dropping passed =
+    units_follow_keyframes codec events mid.gates.gate (is_key_unit mid.gates.gate unit.bytes) unit.contiguous (picture_of unit.codec_extra) (said_of unit.codec_extra references) video
     (layer_fits unit.codec_extra) (run_of codec s mid events new run)
-    (shown_if_passed mid.gates.drops (is_shown mid.gates unit.bytes unit.contiguous unit.codec_extra) dropping passed)
+    (shown_if_passed mid.gates.drops (is_shown mid.gates unit.bytes unit.contiguous unit.codec_extra references) dropping passed)
 
 -- a datagram leaves the gate unchanged
 heard_leaves : (now : Ticks) (d : Datagram) (s t : Session) (answer : Result Outcome ReceiveError) → Heard now d s answer t → t.gates ≡ s.gates

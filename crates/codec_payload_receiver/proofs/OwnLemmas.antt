@@ -15,11 +15,11 @@ is_built_in_session s = is_built_in_depacketizer s.packets.buffer.depacketizer
 
 pub pops_once_stays : (now : ℕ) (s t : Session) (answer : Answer) → PopsOnce now s answer t → is_built_in_session t ≡ is_built_in_session s
 pops_once_stays now s t answer pops =
-    ap is_built_in_session pops.2 ∙ pops_with_stays (waiting_at (settled s.packets) now) (settled s.packets) pops.0 answer pops.1 ∙ ap is_built_in_depacketizer (settled_stays s.packets)
+    ap is_built_in_session pops.left ∙ pops_with_stays (waiting_at (settled s.packets) now) (settled s.packets) pops.packets answer pops.pops ∙ ap is_built_in_depacketizer (settled_stays s.packets)
 
 pub drops_stays : (now : ℕ) (s t : Session) → DropsUnits now s t → is_built_in_session t ≡ is_built_in_session s
 drops_stays now s t none_dropped = refl
-drops_stays now s t (one_more {mid = mid} unit before pops kept) = pops_once_stays now mid t _ pops ∙ drops_stays now s mid before
+drops_stays now s t (one_more {mid = mid} unit before passes) = pops_once_stays now mid t _ passes.0 ∙ drops_stays now s mid before
 
 -- a datagram that waits leaves the jitter buffer
 pub keeps_packets : (now : Ticks) (o : Origin) (bytes : List ℕ) (s t : Session) (answer : Result Outcome ReceiveError) → Keeps now o bytes s answer t → t.packets ≡ s.packets

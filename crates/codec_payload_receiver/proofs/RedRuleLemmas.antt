@@ -5,7 +5,7 @@ use Rattle.std.specs.Option.{is_some}
 use Rattle.codec_payload_base.specs.declared.wire.RtpHeader.{RtpHeader}
 use Rattle.codec_payload_base.specs.declared.wire.Ticks.{Ticks}
 use Rattle.codec_payload_jitter.specs.Numbers.{Numbering, answer_above, answer_by, answer_for, answer_anew, is_restarting, number_within, without_restart}
-use Rattle.codec_payload_jitter.specs.Receiving.{Receiving, Arrival, ReceivesAs, ReceivesAgainAs, RecoversAs, RecoversIf, answer_by_time, answer_in, answer_to, answer_to_contradiction, follows_kept, is_contradicted, is_stored, may_recover, next, number_again, would_store, would_store_at}
+use Rattle.codec_payload_jitter.specs.Receiving.{Receiving, Arrival, ReceivesAs, ReceivesAgainAs, RecoversAs, RecoversIf, answer_by_time, answer_in, answer_to, answer_to_contradiction, follows_kept, is_contradicted, is_of_former_sender, is_stored, may_recover, next, number_again, number_again_for, would_store, would_store_at}
 use Rattle.codec_payload_jitter.specs.declared.numbers.Extended.{Extended}
 use Rattle.codec_payload_jitter.specs.declared.numbers.Extended.TheVariants as extended
 use Rattle.codec_payload_jitter.specs.declared.outcome.Outcome.{Outcome}
@@ -69,9 +69,16 @@ by_time_is r header (extended.Restarted m) n is = inl is
 by_time_is r header extended.Suspect n is = inl is
 by_time_is r header extended.Spent n is = inl is
 
+-- a packet that has a number is not of the former sender
+unless_former : (b : Bool) (e : Extended) (n : ℕ) → cond b extended.Spent e ≡ extended.Number n → e ≡ extended.Number n
+unless_former true e n is = absurd (cc)
+unless_former false e n is = is
+
 -- a number within the windows is the number of a retransmission
 again_is : (r : Receiving) (header : RtpHeader) (n : ℕ) → r.is_restarting ≡ false → answer_to r header ≡ extended.Number n → number_again r header.sequence_number ≡ Some n
-again_is r header n running is = again (number (by_time_is r header (answer_in r header.sequence_number) n is))
+again_is r header n running is =
+    again (number (by_time_is r header (answer_in r header.sequence_number) n
+    (unless_former (is_of_former_sender r header.sequence_number header.timestamp) (answer_by_time r header (answer_in r header.sequence_number)) n is)))
   where
     again : answer_for r.numbering header.sequence_number ≡ extended.Number n → number_again r header.sequence_number ≡ Some n
     again same =
@@ -89,13 +96,18 @@ stored_as : (e : Extended) (a : Arrival) (r mid : Receiving) (o : Outcome) (answ
     → would_store_at answer r ≡ true
 stored_as (extended.Number n) a r mid o answer same got stored =
     ap (λ (x : Option ℕ). would_store_at x r) (same n refl) ∙ (sym (ap is_stored got.1.2) ∙ stored)
-stored_as (extended.Restarted n) a r mid o answer same got stored = absurd (not_both (sym stored ∙ ap is_stored got.5))
+stored_as (extended.Restarted n) a r mid o answer same got stored = absurd (not_both (sym stored ∙ ap is_stored got.1.5))
 stored_as extended.Suspect a r mid o answer same got stored = absurd (not_both (sym stored ∙ ap is_stored got.0))
 stored_as extended.Spent a r mid o answer same got stored = absurd (not_both (sym stored ∙ ap is_stored got.0))
 
 again_stored_as : (number : Option ℕ) (a : Arrival) (r t : Receiving) (o : Outcome) → ReceivesAgainAs number a r o t → is_stored o ≡ true → would_store_at number r ≡ true
 again_stored_as None a r t o got stored = absurd (not_both (sym stored ∙ ap is_stored got.0))
 again_stored_as (Some n) a r t o got stored = sym (ap is_stored got.1.1.2) ∙ stored
+
+-- nor is a retransmission that is stored
+stored_unless_former : (b : Bool) (number : Option ℕ) (r : Receiving) → would_store_at (cond b None number) r ≡ true → would_store_at number r ≡ true
+stored_unless_former true number r stored = absurd (not_both (sym stored))
+stored_unless_former false number r stored = stored
 
 -- Whether a stored packet repeats a block
 
@@ -126,7 +138,10 @@ media_stored false a r t o got running stored =
 media_stored true a r t o got running stored = absurd (not_both (sym stored ∙ ap is_stored got.0))
 
 sent_again_stored : (b : Bool) (a : Arrival) (r t : Receiving) (o : Outcome) → TakesAgain b a r o t → is_stored o ≡ true → (b ≡ false) × (would_store r a.header.sequence_number ≡ true)
-sent_again_stored false a r t o got stored = (refl, again_stored_as (number_again r a.header.sequence_number) a r t o got stored)
+sent_again_stored false a r t o got stored =
+    let low : ℕ = a.header.sequence_number in
+    let time : ℕ = a.header.timestamp in
+    (refl, stored_unless_former (is_of_former_sender r low time) (number_again r low) r (again_stored_as (number_again_for r low time) a r t o got stored))
 sent_again_stored true a r t o got stored = absurd (not_both (sym stored ∙ ap is_stored got.0))
 
 media_running : (b : Bool) (a : Arrival) (r t : Receiving) (o : Outcome) → TakesMedia b a r o t → t.is_restarting ≡ false
@@ -217,7 +232,7 @@ one_more true time r mid t unseen counts seen rest = record {
 one_then : (b : Bool) (a : Arrival) (r mid t : Holding) → is_seen a.header.timestamp r.seen.places ≡ b → RecoversUnseen b a r mid → Stored mid t → Stored r t
 one_then true a r mid t is got rest = subst (λ (x : Holding). Stored x t) got rest
 one_then false a r mid t is got rest =
-    one_more got.0 a.header.timestamp r mid t is (counts_as (number_again r.packets a.header.sequence_number) a r.packets mid.packets got.0 got.1) got.2 rest
+    one_more got.0 a.header.timestamp r mid t is (counts_as (number_again_for r.packets a.header.sequence_number a.header.timestamp) a r.packets mid.packets got.0 got.1) got.2 rest
 
 all_stored : (whole : Bool) (all : List Arrival) (r t : Holding) → RecoversAll whole all r t → Stored r t
 all_stored true [] r t got = nothing_stored r t got
@@ -271,7 +286,7 @@ again_forgotten : (b : Bool) (a : Arrival) (r t : Holding) (o : Outcome) → IsF
 again_forgotten b a r t o forgotten got left = by_test r.packets.is_restarting refl b got
   where
     running_then : (b : Bool) → TakesAgain b a r.packets o t.packets → r.packets.is_restarting ≡ false → t.packets.is_restarting ≡ false
-    running_then false got running = again_as_running (number_again r.packets a.header.sequence_number) a r.packets t.packets o running got
+    running_then false got running = again_as_running (number_again_for r.packets a.header.sequence_number a.header.timestamp) a r.packets t.packets o running got
     running_then true got running = ap (λ (x : Receiving). x.is_restarting) got.1.2
 
     by_test : (restarting : Bool) → r.packets.is_restarting ≡ restarting → (b : Bool) → TakesAgain b a r.packets o t.packets → IsForgotten t

@@ -2,7 +2,7 @@
 use Rattle.std.proofs.Common.{◌≡◌, ◌⊎◌, ◌∙◌, refl, ap, sym, subst, inl, inr, cond, ℕ, ◌+◌, ◌%◌, ◌^◌, List, [], ◌∷◌, Bool, true, false, Option, Some, None, Result, Ok, Err, arith, ◌&&◌, not}
 use Rattle.codec_payload_base.specs.declared.wire.Ticks.{Ticks}
 use Rattle.codec_payload_jitter.specs.Receiving.{Receiving, Arrival, Confirms, GoesOn, ReceivesAs, ReceivesAgainAs, RecoversAs, RecoversIf, NotesAs, would_store}
-use Rattle.codec_payload_jitter.specs.Receiving.{Accepts, counted, counted_again, counted_in_again, is_stored, may_recover, next, number_again}
+use Rattle.codec_payload_jitter.specs.Receiving.{Accepts, counted, counted_again, counted_in_again, is_stored, may_recover, next, number_again_for}
 use Rattle.codec_payload_jitter.specs.declared.numbers.Extended.{Extended}
 use Rattle.codec_payload_jitter.specs.declared.numbers.Extended.TheVariants as extended
 use Rattle.codec_payload_jitter.specs.declared.outcome.Outcome.{Outcome}
@@ -10,6 +10,7 @@ use Rattle.codec_payload_jitter.specs.declared.outcome.Outcome.TheVariants as ou
 use Rattle.codec_payload_jitter.specs.declared.outcome.PacketCounters.{PacketCounters}
 use Rattle.codec_payload_receiver.specs.Choice.{latest_after, origin_of}
 use Rattle.codec_payload_receiver.specs.Kinds.{Kinds, Carrier, Datagram, RtcpPacket, Malformed, OfOthers, WithoutMedia, WithMedia, InRed, Again, AgainInRed, AgainEmpty}
+use Rattle.codec_payload_receiver.specs.Noting.{notes_after}
 use Rattle.codec_payload_receiver.specs.SeenTimes.{Seen, is_seen}
 use Rattle.codec_payload_receiver.specs.Sessions.{Holding, NotesAgain, Session, TakesAgain, TakesDatagram, TakesMedia, TakesPrimaryAgain, TakesPrimaryIf, RecoversOne, RecoversUnseen, RecoversAll, RecoversUnless, AnswersFor}
 use Rattle.codec_payload_receiver.specs.Sessions.{Heard, IsSorted, all_carried, arrived_with, ssrc_after, is_own_media, is_repeat, is_suspect, error_of, reception_after, told_of_red}
@@ -90,13 +91,14 @@ goes_on_balance n a r t o got = ap balance_of got.2 ∙ accepts_balance a n r go
 
 receives_as_balance : (answer : Extended) (a : Arrival) (r t : Receiving) (o : Outcome) → ReceivesAs answer a r o t → balance_of t ≡ one_pushed (balance_of r)
 receives_as_balance (extended.Number n) a r t o got = goes_on_balance n a r t o got
-receives_as_balance (extended.Restarted n) a r t o got = confirms_balance n got.1.kept _ t got.2 got.4 ∙ goes_on_balance n a r got.1 got.0 got.3
+receives_as_balance (extended.Restarted n) a r t o got =
+    ap balance_of got.2 ∙ (confirms_balance n got.1.1.kept _ got.0 got.1.2 got.1.4 ∙ goes_on_balance n a r got.1.1 got.1.0 got.1.3)
 receives_as_balance extended.Suspect a r t o got = ap balance_of got.1
 receives_as_balance extended.Spent a r t o got = ap balance_of got.1
 
 notes_as_balance : (answer : Extended) (r t : Receiving) → NotesAs answer r t → balance_of t ≡ one_pushed (balance_of r)
 notes_as_balance (extended.Number n) r t got = ap balance_of got
-notes_as_balance (extended.Restarted n) r t got = confirms_balance n r.kept _ t got.0 got.1
+notes_as_balance (extended.Restarted n) r t got = ap balance_of got.2 ∙ confirms_balance n r.kept _ got.0 got.1.0 got.1.1
 notes_as_balance extended.Suspect r t got = ap balance_of got
 notes_as_balance extended.Spent r t got = ap balance_of got
 
@@ -128,7 +130,7 @@ recovers_as_balance (Some n) a r t went_in got = recovers_if_balance (may_recove
 
 unseen_balance : (b : Bool) (a : Arrival) (r t : Holding) → RecoversUnseen b a r t → Recovered r.packets t.packets
 unseen_balance true a r t got = inl (ap (λ (x : Holding). balance_of x.packets) got)
-unseen_balance false a r t got = recovers_as_balance (number_again r.packets a.header.sequence_number) a r.packets t.packets got.0 got.1
+unseen_balance false a r t got = recovers_as_balance (number_again_for r.packets a.header.sequence_number a.header.timestamp) a r.packets t.packets got.0 got.1
 
 one_balance : (a : Arrival) (r t : Holding) → RecoversOne a r t → Recovered r.packets t.packets
 one_balance a r t got = unseen_balance (is_seen a.header.timestamp r.seen.places) a r t got
@@ -237,6 +239,7 @@ pub heard : (now : Ticks) (d : Datagram) (s t : Session) (o : Outcome) (whole : 
       reception = reception_after o s.packets packets s.reception now.0 d;
       choice = record s.choice { latest = latest_after s.choice.latest now.0 (origin_of d) };
       seen = seen;
+      notes = notes_after s.notes s.stream d o packets.numbering.greatest;
     }
     → Heard now d s answer t
 heard now d s t o whole packets seen (Ok told) takes answers left = record { outcome = o; whole = whole; packets = packets; seen = seen; takes = takes; answers = answers; left = left }

@@ -45,3 +45,4 @@ pub record HasDefaults (payload_type rate : ℕ) (limits : WaitLimits) (windows 
   pub backward : s.backward ≡ windows.backward
   pub from_keyframe : s.from_keyframe ≡ modes.Mark
   pub max_unit : s.max_unit ≡ Some 1048576
+  pub dependency_descriptor : s.dependency_descriptor ≡ None

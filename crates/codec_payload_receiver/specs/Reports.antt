@@ -86,7 +86,7 @@ abbrev pub observed : Reception → ℕ → ℕ → ℕ → Reception
 observed r now number timestamp =
     observed_as (answer_for r.numbering number) r.numbering.greatest (record r { numbering = numbering_after r.numbering number }) (transit_of r now timestamp)
 
--- a restart begins them anew, with the packet that confirms it (A.1); its jitter is that of the new sender alone
+-- they begin again at a restart, with the packet that confirms it (A.1); its jitter is that of the new sender alone
 abbrev pub reception_since : (has_restarted : Bool) → Reception → Reception
 reception_since true r = reception_anew r
 reception_since false r = r

@@ -27,6 +27,7 @@ use Rattle.codec_payload_receiver.specs.Kinds.{Kinds, Carrier, Datagram, RtcpPac
 use Rattle.codec_payload_receiver.specs.SeenTimes.{Seen, has_block, is_seen, none_seen, seen_with}
 use Rattle.codec_payload_receiver.specs.Reports.{Reception, no_reception, observed, reception_anew, reception_since}
 use Rattle.codec_payload_receiver.specs.Bounds.{new_bound}
+use Rattle.codec_payload_receiver.specs.Noting.{Noting, forgotten, new_noting, notes_after}
 use Rattle.codec_payload_receiver.specs.declared.blocks.BlockCopy.{BlockCopy}
 use Rattle.codec_payload_receiver.specs.declared.bound.UnitBound.{UnitBound}
 use Rattle.codec_payload_receiver.specs.declared.choice.Candidate.{Candidate}
@@ -49,7 +50,7 @@ use Rattle.codec_payload_receiver.specs.declared.receiver.SettingsError.TheVaria
 -- a receiver, as contracts see it: the settings of the stream; the SSRC that the settings name; the SSRC of the stream, if it
 -- is known; the jitter buffer; the counters of datagrams before it; the RTP time of the latest unit; the statistics of the
 -- sender; the state of the choice; the RTP times of the latest packets and blocks; which units a decoder can show; how many bytes
--- a unit may have
+-- a unit may have; what packets say of the frames that they begin, if the stream needs it
 pub record Session : Type 0 where
   pub stream : Kinds
   pub named : Option ℕ
@@ -62,6 +63,7 @@ pub record Session : Type 0 where
   pub seen : Seen
   pub gates : Gating
   pub bound : UnitBound
+  pub notes : Option Noting
 
 -- Every datagram is accounted for
 
@@ -301,7 +303,7 @@ abbrev pub observed_unless : (is_suspect : Bool) → Reception → ℕ → Datag
 observed_unless true r now d = r
 observed_unless false r now d = observed_in r now d
 
--- the statistics after a datagram with this outcome: they begin anew with the packet that confirms a restart
+-- the statistics after a datagram with this outcome: they begin again with the packet that confirms a restart
 abbrev pub reception_after : Outcome → (before after : Receiving) → Reception → ℕ → Datagram → Reception
 reception_after outcome before after r now d = observed_unless (is_suspect outcome) (reception_since (has_restarted before after) r) now d
 
@@ -320,6 +322,7 @@ pub record Hears (now : Ticks) (d : Datagram) (s : Session) (answer : Result Out
     reception = reception_after outcome s.packets packets s.reception now.0 d;
     choice = record s.choice { latest = latest_after s.choice.latest now.0 (origin_of d) };
     seen = seen;
+    notes = notes_after s.notes s.stream d outcome packets.numbering.greatest;
   }
 
 -- if memory ran out, nothing has changed, and the datagram is of a kind that takes memory
@@ -386,7 +389,7 @@ SettlesOn (Some c) false s t = t ≡ s
 
 -- the next packet is the first of another sender, with this SSRC if it is known
 abbrev pub gone_over_to : Option ℕ → Session → Session
-gone_over_to ssrc s = record s { ssrc = ssrc; packets = begun_anew s.packets; reception = reception_anew s.reception; seen = none_seen }
+gone_over_to ssrc s = record s { ssrc = ssrc; packets = begun_anew s.packets; reception = reception_anew s.reception; seen = none_seen; notes = forgotten s.notes }
 
 -- a stream that was silent is left, as if the caller had announced a restart
 abbrev pub opened_if : Bool → Session → Session
@@ -501,6 +504,7 @@ session_with s depacketizer red numbering = record {
   seen = none_seen;
   gates = new_gating (video_codec (kind_of_depacketizer depacketizer)) s.from_keyframe;
   bound = new_bound s.max_unit;
+  notes = new_noting s.from_keyframe (video_codec (kind_of_depacketizer depacketizer)) s.dependency_descriptor s.limit;
 }
 
 abbrev pub session_within : Settings → DepacketizerState → Option RedStream → Result Numbering WindowError → Result Session SettingsError

@@ -149,6 +149,7 @@ impl Settings {
             backward: windows.backward,
             from_keyframe: FromKeyframe::Mark,
             max_unit: Some(MAX_UNIT),
+            dependency_descriptor: None,
         }
     }
 }

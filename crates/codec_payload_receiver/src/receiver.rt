@@ -21,6 +21,7 @@ use crate::checks::{packets_at_once, red_of, retransmission_fits};
 use crate::choice::{Choice, Origin, Verdict};
 use crate::datagram::{Datagram, RedStream, StreamKinds};
 use crate::gated::gate_for;
+use crate::notes::{StreamNotes, forget_suspect, notes_for};
 use crate::parsed::ParsedDatagram;
 use crate::reports::{ReceptionReport, ReceptionStatistics};
 use crate::seen_times::LazySeenTimes;
@@ -95,11 +96,16 @@ pub struct Settings {
     /// What happens to units of video that a decoder cannot show: units after a gap, until a keyframe. All constructors set
     /// [`FromKeyframe::Mark`]. Units of audio are always released.
     pub from_keyframe: FromKeyframe,
-    /// The largest number of bytes of a unit. A larger unit is an answer of its own ([`Popped::TooLarge`]), and counts as a
+    /// The largest number of bytes of a unit. A larger unit has its own answer ([`Popped::TooLarge`]), and counts as a
     /// refused frame. `None`: no bound. All constructors set 1,048,576.
     ///
     /// [`Popped::TooLarge`]: crate::pops::Popped::TooLarge
     pub max_unit: Option<usize>,
+    /// The id of the header extension element with the dependency descriptor (AV1 RTP specification, appendix A), for VP8, VP9
+    /// and AV1: 1 to 14 in the one-byte form of RFC 8285, 1 to 255 in the two-byte form. No element has id 0. Accept the extension
+    /// if the sender offers it: a lost frame to which no other refers then costs no other frame. `None`: the stream has none. All
+    /// constructors set `None`.
+    pub dependency_descriptor: Option<u8>,
 }
 
 /// The setting that is out of range.
@@ -207,9 +213,13 @@ pub struct Receiver<B = NoBox> {
     gates: UnitGate,
     /// How many bytes a unit may have.
     bound: UnitBound,
+    /// What packets say of the frames that they begin, if units may name those that they refer to.
+    notes: Option<StreamNotes>,
 }
 
 impl<B> Model for Receiver<B> {
+    ghost use Rattle.std.specs.Option.{option_map};
+    ghost use Rattle.codec_payload_receiver.specs.Noting.{noting_of};
     ghost use Rattle.codec_payload_receiver.specs.Reports.{report_of, reported};
     ghost use Rattle.codec_payload_receiver.specs.Sessions.{Session, IsSorted};
 
@@ -227,6 +237,7 @@ impl<B> Model for Receiver<B> {
       seen = r.seen;
       gates = r.gates;
       bound = r.bound;
+      notes = option_map noting_of r.notes;
     } };
 
     ghost invariant = { λ r. IsSorted r.arrived r.packets.counters };
@@ -278,6 +289,7 @@ impl<B: Depacketizer> Receiver<B> {
         let statistics = ReceptionStatistics::over(numbers, settings.tick_rate, clock_rate);
         let choice = Choice::over(alloc, settings.tick_rate);
         let gates = gate_for(&depacketizer, settings.from_keyframe);
+        let notes = notes_for(&depacketizer, &settings);
         let wait_limits = settings.wait_limits;
         let buffer = DepacketizingBuffer::with_limit(
             alloc,
@@ -306,6 +318,7 @@ impl<B: Depacketizer> Receiver<B> {
             seen: LazySeenTimes::none(),
             gates,
             bound: UnitBound::new(settings.max_unit),
+            notes,
         }
     }
 
@@ -327,7 +340,8 @@ impl<B: Depacketizer> Receiver<B> {
     ///
     /// It allocates for the payload and metadata of the packet, for a datagram that waits, and for redundant blocks. The
     /// payloads of all blocks are copied before anything changes. The first packet with media of a stream with RED also
-    /// allocates 324 bytes, for the times of the latest packets and blocks.
+    /// allocates 324 bytes, for the times of the latest packets and blocks. For VP9, and for VP8 and AV1 with an id of the dependency
+    /// descriptor, it allocates for what a packet says of the frame that it begins: at most one such note for each place of the buffer.
     ///
     /// # Errors
     ///
@@ -478,9 +492,13 @@ impl<B: Depacketizer> Receiver<B> {
         self.arrived = turned_away(self.arrived, count as u64);
     }
 
-    /// Returns whether a decoder can show the latest popped unit: it is a keyframe, or it follows a decodable unit without a
-    /// gap. True for audio, and with [`FromKeyframe::Off`]. False for video before the first unit, and after a refused
-    /// frame or a unit above `max_unit`.
+    /// Returns whether a decoder can show the latest popped unit: it is a keyframe, or all units to which it refers were released and
+    /// can be shown. What it refers to is said by the dependency descriptors of its frames, if the settings name their id; else by the
+    /// P_DIFFs of VP9 in the flexible mode (RFC 9628, section 4.2) or by the layers of VP8 (RFC 7741, section 4.2); without these it is
+    /// the unit before, without a gap. The keyframe decides which of them counts until the next keyframe.
+    ///
+    /// True for audio, and with [`FromKeyframe::Off`]. False for video before the first unit, and after a refused frame or a unit above
+    /// `max_unit`.
     pub fn unit_is_decodable(&self) -> bool
         ensures { result ≡ self.now.gates.gate.shows }
     {
@@ -496,9 +514,9 @@ impl<B: Depacketizer> Receiver<B> {
     }
 
     /// Returns whether to request a keyframe, by PLI (RFC 4585, section 6.3.1) or FIR (RFC 5104, section 4.3.1). It is true
-    /// from one of these events until a pop releases a keyframe:
+    /// from one of these events until a pop releases a keyframe, or a unit of the base layer that a decoder can show:
     ///
-    /// - A pop found a unit that a decoder cannot show.
+    /// - A pop found a unit of the base layer that a decoder cannot show. Without layers this is each such unit.
     /// - A pop refused a frame, or its unit was above `max_unit` of the settings.
     /// - A pop returned no unit and discarded packets, for example because the picture ids of the sender jumped back.
     /// - You called [`Receiver::restart`].
@@ -614,6 +632,7 @@ impl<B: Depacketizer> Receiver<B> {
         self.ssrc = ssrc;
         self.statistics = self.statistics.anew();
         self.seen = LazySeenTimes::none();
+        forget_suspect(&mut self.notes);
         self.packets.restart();
     }
 

@@ -17,8 +17,9 @@ pub fn receives_by_rule()
 
 /// Over every run of a receiver of video, from its first call on:
 ///
-/// - The latest unit is decodable exactly if it is a keyframe, or each unit is decodable to which it may refer: by the ids and
-///   layers of VP8 (RFC 7741, section 4.2), or else the unit before it, without a gap.
+/// - The latest unit is decodable exactly if it is a keyframe, or each unit is decodable to which it may refer: by its dependency
+///   descriptors, by the P_DIFFs of VP9 (RFC 9628, section 4.2), by the ids and layers of VP8 (RFC 7741, section 4.2), or else the
+///   unit before it, without a gap.
 /// - `wants_keyframe` is true exactly if an event since the last keyframe needs a keyframe.
 /// - A receiver that drops units passes on only units that are decodable in this sense.
 /// - Datagrams and the end of the stream change neither answer.

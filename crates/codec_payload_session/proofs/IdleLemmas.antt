@@ -11,6 +11,8 @@ use Rattle.codec_payload_feedback.specs.Feedback.{Requests, deadline_of as deadl
 use Rattle.codec_payload_feedback.specs.Transport.{Reporter, due_at}
 use Rattle.codec_payload_jitter.specs.Receiving.{Receiving, deadline_of}
 use Rattle.codec_payload_feedback_requests.specs.Requests.{has_come}
+use Rattle.codec_payload_keyframes.specs.declared.references.UnitReferences.{UnitReferences}
+use Rattle.codec_payload_receiver.specs.Noting.{Noting, TakesNotes}
 use Rattle.codec_payload_receiver.specs.Pops.{DropsUnits, PopsGated, PopsOnce, answer_of, bound_if, gates_if, has_left, is_large, none_dropped, one_more, time_if, without_unit}
 use Rattle.codec_payload_receiver.specs.Sessions.{Session as Receiver}
 use Rattle.codec_payload_receiver.specs.declared.pops.Popped.{Popped}
@@ -41,14 +43,21 @@ use Rattle.codec_payload_session.proofs.SkipLemmas.{drops_few, earlier_both, onc
 
 -- ---- the receiver
 
+-- an answer without a unit leaves the notes
+takes_none : (answer : Option (Result Release PacketError)) (n : Option Noting) (references : UnitReferences) (t : Option Noting) → answer ≡ None → TakesNotes answer n references t → t ≡ n
+takes_none None n references t is takes = takes.1
+takes_none (Some a) n references t is takes = absurd (cc)
+
 once_same : (now : ℕ) (r t : Receiver) (answer : Option (Result Release PacketError)) → PopsNothing now r.packets → PopsOnce now r answer t → (answer ≡ None) × (t ≡ r)
 once_same now r t answer nothing pops =
-    let same = pops_same now r.packets pops.0 answer nothing pops.1 in (
+    let same = pops_same now r.packets pops.packets answer nothing pops.pops in
+    let taken = takes_none answer r.notes pops.references pops.notes same.0 pops.takes in (
       same.0,
-      pops.2
-          ∙ (ap (λ (a : Option (Result Release PacketError)). record r { packets = pops.0; time = time_if (is_large r.bound.most a) r.time a; gates = gates_if (is_large r.bound.most a) r.gates (has_left r.packets pops.0) a; bound = bound_if (is_large r.bound.most a) r.bound a }) same.0
+      pops.left
+          ∙ (ap (λ (a : Option (Result Release PacketError)). record r { packets = pops.packets; time = time_if (is_large r.bound.most a) r.time a; gates = gates_if (is_large r.bound.most a) r.gates (has_left r.packets pops.packets) a pops.references; bound = bound_if (is_large r.bound.most a) r.bound a; notes = pops.notes }) same.0
+          ∙ (ap (λ (n : Option Noting). record r { packets = pops.packets; gates = without_unit r.gates (has_left r.packets pops.packets); notes = n }) taken
           ∙ (ap (λ (x : Receiving). record r { packets = x; gates = without_unit r.gates (has_left r.packets x) }) same.1
-          ∙ ap (λ (b : Bool). record r { gates = without_unit r.gates (not b) }) (same_number r.packets.counters.left))),
+          ∙ ap (λ (b : Bool). record r { gates = without_unit r.gates (not b) }) (same_number r.packets.counters.left)))),
     )
 
 some_none : (answer : Result Release PacketError) → Some answer ≡ None → ⊥
@@ -56,9 +65,9 @@ some_none answer is = absurd (cc)
 
 dropped_none : (now : ℕ) (r t : Receiver) → PopsNothing now r.packets → DropsUnits now r t → t ≡ r
 dropped_none now r t nothing none_dropped = refl
-dropped_none now r t nothing (one_more {mid = mid} unit before pops kept) =
+dropped_none now r t nothing (one_more {mid = mid} unit before passes) =
     let is : mid ≡ r = dropped_none now r mid nothing before in
-    let first : PopsOnce now r (Some (Ok unit)) t = subst (λ (x : Receiver). PopsOnce now x (Some (Ok unit)) t) is pops in
+    let first : PopsOnce now r (Some (Ok unit)) t = subst (λ (x : Receiver). PopsOnce now x (Some (Ok unit)) t) is passes.0 in
     absurd (some_none (Ok unit) (once_same now r t (Some (Ok unit)) nothing first).0)
 
 -- whatever a pop may answer, it has no unit

@@ -83,11 +83,11 @@ receives_named now bytes s t answer is (inr got) = same_named s t got.1 is
 -- ---- pops
 
 once_named : (now : ℕ) (s t : Receiver) (answer : Option (Result Release PacketError)) → IsNamed s → PopsOnce now s answer t → IsNamed t
-once_named now s t answer is pops = record { named = ap (λ (x : Receiver). is_none_of x.named) pops.2 ∙ is.named; known = ap (λ (x : Receiver). is_none_of x.ssrc) pops.2 ∙ is.known }
+once_named now s t answer is pops = record { named = ap (λ (x : Receiver). is_none_of x.named) pops.left ∙ is.named; known = ap (λ (x : Receiver). is_none_of x.ssrc) pops.left ∙ is.known }
 
 dropped_named : (now : ℕ) (s t : Receiver) → IsNamed s → DropsUnits now s t → IsNamed t
 dropped_named now s t is none_dropped = is
-dropped_named now s t is (one_more {mid = mid} unit before pops kept) = once_named now mid t (Some (Ok unit)) (dropped_named now s mid is before) pops
+dropped_named now s t is (one_more {mid = mid} unit before passes) = once_named now mid t (Some (Ok unit)) (dropped_named now s mid is before) passes.0
 
 pub pops_named : (now : ℕ) (s t : Receiver) (answer : Option (Result Release PacketError)) → IsNamed s → PopsGated now s answer t → IsNamed t
 pops_named now s t answer is gated = once_named now gated.mid t answer (dropped_named now s gated.mid is gated.dropped) gated.pops

@@ -56,7 +56,7 @@ pops_some None r t unit pops = absurd (cc (pops.0))
 pops_some (Some h) r t unit pops = metas_some pops.1.1.0 pops.1.1.2.frame unit.metas pops.1.1.2.is_due pops.1.1.2.metas
 
 pub gated_some : (now : ℕ) (s t : Receiver) (unit : Release) → PopsGated now s (Some (Ok unit)) t → 0 < length unit.metas
-gated_some now s t unit gated = pops_some (waiting_at (settled gated.mid.packets) now) (settled gated.mid.packets) gated.pops.0 unit gated.pops.1
+gated_some now s t unit gated = pops_some (waiting_at (settled gated.mid.packets) now) (settled gated.mid.packets) gated.pops.packets unit gated.pops.pops
 
 -- ---- the stream
 

@@ -8,6 +8,7 @@ use Rattle.codec_payload_base.specs.declared.error.PacketError.{PacketError}
 use Rattle.codec_payload_base.specs.declared.wire.Ticks.{Ticks}
 use Rattle.codec_payload_buffer.specs.Release.{Release}
 use Rattle.codec_payload_jitter.specs.Receiving.{Receiving, deadline_of, settled, waiting_at}
+use Rattle.codec_payload_keyframes.specs.References.{no_references}
 use Rattle.codec_payload_receiver.specs.Pops.{DropsUnits, PopsGated, PopsOnce, none_dropped, one_more, without_unit}
 use Rattle.codec_payload_receiver.specs.Sessions.{Session as Receiver}
 use Rattle.codec_payload_session.specs.Late.{unboxed}
@@ -27,28 +28,28 @@ use Rattle.codec_payload_session.proofs.RestLemmas.{pops_again, pops_few}
 
 pub once_few : (now : ℕ) (s t : Receiver) (answer : Option (Result Release PacketError)) → PopsOnce now s answer t → length t.packets.buffer.held ≤ length s.packets.buffer.held
 once_few now s t answer pops =
-    let held : length t.packets.buffer.held ≡ length pops.0.buffer.held = ap (λ (x : Receiver). length x.packets.buffer.held) pops.2 in
-    let few = pops_few (waiting_at (settled s.packets) now) s.packets pops.0 answer pops.1 in
+    let held : length t.packets.buffer.held ≡ length pops.packets.buffer.held = ap (λ (x : Receiver). length x.packets.buffer.held) pops.left in
+    let few = pops_few (waiting_at (settled s.packets) now) s.packets pops.packets answer pops.pops in
     omega (arith, held, few)
 
 pub drops_few : (now : ℕ) (s t : Receiver) → DropsUnits now s t → length t.packets.buffer.held ≤ length s.packets.buffer.held
 drops_few now s t none_dropped = omega arith
-drops_few now s t (one_more {mid = mid} unit before pops kept) =
+drops_few now s t (one_more {mid = mid} unit before passes) =
     let first : length mid.packets.buffer.held ≤ length s.packets.buffer.held = drops_few now s mid before in
-    let second : length t.packets.buffer.held ≤ length mid.packets.buffer.held = once_few now mid t (Some (Ok unit)) pops in
+    let second : length t.packets.buffer.held ≤ length mid.packets.buffer.held = once_few now mid t (Some (Ok unit)) passes.0 in
     omega (arith, first, second)
 
 -- a pop without a unit that leaves all packets: until the deadline each pop is one
 pub receiver_rests : (now later : ℕ) (s t : Receiver) → PopsGated now s None t → length t.packets.buffer.held ≡ length s.packets.buffer.held → later < 2 ^ 64
     → IsBefore (deadline_of t.packets) later → PopsNothing later t.packets
 receiver_rests now later s t gated same few before =
-    let is : t.packets ≡ gated.pops.0 = ap (λ (x : Receiver). x.packets) gated.pops.2 in
-    let held : length t.packets.buffer.held ≡ length gated.pops.0.buffer.held = ap (λ (x : Receiving). length x.buffer.held) is in
+    let is : t.packets ≡ gated.pops.packets = ap (λ (x : Receiver). x.packets) gated.pops.left in
+    let held : length t.packets.buffer.held ≡ length gated.pops.packets.buffer.held = ap (λ (x : Receiving). length x.buffer.held) is in
     let first : length gated.mid.packets.buffer.held ≤ length s.packets.buffer.held = drops_few now s gated.mid gated.dropped in
-    let second : length gated.pops.0.buffer.held ≤ length gated.mid.packets.buffer.held = pops_few (waiting_at (settled gated.mid.packets) now) gated.mid.packets gated.pops.0 None gated.pops.1 in
-    let all : length gated.pops.0.buffer.held ≡ length gated.mid.packets.buffer.held = omega (arith, same, held, first, second) in
-    let early : IsBefore (deadline_of gated.pops.0) later = subst (λ (x : Receiving). IsBefore (deadline_of x) later) is before in
-    subst (λ (x : Receiving). PopsNothing later x) (sym is) (pops_again now later gated.mid.packets gated.pops.0 gated.pops.1 all few early)
+    let second : length gated.pops.packets.buffer.held ≤ length gated.mid.packets.buffer.held = pops_few (waiting_at (settled gated.mid.packets) now) gated.mid.packets gated.pops.packets None gated.pops.pops in
+    let all : length gated.pops.packets.buffer.held ≡ length gated.mid.packets.buffer.held = omega (arith, same, held, first, second) in
+    let early : IsBefore (deadline_of gated.pops.packets) later = subst (λ (x : Receiving). IsBefore (deadline_of x) later) is before in
+    subst (λ (x : Receiving). PopsNothing later x) (sym is) (pops_again now later gated.mid.packets gated.pops.packets gated.pops.pops all few early)
 
 pub same_number : (n : ℕ) → (n == n) ≡ true
 same_number n = grind (arith, nat_tests)
@@ -58,7 +59,14 @@ nothing_popped : (now : ℕ) (r : Receiver) → PopsNothing now r.packets → Po
 nothing_popped now r pops = record {
   mid = r;
   dropped = none_dropped;
-  pops = (r.packets, pops, ap (λ (b : Bool). record r { gates = without_unit r.gates (not b) }) (sym (same_number r.packets.counters.left)));
+  pops = record {
+    packets = r.packets;
+    references = no_references;
+    notes = r.notes;
+    pops = pops;
+    takes = (refl, refl);
+    left = ap (λ (b : Bool). record r { gates = without_unit r.gates (not b) }) (sym (same_number r.packets.counters.left));
+  };
   passed = refl;
 }
 

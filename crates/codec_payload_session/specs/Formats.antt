@@ -137,6 +137,7 @@ pub record HasSettings (s : SessionSettings) (ssrc : ℕ) (f : Format) (r : Sett
   pub from_keyframe : r.from_keyframe ≡ s.from_keyframe
   pub limit : r.limit ≡ s.limit
   pub max_unit : r.max_unit ≡ s.max_unit
+  pub dependency_descriptor : r.dependency_descriptor ≡ s.dependency_descriptor
   pub forward : r.forward ≡ forward_for (is_video f.spec.codec)
   pub backward : r.backward ≡ backward_for (is_video f.spec.codec)
 
@@ -152,6 +153,7 @@ pub record IsLive (s : SessionSettings) : Type 0 where
   pub telephone_events : s.telephone_events.items ≡ []
   pub pairs : s.pairs.items ≡ []
   pub extension_ids : s.extension_ids ≡ no_ids
+  pub dependency_descriptor : s.dependency_descriptor ≡ None
   pub name_ids : s.name_ids ≡ no_name_ids
   pub audio : s.audio ≡ waits_for 1 100
   pub video : s.video ≡ waits_for 2 200

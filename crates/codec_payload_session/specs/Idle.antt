@@ -27,7 +27,7 @@ held_in (s ∷ ss) = length s.receiver.packets.buffer.held + held_in ss
 -- there is no event, or memory ran out for a request
 abbrev pub IsNoEvent : Option Event → Type 0
 IsNoEvent None = Unit {0}
-IsNoEvent (Some (events.Begun ssrc payload_type names)) = ⊥
+IsNoEvent (Some (events.Begun ssrc payload_type)) = ⊥
 IsNoEvent (Some (events.Unit ssrc payload_type rtp_time decodable keyframe unit)) = ⊥
 IsNoEvent (Some (events.TooLarge ssrc payload_type unit)) = ⊥
 IsNoEvent (Some (events.Refused ssrc payload_type fault)) = ⊥

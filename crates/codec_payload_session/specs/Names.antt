@@ -1,6 +1,6 @@
 -- The names of streams in header extensions: MID (RFC 8843, section 15), RID and repaired RID (RFC 8852, section 3).
 use Rattle.std.specs.Cmp.Lexicographic.{pointwise}
-use Rattle.std.specs.Prelude.{ℕ, ◌&&◌, nat_eq, nat_le, is_some, Bool, true, false, if◌then◌else◌, List, Option, Some, None, Result, Ok, Err, length}
+use Rattle.std.specs.Prelude.{ℕ, ◌&&◌, ◌||◌, nat_eq, nat_le, is_some, Bool, true, false, if◌then◌else◌, List, Option, Some, None, Result, Ok, Err, length}
 use Rattle.codec_payload_rtp.specs.Elements.{Element}
 use Rattle.codec_payload_rtp.specs.ExtensionFormats.{and_then, bytes_for, elements_of}
 use Rattle.codec_payload_rtp.specs.RtpPackets.{Packet}
@@ -12,6 +12,10 @@ use Rattle.codec_payload_session.specs.declared.names.StreamNames.{StreamNames}
 -- no extension was agreed on
 abbrev pub no_name_ids : StreamNameIds
 no_name_ids = record { mid = None; rid = None; repaired_rid = None }
+
+-- an extension was agreed on
+abbrev pub is_any : StreamNameIds → Bool
+is_any ids = is_some ids.mid || is_some ids.rid || is_some ids.repaired_rid
 
 -- no packet had a name
 abbrev pub no_names : StreamNames

@@ -111,7 +111,7 @@ ends_of ssrc at s = record s { port = record s.port { streams = left_where (λ o
 abbrev pub waits_of : ℕ → ℕ → WaitLimits → Session → Session
 waits_of ssrc payload_type limits s = record s { port = record s.port { streams = waiting_where ssrc payload_type limits s.port.streams } }
 
--- the transport begins anew
+-- the transport begins again
 abbrev pub restarts_transport : Session → Session
 restarts_transport s = record s { transport = restarted_if s.transport }
 

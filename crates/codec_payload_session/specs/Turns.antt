@@ -46,9 +46,9 @@ StepsFirst now idle ss (Some turn) ts = FirstSteps now idle ss turn ts
 
 -- ---- events
 
--- the event of a stream; the beginning with the names that it has so far; a unit with its RTP time, whether a decoder can show it, and whether it is a keyframe
+-- the event of a stream; a unit with its RTP time, whether a decoder can show it, and whether it is a keyframe
 abbrev pub event_of : {U : Type 0} → StreamState → StepWith U → Option (EventWith U)
-event_of s steps.Begun = Some (events.Begun s.ssrc s.format.payload_type s.names)
+event_of s steps.Begun = Some (events.Begun s.ssrc s.format.payload_type)
 event_of s (steps.Unit unit) = Some (events.Unit s.ssrc s.format.payload_type s.receiver.time s.receiver.gates.gate.shows s.receiver.gates.is_keyframe unit)
 event_of s (steps.TooLarge unit) = Some (events.TooLarge s.ssrc s.format.payload_type unit)
 event_of s (steps.Refused fault) = Some (events.Refused s.ssrc s.format.payload_type fault)

@@ -52,7 +52,7 @@ turn_to None unit = None
 turn_to (Some turn) unit = Some (record { place = turn.place; step = step_to turn.step unit })
 
 abbrev pub with_unit : EventWith ⊤ → Release → Event
-with_unit (events.Begun ssrc payload_type names) unit = events.Begun ssrc payload_type names
+with_unit (events.Begun ssrc payload_type) unit = events.Begun ssrc payload_type
 with_unit (events.Unit ssrc payload_type time decodable keyframe done) unit = events.Unit ssrc payload_type time decodable keyframe (unit_with done unit)
 with_unit (events.TooLarge ssrc payload_type done) unit = events.TooLarge ssrc payload_type unit
 with_unit (events.Refused ssrc payload_type fault) unit = events.Refused ssrc payload_type fault
@@ -74,7 +74,7 @@ HasPackets (Err e) = Unit {0}
 
 abbrev pub HasUnit : Option Event → Type 0
 HasUnit None = Unit {0}
-HasUnit (Some (events.Begun ssrc payload_type names)) = Unit {0}
+HasUnit (Some (events.Begun ssrc payload_type)) = Unit {0}
 HasUnit (Some (events.Unit ssrc payload_type time decodable keyframe unit)) = HasPackets unit
 HasUnit (Some (events.TooLarge ssrc payload_type unit)) = 0 < length unit.metas
 HasUnit (Some (events.Refused ssrc payload_type fault)) = Unit {0}

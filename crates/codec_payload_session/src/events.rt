@@ -35,15 +35,7 @@ pub(crate) fn with_unit(event: Event<()>, unit: PoppedUnit) -> Event
     ensures { result ≡ with_unit event unit }
 {
     match event {
-        Event::Begun {
-            ssrc,
-            payload_type,
-            names,
-        } => Event::Begun {
-            ssrc,
-            payload_type,
-            names,
-        },
+        Event::Begun { ssrc, payload_type } => Event::Begun { ssrc, payload_type },
         Event::Unit {
             ssrc,
             payload_type,

@@ -3,7 +3,7 @@
 ghost use Rattle.std.specs.Prelude.{◌≡◌, ◌<◌, ◌≤◌, length};
 ghost use Rattle.codec_payload_rtp.specs.ExtensionFormats.{elements_of};
 ghost use Rattle.codec_payload_rtp.specs.RtpValues.{extension_of};
-ghost use Rattle.codec_payload_session.specs.Names.{are_of_one, is_same, name_for, name_of, names_after, names_by, newer};
+ghost use Rattle.codec_payload_session.specs.Names.{are_of_one, is_any, is_same, name_for, name_of, names_after, names_by, newer};
 
 use codec_payload_receiver::parsed::ParsedDatagram;
 use codec_payload_rtp::rtp::HeaderExtension;
@@ -114,6 +114,16 @@ impl fmt::Debug for StreamName {
     }
 }
 
+impl StreamNameIds {
+    /// Returns whether an extension was agreed on.
+    #[inline(always)]
+    fn is_any(&self) -> bool
+        ensures { result ≡ is_any self.now }
+    {
+        self.mid.is_some() || self.rid.is_some() || self.repaired_rid.is_some()
+    }
+}
+
 impl StreamNames {
     /// Returns whether both are names of one sender: the same MID, and the same RID or none.
     pub(crate) fn are_of_one(&self, other: &StreamNames) -> bool
@@ -127,6 +137,10 @@ impl StreamNames {
     pub(crate) fn note(&mut self, ids: &StreamNameIds, datagram: &ParsedDatagram<'_>)
         ensures { self.new ≡ names_after ids.now datagram.now self.old }
     {
+        // Most sessions have no such extension: then no name is copied.
+        if !ids.is_any() {
+            return;
+        }
         if let Ok(packet) = datagram.packet() {
             self.read(ids, &packet.header.extension);
         }

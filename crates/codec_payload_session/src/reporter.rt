@@ -253,8 +253,8 @@ fn due_count(streams: &[StreamState], is_new: bool) -> usize
     count
 }
 
-/// Returns which streams the next report is about, if it has room for so many: all streams, if there is room for all or the round
-/// has ended, else those that had no block in this round.
+/// Returns which streams the next report is about, if it has room for `room` blocks: all streams, if there is room for all or the
+/// round has ended, else those that had no block in this round.
 fn next_round(streams: &[StreamState], room: usize) -> Round
     ensures is_new { result.is_new ≡ is_new_round room streams.now }
     ensures room { result.room ≡ room }
@@ -265,7 +265,7 @@ fn next_round(streams: &[StreamState], room: usize) -> Round
     }
 }
 
-/// Returns the number of bytes of a source description with a name of so many bytes.
+/// Returns the number of bytes of a source description whose name has `len` bytes.
 fn name_length(len: usize) -> usize
     requires { len ≤ 255 }
     ensures { result ≡ name_length len }
@@ -277,7 +277,7 @@ fn name_length(len: usize) -> usize
     }
 }
 
-/// Returns how many blocks fit into so many bytes, in reports of up to 31 blocks.
+/// Returns how many blocks fit into `bytes` bytes, in reports of up to 31 blocks.
 fn blocks_within(bytes: usize) -> usize
     ensures { result ≡ blocks_within bytes }
 {

@@ -123,7 +123,7 @@ impl Feedback {
         self.pli && (receiver.wants_keyframe() || self.asked)
     }
 
-    /// Returns whether nothing is to be requested: the receiver misses no packet, and no keyframe is wanted.
+    /// Returns whether nothing is to be requested: the receiver misses no packet, and needs no keyframe.
     fn is_calm(&self, receiver: &Receiver) -> bool
         ensures { result ≡ is_calm self.now receiver.now }
     {

@@ -84,12 +84,11 @@ pub enum Arrival {
 /// [`Session::poll_into`], which writes the unit to memory of the caller.
 #[derive(Debug, Drop)]
 pub enum Event<U = PoppedUnit> {
-    /// A stream is announced. This is the first event of the stream. `names` has its MID and RID, as far as its packets had them
-    /// before ([`Session::names_of`]).
+    /// A stream is announced. This is the first event of the stream. [`Session::names_of`] returns its MID and RID, as far as its
+    /// packets had them before.
     Begun {
         ssrc: u32,
         payload_type: u8,
-        names: StreamNames,
     },
     /// A unit of a stream. If memory ran out for it, the frame is kept, and the next poll tries again. `rtp_time` is in ticks of
     /// the RTP clock, without wrapping. A decoder can show the unit if it is `decodable`: see [`Receiver::unit_is_decodable`],
@@ -604,11 +603,11 @@ impl Session {
     }
 
     /// Returns the SSRC of the first other stream that is announced and has the names of the stream with this SSRC and payload type: the
-    /// same MID, and the same RID or none. So its sender began anew under this SSRC, as browsers do when they replace a track. `None`:
+    /// same MID, and the same RID or none. So its sender began again under this SSRC, as browsers do when they replace a track. `None`:
     /// there is no such stream, or its MID is not known.
     ///
     /// Ask when the stream begins, and end the former one if it is not to wait for its timeout ([`Session::end`]). A sender that sends
-    /// several streams under one MID without RIDs at once is told in the same way. The cost is one step for each stream. Allocates
+    /// several streams under one MID without RIDs at once gets the same answer. The cost is one step for each stream. Allocates
     /// nothing.
     pub fn former_ssrc(&self, ssrc: u32, payload_type: u8) -> Option<u32>
         ensures { result ≡ former_among ssrc (names_among (position (is_of ssrc payload_type) self.now.port.streams) self.now.port.streams) self.now.port.streams }

@@ -93,7 +93,7 @@ events_more ssrc payload_type (d ∷ cs) c =
 
 pub one_append : (es fs : List Event) (a b c : Bool) → AreOfOne a es b → AreOfOne b fs c → AreOfOne a (es ++ fs) c
 one_append [] fs a b c got more = subst (λ (x : Bool). AreOfOne x fs c) got more
-one_append (events.Begun s p names ∷ es) fs a b c got more = (got.0, one_append es fs true b c got.1 more)
+one_append (events.Begun s p ∷ es) fs a b c got more = (got.0, one_append es fs true b c got.1 more)
 one_append (events.Unit s p time decodable keyframe unit ∷ es) fs a b c got more = (got.0, one_append es fs true b c got.1 more)
 one_append (events.TooLarge s p unit ∷ es) fs a b c got more = (got.0, one_append es fs true b c got.1 more)
 one_append (events.Refused s p fault ∷ es) fs a b c got more = (got.0, one_append es fs true b c got.1 more)
@@ -105,7 +105,7 @@ one_append (events.TransportFeedback packet ∷ es) fs a b c got more = absurd g
 
 pub order_append : (es fs : List Event) (a b c : Bool) → AreInOrder a es b → AreInOrder b fs c → AreInOrder a (es ++ fs) c
 order_append [] fs a b c got more = subst (λ (x : Bool). AreInOrder x fs c) got more
-order_append (events.Begun s p names ∷ es) fs a b c got more = (got.0, order_append es fs true b c got.1 more)
+order_append (events.Begun s p ∷ es) fs a b c got more = (got.0, order_append es fs true b c got.1 more)
 order_append (events.Unit s p time decodable keyframe unit ∷ es) fs a b c got more = (got.0, order_append es fs true b c got.1 more)
 order_append (events.TooLarge s p unit ∷ es) fs a b c got more = (got.0, order_append es fs true b c got.1 more)
 order_append (events.Refused s p fault ∷ es) fs a b c got more = (got.0, order_append es fs true b c got.1 more)
@@ -117,7 +117,7 @@ order_append (events.TransportFeedback packet ∷ es) fs a b c got more = absurd
 
 pub one_in_order : (es : List Event) (a b : Bool) → AreOfOne a es b → AreInOrder a es b
 one_in_order [] a b got = got
-one_in_order (events.Begun s p names ∷ es) a b got = (got.0, one_in_order es true b got.1)
+one_in_order (events.Begun s p ∷ es) a b got = (got.0, one_in_order es true b got.1)
 one_in_order (events.Unit s p time decodable keyframe unit ∷ es) a b got = (got.0, one_in_order es true b got.1)
 one_in_order (events.TooLarge s p unit ∷ es) a b got = (got.0, one_in_order es true b got.1)
 one_in_order (events.Refused s p fault ∷ es) a b got = (got.0, one_in_order es true b got.1)

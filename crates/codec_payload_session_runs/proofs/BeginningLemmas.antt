@@ -428,7 +428,7 @@ one_is true e f is = cc
 one_is false e f is = absurd (cc)
 
 told_is : (e f : Event) (ssrc payload_type : ℕ) → events_by ssrc payload_type (Some e) ≡ f ∷ [] → e ≡ f
-told_is (events.Begun s p names) f ssrc payload_type is = one_is (is_same ssrc payload_type s p) _ f is
+told_is (events.Begun s p) f ssrc payload_type is = one_is (is_same ssrc payload_type s p) _ f is
 told_is (events.Unit s p time decodable keyframe unit) f ssrc payload_type is = one_is (is_same ssrc payload_type s p) _ f is
 told_is (events.TooLarge s p unit) f ssrc payload_type is = one_is (is_same ssrc payload_type s p) _ f is
 told_is (events.Refused s p fault) f ssrc payload_type is = one_is (is_same ssrc payload_type s p) _ f is

@@ -57,7 +57,7 @@ Says answer why = (u : StreamState) × (n : ℕ) × (p : ℕ) × (event_of u ans
 
 abbrev is_end : Option Event → Bool
 is_end None = false
-is_end (Some (events.Begun s p names)) = false
+is_end (Some (events.Begun s p)) = false
 is_end (Some (events.Unit s p time decodable keyframe unit)) = false
 is_end (Some (events.TooLarge s p unit)) = false
 is_end (Some (events.Refused s p fault)) = false

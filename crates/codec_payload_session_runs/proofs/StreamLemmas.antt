@@ -530,10 +530,10 @@ plays_stepped now idle x step y plays told got =
 
 -- an event with the beginning of a stream
 begun_stepped : (now : Ticks) (x : StreamState) → x.told ≡ false → is_probation x.stage ≡ false
-    → Stepped now x (Some (events.Begun x.ssrc x.format.payload_type x.names)) (stays_with (record x { told = true })) (record x { told = true })
+    → Stepped now x (Some (events.Begun x.ssrc x.format.payload_type)) (stays_with (record x { told = true })) (record x { told = true })
 begun_stepped now x told stage_is =
     let same : is_same x.ssrc x.format.payload_type x.ssrc x.format.payload_type ≡ true = same_is x.ssrc x.format.payload_type in
-    let event : Event = events.Begun x.ssrc x.format.payload_type x.names in
+    let event : Event = events.Begun x.ssrc x.format.payload_type in
     record {
       ssrc_is = refl;
       format = refl;

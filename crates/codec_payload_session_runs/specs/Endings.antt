@@ -166,7 +166,7 @@ RunsWithRoom (c ∷ cs) s t = HasRoom s × ((mid : Session) × Does c.step s c.a
 abbrev pub ends_it : (ssrc payload_type : ℕ) → Option Event → Bool
 ends_it ssrc payload_type None = false
 ends_it ssrc payload_type (Some (events.Ended s p why)) = is_same ssrc payload_type s p
-ends_it ssrc payload_type (Some (events.Begun s p names)) = false
+ends_it ssrc payload_type (Some (events.Begun s p)) = false
 ends_it ssrc payload_type (Some (events.Unit s p time decodable keyframe unit)) = false
 ends_it ssrc payload_type (Some (events.TooLarge s p unit)) = false
 ends_it ssrc payload_type (Some (events.Refused s p fault)) = false

@@ -91,7 +91,7 @@ unit_or_memory (Err e) = Err e
 
 abbrev pub released_by : (ssrc payload_type : ℕ) → Ticks → Option Event → List ReceiverCall
 released_by ssrc payload_type now None = []
-released_by ssrc payload_type now (Some (events.Begun s p names)) = []
+released_by ssrc payload_type now (Some (events.Begun s p)) = []
 released_by ssrc payload_type now (Some (events.Unit s p time decodable keyframe unit)) = one_call (is_same ssrc payload_type s p) (pops now (Some (unit_or_memory unit)))
 released_by ssrc payload_type now (Some (events.TooLarge s p unit)) = one_call (is_same ssrc payload_type s p) (pops now (Some (Ok (popped.TooLarge unit))))
 released_by ssrc payload_type now (Some (events.Refused s p fault)) = one_call (is_same ssrc payload_type s p) (pops now (Some (Ok (popped.Refused fault))))
@@ -271,7 +271,7 @@ one_event false event = []
 
 abbrev pub events_by : (ssrc payload_type : ℕ) → Option Event → List Event
 events_by ssrc payload_type None = []
-events_by ssrc payload_type (Some (events.Begun s p names)) = one_event (is_same ssrc payload_type s p) (events.Begun s p names)
+events_by ssrc payload_type (Some (events.Begun s p)) = one_event (is_same ssrc payload_type s p) (events.Begun s p)
 events_by ssrc payload_type (Some (events.Unit s p time decodable keyframe unit)) = one_event (is_same ssrc payload_type s p) (events.Unit s p time decodable keyframe unit)
 events_by ssrc payload_type (Some (events.TooLarge s p unit)) = one_event (is_same ssrc payload_type s p) (events.TooLarge s p unit)
 events_by ssrc payload_type (Some (events.Refused s p fault)) = one_event (is_same ssrc payload_type s p) (events.Refused s p fault)
@@ -298,7 +298,7 @@ events_of ssrc payload_type (c ∷ cs) = events_in ssrc payload_type c.answer ++
 -- whether a stream is announced before the events, and after them
 abbrev pub AreInOrder : Bool → List Event → Bool → Type 0
 AreInOrder told [] after = after ≡ told
-AreInOrder told (events.Begun s p names ∷ es) after = (told ≡ false) × AreInOrder true es after
+AreInOrder told (events.Begun s p ∷ es) after = (told ≡ false) × AreInOrder true es after
 AreInOrder told (events.Unit s p time decodable keyframe unit ∷ es) after = (told ≡ true) × AreInOrder true es after
 AreInOrder told (events.TooLarge s p unit ∷ es) after = (told ≡ true) × AreInOrder true es after
 AreInOrder told (events.Refused s p fault ∷ es) after = (told ≡ true) × AreInOrder true es after
@@ -311,7 +311,7 @@ AreInOrder told (events.TransportFeedback packet ∷ es) after = ⊥
 -- the same, without an end
 abbrev pub AreOfOne : Bool → List Event → Bool → Type 0
 AreOfOne told [] after = after ≡ told
-AreOfOne told (events.Begun s p names ∷ es) after = (told ≡ false) × AreOfOne true es after
+AreOfOne told (events.Begun s p ∷ es) after = (told ≡ false) × AreOfOne true es after
 AreOfOne told (events.Unit s p time decodable keyframe unit ∷ es) after = (told ≡ true) × AreOfOne true es after
 AreOfOne told (events.TooLarge s p unit ∷ es) after = (told ≡ true) × AreOfOne true es after
 AreOfOne told (events.Refused s p fault ∷ es) after = (told ≡ true) × AreOfOne true es after

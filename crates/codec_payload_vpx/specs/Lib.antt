@@ -1,5 +1,4 @@
 pub mod BitFields
-pub mod FieldReaders
 pub mod Reading
 pub mod Syntax
 pub mod Vp8Frames

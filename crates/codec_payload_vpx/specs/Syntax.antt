@@ -1,79 +1,17 @@
--- Syntax tables, as the standards write them: fields of n bits, highest first, skipped bits of any value, and steps that depend on
--- the values of fields.
-use Rattle.std.specs.Prelude.{◌≡◌, ℕ, ◌^◌, ◌<◌, ◌==◌, nat_lt, Bool, true, false, List, ◌++◌, length, take, drop, if◌then◌else◌, Result, Ok, Err}
-use Rattle.codec_payload_base.specs.Bits.{bits, number_of}
+-- Syntax tables of frames: their faults are media errors, and bits that end in a field are missing bytes.
+use Rattle.std.specs.Prelude.{ℕ, List, Result}
+use Rattle.codec_payload_syntax.specs.Syntax as tables
 use Rattle.codec_payload_vpx.specs.declared.error.MediaError.{MediaError}
 use Rattle.codec_payload_vpx.specs.declared.error.MediaError.TheVariants as errors
 
 -- a table whose value is an A
-pub data Syntax : Type 0 → Type 1 where
-  tells : {A : Type 0} → A → Syntax A
-  refuses : {A : Type 0} → MediaError → Syntax A
-  field : ℕ → Syntax ℕ
-  skips : ℕ → Syntax ℕ
-  branch : {A : Type 0} → Bool → Syntax A → Syntax A → Syntax A
-  follows : {A B : Type 0} → Syntax A → (A → Syntax B) → Syntax B
-
-infixl 10 ◌>>=◌
-abbrev pub ◌>>=◌ : {A B : Type 0} → Syntax A → (A → Syntax B) → Syntax B
-s >>= f = follows s f
-
--- a step, and the next step after it
-abbrev pub then_read : {A B : Type 0} → Result (A × List ℕ) MediaError → (A → List ℕ → Result (B × List ℕ) MediaError) → Result (B × List ℕ) MediaError
-then_read (Ok x) f = f x.0 x.1
-then_read (Err e) f = Err e
+abbrev pub Syntax : Type 0 → Type 1
+Syntax A = tables.Syntax MediaError A
 
 -- the value that a table gives to bits, and the bits after it, or the first fault
 abbrev pub read : {A : Type 0} → Syntax A → List ℕ → Result (A × List ℕ) MediaError
-read (tells x) bs = Ok (x, bs)
-read (refuses e) bs = Err e
-read (field n) bs = if nat_lt (length bs) n then Err errors.MissingBytes else Ok (number_of (take n bs), drop n bs)
-read (skips n) bs = if nat_lt (length bs) n then Err errors.MissingBytes else Ok (0, drop n bs)
-read (branch b s t) bs = if b then read s bs else read t bs
-read (follows s f) bs = then_read (read s bs) (λ x rest. read (f x) rest)
-
--- the first if the test is met, else the second
-abbrev pub IfMet : Bool → Type 0 → Type 0 → Type 0
-IfMet true P Q = P
-IfMet false P Q = Q
-
--- The bits are spelled by the table with this value, and then the rest.
-abbrev pub Spells : {A : Type 0} → Syntax A → List ℕ → A → List ℕ → Type 0
-Spells (tells x) bs y rest = (x ≡ y) × (bs ≡ rest)
-Spells (refuses e) bs y rest = ⊥
-Spells (field n) bs y rest = (y < 2 ^ n) × (bs ≡ bits n y ++ rest)
-Spells (skips n) bs y rest = (y ≡ 0) × (passed : List ℕ) × (length passed ≡ n) × (bs ≡ passed ++ rest)
-Spells (branch b s t) bs y rest = IfMet b (Spells s bs y rest) (Spells t bs y rest)
-Spells (follows {A} s f) bs y rest = (x : A) × (middle : List ℕ) × Spells s bs x middle × Spells (f x) middle y rest
-
--- ---- tables that stand often in others
-
--- a field that has that value, or a fault
-abbrev pub expects : ℕ → ℕ → MediaError → Syntax ℕ
-expects n value fault = do
-  x ← field n
-  branch (x == value) (tells x) (refuses fault)
-
-abbrev pub flag : Syntax Bool
-flag = do
-  x ← field 1
-  tells (x == 1)
-
--- ---- readers
-
--- a result, and the bits that are left
-abbrev pub paired : {A : Type 0} → Result A MediaError → List ℕ → Result (A × List ℕ) MediaError
-paired (Ok x) rest = Ok (x, rest)
-paired (Err e) rest = Err e
-
-abbrev pub without_rest : {A : Type 0} → Result (A × List ℕ) MediaError → Result A MediaError
-without_rest (Ok x) = Ok x.0
-without_rest (Err e) = Err e
+read s bs = tables.read errors.MissingBytes s bs
 
 -- the value that the table gives to the bits at the front
-abbrev pub told_by : {A : Type 0} → Syntax A → List ℕ → Result A MediaError
-told_by s bs = without_rest (read s bs)
-
--- The bits begin with a spelling of this value by the table.
-abbrev pub IsSpelled : {A : Type 0} → Syntax A → List ℕ → A → Type 0
-IsSpelled s bs x = (rest : List ℕ) × Spells s bs x rest
+abbrev pub value_of : {A : Type 0} → Syntax A → List ℕ → Result A MediaError
+value_of s bs = tables.value_of errors.MissingBytes s bs

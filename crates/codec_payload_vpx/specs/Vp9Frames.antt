@@ -4,7 +4,8 @@ use Rattle.codec_payload_vpx.specs.declared.error.MediaError.TheVariants as erro
 use Rattle.codec_payload_vpx.specs.declared.vp9.Vp9Color.{Vp9Color}
 use Rattle.codec_payload_vpx.specs.declared.vp9.Vp9Picture.{Vp9Picture}
 use Rattle.codec_payload_vpx.specs.declared.vp9.Vp9FrameHeader.{Vp9FrameHeader}
-use Rattle.codec_payload_vpx.specs.Syntax.{Syntax, tells, refuses, field, branch, ◌>>=◌, expects, flag}
+use Rattle.codec_payload_syntax.specs.Syntax.{value, refuses, field, branch, ◌>>=◌, expects, flag}
+use Rattle.codec_payload_vpx.specs.Syntax.{Syntax}
 
 -- frame_sync_code
 abbrev pub sync_code : Syntax ℕ
@@ -18,12 +19,12 @@ abbrev pub is_odd : ℕ → Bool
 is_odd profile = (profile == 1) || (profile == 3)
 
 abbrev pub bit_depth : ℕ → Syntax ℕ
-bit_depth profile = branch (nat_le 2 profile) deep (tells 8)
+bit_depth profile = branch (nat_le 2 profile) deep (value 8)
   where
     deep : Syntax ℕ
     deep = do
       twelve ← flag
-      tells (if twelve then 12 else 10)
+      value (if twelve then 12 else 10)
 
 -- color space 7 is RGB
 abbrev pub rgb : ℕ
@@ -35,7 +36,7 @@ rgb_color profile depth = branch (is_odd profile) in_full (refuses errors.Reserv
     in_full : Syntax Vp9Color
     in_full = do
       reserved ← expects 1 0 errors.ReservedValue
-      tells (record { bit_depth = depth; color_space = rgb; full_range = true; subsampling_x = false; subsampling_y = false })
+      value (record { bit_depth = depth; color_space = rgb; full_range = true; subsampling_x = false; subsampling_y = false })
 
 -- profiles 1 and 3 do not have 4:2:0
 abbrev pub with_subsampling : ℕ → ℕ → Bool → Syntax Vp9Color
@@ -43,12 +44,12 @@ with_subsampling depth space full = do
   x ← flag
   y ← flag
   reserved ← expects 1 0 errors.ReservedValue
-  branch (x && y) (refuses errors.ReservedValue) (tells (record { bit_depth = depth; color_space = space; full_range = full; subsampling_x = x; subsampling_y = y }))
+  branch (x && y) (refuses errors.ReservedValue) (value (record { bit_depth = depth; color_space = space; full_range = full; subsampling_x = x; subsampling_y = y }))
 
 abbrev pub yuv_color : ℕ → ℕ → ℕ → Syntax Vp9Color
 yuv_color profile depth space = do
   full ← flag
-  branch (is_odd profile) (with_subsampling depth space full) (tells (record { bit_depth = depth; color_space = space; full_range = full; subsampling_x = true; subsampling_y = true }))
+  branch (is_odd profile) (with_subsampling depth space full) (value (record { bit_depth = depth; color_space = space; full_range = full; subsampling_x = true; subsampling_y = true }))
 
 -- color_config
 abbrev pub color_config : ℕ → Syntax Vp9Color
@@ -61,19 +62,19 @@ color_config profile = do
 abbrev pub side : Syntax ℕ
 side = do
   less ← field 16
-  tells (less + 1)
+  value (less + 1)
 
 -- render_size, which is the size of the frame if it is absent
 abbrev pub render_size : ℕ → ℕ → Syntax (ℕ × ℕ)
 render_size width height = do
   different ← flag
-  branch different told (tells (width, height))
+  branch different told (value (width, height))
   where
     told : Syntax (ℕ × ℕ)
     told = do
       width ← side
       height ← side
-      tells (width, height)
+      value (width, height)
 
 -- frame_size and render_size
 abbrev pub picture : Vp9Color → Syntax Vp9Picture
@@ -81,7 +82,7 @@ picture color = do
   width ← side
   height ← side
   render ← render_size width height
-  tells (record { color = color; width = width; height = height; render_width = render.0; render_height = render.1 })
+  value (record { color = color; width = width; height = height; render_width = render.0; render_height = render.1 })
 
 abbrev pub keyframe_picture : ℕ → Syntax Vp9Picture
 keyframe_picture profile = do
@@ -94,7 +95,7 @@ abbrev pub default_color : Vp9Color
 default_color = record { bit_depth = 8; color_space = 1; full_range = false; subsampling_x = true; subsampling_y = true }
 
 abbrev pub intra_color : ℕ → Syntax Vp9Color
-intra_color profile = branch (profile == 0) (tells default_color) (color_config profile)
+intra_color profile = branch (profile == 0) (value default_color) (color_config profile)
 
 abbrev pub intra_picture : ℕ → Syntax Vp9Picture
 intra_picture profile = do
@@ -105,31 +106,31 @@ intra_picture profile = do
 
 -- intra_only, which is present if the frame is not shown
 abbrev pub intra_flag : Bool → Syntax Bool
-intra_flag shown = branch shown (tells false) flag
+intra_flag shown = branch shown (value false) flag
 
 abbrev pub picture_if : Bool → ℕ → Syntax (Option Vp9Picture)
-picture_if intra profile = branch intra some (tells None)
+picture_if intra profile = branch intra some (value None)
   where
     some : Syntax (Option Vp9Picture)
     some = do
       p ← intra_picture profile
-      tells (Some p)
+      value (Some p)
 
 -- reset_frame_context, if error_resilient_mode is clear
 abbrev pub reset_if : Bool → Syntax ℕ
-reset_if there = branch there (field 2) (tells 0)
+reset_if there = branch there (field 2) (value 0)
 
 abbrev pub inter_frame : ℕ → Bool → Bool → Syntax Vp9FrameHeader
 inter_frame profile shown resilient = do
   intra ← intra_flag shown
   reset ← reset_if (not resilient)
   p ← picture_if intra profile
-  tells (record { profile = profile; existing = None; keyframe = false; shown = shown; error_resilient = resilient; intra_only = intra; picture = p })
+  value (record { profile = profile; existing = None; keyframe = false; shown = shown; error_resilient = resilient; intra_only = intra; picture = p })
 
 abbrev pub key_frame : ℕ → Bool → Bool → Syntax Vp9FrameHeader
 key_frame profile shown resilient = do
   p ← keyframe_picture profile
-  tells (record { profile = profile; existing = None; keyframe = true; shown = shown; error_resilient = resilient; intra_only = false; picture = Some p })
+  value (record { profile = profile; existing = None; keyframe = true; shown = shown; error_resilient = resilient; intra_only = false; picture = Some p })
 
 -- frame_type is 0 in a keyframe
 abbrev pub coded_frame : ℕ → Syntax Vp9FrameHeader
@@ -143,19 +144,19 @@ coded_frame profile = do
 abbrev pub shown_again : ℕ → Syntax Vp9FrameHeader
 shown_again profile = do
   index ← field 3
-  tells (record { profile = profile; existing = Some index; keyframe = false; shown = true; error_resilient = false; intra_only = false; picture = None })
+  value (record { profile = profile; existing = Some index; keyframe = false; shown = true; error_resilient = false; intra_only = false; picture = None })
 
 -- the bit after profile 3 is reserved
 abbrev pub profile_at : Syntax ℕ
 profile_at = do
   low ← field 1
   high ← field 1
-  branch ((high == 1) && (low == 1)) profile_3 (tells (2 * high + low))
+  branch ((high == 1) && (low == 1)) profile_3 (value (2 * high + low))
   where
     profile_3 : Syntax ℕ
     profile_3 = do
       reserved ← expects 1 0 errors.ReservedValue
-      tells 3
+      value 3
 
 -- uncompressed_header, up to the last field that is needed here
 unfoldable pub frame_header : Syntax Vp9FrameHeader

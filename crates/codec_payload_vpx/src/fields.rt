@@ -1,33 +1,34 @@
-//! Fields of a given number of bits, as in the tables of standards.
+//! Fields of frames: bytes that end in a field are missing bytes.
 
 ghost use Rattle.std.specs.Prelude.{◌≡◌, ◌≤◌, ◌<◌, ◌^◌, IfOk};
-ghost use Rattle.codec_payload_vpx.specs.FieldReaders.{left};
-ghost use Rattle.codec_payload_vpx.specs.Syntax.{expects, field, flag, paired, read, skips};
+ghost use Rattle.codec_payload_syntax.specs.FieldReaders.{left};
+ghost use Rattle.codec_payload_syntax.specs.Syntax.{expects, field, flag, paired, skips};
+ghost use Rattle.codec_payload_vpx.specs.Syntax.{read};
 
 use crate::error::MediaError;
-use crate::reader::FieldReader;
+use codec_payload_syntax::fields;
+use codec_payload_syntax::reader::FieldReader;
+
+/// The fault of bytes that end in a field.
+const SHORT: MediaError = MediaError::MissingBytes;
 
 /// A field of at most eight bits.
 #[inline(always)]
-#[tactic(auto, using(crate::proofs::ReaderLemmas::in_a_byte))]
 pub fn read_field(reader: &mut FieldReader<'_>, bits: usize) -> Result<u8, MediaError>
     requires { bits ≤ 8 }
     ensures value { paired result (left reader.new) ≡ read (field bits) (left reader.old) }
     ensures below { IfOk result (λ v. v < 2 ^ bits) }
 {
-    let value = reader.take_bits(bits)?;
-    Ok(value as u8)
+    fields::read_field(reader, bits, SHORT)
 }
 
 /// A field of at most sixteen bits.
 #[inline(always)]
-#[tactic(auto, using(crate::proofs::ReaderLemmas::in_two_bytes))]
 pub fn read_wide(reader: &mut FieldReader<'_>, bits: usize) -> Result<u16, MediaError>
     requires { bits ≤ 16 }
     ensures { paired result (left reader.new) ≡ read (field bits) (left reader.old) }
 {
-    let value = reader.take_bits(bits)?;
-    Ok(value as u16)
+    fields::read_wide(reader, bits, SHORT)
 }
 
 /// A field of one bit.
@@ -35,8 +36,7 @@ pub fn read_wide(reader: &mut FieldReader<'_>, bits: usize) -> Result<u16, Media
 pub fn read_flag(reader: &mut FieldReader<'_>) -> Result<bool, MediaError>
     ensures { paired result (left reader.new) ≡ read flag (left reader.old) }
 {
-    let bit = read_field(reader, 1)?;
-    Ok(bit == 1)
+    fields::read_flag(reader, SHORT)
 }
 
 /// A field that has that value, or that fault.
@@ -50,12 +50,7 @@ pub fn expect_field(
     requires { bits ≤ 8 }
     ensures { paired result (left reader.new) ≡ read (expects bits value fault) (left reader.old) }
 {
-    let found = read_field(reader, bits)?;
-    if found == value {
-        Ok(found)
-    } else {
-        Err(fault)
-    }
+    fields::expect_field(reader, bits, value, fault, SHORT)
 }
 
 /// Skips a given number of bits.
@@ -63,5 +58,5 @@ pub fn expect_field(
 pub fn skip_bits(reader: &mut FieldReader<'_>, bits: usize) -> Result<u8, MediaError>
     ensures { paired result (left reader.new) ≡ read (skips bits) (left reader.old) }
 {
-    reader.skip_bits(bits)
+    reader.skip_bits(bits, SHORT)
 }

@@ -3,15 +3,16 @@
 
 ghost use Rattle.std.specs.Prelude.{◌≡◌, Ok, IfOk};
 ghost use Rattle.codec_payload_base.specs.Bits.{bits_of};
-ghost use Rattle.codec_payload_vpx.specs.FieldReaders.{left};
-ghost use Rattle.codec_payload_vpx.specs.Syntax.{IsSpelled, paired, read, told_by};
+ghost use Rattle.codec_payload_syntax.specs.FieldReaders.{left};
+ghost use Rattle.codec_payload_syntax.specs.Syntax.{IsSpelled, paired};
+ghost use Rattle.codec_payload_vpx.specs.Syntax.{read, value_of};
 ghost use Rattle.codec_payload_vpx.specs.Vp9Frames.{bit_depth, coded_frame, color_config, frame_header, inter_frame, is_odd, intra_color, intra_flag, intra_picture, key_frame, keyframe_picture, picture, picture_if, profile_at, render_size, reset_if, rgb_color, shown_again, side, sync_code, with_subsampling, yuv_color};
 
 mod superframe;
 
 use crate::error::MediaError;
 use crate::fields::{expect_field, read_field, read_flag, read_wide};
-use crate::reader::FieldReader;
+use codec_payload_syntax::reader::FieldReader;
 pub use superframe::{Vp9FrameAt, Vp9Frames, frame_at};
 
 /// The color format of a picture.
@@ -407,7 +408,7 @@ impl Vp9FrameHeader {
 
     /// Reads the front of a header.
     fn read(frame: &[u8]) -> Result<Vp9FrameHeader, MediaError>
-        ensures { result ≡ told_by frame_header (bits_of frame.now) }
+        ensures { result ≡ value_of frame_header (bits_of frame.now) }
     {
         let mut reader = FieldReader::new(frame);
         Vp9FrameHeader::read_fields(&mut reader)
@@ -424,7 +425,7 @@ impl Vp9FrameHeader {
         // Everything with this spelling is read.
         ensures accepted { (h : Vp9FrameHeader) → IsSpelled frame_header (bits_of frame.now) h → result ≡ Ok h }
         // Which fault comes first.
-        ensures exact { result ≡ told_by frame_header (bits_of frame.now) }
+        ensures exact { result ≡ value_of frame_header (bits_of frame.now) }
     {
         Vp9FrameHeader::read(frame)
     }

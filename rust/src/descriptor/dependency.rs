@@ -2,13 +2,13 @@
 
 //! The dependency descriptor of a frame (AV1 RTP specification, appendix A.8.2), and the state that a stream of them needs.
 
-use crate::bits::BitReader;
 use crate::descriptor::error::{DescriptorError, DescriptorFault};
 use crate::descriptor::fields::{
     read_field, read_flag, read_mask, read_numbers, read_references, read_wide,
 };
 use crate::descriptor::numbers::Numbers;
 use crate::descriptor::structure::{Layer, TemplateStructure};
+use crate::syntax::reader::FieldReader;
 
 /// The fields that every descriptor has.
 #[derive(Clone, Copy, Debug)]
@@ -53,7 +53,7 @@ pub struct DependencyDescriptor {
 }
 
 /// Reads the fields that every descriptor has.
-fn read_header(reader: &mut BitReader<'_>) -> Result<Header, DescriptorFault> {
+fn read_header(reader: &mut FieldReader<'_>) -> Result<Header, DescriptorFault> {
     let start_of_frame = read_flag(reader)?;
     let end_of_frame = read_flag(reader)?;
     let template_id = read_field(reader, 6)?;
@@ -67,7 +67,7 @@ fn read_header(reader: &mut BitReader<'_>) -> Result<Header, DescriptorFault> {
 }
 
 /// Reads which parts follow. A descriptor of three bytes has no such field.
-fn read_flags(reader: &mut BitReader<'_>, there: bool) -> Result<Flags, DescriptorFault> {
+fn read_flags(reader: &mut FieldReader<'_>, there: bool) -> Result<Flags, DescriptorFault> {
     if !there {
         return Ok(Flags {
             structure: false,
@@ -93,7 +93,7 @@ fn read_flags(reader: &mut BitReader<'_>, there: bool) -> Result<Flags, Descript
 
 /// Reads the active decode targets. With a new structure all are active, unless the descriptor says which.
 fn read_active(
-    reader: &mut BitReader<'_>,
+    reader: &mut FieldReader<'_>,
     flags: Flags,
     targets: u8,
 ) -> Result<Option<u32>, DescriptorFault> {
@@ -109,7 +109,7 @@ fn read_active(
 
 /// Reads a frame's own numbers, each of the same size, or returns the numbers of its template.
 fn read_numbers_or(
-    reader: &mut BitReader<'_>,
+    reader: &mut FieldReader<'_>,
     own: bool,
     count: u8,
     bits: usize,
@@ -123,7 +123,7 @@ fn read_numbers_or(
 
 /// Reads a frame's own references, or returns the references of its template.
 fn read_references_or(
-    reader: &mut BitReader<'_>,
+    reader: &mut FieldReader<'_>,
     own: bool,
     template: Numbers,
 ) -> Result<Numbers, DescriptorFault> {
@@ -135,7 +135,7 @@ fn read_references_or(
 
 /// Reads the part after the active decode targets.
 fn read_frame(
-    reader: &mut BitReader<'_>,
+    reader: &mut FieldReader<'_>,
     header: Header,
     flags: Flags,
     active: Option<u32>,
@@ -165,7 +165,7 @@ fn read_frame(
 
 /// Reads the part after the structure.
 fn read_with(
-    reader: &mut BitReader<'_>,
+    reader: &mut FieldReader<'_>,
     header: Header,
     flags: Flags,
     structure: Option<&TemplateStructure>,
@@ -179,7 +179,7 @@ fn read_with(
 
 /// Reads the structure, if the descriptor has one.
 fn read_structure_if(
-    reader: &mut BitReader<'_>,
+    reader: &mut FieldReader<'_>,
     there: bool,
 ) -> Result<Option<TemplateStructure>, DescriptorError> {
     if !there {
@@ -193,7 +193,7 @@ fn read_structure_if(
 
 /// Reads a descriptor over a reader of its bits.
 fn read_fields(
-    reader: &mut BitReader<'_>,
+    reader: &mut FieldReader<'_>,
     extended: bool,
     before: Option<&TemplateStructure>,
 ) -> Result<(DependencyDescriptor, Option<TemplateStructure>), DescriptorError> {
@@ -212,7 +212,7 @@ fn read_bytes(
     bytes: &[u8],
     before: Option<&TemplateStructure>,
 ) -> Result<(DependencyDescriptor, Option<TemplateStructure>), DescriptorError> {
-    let mut reader = BitReader::new(bytes);
+    let mut reader = FieldReader::new(bytes);
     read_fields(&mut reader, bytes.len() > 3, before)
 }
 

@@ -2,34 +2,29 @@
 
 //! Fields of a given number of bits, as in the tables of standards.
 
-use crate::bits::{BitRead, BitReader};
 use crate::descriptor::error::DescriptorFault;
 use crate::descriptor::numbers::Numbers;
+use crate::syntax::fields;
+use crate::syntax::reader::FieldReader;
 
 /// How many references a template or a frame has at most.
 pub(crate) const MOST_REFERENCES: usize = 16;
 
+/// The fault of bytes that end in a field.
+const SHORT: DescriptorFault = DescriptorFault::Short;
+
 /// Reads a field of at most eight bits.
-pub(crate) fn read_field(reader: &mut BitReader<'_>, bits: usize) -> Result<u8, DescriptorFault> {
-    match reader.get_bits(bits) {
-        Some(value) => Ok(value),
-        None => Err(DescriptorFault::Short),
-    }
+pub(crate) fn read_field(reader: &mut FieldReader<'_>, bits: usize) -> Result<u8, DescriptorFault> {
+    fields::read_field(reader, bits, SHORT)
 }
 
 /// Reads a field of at most sixteen bits.
-pub(crate) fn read_wide(reader: &mut BitReader<'_>, bits: usize) -> Result<u16, DescriptorFault> {
-    if bits <= 8 {
-        let value = read_field(reader, bits)?;
-        return Ok(u16::from(value));
-    }
-    let high = read_field(reader, bits - 8)?;
-    let low = read_field(reader, 8)?;
-    Ok(u16::from(high) * 256 + u16::from(low))
+pub(crate) fn read_wide(reader: &mut FieldReader<'_>, bits: usize) -> Result<u16, DescriptorFault> {
+    fields::read_wide(reader, bits, SHORT)
 }
 
 /// Reads a field of at most 32 bits.
-pub(crate) fn read_mask(reader: &mut BitReader<'_>, bits: usize) -> Result<u32, DescriptorFault> {
+pub(crate) fn read_mask(reader: &mut FieldReader<'_>, bits: usize) -> Result<u32, DescriptorFault> {
     if bits <= 16 {
         let value = read_wide(reader, bits)?;
         return Ok(u32::from(value));
@@ -40,13 +35,12 @@ pub(crate) fn read_mask(reader: &mut BitReader<'_>, bits: usize) -> Result<u32, 
 }
 
 /// Reads a field of one bit.
-pub(crate) fn read_flag(reader: &mut BitReader<'_>) -> Result<bool, DescriptorFault> {
-    let bit = read_field(reader, 1)?;
-    Ok(bit == 1)
+pub(crate) fn read_flag(reader: &mut FieldReader<'_>) -> Result<bool, DescriptorFault> {
+    fields::read_flag(reader, SHORT)
 }
 
 /// Reads a value below `count`: `ns(count)` of the AV1 bitstream specification, section 4.10.7.
-pub(crate) fn read_below(reader: &mut BitReader<'_>, count: u8) -> Result<u8, DescriptorFault> {
+pub(crate) fn read_below(reader: &mut FieldReader<'_>, count: u8) -> Result<u8, DescriptorFault> {
     let width = 8 - count.leading_zeros() as usize;
     let shorter = (1u16 << width) - u16::from(count);
     let front = read_field(reader, width - 1)?;
@@ -59,17 +53,13 @@ pub(crate) fn read_below(reader: &mut BitReader<'_>, count: u8) -> Result<u8, De
 }
 
 /// Skips a given number of bits.
-pub(crate) fn skip_bits(reader: &mut BitReader<'_>, bits: usize) -> Result<u8, DescriptorFault> {
-    if reader.skip_bits(bits) {
-        Ok(0)
-    } else {
-        Err(DescriptorFault::Short)
-    }
+pub(crate) fn skip_bits(reader: &mut FieldReader<'_>, bits: usize) -> Result<u8, DescriptorFault> {
+    reader.skip_bits(bits, SHORT)
 }
 
 /// Reads `count` fields of the same size.
 pub(crate) fn read_numbers(
-    reader: &mut BitReader<'_>,
+    reader: &mut FieldReader<'_>,
     count: usize,
     bits: usize,
 ) -> Result<Numbers, DescriptorFault> {
@@ -83,7 +73,7 @@ pub(crate) fn read_numbers(
 
 /// Reads `count` values below `limit`.
 pub(crate) fn read_numbers_below(
-    reader: &mut BitReader<'_>,
+    reader: &mut FieldReader<'_>,
     count: usize,
     limit: u8,
 ) -> Result<Numbers, DescriptorFault> {
@@ -97,7 +87,7 @@ pub(crate) fn read_numbers_below(
 
 /// Reads the next reference of a template, or a frame's own next reference; `None` at the end of the list.
 pub(crate) fn read_next_reference(
-    reader: &mut BitReader<'_>,
+    reader: &mut FieldReader<'_>,
     own: bool,
 ) -> Result<Option<u16>, DescriptorFault> {
     let size = if own {
@@ -115,7 +105,7 @@ pub(crate) fn read_next_reference(
 
 /// Reads the references of a template, or a frame's own references.
 pub(crate) fn read_references(
-    reader: &mut BitReader<'_>,
+    reader: &mut FieldReader<'_>,
     own: bool,
 ) -> Result<Numbers, DescriptorFault> {
     let mut numbers = Numbers::new();

@@ -2,13 +2,13 @@
 
 //! The template structure: what the frames of a stream have in common (AV1 RTP specification, appendix A.8.2).
 
-use crate::bits::BitReader;
 use crate::descriptor::error::{DescriptorError, DescriptorFault};
 use crate::descriptor::fields::{
     read_below, read_field, read_flag, read_numbers, read_numbers_below, read_references, skip_bits,
 };
 use crate::descriptor::numbers::Numbers;
 use crate::memory::TryVec;
+use crate::syntax::reader::FieldReader;
 use alloc::vec::Vec;
 
 /// How many templates a structure has at most.
@@ -46,7 +46,7 @@ impl Layer {
 }
 
 /// Reads the layers of the templates.
-fn read_layers(reader: &mut BitReader<'_>) -> Result<Vec<Layer>, DescriptorError> {
+fn read_layers(reader: &mut FieldReader<'_>) -> Result<Vec<Layer>, DescriptorError> {
     let mut layers = Vec::new();
     let mut layer = Layer {
         spatial_id: 0,
@@ -67,7 +67,7 @@ fn read_layers(reader: &mut BitReader<'_>) -> Result<Vec<Layer>, DescriptorError
 
 /// Reads the references of each template.
 fn read_reference_rows(
-    reader: &mut BitReader<'_>,
+    reader: &mut FieldReader<'_>,
     templates: usize,
 ) -> Result<Vec<Numbers>, DescriptorError> {
     let mut rows = Vec::new();
@@ -82,7 +82,7 @@ fn read_reference_rows(
 
 /// Reads `count` fields of the same size for each template.
 fn read_rows(
-    reader: &mut BitReader<'_>,
+    reader: &mut FieldReader<'_>,
     templates: usize,
     count: usize,
     bits: usize,
@@ -99,7 +99,7 @@ fn read_rows(
 
 /// Reads the chain that protects each decode target. Without chains the list is empty.
 fn read_protected(
-    reader: &mut BitReader<'_>,
+    reader: &mut FieldReader<'_>,
     targets: usize,
     chains: u8,
 ) -> Result<Numbers, DescriptorFault> {
@@ -114,7 +114,7 @@ type Rows = Vec<Numbers>;
 
 /// Reads the layers of the templates, the indications of each template, and its references.
 fn read_templates(
-    reader: &mut BitReader<'_>,
+    reader: &mut FieldReader<'_>,
     targets: usize,
 ) -> Result<(Vec<Layer>, Rows, Rows), DescriptorError> {
     let layers = read_layers(reader)?;
@@ -125,7 +125,7 @@ fn read_templates(
 
 /// Reads the number of chains, the chain of each decode target, and the distances of each template in the chains.
 fn read_chains(
-    reader: &mut BitReader<'_>,
+    reader: &mut FieldReader<'_>,
     templates: usize,
     targets: u8,
 ) -> Result<(u8, Numbers, Rows), DescriptorError> {
@@ -144,7 +144,7 @@ fn highest(layers: &[Layer]) -> u8 {
 }
 
 /// Skips the size of the pictures of each spatial layer, if the structure has them.
-fn skip_resolutions(reader: &mut BitReader<'_>, layers: &[Layer]) -> Result<u8, DescriptorFault> {
+fn skip_resolutions(reader: &mut FieldReader<'_>, layers: &[Layer]) -> Result<u8, DescriptorFault> {
     if !read_flag(reader)? {
         return Ok(0);
     }
@@ -175,7 +175,7 @@ pub struct TemplateStructure {
 
 impl TemplateStructure {
     /// Reads a structure.
-    pub(crate) fn read(reader: &mut BitReader<'_>) -> Result<TemplateStructure, DescriptorError> {
+    pub(crate) fn read(reader: &mut FieldReader<'_>) -> Result<TemplateStructure, DescriptorError> {
         let first = read_field(reader, 6)?;
         let targets = read_field(reader, 5)? + 1;
         TemplateStructure::read_rest(reader, first, targets)
@@ -183,7 +183,7 @@ impl TemplateStructure {
 
     /// Reads the part after the number of decode targets.
     fn read_rest(
-        reader: &mut BitReader<'_>,
+        reader: &mut FieldReader<'_>,
         first: u8,
         targets: u8,
     ) -> Result<TemplateStructure, DescriptorError> {

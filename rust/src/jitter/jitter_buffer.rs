@@ -5,7 +5,9 @@
 
 use alloc::vec::Vec;
 
+mod answers;
 mod due;
+mod former;
 mod restarting;
 mod unit_pops;
 
@@ -16,10 +18,8 @@ use crate::codec::{CodecDepacketizer, Depacketizer, NoBox};
 use crate::error::PacketError;
 use crate::jitter::missing::MissingNumbers;
 use crate::jitter::no_media_numbers::{NoMediaNumbers, is_late};
-use crate::jitter::noted_times::{NotedTime, NotedTimes, is_soon_after, is_untimely};
-use crate::jitter::numbers::{
-    Extended, SequenceNumbers, lowest_with, number_within, without_restart,
-};
+use crate::jitter::noted_times::{NotedTime, NotedTimes};
+use crate::jitter::numbers::{Extended, SequenceNumbers, lowest_with};
 pub use crate::jitter::outcome::{Outcome, PacketCounters};
 use crate::jitter::outcome::{
     count, is_stored, outcome_of, packets_in, packets_into, units_in, units_into, with_again,
@@ -173,8 +173,8 @@ impl<B: Depacketizer> JitterBuffer<B> {
         Ok(())
     }
 
-    /// Stores a retransmitted packet under its original number, if that number is within the windows; if not, the outcome is
-    /// `Late`. The packet neither starts nor confirms the detection of a restart, and leaves a suspect packet alone.
+    /// Stores a retransmitted packet under its original number, if that number is within the windows; if not, or if the packet is
+    /// of a former sender, the outcome is `Late`. The packet neither starts nor confirms the detection of a restart, and leaves a suspect packet alone.
     ///
     /// # Errors
     ///
@@ -186,7 +186,7 @@ impl<B: Depacketizer> JitterBuffer<B> {
         payload: Vec<u8>,
     ) -> Result<Outcome, PacketError> {
         let low = header.sequence_number;
-        let Some(number) = self.number_again(low) else {
+        let Some(number) = self.number_again_for(low, header.timestamp) else {
             self.count_late();
             return Ok(Outcome::Late);
         };
@@ -206,8 +206,8 @@ impl<B: Depacketizer> JitterBuffer<B> {
 
     /// Stores a packet that never arrived, from a redundant block of RED (RFC 2198) in another packet. Returns whether the
     /// packet was stored: if its number is within the windows and it is missing, it is stored and counted as recovered. If not,
-    /// nothing changes. A number that is known to carry no media is not missing. The packet neither starts nor confirms the
-    /// detection of a restart.
+    /// nothing changes. A number that is known to carry no media is not missing. A packet of a former sender is not stored. The
+    /// packet neither starts nor confirms the detection of a restart.
     ///
     /// # Errors
     ///
@@ -219,7 +219,7 @@ impl<B: Depacketizer> JitterBuffer<B> {
         payload: Vec<u8>,
     ) -> Result<bool, PacketError> {
         let low = header.sequence_number;
-        let Some(number) = self.number_again(low) else {
+        let Some(number) = self.number_again_for(low, header.timestamp) else {
             return Ok(false);
         };
         if !self.may_recover(number) {
@@ -268,7 +268,8 @@ impl<B: Depacketizer> JitterBuffer<B> {
     }
 
     /// Returns the highest extended number so far.
-    pub(crate) fn greatest(&self) -> Option<u64> {
+    #[inline(always)]
+    pub fn greatest(&self) -> Option<u64> {
         self.numbers.greatest()
     }
 
@@ -378,64 +379,6 @@ impl<B: Depacketizer> JitterBuffer<B> {
         self.buffer.held()
     }
 
-    /// Returns the extended number, or the answer without one, for the next packet with the low bits `low`.
-    #[inline(always)]
-    fn answer_to(&self, low: u16) -> Extended {
-        if self.is_restarting {
-            return self.numbers.answer_anew(low);
-        }
-        let answer = self.numbers.answer_for(low);
-        if self.ended {
-            without_restart(answer)
-        } else {
-            answer
-        }
-    }
-
-    /// Returns the same for a packet with media: if its number arrived before with another RTP time, or if it is below the first
-    /// one with an RTP time that does not fit, the packet is suspect, or it confirms that the sender has restarted.
-    #[inline(always)]
-    fn answer_to_packet(&self, header: &PackedHeader) -> Extended {
-        let answer = self.answer_to(header.sequence_number());
-        let Extended::Number(number) = answer else {
-            return answer;
-        };
-        if !self.is_contradicted(number, header.timestamp()) {
-            return answer;
-        }
-        if self.follows_kept(header) {
-            self.numbers.answer_anew(header.sequence_number())
-        } else {
-            Extended::Suspect
-        }
-    }
-
-    /// Returns whether the number arrived before with another RTP time, or is below the first one with an RTP time that is not
-    /// from 5 seconds before the first one's up to that time. Always false while no restart is detected.
-    #[inline(always)]
-    fn is_contradicted(&self, number: u64, time: u32) -> bool {
-        let packet = NotedTime { number, time };
-        !(self.ended || self.is_restarting)
-            && (self.noted_times.contradicts(packet)
-                || is_untimely(self.clock_rate, self.first, packet))
-    }
-
-    /// Returns whether the packet comes soon after the suspect packet.
-    fn follows_kept(&self, header: &PackedHeader) -> bool {
-        match &self.kept {
-            Some(kept) => is_soon_after(self.clock_rate, &kept.header, header),
-            None => false,
-        }
-    }
-
-    /// Returns the number of a retransmitted packet, if it is within the windows.
-    fn number_again(&self, low: u16) -> Option<u64> {
-        if self.is_restarting {
-            return None;
-        }
-        number_within(self.numbers.answer_for(low))
-    }
-
     /// Returns whether a packet with this number is missing: it would be stored, and the number is not one without media.
     fn may_recover(&self, number: u64) -> bool {
         is_stored(outcome_in(&self.buffer, SeqNo(number)))
@@ -462,7 +405,7 @@ impl<B: Depacketizer> JitterBuffer<B> {
     fn receive_as(&mut self, answer: Extended, packet: KeptPacket) -> Result<Outcome, PacketError> {
         match answer {
             Extended::Number(number) => self.store_and_note(number, packet),
-            Extended::Restarted(number) => self.restart_with(number, packet),
+            Extended::Restarted(number) => self.restart_after_former(number, packet),
             Extended::Suspect => {
                 self.keep(packet);
                 Ok(Outcome::Suspect)
@@ -524,7 +467,7 @@ impl<B: Depacketizer> JitterBuffer<B> {
     fn note_as(&mut self, answer: Extended) -> Result<(), PacketError> {
         match answer {
             Extended::Number(number) => self.note(number)?,
-            Extended::Restarted(number) => self.restart_without_media(number)?,
+            Extended::Restarted(number) => self.restart_without_media_after_former(number)?,
             Extended::Suspect => {
                 self.count_no_media();
                 self.kept = None;

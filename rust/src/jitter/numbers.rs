@@ -21,7 +21,8 @@ pub enum Extended {
     /// The packet is outside the windows, and gets no number. If the next suspect packet is its successor, the sender has
     /// restarted.
     Suspect,
-    /// The extended number would need more than 64 bits. Nothing has changed.
+    /// The packet gets no number, and nothing has changed: the extended number would need more than 64 bits. Inside a jitter
+    /// buffer it is also the answer for a packet of a former sender.
     Spent,
 }
 

@@ -18,7 +18,8 @@ pub enum Outcome {
     /// The packet was dropped: its number is at or below the cutoff.
     Late,
     /// Its number is outside the windows, or arrived before with another RTP time. The packet is kept until another suspect
-    /// packet replaces it or a restart stores it. Packets within the windows and retransmitted packets leave it alone.
+    /// packet replaces it or a restart stores it. Packets within the windows and retransmitted packets leave it alone. Or the
+    /// packet is of the former sender after a restart that was found, and was dropped.
     Suspect,
     /// The packet confirms that the sender has restarted, and was stored. True: the suspect packet before it was stored too.
     /// False: there was none, since the packet before it had no media, or the caller announced the restart.
@@ -54,7 +55,8 @@ pub struct PacketCounters {
     pub no_media: u64,
     pub duplicates: u64,
     pub late: u64,
-    /// Suspect packets that were not stored. A suspect packet that a restart stores is subtracted again.
+    /// Suspect packets that were not stored, and packets of a former sender. A suspect packet that a restart stores is subtracted
+    /// again.
     pub suspect: u64,
     pub evicted: u64,
     /// Restarts of the sender.

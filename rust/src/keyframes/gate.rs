@@ -3,6 +3,7 @@
 //! Follows the units that a receiver releases, and reports which of them a decoder can show.
 
 use crate::interface::CodecExtra;
+use crate::keyframes::references::{References, Referring, UnitReferences};
 use crate::keyframes::vp8_layers::{Vp8Layers, Vp8Picture};
 use crate::media::frame_info::{FrameInfo, frame_info};
 use crate::wire::Codec;
@@ -26,6 +27,19 @@ pub fn is_keyframe(codec: Codec, unit: &[u8]) -> bool {
     }
 }
 
+/// How units are followed since the latest keyframe. What the packets of the keyframe say decides.
+#[derive(Clone, Copy, Debug, PartialEq, Eq)]
+pub(crate) enum Followed {
+    /// Each by the unit before it.
+    Chain,
+    /// By the layers of VP8. The descriptors of all pictures have both ids.
+    Layers(Vp8Layers),
+    /// By the frame numbers of their dependency descriptors.
+    Frames(References),
+    /// By the picture ids and P_DIFFs of VP9 in the flexible mode.
+    Pictures(References),
+}
+
 /// Reports which released units a decoder can show, and whether the receiver has to request a keyframe (by PLI or FIR: RFC 4585,
 /// section 6.3.1; RFC 5104, section 4.3.1).
 ///
@@ -37,8 +51,7 @@ pub struct KeyframeGate {
     codec: Codec,
     shows: bool,
     wants: bool,
-    /// What was released since the latest keyframe, if the descriptors of all its pictures have both ids.
-    layers: Option<Vp8Layers>,
+    followed: Followed,
 }
 
 impl KeyframeGate {
@@ -48,20 +61,34 @@ impl KeyframeGate {
             codec,
             shows: !is_video(codec),
             wants: false,
-            layers: None,
+            followed: Followed::Chain,
         }
     }
 
-    /// Records a released unit with its flag `contiguous` and its codec-specific data. Returns whether a decoder can show it. A
-    /// keyframe can be shown. If the descriptors of VP8 have PictureID and TL0PICIDX, a unit can be shown if each unit can to which it
-    /// may refer (RFC 7741, section 4.2). Without them it is contiguous, and the previous unit can be shown. If some units since the
-    /// keyframe have both ids and others do not, none can be shown.
-    pub fn release(&mut self, unit: &[u8], contiguous: bool, extra: &CodecExtra) -> bool {
+    /// Records a released unit with its flag `contiguous`, its codec-specific data, and what its packets say of its references:
+    /// [`UnitReferences::none`] if nobody read that. Returns whether a decoder can show it. A keyframe can be shown, and it decides how
+    /// the units after it are followed:
+    ///
+    /// - If it has a dependency descriptor, a unit can be shown if its number is above those before it, and each frame to which it refers
+    ///   was released in a unit that can be shown. A unit without a descriptor cannot be shown.
+    /// - If it has a picture id of VP9 in the flexible mode, the P_DIFFs name the pictures to which a unit refers. If P is clear in all
+    ///   layer frames of a unit, it refers to the unit before, and can be shown if it is contiguous too. After a unit without them none
+    ///   can be shown.
+    /// - If it has PictureID and TL0PICIDX of VP8, a unit can be shown if each unit can to which it may refer (RFC 7741, section 4.2).
+    ///   After a unit without both ids none can be shown.
+    /// - Else a unit can be shown if it is contiguous and the previous unit can be shown.
+    pub fn release(
+        &mut self,
+        unit: &[u8],
+        contiguous: bool,
+        extra: &CodecExtra,
+        references: &UnitReferences,
+    ) -> bool {
         if !is_video(self.codec) {
             return true;
         }
         let keyframe = is_keyframe(self.codec, unit);
-        self.release_as(keyframe, contiguous, Vp8Picture::of(extra))
+        self.release_as(keyframe, contiguous, extra, references)
     }
 
     /// Records a released unit that is a keyframe or not. Returns whether a decoder can show it.
@@ -69,7 +96,8 @@ impl KeyframeGate {
         &mut self,
         keyframe: bool,
         contiguous: bool,
-        picture: Option<Vp8Picture>,
+        extra: &CodecExtra,
+        references: &UnitReferences,
     ) -> bool {
         if !is_video(self.codec) {
             return true;
@@ -77,34 +105,97 @@ impl KeyframeGate {
         if keyframe {
             self.shows = true;
             self.wants = false;
-            self.layers = layers_from(picture);
+            self.followed = followed_by(extra, references);
         } else {
-            self.release_delta(contiguous, picture);
+            self.release_delta(contiguous, extra, references);
         }
         self.shows
     }
 
     /// Records a released unit of video that is not a keyframe.
-    fn release_delta(&mut self, contiguous: bool, picture: Option<Vp8Picture>) {
-        match (self.layers, picture) {
-            (None, None) => {
+    fn release_delta(&mut self, contiguous: bool, extra: &CodecExtra, references: &UnitReferences) {
+        match self.followed {
+            Followed::Chain => self.release_plain(contiguous, Vp8Picture::of(extra)),
+            Followed::Layers(layers) => self.release_layered(layers, Vp8Picture::of(extra)),
+            Followed::Frames(frames) => self.release_described(frames, references.descriptor),
+            Followed::Pictures(pictures) => {
+                let follows = contiguous && self.shows;
+                let picture = Referring::of_picture(extra, references.differences);
+                self.release_differing(pictures, follows, picture);
+            }
+        }
+    }
+
+    /// Records a unit that is followed by the unit before it.
+    fn release_plain(&mut self, contiguous: bool, picture: Option<Vp8Picture>) {
+        match picture {
+            Some(_) => self.break_off(),
+            None => {
                 self.shows = contiguous && self.shows;
                 self.wants = self.wants || !self.shows;
             }
-            (Some(layers), Some(picture)) => {
+        }
+    }
+
+    /// Records a unit that is followed by the layers of VP8.
+    fn release_layered(&mut self, layers: Vp8Layers, picture: Option<Vp8Picture>) {
+        match picture {
+            Some(picture) => {
                 self.shows = layers.shows(picture);
                 self.wants = !layers.has_base(picture) || (self.wants && picture.layer != 0);
-                self.layers = Some(layers.after(picture));
+                self.followed = Followed::Layers(layers.after(picture));
             }
-            (_, _) => self.break_off(),
+            None => self.break_off(),
+        }
+    }
+
+    /// Records a unit that is followed by its dependency descriptors.
+    fn release_described(&mut self, frames: References, unit: Option<Referring>) {
+        match unit {
+            Some(unit) => {
+                let shown = frames.shows(unit);
+                self.decide(unit, shown);
+                self.followed = Followed::Frames(frames.after(unit, shown));
+            }
+            None => self.hold_back(self.followed),
+        }
+    }
+
+    /// Records a unit that is followed by its P_DIFFs. `follows`: it is contiguous, and the unit before it can be shown.
+    fn release_differing(&mut self, pictures: References, follows: bool, unit: Option<Referring>) {
+        match unit {
+            Some(unit) => {
+                let shown = pictures.shows(unit) && (unit.distances != 0 || follows);
+                self.decide(unit, shown);
+                self.followed = Followed::Pictures(pictures.after(unit, shown));
+            }
+            None => self.break_off(),
+        }
+    }
+
+    /// Records whether a unit can be shown that names its references. A unit of the base decides whether a keyframe is needed.
+    fn decide(&mut self, unit: Referring, shown: bool) {
+        self.shows = shown;
+        if unit.is_base {
+            self.wants = !shown;
         }
     }
 
     /// Records that nothing can be shown until a keyframe.
     fn break_off(&mut self) {
+        self.hold_back(Followed::Chain);
+    }
+
+    /// Records that nothing is shown, and how the units after it are followed.
+    fn hold_back(&mut self, followed: Followed) {
         self.shows = false;
         self.wants = true;
-        self.layers = None;
+        self.followed = followed;
+    }
+
+    /// Returns whether it follows a stream of video.
+    pub(crate) fn is_of_video(&self) -> bool {
+        is_video(self.codec)
     }
 
     /// Returns whether a unit of the stream is a keyframe. A unit of audio is not, and is not inspected.
@@ -112,11 +203,11 @@ impl KeyframeGate {
         is_video(self.codec) && is_keyframe(self.codec, unit)
     }
 
-    /// Records that a unit was lost although its packets came: the depacketizer refused them. Units after it cannot be shown
-    /// until a keyframe.
+    /// Records that a unit was lost although its packets came: the depacketizer refused them. If units name their references, those
+    /// that refer to it cannot be shown. Otherwise none after it can be until a keyframe.
     pub fn lose(&mut self) {
         if is_video(self.codec) {
-            self.break_off();
+            self.hold_back(self.followed.past_loss());
         }
     }
 
@@ -129,7 +220,8 @@ impl KeyframeGate {
     }
 
     /// Whether a keyframe is needed: from the first event that needs one until a keyframe is released, or a unit of the base layer
-    /// that can be shown. A unit above the base layer that cannot be shown needs none, if its unit of the base layer can.
+    /// that can be shown. A unit above the base layer that cannot be shown needs none, if its unit of the base layer can, or if it names
+    /// its references.
     pub fn wants_keyframe(&self) -> bool {
         self.wants
     }
@@ -140,10 +232,26 @@ impl KeyframeGate {
     }
 }
 
-/// Returns what was released since a keyframe with this picture.
-fn layers_from(picture: Option<Vp8Picture>) -> Option<Vp8Layers> {
-    match picture {
-        Some(key) => Some(Vp8Layers::after_keyframe(key)),
-        None => None,
+impl Followed {
+    /// How units are followed after one was lost.
+    fn past_loss(self) -> Followed {
+        match self {
+            Followed::Chain | Followed::Layers(_) => Followed::Chain,
+            Followed::Frames(_) | Followed::Pictures(_) => self,
+        }
+    }
+}
+
+/// Returns how units are followed after a keyframe of which its packets say this.
+fn followed_by(extra: &CodecExtra, references: &UnitReferences) -> Followed {
+    if let Some(key) = references.descriptor {
+        return Followed::Frames(References::after_keyframe(key));
+    }
+    if let Some(key) = Referring::of_picture(extra, references.differences) {
+        return Followed::Pictures(References::after_keyframe(key));
+    }
+    match Vp8Picture::of(extra) {
+        Some(key) => Followed::Layers(Vp8Layers::after_keyframe(key)),
+        None => Followed::Chain,
     }
 }

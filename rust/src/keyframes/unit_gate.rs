@@ -4,7 +4,7 @@
 
 use crate::interface::CodecExtra;
 use crate::keyframes::gate::KeyframeGate;
-use crate::keyframes::vp8_layers::Vp8Picture;
+use crate::keyframes::references::UnitReferences;
 use crate::wire::Codec;
 
 /// What a receiver of video does with units that a decoder cannot show: those after a gap, until a keyframe.
@@ -39,11 +39,23 @@ impl UnitGate {
         }
     }
 
-    /// Records a released unit with its flag `contiguous` and its codec-specific data. Returns whether to pass it on.
-    pub fn release(&mut self, unit: &[u8], contiguous: bool, extra: &CodecExtra) -> bool {
+    /// Records a released unit with its flag `contiguous`, its codec-specific data, and what its packets say of its references. Returns
+    /// whether to pass it on. See [`KeyframeGate::release`].
+    pub fn release(
+        &mut self,
+        unit: &[u8],
+        contiguous: bool,
+        extra: &CodecExtra,
+        references: &UnitReferences,
+    ) -> bool {
+        self.is_keyframe = false;
+        if !self.gate.is_of_video() {
+            return true;
+        }
         self.is_keyframe = self.gate.is_key(unit);
-        let picture = Vp8Picture::of(extra);
-        let is_shown = self.gate.release_as(self.is_keyframe, contiguous, picture);
+        let is_shown = self
+            .gate
+            .release_as(self.is_keyframe, contiguous, extra, references);
         self.undecodable = undecodable_with(is_shown, self.undecodable);
         !self.drops || is_shown
     }

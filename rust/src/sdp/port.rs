@@ -67,7 +67,8 @@ impl From<AllocError> for SessionError {
 /// - Telephone events: polls return their packets.
 /// - Types without media: comfort noise, error correction.
 /// - Pairs of SSRCs: those of [`pairs`].
-/// - Ids of header extensions: those of all sections, of values and of names of streams (MID, RID and repaired RID).
+/// - Ids of header extensions: those of all sections, of values, of names of streams (MID, RID and repaired RID), and of the
+///   dependency descriptor.
 /// - Transport: [`TransportSettings::live`] with the id of transport-wide-cc, if a section has its `a=extmap` and a format of the
 ///   session has `a=rtcp-fb` with `transport-cc`. So pass the description that both sides agreed on, or the offer if you accept both.
 /// - Wait limits: for live audio and video, with retransmission if a format of the kind has `nack`.
@@ -120,6 +121,7 @@ pub fn session_settings(media: &[Media<'_>]) -> Result<SessionSettings, SessionE
     }
     settings.extension_ids = port.ids.extension_ids;
     settings.name_ids = name_ids(&port.ids);
+    settings.dependency_descriptor = port.ids.other_ids.dependency_descriptor;
     settings.transport = transport(&port.ids, port.has_transport_feedback);
     set_wait_limits(&mut settings);
     match settings.check() {

@@ -49,7 +49,7 @@ const STATIC_TYPES: [(u8, &str, u32, u8); 24] = [
 ];
 
 /// The header extensions whose ids are given, by URI.
-const URIS: [&str; 12] = [
+const URIS: [&str; 13] = [
     "http://www.webrtc.org/experiments/rtp-hdrext/abs-capture-time",
     "urn:3gpp:video-orientation",
     "http://www.webrtc.org/experiments/rtp-hdrext/video-content-type",
@@ -62,6 +62,7 @@ const URIS: [&str; 12] = [
     "http://www.ietf.org/id/draft-holmer-rmcat-transport-wide-cc-extensions-01",
     "http://www.webrtc.org/experiments/rtp-hdrext/abs-send-time",
     "urn:ietf:params:rtp-hdrext:toffset",
+    "https://aomediacodec.github.io/av1-rtp-spec/#dependency-descriptor-rtp-header-extension",
 ];
 
 /// The id of an extension of [`URIS`].
@@ -78,7 +79,8 @@ fn id_of<'m>(media: &'m mut Media<'_>, place: usize) -> &'m mut Option<u8> {
         8 => &mut media.other_ids.repaired_rid,
         9 => &mut media.other_ids.transport_cc,
         10 => &mut media.other_ids.send_time,
-        _ => &mut media.other_ids.transmission_offset,
+        11 => &mut media.other_ids.transmission_offset,
+        _ => &mut media.other_ids.dependency_descriptor,
     }
 }
 

@@ -28,15 +28,7 @@ pub(crate) fn transport_event(packet: Option<Result<Vec<u8>, AllocError>>) -> Op
 /// Returns an event with its unit, if it has one.
 pub(crate) fn with_unit(event: Event<()>, unit: PoppedUnit) -> Event {
     match event {
-        Event::Begun {
-            ssrc,
-            payload_type,
-            names,
-        } => Event::Begun {
-            ssrc,
-            payload_type,
-            names,
-        },
+        Event::Begun { ssrc, payload_type } => Event::Begun { ssrc, payload_type },
         Event::Unit {
             ssrc,
             payload_type,

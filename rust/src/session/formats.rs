@@ -129,6 +129,12 @@ pub struct SessionSettings {
     pub pairs: Vec<SsrcPair>,
     /// The ids of the header extensions to read.
     pub extension_ids: ExtensionIds,
+    /// The id of the header extension with the dependency descriptor (AV1 RTP specification, appendix A), 1 to 255, which streams of
+    /// video of any codec may have. From a keyframe with a descriptor on, `decodable` of a unit follows the frames that descriptors
+    /// refer to ([`FromKeyframe`]). Set it exactly if your session description accepts the extension: a sender that has it accepted
+    /// may leave out the picture ids of VP8, which `decodable` follows without it. An id that another extension has too reads that
+    /// element. `None`, which is the default: it is not read.
+    pub dependency_descriptor: Option<u8>,
     /// The ids of the header extensions that name streams: MID, RID and repaired RID ([`Session::names_of`]). By default none is
     /// read. They are not checked: an id that another extension has too reads that element.
     ///
@@ -147,7 +153,7 @@ pub struct SessionSettings {
     pub from_keyframe: FromKeyframe,
     /// The largest number of packets that a stream holds, 1 to 65,536.
     pub limit: usize,
-    /// The largest number of bytes of a unit. A larger unit is an event of its own ([`Event::TooLarge`]), and counts as a refused
+    /// The largest number of bytes of a unit. A larger unit has its own event ([`Event::TooLarge`]), and counts as a refused
     /// frame. So a peer cannot choose how large a buffer of yours must be. `None`: no bound.
     ///
     /// [`Event::TooLarge`]: crate::session::sessions::Event::TooLarge
@@ -220,6 +226,7 @@ impl SessionSettings {
             telephone_events: Vec::new(),
             pairs: Vec::new(),
             extension_ids: ExtensionIds::default(),
+            dependency_descriptor: None,
             name_ids: StreamNameIds::default(),
             audio: WaitLimits::live(),
             video: WaitLimits::live_video_with_nack(),
@@ -287,6 +294,7 @@ impl SessionSettings {
         settings.red = format.red;
         settings.retransmission = retransmission_for(&self.pairs, ssrc, format.retransmission);
         settings.extension_ids = self.extension_ids;
+        settings.dependency_descriptor = self.dependency_descriptor;
         settings.tick_rate = self.tick_rate;
         settings.wait_limits = self.limits(format);
         settings.from_keyframe = self.from_keyframe;

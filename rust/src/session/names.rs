@@ -78,6 +78,14 @@ impl fmt::Debug for StreamName {
     }
 }
 
+impl StreamNameIds {
+    /// Returns whether an extension was agreed on.
+    #[inline(always)]
+    fn is_any(&self) -> bool {
+        self.mid.is_some() || self.rid.is_some() || self.repaired_rid.is_some()
+    }
+}
+
 impl StreamNames {
     /// Returns whether both are names of one sender: the same MID, and the same RID or none.
     pub(crate) fn are_of_one(&self, other: &StreamNames) -> bool {
@@ -87,6 +95,10 @@ impl StreamNames {
     /// Replaces the names that the datagram has.
     #[inline(always)]
     pub(crate) fn note(&mut self, ids: &StreamNameIds, datagram: &ParsedDatagram<'_>) {
+        // Most sessions have no such extension: then no name is copied.
+        if !ids.is_any() {
+            return;
+        }
         if let Ok(packet) = datagram.packet() {
             self.read(ids, &packet.header.extension);
         }

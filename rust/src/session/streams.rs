@@ -314,11 +314,7 @@ impl Streams {
         let stream = &self.list[turn.place];
         let (ssrc, payload_type) = (stream.ssrc, stream.format.payload_type);
         match turn.step {
-            Step::Begun => Some(Event::Begun {
-                ssrc,
-                payload_type,
-                names: stream.names,
-            }),
+            Step::Begun => Some(Event::Begun { ssrc, payload_type }),
             Step::Unit(unit) => {
                 let receiver = stream.receiver.inner();
                 Some(Event::Unit {

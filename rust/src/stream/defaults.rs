@@ -125,6 +125,7 @@ impl ReceiverSettings {
             backward: windows.backward,
             from_keyframe: FromKeyframe::Mark,
             max_unit: Some(MAX_UNIT),
+            dependency_descriptor: None,
         }
     }
 }

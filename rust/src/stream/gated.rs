@@ -5,6 +5,7 @@
 use crate::buffer::{Depacketized, PoppedUnit};
 use crate::codec::CodecDepacketizer;
 use crate::error::PacketError;
+use crate::keyframes::references::UnitReferences;
 use crate::keyframes::unit_gate::{FromKeyframe, UnitGate};
 use crate::wire::Codec;
 
@@ -13,23 +14,31 @@ pub(crate) fn gate_for<B>(
     depacketizer: &CodecDepacketizer<B>,
     from_keyframe: FromKeyframe,
 ) -> UnitGate {
-    let codec = match depacketizer {
+    UnitGate::new(video_codec_of(depacketizer), from_keyframe)
+}
+
+/// Returns the codec of a depacketizer, if it is one of video; else `Null`.
+pub(crate) fn video_codec_of<B>(depacketizer: &CodecDepacketizer<B>) -> Codec {
+    match depacketizer {
         CodecDepacketizer::Vp8(_) => Codec::Vp8,
         CodecDepacketizer::Vp9(_) => Codec::Vp9,
         CodecDepacketizer::Av1(_) => Codec::Av1,
         _ => Codec::Null,
-    };
-    UnitGate::new(codec, from_keyframe)
+    }
 }
 
-/// Updates the gate after a pop. `has_left`: the pop discarded packets. Returns whether the answer is passed on.
+/// Updates the gate after a pop. `has_left`: the pop discarded packets. `references`: what the packets of a unit say of those that it
+/// refers to. Returns whether the answer is passed on.
 pub(crate) fn follow(
     gates: &mut UnitGate,
     answer: &Option<Result<Depacketized, PacketError>>,
+    references: &UnitReferences,
     has_left: bool,
 ) -> bool {
     match answer {
-        Some(Ok(unit)) => return gates.release(&unit.bytes, unit.contiguous, &unit.codec_extra),
+        Some(Ok(unit)) => {
+            return gates.release(&unit.bytes, unit.contiguous, &unit.codec_extra, references);
+        }
         Some(Err(PacketError::OutOfMemory)) | None => follow_none(gates, has_left),
         Some(Err(_)) => gates.lose(),
     }
@@ -42,11 +51,17 @@ pub(crate) fn follow_to(
     gates: &mut UnitGate,
     answer: &Option<Result<(), PacketError>>,
     unit: &PoppedUnit,
+    references: &UnitReferences,
     has_left: bool,
 ) -> bool {
     match answer {
         Some(Ok(())) => {
-            return gates.release(unit.bytes.as_slice(), unit.contiguous, &unit.codec_extra);
+            return gates.release(
+                unit.bytes.as_slice(),
+                unit.contiguous,
+                &unit.codec_extra,
+                references,
+            );
         }
         Some(Err(PacketError::OutOfMemory)) | None => follow_none(gates, has_left),
         Some(Err(_)) => gates.lose(),

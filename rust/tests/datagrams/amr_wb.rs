@@ -45,6 +45,7 @@ fn receiver_of() -> Result<Receiver<NoBox>, Fail> {
         backward: 1_000,
         from_keyframe: FromKeyframe::Mark,
         max_unit: None,
+        dependency_descriptor: None,
     };
     Ok(Receiver::new(depack, settings).map_err(|_| "settings out of range")?)
 }

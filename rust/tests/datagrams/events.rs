@@ -114,6 +114,7 @@ pub fn receiver_for(
         backward: 1_000,
         from_keyframe: FromKeyframe::Mark,
         max_unit: None,
+        dependency_descriptor: None,
     };
     Ok(Receiver::new(depack, settings).map_err(|_| "settings out of range")?)
 }

@@ -96,6 +96,7 @@ fn add_ids(out: &mut String, media: &Media<'_>) -> std::fmt::Result {
         ("transport-cc", other.transport_cc),
         ("send-time", other.send_time),
         ("toffset", other.transmission_offset),
+        ("descriptor", other.dependency_descriptor),
     ] {
         if let Some(id) = id {
             write!(out, " {name} {id}")?;
@@ -126,6 +127,9 @@ fn add_receiver(out: &mut String, media: &Media<'_>, format: &Format<'_>) -> std
     }
     if let Some(rtx) = &settings.retransmission {
         write!(out, ", RTX {} SSRC {}", rtx.payload_type, rtx.ssrc)?;
+    }
+    if let Some(id) = settings.dependency_descriptor {
+        write!(out, ", descriptor {id}")?;
     }
     if !settings.no_media.is_empty() {
         write!(out, ", no media in")?;
@@ -247,6 +251,7 @@ fn add_session(out: &mut String, media: &[Media<'_>]) -> std::fmt::Result {
         ("mid", names.mid),
         ("rid", names.rid),
         ("repaired-rid", names.repaired_rid),
+        ("descriptor", settings.dependency_descriptor),
     ] {
         if let Some(id) = id {
             write!(out, " {name} {id}")?;

@@ -1,6 +1,6 @@
-//! Session descriptions: `c/tests/sdp` has descriptions of Chromium, Firefox, GStreamer and pion, examples of the RFCs, and sections that
-//! join formats. What is read
-//! of each was written by hand after the RFCs, as was the table of faults.
+//! Session descriptions: `c/tests/sdp` has descriptions of Chromium (`layers` with the dependency descriptor), Firefox, GStreamer and
+//! pion, examples of the RFCs, and sections that join formats. What is read of each was written by hand after the RFCs, as was the
+//! table of faults.
 
 mod dump;
 mod session;
@@ -8,10 +8,14 @@ mod session;
 use codec_payload::sdp::{self, ErrorKind, MAX_MEDIA, MAX_SOURCES};
 use dump::{changed, dump};
 
-const DESCRIPTIONS: [(&str, &str); 6] = [
+const DESCRIPTIONS: [(&str, &str); 7] = [
     (
         include_str!("../../../c/tests/sdp/chromium.sdp"),
         include_str!("../../../c/tests/sdp/chromium.txt"),
+    ),
+    (
+        include_str!("../../../c/tests/sdp/layers.sdp"),
+        include_str!("../../../c/tests/sdp/layers.txt"),
     ),
     (
         include_str!("../../../c/tests/sdp/firefox.sdp"),

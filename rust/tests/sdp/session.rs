@@ -9,6 +9,9 @@ use codec_payload::session::{
 use codec_payload::{Codec, CodecSpec, Frequency, Ticks};
 use std::fmt::Write;
 
+const DESCRIPTOR: &str =
+    "https://aomediacodec.github.io/av1-rtp-spec/#dependency-descriptor-rtp-header-extension";
+
 type Fail = Box<dyn std::error::Error>;
 
 fn settings(text: &str) -> Result<SessionSettings, SessionError> {
@@ -79,6 +82,21 @@ fn chromium() {
     };
     assert_eq!(settings.name_ids, name_ids);
     assert!(settings.feedback.is_none());
+}
+
+/// The descriptor has an id in each section of its own; here in one of two.
+#[test]
+fn descriptors() {
+    let text = include_str!("../../../c/tests/sdp/layers.sdp");
+    assert_eq!(settings(text).unwrap().dependency_descriptor, Some(13));
+    let text = format!("{AUDIO}{}", &text[text.find("m=video").unwrap()..]);
+    assert_eq!(settings(&text).unwrap().dependency_descriptor, Some(13));
+    assert_eq!(settings(AUDIO).unwrap().dependency_descriptor, None);
+    let media = sdp::read(&text).unwrap();
+    for (section, wanted) in media.iter().zip([(0, None), (98, Some(13))]) {
+        let receiver = section.receiver_settings(wanted.0).unwrap().unwrap();
+        assert_eq!(receiver.dependency_descriptor, wanted.1);
+    }
 }
 
 #[test]
@@ -221,6 +239,10 @@ fn faults_by_name() {
                 &format!("5 {orientation}"),
             ),
             SessionError::ExtensionId(5),
+        ),
+        (
+            extensions(&format!("6 {DESCRIPTOR}"), &format!("7 {DESCRIPTOR}")),
+            SessionError::ExtensionId(7),
         ),
     ] {
         assert_eq!(settings(&text).unwrap_err(), fault, "{text}");

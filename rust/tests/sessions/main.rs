@@ -4,6 +4,7 @@ mod associations;
 mod changes;
 mod datagrams;
 mod deadlines;
+mod descriptors;
 mod keyframes;
 mod many;
 mod model;

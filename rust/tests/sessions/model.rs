@@ -441,9 +441,7 @@ fn assert_told(arrival: &Result<Arrival, AllocError>) {
 /// The same line as the model's poll.
 fn line(event: Event) -> String {
     match event {
-        Event::Begun {
-            ssrc, payload_type, ..
-        } => format!("{:?} begins", (ssrc, payload_type)),
+        Event::Begun { ssrc, payload_type } => format!("{:?} begins", (ssrc, payload_type)),
         Event::Unit {
             ssrc,
             payload_type,

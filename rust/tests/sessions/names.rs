@@ -26,7 +26,7 @@ fn session(change: impl FnOnce(&mut SessionSettings)) -> Session {
 
 /// The packet with these elements in its header extension: in the one-byte form if each has 1 to 16 bytes (RFC 8285, section 4.2),
 /// otherwise in the two-byte form (section 4.3).
-fn with_elements(datagram: &[u8], elements: &[(u8, &[u8])]) -> Vec<u8> {
+pub fn with_elements(datagram: &[u8], elements: &[(u8, &[u8])]) -> Vec<u8> {
     let is_short = elements.iter().all(|(_, it)| (1..=16).contains(&it.len()));
     let mut extension = Vec::new();
     for (id, bytes) in elements {
@@ -53,8 +53,9 @@ fn name(bytes: &[u8]) -> Option<StreamName> {
 fn begun(session: &mut Session, now: u64) -> Vec<(u32, StreamNames)> {
     let mut all = Vec::new();
     while let Some(event) = session.poll(Ticks(now)) {
-        if let Event::Begun { ssrc, names, .. } = event {
-            all.push((ssrc, names));
+        if let Event::Begun { ssrc, payload_type } = event {
+            let names = session.names_of(ssrc, payload_type);
+            all.push((ssrc, names.expect("an announced stream exists")));
         }
     }
     all
@@ -74,7 +75,6 @@ fn layers_of_a_simulcast_are_told_apart() -> Result<(), Fail> {
     assert_eq!(told, [(7, name(b"h")), (8, name(b"m")), (9, name(b"l"))]);
     for (ssrc, names) in layers {
         assert_eq!((names.mid, names.repaired_rid), (name(b"video"), None));
-        assert_eq!(session.names_of(ssrc, VP8), Some(names));
         assert_eq!(session.names_of(ssrc, OPUS), None);
     }
     assert_eq!(session.names_of(10, VP8), None);

@@ -9,11 +9,7 @@ use codec_payload::*;
 /// An event, and its unit if it has one, as text.
 fn text<U: std::fmt::Debug>(event: &Event<U>, unit: Option<&PoppedUnit>) -> String {
     let (name, fields) = match event {
-        Event::Begun {
-            ssrc,
-            payload_type,
-            names,
-        } => ("begun", format!("{ssrc} {payload_type} {names:?}")),
+        Event::Begun { ssrc, payload_type } => ("begun", format!("{ssrc} {payload_type}")),
         Event::Unit {
             ssrc,
             payload_type,

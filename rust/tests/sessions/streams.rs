@@ -24,9 +24,7 @@ fn told(session: &mut Session, now: u64) -> Vec<String> {
     let mut lines = Vec::new();
     while let Some(event) = session.poll(Ticks(now)) {
         lines.push(match event {
-            Event::Begun {
-                ssrc, payload_type, ..
-            } => format!("begun {ssrc} {payload_type}"),
+            Event::Begun { ssrc, payload_type } => format!("begun {ssrc} {payload_type}"),
             Event::Unit { ssrc, unit, .. } => {
                 let unit = unit.expect("there is memory");
                 format!("unit {ssrc} {:?}", unit.bytes)

@@ -9,11 +9,12 @@ use codec_payload::forward::{ForwardSettings, Forwarded, Forwarder};
 use codec_payload::jitter::jitter_buffer::WaitLimits;
 use codec_payload::rtp::RtpPacket;
 use codec_payload::schedule::forwarded::{ForwardLink, ForwardStep, ForwardedRun, run_forwarded};
+use codec_payload::sender::Sender;
 use codec_payload::stream::receiver::{Receiver, ReceiverSettings};
 use codec_payload::wire::{Codec, Ticks, ToPayload};
 
 /// How many blocks of eight frames there are; each frame has two datagrams.
-const BLOCKS: usize = 25;
+pub const BLOCKS: usize = 25;
 
 /// Nothing that is complete waits.
 const AT_ONCE: WaitLimits = WaitLimits {
@@ -22,8 +23,13 @@ const AT_ONCE: WaitLimits = WaitLimits {
     max_wait: Some(0),
 };
 
-/// A sender, a forwarder that wants its stream, and a viewer's receiver.
+/// A sender of VP8 without picture ids, a forwarder that wants its stream, and a viewer's receiver.
 fn link_of(codec: Codec) -> Result<ForwardLink<NoBox, NoBox>, Fail> {
+    link_with(codec, sender_of()?)
+}
+
+/// The same with this sender.
+pub fn link_with(codec: Codec, sender: Sender<NoBox>) -> Result<ForwardLink<NoBox, NoBox>, Fail> {
     let mut forwarder = Forwarder::new(ForwardSettings {
         codec,
         ssrc: 0x7777,
@@ -40,7 +46,7 @@ fn link_of(codec: Codec) -> Result<ForwardLink<NoBox, NoBox>, Fail> {
     };
     let depacketizer = CodecDepacketizer::from_codec(Codec::Vp8).ok_or("no depacketizer")?;
     Ok(ForwardLink {
-        sender: sender_of()?,
+        sender,
         forwarder,
         receiver: Receiver::new(depacketizer, settings).map_err(|_| "settings out of range")?,
     })
@@ -74,14 +80,14 @@ fn copies(seed: &mut u32, loses: bool) -> usize {
 }
 
 /// The steps, and what the losses leave of each frame.
-struct Schedule {
-    steps: Vec<ForwardStep>,
+pub struct Schedule {
+    pub steps: Vec<ForwardStep>,
     /// Which datagram each written one is.
-    written: Vec<usize>,
+    pub written: Vec<usize>,
     /// The datagram with which the forwarder begins.
     begun: Option<usize>,
     /// Whether each datagram came to the viewer.
-    came: Vec<bool>,
+    pub came: Vec<bool>,
 }
 
 impl Schedule {
@@ -129,7 +135,7 @@ impl Schedule {
 }
 
 /// The schedule of a network with these losses.
-fn schedule_of(mut seed: u32, loses: bool) -> Schedule {
+pub fn schedule_of(mut seed: u32, loses: bool) -> Schedule {
     let mut schedule = Schedule {
         steps: Vec::new(),
         written: Vec::new(),
@@ -143,7 +149,7 @@ fn schedule_of(mut seed: u32, loses: bool) -> Schedule {
 }
 
 /// The bytes of all popped units.
-fn popped_in(run: &ForwardedRun) -> Result<Vec<u8>, Fail> {
+pub fn popped_in(run: &ForwardedRun) -> Result<Vec<u8>, Fail> {
     let mut popped = Vec::new();
     for answer in run.run.pops.iter().flatten() {
         let unit = answer.as_ref().map_err(|_| "a unit is refused")?;

@@ -67,9 +67,10 @@ fn link_of(again: Option<RetransmissionStream>) -> Result<StoreLink<NoBox, NoBox
     })
 }
 
-/// The frame with that index. The first is a keyframe: bit 0 of its first byte is clear (RFC 6386, section 9.1).
+/// The frame with that index. The first and the twentieth after it are keyframes: bit 0 of the first byte is clear (RFC 6386,
+/// section 9.1).
 fn frame_of(index: usize) -> [u8; 3] {
-    [u8::from(index != 0), 0xa5, index as u8]
+    [u8::from(!index.is_multiple_of(20)), 0xa5, index as u8]
 }
 
 fn samples() -> Vec<ToPayload> {
@@ -78,21 +79,22 @@ fn samples() -> Vec<ToPayload> {
         .collect()
 }
 
-/// All datagrams come to the forwarder, and each third does not come to the viewer. The viewer requests the numbers of these, and two
-/// numbers that were never sent.
-fn steps() -> Vec<StoreStep> {
+/// The datagrams from this one on come to the forwarder, and each third does not come to the viewer. Those before it come to the store
+/// alone. The viewer requests the numbers of what it lacks, and two numbers that were never sent.
+fn steps_from(first: usize) -> Vec<StoreStep> {
     let now = Ticks(0);
     let mut steps: Vec<StoreStep> = (0..FRAMES)
         .map(|frame| StoreStep::Plain(ForwardStep::Send(frame)))
         .collect();
-    for datagram in 0..2 * FRAMES {
+    steps.extend((0..first).map(|datagram| StoreStep::Keep { datagram }));
+    for datagram in first..2 * FRAMES {
         let forward = ForwardStep::Forward {
             datagram,
             now: datagram as u64,
         };
         steps.push(StoreStep::Plain(forward));
         if datagram % 3 != 1 {
-            let written = datagram;
+            let written = datagram - first;
             steps.push(StoreStep::Plain(ForwardStep::Deliver { written, now }));
         }
     }
@@ -101,9 +103,9 @@ fn steps() -> Vec<StoreStep> {
             number: number.wrapping_add(60_000),
         });
     }
-    let lost = (0..2 * FRAMES).filter(|datagram| datagram % 3 == 1);
+    let lost = (first..2 * FRAMES).filter(|datagram| datagram % 3 == 1);
     for datagram in lost.rev() {
-        let number = 65_530_u16.wrapping_add(datagram as u16);
+        let number = 65_530_u16.wrapping_add((datagram - first) as u16);
         steps.push(StoreStep::Request { number });
     }
     for again in 0..FRAMES {
@@ -126,7 +128,7 @@ fn popped_in(run: &StoreRun) -> Result<Vec<u8>, Fail> {
 /// All frames come out, since each lost datagram was in the store.
 fn all_come_out(again: Option<RetransmissionStream>) -> Result<StoreRun, Fail> {
     let mut link = link_of(again)?;
-    let run = run_forwarded_with_store(&mut link, &samples(), &steps())?;
+    let run = run_forwarded_with_store(&mut link, &samples(), &steps_from(0))?;
     let all: Vec<u8> = (0..FRAMES).flat_map(frame_of).collect();
     assert_eq!(popped_in(&run)?, all);
     Ok(run)
@@ -261,5 +263,22 @@ fn the_run_of_the_theorem_pops_all_frames() -> Result<(), Fail> {
     assert_eq!(again.payload, [0, 101, 3, 4]);
     assert_eq!(popped_in(&run)?, [1, 2, 3, 4, 5]);
     assert_eq!(run.run.run.pops.iter().flatten().count(), 3);
+    Ok(())
+}
+
+/// A viewer joins at the second keyframe, when the store has the datagrams of 20 frames. It gets the frames from there on. The number
+/// in front of its first one is that of no packet, though the store has the datagram in front of the keyframe's.
+#[test]
+fn a_viewer_joins_late() -> Result<(), Fail> {
+    let mut link = link_of(Some(AGAIN))?;
+    let mut steps = steps_from(40);
+    steps.push(StoreStep::Request { number: 65_529 });
+    let run = run_forwarded_with_store(&mut link, &samples(), &steps)?;
+    let wanted: Vec<u8> = (20..FRAMES).flat_map(frame_of).collect();
+    assert_eq!(popped_in(&run)?, wanted);
+    assert_eq!(run.run.written.len(), 40);
+    assert_eq!(run.found.last(), Some(&false));
+    let found = run.found.iter().filter(|found| **found).count();
+    assert_eq!((found, run.again.len()), (14, 14));
     Ok(())
 }

@@ -2,6 +2,7 @@
 
 mod forwarded;
 mod forwarded_again;
+mod forwarded_ids;
 mod losses;
 mod own_codec;
 mod red;

@@ -46,6 +46,7 @@ pub fn receiver_settings(wait_limits: WaitLimits) -> Result<ReceiverSettings, Fa
         backward: 1_000,
         from_keyframe: FromKeyframe::Mark,
         max_unit: None,
+        dependency_descriptor: None,
     })
 }
 

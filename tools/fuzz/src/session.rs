@@ -110,6 +110,7 @@ fn settings(input: &mut Input) -> SessionSettings {
             rid: Some(4),
             repaired_rid: Some(5),
         },
+        dependency_descriptor: Some(2),
         ..SessionSettings::live()
     }
 }

@@ -8,6 +8,7 @@ import re
 from dataclasses import dataclass
 
 import capture
+import references
 
 HERE = os.path.dirname(os.path.realpath(__file__))
 CAPTURES = os.path.join(HERE, "..", "captures")
@@ -94,17 +95,41 @@ class Recorded:
         times = [packet.timestamp - offset for packet in carriers for offset in offsets_of(packet.media)]
         return {places[time] for time in times if time in places}
 
-    def decodable(self, units, whole, there, restart):
-        """The frames among the whole ones that a decoder can show: keyframes, and each that follows such a frame without a gap. A
-        lost packet of padding is a gap too: a receiver cannot know what was in it. So is a restart: no stream here has both
-        picture ids of VP8 or VP9, which could show that no frame is missing."""
-        keyframes, shown = self.keyframes(), []
+    def said(self, packets):
+        """Of each frame, which numbers its packets give it and to which they say that it refers, or None."""
+        units = [[packets[place] for place in places] for places, _ in self.units(packets)]
+        if wanted := self.descriptor_id():
+            return references.by_descriptors([[packet.payload for packet in unit] for unit in units], wanted)
+        if self.codec == "vp9":
+            return references.by_pictures([[packet.media for packet in unit] for unit in units])
+        return [None] * len(units)
+
+    def descriptor_id(self):
+        """The id of the dependency descriptor, if the stream has it."""
+        if "--sdp" not in self.words:
+            return None
+        with open(self.words[1], encoding="ascii") as lines:
+            return next((int(line[9:].split()[0]) for line in lines if line.startswith("a=extmap:") and references.DESCRIPTOR in line), None)
+
+    def decodable(self, packets, whole, there, restart):
+        """The frames among the whole ones that a decoder can show: keyframes, and each whose references were shown since the latest
+        keyframe. A frame that names no references follows such a frame without a gap. There a lost packet of padding is a gap too:
+        a receiver cannot know what was in it. So is a restart: no stream here has both picture ids of VP8, which could show that no
+        frame is missing."""
+        keyframes, shown, numbers = self.keyframes(), [], None
+        units, said = self.units(packets), self.said(packets)
         for place in whole:
             first = units[place][0][0]
             between = range(units[place - 1][0][-1] + 1, first) if place else []
             follows = shown[-1:] == [place - 1] and there.issuperset(between) and first != restart
-            if place in keyframes or follows:
+            if place in keyframes:
+                follows, numbers = True, set() if said[place] else None
+            elif numbers is not None:
+                follows = said[place] is not None and said[place][1] <= numbers
+            if follows:
                 shown.append(place)
+                if numbers is not None:
+                    numbers |= said[place][0]
         return shown
 
     def wanted(self, packets, there, only_decodable=False, restart=None):
@@ -116,7 +141,7 @@ class Recorded:
         whole = [place for place, (places, _) in enumerate(units) if set(places) <= there]
         if self.codec in VIDEO:
             first = min(set(whole) & self.keyframes())
-            whole = self.decodable(units, whole, there, restart) if only_decodable else [place for place in whole if place >= first]
+            whole = self.decodable(packets, whole, there, restart) if only_decodable else [place for place in whole if place >= first]
         found = [units[place][1] for place in whole]
         return found if self.codec in FRAMES else b"".join(found)
 

@@ -63,6 +63,7 @@ fn settings(spec: CodecSpec, input: &mut Input) -> (SessionSettings, [u64; 8]) {
         rid: Some(4),
         repaired_rid: Some(5),
     };
+    ours.dependency_descriptor = Some(2);
     ours.from_keyframe =
         [FromKeyframe::Off, FromKeyframe::Mark, FromKeyframe::Drop][usize::from(from_keyframe)];
     let values = [
@@ -112,10 +113,21 @@ fn datagram(how: u8, numbers: &mut [u16; 5], input: &mut Input) -> Vec<u8> {
     bytes.extend(u32::to_be_bytes(u32::from(*number / 3) * 90));
     bytes.extend(u32::to_be_bytes(ssrc.into()));
     if step & 48 == 48 {
-        // A header extension with one element of the one-byte form (RFC 8285, section 4.2).
+        // A header extension with one element of the one-byte form (RFC 8285, section 4.2): a name, or a dependency descriptor of one
+        // of two templates, some with the structure.
+        let id = step % 4 + 2;
+        let structure: &[u8] = if id == 2 && flags & 4 != 0 {
+            &[0x80, 0, 0x3f, 0x40, 0]
+        } else {
+            &[]
+        };
+        let (words, size) = (1 + structure.len().div_ceil(4), 3 + structure.len());
+        let mask = if id == 2 { 0xc1 } else { 0xff };
         bytes[0] |= 0x10;
-        bytes.extend([0xbe, 0xde, 0, 1, (step % 4 + 2) << 4 | 2]);
-        bytes.extend([input.byte(), flags, step]);
+        bytes.extend([0xbe, 0xde, 0, words as u8, id << 4 | (size - 1) as u8]);
+        bytes.extend([input.byte() & mask, flags, step]);
+        bytes.extend(structure);
+        bytes.resize(16 + 4 * words, 0);
     }
     if payload_type == 98 || payload_type == 99 {
         bytes.extend(numbers[1].wrapping_sub(u16::from(flags & 7)).to_be_bytes());
@@ -131,9 +143,7 @@ fn told(event: Event) -> ([u64; 12], Vec<u8>, Option<String>) {
         (it[0], it[1], it[2]) = (kind, ssrc.into(), payload_type.into());
     };
     match event {
-        Event::Begun {
-            ssrc, payload_type, ..
-        } => stream(0, ssrc, payload_type),
+        Event::Begun { ssrc, payload_type } => stream(0, ssrc, payload_type),
         Event::Feedback {
             ssrc,
             payload_type,

@@ -4,11 +4,10 @@
 ghost use Rattle.std.specs.Prelude.{◌≡◌, IfOk, OnOk, OnErr, IfErr, Option, false};
 ghost use Rattle.std.specs.Option.{option_map};
 ghost use Rattle.codec_payload_base.specs.declared.error.PacketError.TheVariants.{OutOfMemory};
-ghost use Rattle.codec_payload_jitter.specs.Receiving.{Confirms, GoesInAgain, GoesOn, NotesAs, Restarts, TakesInBoth, arrival_of, counted, first_past, first_with, kept_number, meta_for, restarted, RestartsWith};
+ghost use Rattle.codec_payload_jitter.specs.Receiving.{Confirms, GoesInAgain, GoesOn, NotesRestart, Restarts, TakesInBoth, arrival_of, counted, first_past, first_with, kept_number, meta_for, restarted, RestartsWith};
 ghost use Rattle.codec_payload_codec.specs.Depacketizers.{is_built_in_depacketizer};
 ghost use Rattle.codec_payload_jitter.specs.NoMediaNumbers.{noted_no_media};
 ghost use Rattle.codec_payload_jitter.specs.OwnReceiving.{OwnStores};
-ghost use Rattle.codec_payload_jitter.specs.declared.numbers.Extended.TheVariants as extended;
 ghost use Rattle.codec_payload_jitter.specs.declared.outcome.Outcome.TheVariants as outcomes;
 
 use super::{JitterBuffer, KeptPacket, meta_for, store};
@@ -49,7 +48,7 @@ impl<B: Depacketizer> JitterBuffer<B> {
 
     /// Notes a number without media that confirms a restart, and stores the suspect packet before it, if one was kept.
     pub(super) fn restart_without_media(&mut self, number: u64) -> Result<(), PacketError>
-        ensures ok { OnOk result (NotesAs (extended.Restarted number) self.old self.new) }
+        ensures ok { OnOk result (NotesRestart number self.old self.new) }
         ensures err { OnErr result (self.new ≡ self.old) }
         ensures fault { IfErr result (λ f. f ≡ OutOfMemory) }
         ensures own { is_built_in_depacketizer self.old.buffer.depacketizer ≡ false → OwnStores B.is_head B.is_tail self.old.buffer self.new.buffer }

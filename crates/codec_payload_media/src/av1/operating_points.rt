@@ -3,16 +3,17 @@
 ghost use Rattle.std.specs.Prelude.{◌≡◌, ◌≤◌, Ok, IfOk, Option};
 ghost use Rattle.codec_payload_base.specs.Bits.{bits_of};
 ghost use Rattle.codec_payload_media.specs.Av1OperatingPoints.{long_point, numbered_point, point_behind, short_point};
-ghost use Rattle.codec_payload_vpx.specs.FieldReaders.{left};
-ghost use Rattle.codec_payload_vpx.specs.Syntax.{IsSpelled, paired, read, told_by};
+ghost use Rattle.codec_payload_syntax.specs.FieldReaders.{left};
+ghost use Rattle.codec_payload_syntax.specs.Syntax.{IsSpelled, paired};
+ghost use Rattle.codec_payload_vpx.specs.Syntax.{read, value_of};
 
 use crate::av1::sequence_header::{
     Av1OperatingPoint, read_front, read_operating_point, read_reduced_point, read_timing_if,
     skip_operating_points,
 };
+use codec_payload_syntax::reader::FieldReader;
 use codec_payload_vpx::error::MediaError;
 use codec_payload_vpx::fields::{read_field, read_flag};
-use codec_payload_vpx::reader::FieldReader;
 
 /// The operating point after `index` others.
 fn read_point_behind(
@@ -75,7 +76,7 @@ fn read_numbered_point(
 
 /// Reads the operating point of an index.
 fn read_payload(payload: &[u8], index: u8) -> Result<Option<Av1OperatingPoint>, MediaError>
-    ensures { result ≡ told_by (numbered_point index) (bits_of payload.now) }
+    ensures { result ≡ value_of (numbered_point index) (bits_of payload.now) }
 {
     let mut reader = FieldReader::new(payload);
     read_numbered_point(&mut reader, index)
@@ -93,7 +94,7 @@ pub fn operating_point(payload: &[u8], index: u8) -> Result<Option<Av1OperatingP
     // Everything with this spelling is read.
     ensures accepted { (point : Option Av1OperatingPoint) → IsSpelled (numbered_point index) (bits_of payload.now) point → result ≡ Ok point }
     // Which fault comes first.
-    ensures exact { result ≡ told_by (numbered_point index) (bits_of payload.now) }
+    ensures exact { result ≡ value_of (numbered_point index) (bits_of payload.now) }
 {
     read_payload(payload, index)
 }

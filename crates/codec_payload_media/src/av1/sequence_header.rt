@@ -3,12 +3,13 @@
 ghost use Rattle.std.specs.Prelude.{◌≡◌, ◌≤◌, ◌+◌, ◌==◌, true, false, Ok, IfOk};
 ghost use Rattle.codec_payload_base.specs.Bits.{bits_of};
 ghost use Rattle.codec_payload_media.specs.Av1SequenceHeaders.{all_points, behind_points, bit_depth, color_config, color_description, decoder_model, decoder_model_if, description, display_delay, front, frame_ids, integer_vectors, is_srgb, largest_size, monochrome, operating_point, other_points, parameters, parameters_if, reduced_point, screen_tools, sequence_header, srgb, subsampling, timing, timing_if, told_subsampling, tools, uvlc_from, with_chroma};
-ghost use Rattle.codec_payload_vpx.specs.FieldReaders.{left};
-ghost use Rattle.codec_payload_vpx.specs.Syntax.{IsSpelled, branch, field, flag, paired, read, skips, tells, told_by};
+ghost use Rattle.codec_payload_syntax.specs.FieldReaders.{left};
+ghost use Rattle.codec_payload_syntax.specs.Syntax.{IsSpelled, branch, field, flag, paired, skips, value};
+ghost use Rattle.codec_payload_vpx.specs.Syntax.{read, value_of};
 
+use codec_payload_syntax::reader::FieldReader;
 use codec_payload_vpx::error::MediaError;
 use codec_payload_vpx::fields::{read_field, read_flag, read_wide, skip_bits};
-use codec_payload_vpx::reader::FieldReader;
 
 /// An operating point: which layers are decoded, and what a decoder has to be capable of for them.
 #[derive(Clone, Copy, Debug, PartialEq, Eq)]
@@ -88,7 +89,7 @@ fn skip_uvlc(reader: &mut FieldReader<'_>, most: u8, zeros: usize) -> Result<u8,
 
 /// Skips bits, if they are present.
 fn skip_if(reader: &mut FieldReader<'_>, there: bool, bits: usize) -> Result<u8, MediaError>
-    ensures { paired result (left reader.new) ≡ read (branch there (skips bits) (tells 0)) (left reader.old) }
+    ensures { paired result (left reader.new) ≡ read (branch there (skips bits) (value 0)) (left reader.old) }
 {
     if there {
         skip_bits(reader, bits)
@@ -99,7 +100,7 @@ fn skip_if(reader: &mut FieldReader<'_>, there: bool, bits: usize) -> Result<u8,
 
 /// A bit, if present.
 fn read_flag_if(reader: &mut FieldReader<'_>, there: bool) -> Result<bool, MediaError>
-    ensures { paired result (left reader.new) ≡ read (branch there flag (tells false)) (left reader.old) }
+    ensures { paired result (left reader.new) ≡ read (branch there flag (value false)) (left reader.old) }
 {
     if there { read_flag(reader) } else { Ok(false) }
 }
@@ -128,7 +129,7 @@ fn read_decoder_model_if(reader: &mut FieldReader<'_>, there: bool) -> Result<u8
 
 /// A number of variable length, if present.
 fn skip_uvlc_if(reader: &mut FieldReader<'_>, there: bool) -> Result<u8, MediaError>
-    ensures { paired result (left reader.new) ≡ read (branch there (uvlc_from 32 0) (tells 0)) (left reader.old) }
+    ensures { paired result (left reader.new) ≡ read (branch there (uvlc_from 32 0) (value 0)) (left reader.old) }
 {
     if there {
         skip_uvlc(reader, 32, 0)
@@ -160,7 +161,7 @@ pub(crate) fn read_timing_if(reader: &mut FieldReader<'_>, there: bool) -> Resul
 /// The parameters of an operating point, if there is a decoder model.
 fn skip_parameters_if(reader: &mut FieldReader<'_>, delay: u8) -> Result<u8, MediaError>
     requires { delay ≤ 32 }
-    ensures { paired result (left reader.new) ≡ read (branch (delay == 0) (tells 0) (parameters delay)) (left reader.old) }
+    ensures { paired result (left reader.new) ≡ read (branch (delay == 0) (value 0) (parameters delay)) (left reader.old) }
 {
     if delay == 0 {
         return Ok(0);
@@ -171,7 +172,7 @@ fn skip_parameters_if(reader: &mut FieldReader<'_>, delay: u8) -> Result<u8, Med
 
 /// The delay of an operating point, if delays are present.
 fn skip_display_delay_if(reader: &mut FieldReader<'_>, told: bool) -> Result<u8, MediaError>
-    ensures { paired result (left reader.new) ≡ read (branch told display_delay (tells 0)) (left reader.old) }
+    ensures { paired result (left reader.new) ≡ read (branch told display_delay (value 0)) (left reader.old) }
 {
     if !told {
         return Ok(0);
@@ -262,7 +263,7 @@ fn read_largest_size(reader: &mut FieldReader<'_>) -> Result<(u32, u32), MediaEr
 
 /// The lengths of frame ids, if the header is of the long form.
 fn skip_frame_ids(reader: &mut FieldReader<'_>, reduced: bool) -> Result<u8, MediaError>
-    ensures { paired result (left reader.new) ≡ read (branch reduced (tells 0) frame_ids) (left reader.old) }
+    ensures { paired result (left reader.new) ≡ read (branch reduced (value 0) frame_ids) (left reader.old) }
 {
     if reduced {
         return Ok(0);
@@ -273,7 +274,7 @@ fn skip_frame_ids(reader: &mut FieldReader<'_>, reduced: bool) -> Result<u8, Med
 
 /// Whether motion vectors are whole numbers, if the field is present.
 fn skip_integer_vectors_if(reader: &mut FieldReader<'_>, there: bool) -> Result<u8, MediaError>
-    ensures { paired result (left reader.new) ≡ read (branch there integer_vectors (tells 0)) (left reader.old) }
+    ensures { paired result (left reader.new) ≡ read (branch there integer_vectors (value 0)) (left reader.old) }
 {
     if !there {
         return Ok(0);
@@ -295,7 +296,7 @@ fn read_screen_tools(reader: &mut FieldReader<'_>) -> Result<bool, MediaError>
 /// Tools, if the header is of the long form.
 #[tactic(auto, unfolding(crate::specs::Av1SequenceHeaders::tools))]
 fn skip_tools(reader: &mut FieldReader<'_>, reduced: bool) -> Result<u8, MediaError>
-    ensures { paired result (left reader.new) ≡ read (branch reduced (tells 0) tools) (left reader.old) }
+    ensures { paired result (left reader.new) ≡ read (branch reduced (value 0) tools) (left reader.old) }
 {
     if reduced {
         return Ok(0);
@@ -365,7 +366,7 @@ fn read_subsampling(
 
 /// A field of two bits, if present.
 fn read_position_if(reader: &mut FieldReader<'_>, there: bool) -> Result<u8, MediaError>
-    ensures { paired result (left reader.new) ≡ read (branch there (field 2) (tells 0)) (left reader.old) }
+    ensures { paired result (left reader.new) ≡ read (branch there (field 2) (value 0)) (left reader.old) }
 {
     if there { read_field(reader, 2) } else { Ok(0) }
 }
@@ -538,7 +539,7 @@ impl Av1SequenceHeader {
 
     /// Reads a header.
     fn read(payload: &[u8]) -> Result<Av1SequenceHeader, MediaError>
-        ensures { result ≡ told_by sequence_header (bits_of payload.now) }
+        ensures { result ≡ value_of sequence_header (bits_of payload.now) }
     {
         let mut reader = FieldReader::new(payload);
         Av1SequenceHeader::read_fields(&mut reader)
@@ -554,7 +555,7 @@ impl Av1SequenceHeader {
         // Everything with this spelling is read.
         ensures accepted { (h : Av1SequenceHeader) → IsSpelled sequence_header (bits_of payload.now) h → result ≡ Ok h }
         // Which fault comes first.
-        ensures exact { result ≡ told_by sequence_header (bits_of payload.now) }
+        ensures exact { result ≡ value_of sequence_header (bits_of payload.now) }
     {
         Av1SequenceHeader::read(payload)
     }

@@ -4,14 +4,15 @@ ghost use Rattle.std.specs.Prelude.{◌≡◌};
 ghost use Rattle.codec_payload_base.specs.Bits.{bits_of};
 ghost use Rattle.codec_payload_media.specs.Av1TemporalUnits.{begins_sequence, empty_unit, existing_frame, frame_start, is_reduced, is_shown_keyframe, long_start, new_frame, still_frame, temporal_layer, unit_at, with_frame, with_header, with_obu};
 ghost use Rattle.codec_payload_media.specs.Av1Units.{obu_of};
-ghost use Rattle.codec_payload_vpx.specs.FieldReaders.{left};
-ghost use Rattle.codec_payload_vpx.specs.Syntax.{paired, read, told_by};
+ghost use Rattle.codec_payload_syntax.specs.FieldReaders.{left};
+ghost use Rattle.codec_payload_syntax.specs.Syntax.{paired};
+ghost use Rattle.codec_payload_vpx.specs.Syntax.{read, value_of};
 
 use crate::av1::obu::{Av1Extension, Av1Obu, OBU_SEQUENCE_HEADER, front_obu};
 use crate::av1::sequence_header::Av1SequenceHeader;
+use codec_payload_syntax::reader::FieldReader;
 use codec_payload_vpx::error::MediaError;
 use codec_payload_vpx::fields::{read_field, read_flag};
-use codec_payload_vpx::reader::FieldReader;
 
 /// The type of a frame header.
 pub const OBU_FRAME_HEADER: u8 = 3;
@@ -83,7 +84,7 @@ impl Av1FrameStart {
 
     /// The front of a frame header, which a short sequence header leaves out.
     fn parse(payload: &[u8], reduced: bool, temporal_id: u8) -> Result<Av1FrameStart, MediaError>
-        ensures { result ≡ told_by (frame_start reduced temporal_id) (bits_of payload.now) }
+        ensures { result ≡ value_of (frame_start reduced temporal_id) (bits_of payload.now) }
     {
         if reduced {
             return Ok(Av1FrameStart::still(temporal_id));

@@ -11,6 +11,7 @@ ghost use Rattle.codec_payload_receiver.specs.declared.datagram.Malformation.The
 use super::{ReceiveError, Receiver, with_datagram};
 use crate::answers::answer_for;
 use crate::datagram::{Datagram, Found, Malformation, observe, observe_media, ssrc_after};
+use crate::notes::{prepare_note, settle_note};
 use crate::parsed::ParsedDatagram;
 use codec_payload_base::wire::Ticks;
 use codec_payload_codec::codec::Depacketizer;
@@ -74,12 +75,16 @@ impl<B: Depacketizer> Receiver<B> {
         self.hear_datagram(now, &Datagram::Malformed(Malformation::Rtp(fault)))
     }
 
-    /// Receives an RTP packet with media of the stream.
+    /// Receives an RTP packet with media of the stream. Where units may name those that they refer to, it goes the way of the other
+    /// datagrams.
     #[inline(always)]
     fn hear_media(&mut self, now: Ticks, packet: &RtpPacket<'_>) -> Result<Outcome, ReceiveError>
         ensures heard { Heard now (WithMedia (packet_of packet.now)) self.old result self.new }
         ensures own { is_built_in_depacketizer self.old.packets.buffer.depacketizer ≡ false → OwnStores B.is_head B.is_tail self.old.packets.buffer self.new.packets.buffer }
     {
+        if self.notes.is_some() {
+            return self.hear_datagram(now, &Datagram::Media(*packet));
+        }
         let restarts = self.packets.counters().restarts;
         let Ok(outcome) = self
             .stream
@@ -117,6 +122,9 @@ impl<B: Depacketizer> Receiver<B> {
         ensures heard { Heard now (datagram_of datagram.now) self.old result self.new }
         ensures own { is_built_in_depacketizer self.old.packets.buffer.depacketizer ≡ false → OwnStores B.is_head B.is_tail self.old.packets.buffer self.new.packets.buffer }
     {
+        let Ok(note) = prepare_note(&mut self.notes, &self.stream, datagram) else {
+            return Err(ReceiveError::OutOfMemory);
+        };
         let restarts = self.packets.counters().restarts;
         let Ok(taken) = self
             .stream
@@ -124,6 +132,12 @@ impl<B: Depacketizer> Receiver<B> {
         else {
             return Err(ReceiveError::OutOfMemory);
         };
+        settle_note(
+            &mut self.notes,
+            note,
+            taken.outcome,
+            self.packets.greatest(),
+        );
         self.ssrc = ssrc_after(self.ssrc, datagram);
         self.arrived = with_datagram(self.arrived, datagram);
         let found = found_by(taken.outcome, restarts, self.packets.counters().restarts);

@@ -6,10 +6,11 @@ ghost use Rattle.codec_payload_buffer.specs.Steps.{HasTaken};
 ghost use Rattle.codec_payload_codec.specs.Depacketizers.{is_built_in_depacketizer};
 ghost use Rattle.codec_payload_jitter.specs.Receiving.{is_pressed, settled};
 ghost use Rattle.codec_payload_receiver.specs.OwnSessions.{OwnPopsGated, OwnPopsOnce};
-ghost use Rattle.codec_payload_receiver.specs.Pops.{NamesFault, PopsGated, PopsOnce, answer_of, is_answered, is_large, is_too_large};
+ghost use Rattle.codec_payload_receiver.specs.Pops.{NamesFault, PassesOnce, PopsGated, answer_of, is_large, is_too_large};
 
 use super::Receiver;
 use crate::gated::follow;
+use crate::notes::take_notes;
 use crate::pops::{Popped, sorted};
 use crate::unit_times::extend_with;
 use codec_payload_base::error::PacketError;
@@ -32,7 +33,7 @@ impl<B: Depacketizer> Receiver<B> {
     /// Out of memory: the frame stays, and the next pop tries it again.
     pub fn pop(&mut self, now: Ticks) -> Option<Result<Popped, AllocError>>
         ensures pops { PopsGated now.0 self.old (answer_of result) self.new }
-        // A refused frame has a fault of its own: out of memory is an error.
+        // A refused frame has another fault: out of memory is an error.
         ensures refused { NamesFault result }
         // A unit is too large exactly if it has more bytes than the settings allow.
         ensures large { is_too_large result ≡ is_large self.old.bound.most (answer_of result) }
@@ -69,21 +70,21 @@ impl<B: Depacketizer> Receiver<B> {
 
     /// Pops the jitter buffer once, and returns whether the answer is passed on.
     fn pop_once(&mut self, now: Ticks) -> (Option<Result<Depacketized, PacketError>>, bool)
-        ensures pops { PopsOnce now.0 self.old result.0 self.new }
-        ensures passed { result.1 ≡ is_answered self.old result.0 }
+        ensures pops { PassesOnce now.0 self.old result.0 result.1 self.new }
         ensures drained { is_pressed (settled self.old.packets) now.0 ≡ true → result.0 ≡ Option.None → length (frames self.new.packets.buffer.held) ≤ 0 }
         ensures fewer { HasTaken result.0 self.old.packets.buffer self.new.packets.buffer }
         ensures own { is_built_in_depacketizer self.old.packets.buffer.depacketizer ≡ false → OwnPopsOnce B.state B.depacketize_step now.0 self.old result.0 }
     {
         let left = self.packets.counters().left;
         let answer = self.packets.pop(now);
+        let references = take_notes(&mut self.notes, &answer);
         if self.bound.note(&answer) {
             self.gates.lose();
             return (answer, true);
         }
         extend_with(&mut self.times, &answer);
         let has_left = self.packets.counters().left != left;
-        let is_passed = follow(&mut self.gates, &answer, has_left);
+        let is_passed = follow(&mut self.gates, &answer, &references, has_left);
         (answer, is_passed)
     }
 }

@@ -6,10 +6,11 @@ ghost use Rattle.codec_payload_buffer.specs.Steps.{HasPacketsIn, HasTaken, poppe
 ghost use Rattle.codec_payload_codec.specs.Depacketizers.{is_built_in_depacketizer};
 ghost use Rattle.codec_payload_jitter.specs.Receiving.{is_pressed, settled};
 ghost use Rattle.codec_payload_receiver.specs.OwnSessions.{OwnPopsGated, OwnPopsOnce};
-ghost use Rattle.codec_payload_receiver.specs.Pops.{NamesFault, PopsGated, PopsOnce, answer_of, is_answered, is_large, is_too_large};
+ghost use Rattle.codec_payload_receiver.specs.Pops.{NamesFault, PassesOnce, PopsGated, answer_of, is_large, is_too_large};
 
 use super::Receiver;
 use crate::gated::follow_to;
+use crate::notes::take_notes_in;
 use crate::pops::{Popped, sorted};
 use crate::unit_times::extend_to;
 use codec_payload_base::error::PacketError;
@@ -28,7 +29,7 @@ impl<B: Depacketizer> Receiver<B> {
         unit: &mut PoppedUnit,
     ) -> Option<Result<Popped<()>, AllocError>>
         ensures pops { PopsGated now.0 self.old (popped_to (answer_of result) unit.new) self.new }
-        // A refused frame has a fault of its own: out of memory is an error.
+        // A refused frame has another fault: out of memory is an error.
         ensures refused { NamesFault result }
         // A unit is too large exactly if it has more bytes than the settings allow.
         ensures large { is_too_large result ≡ is_large self.old.bound.most (popped_to (answer_of result) unit.new) }
@@ -79,8 +80,7 @@ impl<B: Depacketizer> Receiver<B> {
         now: Ticks,
         unit: &mut PoppedUnit,
     ) -> (Option<Result<(), PacketError>>, bool)
-        ensures pops { PopsOnce now.0 self.old (popped_to result.0 unit.new) self.new }
-        ensures passed { result.1 ≡ is_answered self.old (popped_to result.0 unit.new) }
+        ensures pops { PassesOnce now.0 self.old (popped_to result.0 unit.new) result.1 self.new }
         ensures some { HasPacketsIn result.0 unit.new }
         ensures drained { is_pressed (settled self.old.packets) now.0 ≡ true → result.0 ≡ Option.None → length (frames self.new.packets.buffer.held) ≤ 0 }
         ensures fewer { HasTaken (popped_to result.0 unit.new) self.old.packets.buffer self.new.packets.buffer }
@@ -88,13 +88,14 @@ impl<B: Depacketizer> Receiver<B> {
     {
         let left = self.packets.counters().left;
         let answer = self.packets.pop_unit(now, unit);
+        let references = take_notes_in(&mut self.notes, &answer, unit);
         if self.bound.note_in(&answer, unit) {
             self.gates.lose();
             return (answer, true);
         }
         extend_to(&mut self.times, &answer, unit);
         let has_left = self.packets.counters().left != left;
-        let is_passed = follow_to(&mut self.gates, &answer, unit, has_left);
+        let is_passed = follow_to(&mut self.gates, &answer, unit, &references, has_left);
         (answer, is_passed)
     }
 }

@@ -8,7 +8,7 @@ use crate::media::av1::sequence_header::{
 };
 use crate::media::vpx::error::MediaError;
 use crate::media::vpx::fields::{read_field, read_flag};
-use crate::media::vpx::reader::FieldReader;
+use crate::syntax::reader::FieldReader;
 
 /// The operating point after `index` others.
 fn read_point_behind(

@@ -4,7 +4,7 @@
 
 use crate::media::vpx::error::MediaError;
 use crate::media::vpx::fields::{read_field, read_flag, read_wide, skip_bits};
-use crate::media::vpx::reader::FieldReader;
+use crate::syntax::reader::FieldReader;
 
 /// An operating point: which layers are decoded, and what a decoder has to be capable of for them.
 #[derive(Clone, Copy, Debug, PartialEq, Eq)]

@@ -6,7 +6,7 @@ use crate::media::av1::obu::{Av1Extension, Av1Obu, OBU_SEQUENCE_HEADER, front_ob
 use crate::media::av1::sequence_header::Av1SequenceHeader;
 use crate::media::vpx::error::MediaError;
 use crate::media::vpx::fields::{read_field, read_flag};
-use crate::media::vpx::reader::FieldReader;
+use crate::syntax::reader::FieldReader;
 
 /// The type of a frame header.
 pub const OBU_FRAME_HEADER: u8 = 3;

@@ -7,7 +7,7 @@ mod superframe;
 
 use crate::media::vpx::error::MediaError;
 use crate::media::vpx::fields::{expect_field, read_field, read_flag, read_wide};
-use crate::media::vpx::reader::FieldReader;
+use crate::syntax::reader::FieldReader;
 pub use superframe::{Vp9FrameAt, Vp9Frames, frame_at};
 
 /// The color format of a picture.

@@ -19,6 +19,9 @@ use alloc::vec::Vec;
 pub enum StoreStep {
     /// A step of a run without a store. The store keeps each datagram that comes to the forwarder.
     Plain(ForwardStep),
+    /// Passes the datagram with this index, from 0, among the datagrams sent so far, to the store alone, as before the viewer joins.
+    /// Skipped if there is no such datagram.
+    Keep { datagram: usize },
     /// The viewer requests the packet with this sequence number. If the store has the packet that was sent under it, the forwarder
     /// writes it again.
     Request { number: u16 },
@@ -82,6 +85,9 @@ fn do_store_step<P: Packetizer, D: Depacketizer>(
             keep(&mut link.store, &run.run.run.datagrams, step)?;
             do_forward_step(&mut link.link, samples, step, &mut run.run)
         }
+        StoreStep::Keep { datagram } => {
+            keep_datagram(&mut link.store, &run.run.run.datagrams, datagram)
+        }
         StoreStep::Request { number } => {
             run.found.try_room(1)?;
             let found = write_again(
@@ -110,6 +116,15 @@ fn keep(store: &mut History, datagrams: &[Vec<u8>], step: ForwardStep) -> Result
     let ForwardStep::Forward { datagram, .. } = step else {
         return Ok(());
     };
+    keep_datagram(store, datagrams, datagram)
+}
+
+/// Keeps the datagram with this index, if there is one.
+fn keep_datagram(
+    store: &mut History,
+    datagrams: &[Vec<u8>],
+    datagram: usize,
+) -> Result<(), PacketError> {
     let Some(bytes) = datagrams.get(datagram) else {
         return Ok(());
     };

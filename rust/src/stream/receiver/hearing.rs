@@ -8,6 +8,7 @@ use crate::jitter::jitter_buffer::Outcome;
 use crate::rtp::packet::{RtpError, RtpPacket};
 use crate::stream::answers::answer_for;
 use crate::stream::datagram::{Datagram, Found, Malformation, observe, observe_media, ssrc_after};
+use crate::stream::notes::{prepare_note, settle_note};
 use crate::stream::parsed::ParsedDatagram;
 use crate::wire::Ticks;
 
@@ -56,9 +57,13 @@ impl<B: Depacketizer> Receiver<B> {
         self.hear_datagram(now, &Datagram::Malformed(Malformation::Rtp(fault)))
     }
 
-    /// Receives an RTP packet with media of the stream.
+    /// Receives an RTP packet with media of the stream. Where units may name those that they refer to, it goes the way of the other
+    /// datagrams.
     #[inline(always)]
     fn hear_media(&mut self, now: Ticks, packet: &RtpPacket<'_>) -> Result<Outcome, ReceiveError> {
+        if self.notes.is_some() {
+            return self.hear_datagram(now, &Datagram::Media(*packet));
+        }
         let restarts = self.packets.counters().restarts;
         let Ok(outcome) = self
             .stream
@@ -90,6 +95,9 @@ impl<B: Depacketizer> Receiver<B> {
         now: Ticks,
         datagram: &Datagram<'_>,
     ) -> Result<Outcome, ReceiveError> {
+        let Ok(note) = prepare_note(&mut self.notes, &self.stream, datagram) else {
+            return Err(ReceiveError::OutOfMemory);
+        };
         let restarts = self.packets.counters().restarts;
         let Ok(taken) = self
             .stream
@@ -97,6 +105,12 @@ impl<B: Depacketizer> Receiver<B> {
         else {
             return Err(ReceiveError::OutOfMemory);
         };
+        settle_note(
+            &mut self.notes,
+            note,
+            taken.outcome,
+            self.packets.greatest(),
+        );
         self.ssrc = ssrc_after(self.ssrc, datagram);
         self.arrived = with_datagram(self.arrived, datagram);
         let found = found_by(taken.outcome, restarts, self.packets.counters().restarts);

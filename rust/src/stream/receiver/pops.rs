@@ -8,6 +8,7 @@ use crate::codec::Depacketizer;
 use crate::error::PacketError;
 use crate::memory::AllocError;
 use crate::stream::gated::follow;
+use crate::stream::notes::take_notes;
 use crate::stream::pops::{Popped, sorted};
 use crate::stream::unit_times::extend_with;
 use crate::wire::Ticks;
@@ -44,13 +45,14 @@ impl<B: Depacketizer> Receiver<B> {
     fn pop_once(&mut self, now: Ticks) -> (Option<Result<Depacketized, PacketError>>, bool) {
         let left = self.packets.counters().left;
         let answer = self.packets.pop(now);
+        let references = take_notes(&mut self.notes, &answer);
         if self.bound.note(&answer) {
             self.gates.lose();
             return (answer, true);
         }
         extend_with(&mut self.times, &answer);
         let has_left = self.packets.counters().left != left;
-        let is_passed = follow(&mut self.gates, &answer, has_left);
+        let is_passed = follow(&mut self.gates, &answer, &references, has_left);
         (answer, is_passed)
     }
 }

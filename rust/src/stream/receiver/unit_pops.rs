@@ -8,6 +8,7 @@ use crate::codec::Depacketizer;
 use crate::error::PacketError;
 use crate::memory::AllocError;
 use crate::stream::gated::follow_to;
+use crate::stream::notes::take_notes_in;
 use crate::stream::pops::{Popped, sorted};
 use crate::stream::unit_times::extend_to;
 use crate::wire::Ticks;
@@ -50,13 +51,14 @@ impl<B: Depacketizer> Receiver<B> {
     ) -> (Option<Result<(), PacketError>>, bool) {
         let left = self.packets.counters().left;
         let answer = self.packets.pop_unit(now, unit);
+        let references = take_notes_in(&mut self.notes, &answer, unit);
         if self.bound.note_in(&answer, unit) {
             self.gates.lose();
             return (answer, true);
         }
         extend_to(&mut self.times, &answer, unit);
         let has_left = self.packets.counters().left != left;
-        let is_passed = follow_to(&mut self.gates, &answer, unit, has_left);
+        let is_passed = follow_to(&mut self.gates, &answer, unit, &references, has_left);
         (answer, is_passed)
     }
 }

@@ -190,12 +190,8 @@ impl Watch {
     /// `Begun` comes first, `Ended` last, and units in the order of their numbers.
     fn check(&mut self, event: Event) {
         match event {
-            Event::Begun {
-                ssrc,
-                payload_type,
-                names,
-            } => {
-                assert_eq!(self.session.names_of(ssrc, payload_type), Some(names));
+            Event::Begun { ssrc, payload_type } => {
+                assert!(self.session.names_of(ssrc, payload_type).is_some());
                 assert_eq!(self.announced.insert((ssrc, payload_type), None), None);
             }
             Event::Unit {

@@ -113,7 +113,9 @@ fn rtcp(count: u8, packet_type: u8, body: &[u32]) -> Vec<u8> {
 fn compound(packet_type: u8, words: u32, packets: u32) -> Vec<u8> {
     let own = if packet_type == 201 { 1 } else { 0 };
     let body: Vec<u32> = (0..own + 31 * words).map(|place| 1_000 + place).collect();
-    (0..packets).flat_map(|_| rtcp(31, packet_type, &body)).collect()
+    (0..packets)
+        .flat_map(|_| rtcp(31, packet_type, &body))
+        .collect()
 }
 
 struct Load {
@@ -154,7 +156,9 @@ fn prepare(load: &mut Load, kind: &str, size: u32) {
         }
         "gaps" | "opens" | "fills" => (1..=size)
             .for_each(|place| load.receive(&packet(5, 1 + 2 * place, 2, place == 1, false))),
-        "no_media" | "paddings" => (1..=size).for_each(|place| load.receive(&padding(1 + 2 * place))),
+        "no_media" | "paddings" => {
+            (1..=size).for_each(|place| load.receive(&padding(1 + 2 * place)))
+        }
         "strays" => (0..size).for_each(|place| load.receive(&packet(place << 8, 0, 0, true, true))),
         other => panic!("{other}: none of the kinds"),
     }

@@ -11,6 +11,7 @@ returns-clause-ok c =
     record {
       plain = record {
         ids = plain.ids;
+        dependency_descriptor = plain.dependency_descriptor;
         name_ids = plain.name_ids;
         audio = plain.audio;
         video = plain.video;

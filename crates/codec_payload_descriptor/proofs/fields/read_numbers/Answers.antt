@@ -1,13 +1,14 @@
 use Rattle.std.proofs.Common.{◌≡◌, ◌∙◌, ◌<◌, ◌++◌, ◌∷◌, [], length, arith, ap, sym, length-append}
-use Rattle.codec_payload_base.specs.Bits.{left}
-use Rattle.codec_payload_descriptor.specs.Syntax.{field}
-use Rattle.codec_payload_descriptor.proofs.SyntaxLemmas.{times_more, times_fault, times_end}
+use Rattle.codec_payload_descriptor.specs.declared.error.DescriptorFault.TheVariants as faults
+use Rattle.codec_payload_syntax.specs.FieldReaders.{left}
+use Rattle.codec_payload_syntax.specs.Syntax.{field}
+use Rattle.codec_payload_syntax.proofs.RepeatLemmas.{times_more, times_fault, times_end}
 use Rattle.codec_payload_descriptor.proofs.fields.read_numbers.Goals as goal
 
 pub returns-in_err-number : goal.returns-in_err-number
 returns-in_err-number c =
     let lt : length c.loop-reader.numbers < c.args.count = omega arith in
-    let e = times_fault (field c.args.bits) c.args.count c.loop-reader.numbers c.in_err-number.field-0.0 (left c.loop-reader.reader) lt c.in_err-number.ensures.value in
+    let e = times_fault faults.Short (field c.args.bits) c.args.count c.loop-reader.numbers c.in_err-number.field-0.0 (left c.loop-reader.reader) lt c.in_err-number.ensures.value in
     grind (arith, e, c.loop-reader.invariant.same)
 
 pub loop-reader-preserved : goal.loop-reader-preserved
@@ -16,8 +17,8 @@ loop-reader-preserved c =
     let longer : c.push.new.self ≡ c.loop-reader.numbers ++ c.in_ok-number.number ∷ [] = cc in
     record {
       within = omega (arith, ap length longer, length-append c.loop-reader.numbers (c.in_ok-number.number ∷ []));
-      same = times_more (field c.args.bits) c.args.count c.loop-reader.numbers c.push.new.self c.in_ok-number.number (left c.loop-reader.reader) (left c.read_field.new.reader) lt longer c.in_ok-number.ensures.value ∙ c.loop-reader.invariant.same;
+      same = times_more faults.Short (field c.args.bits) c.args.count c.loop-reader.numbers c.push.new.self c.in_ok-number.number (left c.loop-reader.reader) (left c.read_field.new.reader) lt longer c.in_ok-number.ensures.value ∙ c.loop-reader.invariant.same;
     }
 
 pub returns : goal.returns
-returns c = sym (times_end (field c.args.bits) c.args.count c.loop-reader.numbers (left c.loop-reader.reader) (omega arith)) ∙ c.loop-reader.invariant.same
+returns c = sym (times_end faults.Short (field c.args.bits) c.args.count c.loop-reader.numbers (left c.loop-reader.reader) (omega arith)) ∙ c.loop-reader.invariant.same

@@ -1,8 +1,9 @@
 use Rattle.std.proofs.Common.{◌≡◌, ◌-◌, ◌≤◌, length}
-use Rattle.codec_payload_base.specs.Bits.{left}
+use Rattle.codec_payload_syntax.specs.FieldReaders.{left}
 use Rattle.codec_payload_descriptor.specs.Structures.{below}
-use Rattle.codec_payload_descriptor.specs.Syntax.{read, times}
-use Rattle.codec_payload_descriptor.proofs.SyntaxLemmas.{after}
+use Rattle.codec_payload_syntax.specs.Syntax.{times}
+use Rattle.codec_payload_descriptor.specs.Syntax.{read}
+use Rattle.codec_payload_syntax.proofs.RepeatLemmas.{after}
 use Rattle.codec_payload_descriptor.proofs.fields.read_numbers_below.Given as goal
 
 -- the numbers so far, and those that are left

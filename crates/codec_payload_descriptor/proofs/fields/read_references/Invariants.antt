@@ -1,9 +1,10 @@
 use Rattle.std.proofs.Common.{◌≡◌, ◌-◌, ◌≤◌, length}
-use Rattle.codec_payload_base.specs.Bits.{left}
+use Rattle.codec_payload_syntax.specs.FieldReaders.{left}
 use Rattle.codec_payload_descriptor.specs.declared.error.DescriptorFault.TheVariants as faults
 use Rattle.codec_payload_descriptor.specs.Structures.{next_reference}
-use Rattle.codec_payload_descriptor.specs.Syntax.{read, until_none}
-use Rattle.codec_payload_descriptor.proofs.SyntaxLemmas.{after}
+use Rattle.codec_payload_syntax.specs.Syntax.{until_none}
+use Rattle.codec_payload_descriptor.specs.Syntax.{read}
+use Rattle.codec_payload_syntax.proofs.RepeatLemmas.{after}
 use Rattle.codec_payload_descriptor.proofs.fields.read_references.Given as goal
 
 -- the differences so far, and those that are left

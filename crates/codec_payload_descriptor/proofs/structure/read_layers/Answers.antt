@@ -1,8 +1,8 @@
 use Rattle.std.proofs.Common.{◌-◌, ◌∙◌, ◌∷◌, [], length, arith, ap, sym, length-append}
 use Rattle.std.proofs.lemmas.Bool.{eq-eqb, ne_eqb}
-use Rattle.codec_payload_base.specs.Bits.{left}
+use Rattle.codec_payload_syntax.specs.FieldReaders.{left}
 use Rattle.codec_payload_descriptor.specs.Structures.{layers}
-use Rattle.codec_payload_descriptor.proofs.SyntaxLemmas.{fails_with}
+use Rattle.codec_payload_descriptor.proofs.ResultLemmas.{fails_with}
 use Rattle.codec_payload_descriptor.proofs.StructureLemmas.{layers_more, layers_last, layers_fault, layers_too_many, layers_too_high}
 use Rattle.codec_payload_descriptor.proofs.structure.read_layers.Goals as goal
 use Rattle.codec_payload_descriptor.proofs.structure.read_layers.Goals.{then-loop-layer-test+else-is_valid, else-loop-layer-test}

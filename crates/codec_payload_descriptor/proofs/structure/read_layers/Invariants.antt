@@ -1,8 +1,8 @@
 use Rattle.std.proofs.Common.{◌≡◌, ◌-◌, ◌≤◌, length}
-use Rattle.codec_payload_base.specs.Bits.{left}
+use Rattle.codec_payload_syntax.specs.FieldReaders.{left}
 use Rattle.codec_payload_descriptor.specs.Structures.{first_layer, layers_from}
 use Rattle.codec_payload_descriptor.specs.Syntax.{read}
-use Rattle.codec_payload_descriptor.proofs.SyntaxLemmas.{after}
+use Rattle.codec_payload_syntax.proofs.RepeatLemmas.{after}
 use Rattle.codec_payload_descriptor.proofs.structure.read_layers.Given as goal
 
 -- the layers so far, and those that are left

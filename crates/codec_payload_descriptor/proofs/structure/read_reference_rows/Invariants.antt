@@ -1,8 +1,9 @@
 use Rattle.std.proofs.Common.{◌≡◌, ◌-◌, ◌≤◌, length, false}
-use Rattle.codec_payload_base.specs.Bits.{left}
+use Rattle.codec_payload_syntax.specs.FieldReaders.{left}
 use Rattle.codec_payload_descriptor.specs.Structures.{references}
-use Rattle.codec_payload_descriptor.specs.Syntax.{read, times}
-use Rattle.codec_payload_descriptor.proofs.SyntaxLemmas.{after}
+use Rattle.codec_payload_syntax.specs.Syntax.{times}
+use Rattle.codec_payload_descriptor.specs.Syntax.{read}
+use Rattle.codec_payload_syntax.proofs.RepeatLemmas.{after}
 use Rattle.codec_payload_descriptor.proofs.structure.read_reference_rows.Given as goal
 
 -- the rows so far, and those that are left

@@ -1,7 +1,8 @@
 use Rattle.std.proofs.Common.{◌≡◌, ◌-◌, ◌≤◌, length}
-use Rattle.codec_payload_base.specs.Bits.{left}
-use Rattle.codec_payload_descriptor.specs.Syntax.{field, read, times}
-use Rattle.codec_payload_descriptor.proofs.SyntaxLemmas.{after}
+use Rattle.codec_payload_syntax.specs.FieldReaders.{left}
+use Rattle.codec_payload_syntax.specs.Syntax.{field, times}
+use Rattle.codec_payload_descriptor.specs.Syntax.{read}
+use Rattle.codec_payload_syntax.proofs.RepeatLemmas.{after}
 use Rattle.codec_payload_descriptor.proofs.structure.read_rows.Given as goal
 
 -- the rows so far, and those that are left

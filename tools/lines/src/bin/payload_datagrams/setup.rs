@@ -56,6 +56,7 @@ impl Draft {
                 backward: 1_000,
                 from_keyframe: FromKeyframe::Mark,
                 max_unit: None,
+                dependency_descriptor: None,
             },
         }
     }

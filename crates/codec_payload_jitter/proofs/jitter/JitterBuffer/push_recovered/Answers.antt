@@ -1,6 +1,6 @@
 use Rattle.std.proofs.Common.{◌≡◌, ◌∙◌, ℕ, ap, sym, false, Option, Some, true}
 use Rattle.codec_payload_jitter.specs.Numbers.{Numbering, lowest_with, numbering_with}
-use Rattle.codec_payload_jitter.specs.Receiving.{Receiving, counted_recovered, may_recover, number_again}
+use Rattle.codec_payload_jitter.specs.Receiving.{Receiving, counted_recovered, may_recover, number_again_for}
 use Rattle.codec_payload_jitter.specs.declared.numbers.Extended.{Extended}
 use Rattle.codec_payload_jitter.specs.declared.numbers.Extended.TheVariants as extended
 use Rattle.codec_payload_jitter.proofs.ReceivingLemmas.{recovers_is}
@@ -14,7 +14,7 @@ returns-clause-ok g c =
     let answer : Extended = extended.Number n in
     let mid : Receiving = c.accept.new.self in
     let stored : Receiving = record mid { counters = counted_recovered mid.counters } in
-    let is : number_again r low ≡ Some n = sym c.number_again.ensures.value ∙ c.in-Some.is in
+    let is : number_again_for r low c.args.header.timestamp ≡ Some n = sym c.number_again_for.ensures.value ∙ c.in-Some.is in
     let missing : may_recover r n ≡ true = sym c.may_recover.ensures ∙ c.if-not-may_recover.false in
     let numbers : c.extended-numbers.result.0 ≡ numbering_with r.numbering answer low = c.extended-numbers.ensures.numbers in
     let lowest : c.extended-numbers.result.1 ≡ lowest_with r.lowest answer = c.extended-numbers.ensures.lowest in

@@ -5,7 +5,7 @@ use Rattle.codec_payload_jitter.proofs.noted_times.NotedTimes.append.Goals as go
 
 pub push-requires-clause-room : goal.push-requires-clause-room
 push-requires-clause-room c =
-    let s : Noted = record { backward = c.self.inside.backward; first = c.self.inside.first; times = c.self.inside.times.items } in
+    let s : Noted = record { backward = c.self.inside.backward; first = c.self.inside.first; times = c.self.inside.times.items; former = c.self.inside.former } in
     let held : c.len.result ≡ length s.times = c.len.ensures ∙ c.self.inside.times.ok.0 in
     let needs = rw (← c.self.view_is) at c.requires in
     let items = rw held at c.skip.ensures.items in
@@ -13,7 +13,7 @@ push-requires-clause-room c =
 
 pub overflow_sub-self-2 : goal.overflow_sub-self-2
 overflow_sub-self-2 c =
-    let s : Noted = record { backward = c.self.inside.backward; first = c.self.inside.first; times = c.self.inside.times.items } in
+    let s : Noted = record { backward = c.self.inside.backward; first = c.self.inside.first; times = c.self.inside.times.items; former = c.self.inside.former } in
     let needs = rw (← c.self.view_is) at c.requires in
     let gap : ℕ = c.args.index - c.self.inside.first - c.len.result in
     omega (

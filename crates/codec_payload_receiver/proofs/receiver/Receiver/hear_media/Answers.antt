@@ -1,11 +1,14 @@
-use Rattle.std.proofs.Common.{◌≡◌, ◌∙◌, Bool, refl, ap, rules, subst, true, Ok}
+use Rattle.std.proofs.Common.{◌≡◌, ◌∙◌, Bool, Option, refl, ap, rules, sym, subst, true, Ok}
+use Rattle.std.specs.Option.{option_map}
 use Rattle.codec_payload_rtp.specs.RtpValues.{packet_of}
 use Rattle.codec_payload_jitter.specs.declared.outcome.Outcome.{Outcome}
+use Rattle.codec_payload_receiver.specs.Noting.{Noting, noting_of, notes_after}
 use Rattle.codec_payload_receiver.specs.Choice.{Choosing, latest_after, origin_of}
 use Rattle.codec_payload_receiver.specs.Kinds.{Datagram, WithMedia}
 use Rattle.codec_payload_receiver.specs.SeenTimes.{Seen}
 use Rattle.codec_payload_receiver.specs.Sessions.{Heard, Session, arrived_with, has_restarted, is_suspect, observed_unless, reception_after, ssrc_after}
 use Rattle.codec_payload_receiver.specs.Reports.{Reception, reception_since}
+use Rattle.codec_payload_receiver.proofs.NotingLemmas.{none_noted}
 use Rattle.codec_payload_receiver.proofs.SessionLemmas.{heard, takes_balanced}
 use Rattle.codec_payload_receiver.proofs.receiver.Receiver.hear_media.Goals as goal
 
@@ -28,6 +31,7 @@ returns-clause-heard g c =
       seen = c.self.inside.seen;
       gates = c.self.inside.gates;
       bound = c.self.inside.bound;
+      notes = option_map noting_of c.self.inside.notes;
     } in
     let d : Datagram = WithMedia (packet_of c.args.packet.now) in
     let after = c.take_media.new.packets in
@@ -45,8 +49,18 @@ returns-clause-heard g c =
       reception = reception_after c.in-Ok.outcome s.packets after s.reception c.args.now.0 d;
       choice = record s.choice { latest = latest_after s.choice.latest c.args.now.0 (origin_of d) };
       seen = seen;
+      notes = notes_after s.notes s.stream d o after.numbering.greatest;
     } =
     ap (λ (x : Reception). record s { ssrc = ssrc_after s.ssrc d; packets = after; arrived = arrived_with s.arrived d; reception = x; choice = c.note_at.new.self; seen = seen }) (c.observe_media.ensures ∙ counts)
-    ∙ ap (λ (x : Choosing). record s { ssrc = ssrc_after s.ssrc d; packets = after; arrived = arrived_with s.arrived d; reception = reception_after c.in-Ok.outcome s.packets after s.reception c.args.now.0 d; choice = x; seen = seen }) c.note_at.ensures in
+    ∙ ap (λ (x : Choosing). record s { ssrc = ssrc_after s.ssrc d; packets = after; arrived = arrived_with s.arrived d; reception = reception_after c.in-Ok.outcome s.packets after s.reception c.args.now.0 d; choice = x; seen = seen }) c.note_at.ensures
+    ∙ ap (λ (x : Option Noting). record s {
+      ssrc = ssrc_after s.ssrc d;
+      packets = after;
+      arrived = arrived_with s.arrived d;
+      reception = reception_after o s.packets after s.reception c.args.now.0 d;
+      choice = record s.choice { latest = latest_after s.choice.latest c.args.now.0 (origin_of d) };
+      seen = seen;
+      notes = x;
+    }) (none_noted c.self.inside.notes s.stream d o after.numbering.greatest (sym c.is_some.ensures ∙ c.if-is_some.false)) in
     let made : Heard c.args.now d s (Ok c.in-Ok.outcome) t = heard c.args.now d s t c.in-Ok.outcome true after seen (Ok c.in-Ok.outcome) c.in-Ok.ensures.ok refl left in
     subst (λ (x : Session). Heard c.args.now d x (Ok c.in-Ok.outcome) t) c.self.view_is made

@@ -1,5 +1,7 @@
 use Rattle.std.proofs.Common.{◌∙◌, ℕ, Bool, true, false, refl, sym, ap}
+use Rattle.std.specs.Option.{option_map}
 use Rattle.std.specs.Option.{is_some}
+use Rattle.codec_payload_receiver.specs.Noting.{noting_of}
 use Rattle.codec_payload_receiver.specs.Choice.{Choosing, leaving, waiting_with}
 use Rattle.codec_payload_receiver.specs.Sessions.{Session, turned_away_if}
 use Rattle.codec_payload_receiver.proofs.receiver.Receiver.keep.Goals as goal
@@ -18,6 +20,7 @@ returns-then-left g c =
       seen = c.self.inside.seen;
       gates = c.self.inside.gates;
       bound = c.self.inside.bound;
+      notes = option_map noting_of c.self.inside.notes;
     } in
     let ok = c.in-Ok.ensures.ok in
     let ssrc : ℕ = c.args.origin.ssrc in (
@@ -45,6 +48,7 @@ returns-else-left g c =
       seen = c.self.inside.seen;
       gates = c.self.inside.gates;
       bound = c.self.inside.bound;
+      notes = option_map noting_of c.self.inside.notes;
     } in
     let ok = c.in-Ok.ensures.ok in
     let ssrc : ℕ = c.args.origin.ssrc in (

@@ -1,8 +1,11 @@
 use Rattle.std.proofs.Common.{◌≡◌, ◌∙◌, ℕ, ap, subst, sym, true, false, Option}
+use Rattle.std.specs.Option.{option_map}
 use Rattle.codec_payload_jitter.specs.Receiving.{Receiving, settled, waiting_at}
 use Rattle.codec_payload_jitter.specs.declared.outcome.PacketCounters.{PacketCounters}
 use Rattle.codec_payload_keyframes.specs.UnitGates.{Gating}
-use Rattle.codec_payload_receiver.specs.Pops.{Answer, PopsOnce, bound_if, gates_after, has_left, is_large}
+use Rattle.codec_payload_keyframes.specs.declared.references.UnitReferences.{UnitReferences}
+use Rattle.codec_payload_receiver.specs.Noting.{Noting, noting_of}
+use Rattle.codec_payload_receiver.specs.Pops.{Answer, PassesOnce, bound_if, gates_after, has_left, is_large}
 use Rattle.codec_payload_receiver.specs.Sessions.{Session, time_with}
 use Rattle.codec_payload_receiver.specs.declared.bound.UnitBound.{UnitBound}
 use Rattle.codec_payload_receiver.proofs.PopLemmas.{gates_by, others_after, over_after, still_sorted}
@@ -28,16 +31,19 @@ returns-then-note-clause-pops g c =
       seen = c.self.inside.seen;
       gates = c.self.inside.gates;
       bound = c.self.inside.bound;
+      notes = option_map noting_of c.self.inside.notes;
     } in
     let after : Receiving = c.pop-answer.new.self in
     let answer : Answer = c.pop-answer.result in
     let bound : UnitBound = c.note.new.self in
-    let t : Session = record s { packets = after; gates = c.lose.new.self; bound = bound } in
+    let references : UnitReferences = c.take_notes-references.result in
+    let notes : Option Noting = option_map noting_of c.take_notes-references.new.notes in
+    let t : Session = record s { packets = after; gates = c.lose.new.self; bound = bound; notes = notes } in
     let large : is_large s.bound.most answer ≡ true = sym c.note.ensures.large ∙ c.if-note.true in
-    subst (λ (x : Session). PopsOnce c.args.now.0 x answer t) c.self.view_is
-    (over_after c.args.now.0 s t answer after c.pop-answer.ensures.pops large
-    (ap (λ (b : UnitBound). record s { packets = after; gates = c.lose.new.self; bound = b }) c.note.ensures.after
-    ∙ ap (λ (k : Gating). record s { packets = after; gates = k; bound = bound_if (is_large s.bound.most answer) s.bound answer }) c.lose.ensures))
+    subst (λ (x : Session). PassesOnce c.args.now.0 x answer true t) c.self.view_is
+    (over_after c.args.now.0 s t answer after references notes c.pop-answer.ensures.pops c.take_notes-references.ensures large
+    (ap (λ (b : UnitBound). record s { packets = after; gates = c.lose.new.self; bound = b; notes = notes }) c.note.ensures.after
+    ∙ ap (λ (k : Gating). record s { packets = after; gates = k; bound = bound_if (is_large s.bound.most answer) s.bound answer; notes = notes }) c.lose.ensures))
 
 pub returns-clause-pops : goal.returns-clause-pops
 returns-clause-pops g c =
@@ -53,18 +59,21 @@ returns-clause-pops g c =
       seen = c.self.inside.seen;
       gates = c.self.inside.gates;
       bound = c.self.inside.bound;
+      notes = option_map noting_of c.self.inside.notes;
     } in
     let after : Receiving = c.pop-answer.new.self in
     let answer : Answer = c.pop-answer.result in
     let bound : UnitBound = c.note.new.self in
     let gates : Gating = c.follow-is_passed.new.gates in
     let time : Option ℕ = c.extend_with.new.times in
-    let t : Session = record s { packets = after; time = time; gates = gates; bound = bound } in
+    let references : UnitReferences = c.take_notes-references.result in
+    let notes : Option Noting = option_map noting_of c.take_notes-references.new.notes in
+    let t : Session = record s { packets = after; time = time; gates = gates; bound = bound; notes = notes } in
     let others : is_large s.bound.most answer ≡ false = sym c.note.ensures.large ∙ c.if-note.false in
-    let gates_is : gates ≡ gates_after s.gates (has_left s.packets after) answer =
-    gates_by s.gates gates c.counters-left.result.left c.counters.result.left s.packets.counters.left after.counters.left answer (ap (λ (k : PacketCounters). k.left) c.counters-left.ensures.value) (ap (λ (k : PacketCounters). k.left) c.counters.ensures.value) c.follow-is_passed.ensures.after in
-    subst (λ (x : Session). PopsOnce c.args.now.0 x answer t) c.self.view_is
-    (others_after c.args.now.0 s t answer after c.pop-answer.ensures.pops others
-    (ap (λ (b : UnitBound). record s { packets = after; time = time; gates = gates; bound = b }) c.note.ensures.after
-    ∙ ap (λ (x : Option ℕ). record s { packets = after; time = x; gates = gates; bound = bound_if (is_large s.bound.most answer) s.bound answer }) c.extend_with.ensures
-    ∙ ap (λ (k : Gating). record s { packets = after; time = time_with s.time answer; gates = k; bound = bound_if (is_large s.bound.most answer) s.bound answer }) gates_is))
+    let gates_is : gates ≡ gates_after s.gates (has_left s.packets after) answer references =
+    gates_by s.gates gates c.counters-left.result.left c.counters.result.left s.packets.counters.left after.counters.left answer references (ap (λ (k : PacketCounters). k.left) c.counters-left.ensures.value) (ap (λ (k : PacketCounters). k.left) c.counters.ensures.value) c.follow-is_passed.ensures.after in
+    subst (λ (x : Session). PassesOnce c.args.now.0 x answer c.follow-is_passed.result t) c.self.view_is
+    (others_after c.args.now.0 s t answer after references notes c.pop-answer.ensures.pops c.take_notes-references.ensures c.follow-is_passed.result c.follow-is_passed.ensures.passed others
+    (ap (λ (b : UnitBound). record s { packets = after; time = time; gates = gates; bound = b; notes = notes }) c.note.ensures.after
+    ∙ ap (λ (x : Option ℕ). record s { packets = after; time = x; gates = gates; bound = bound_if (is_large s.bound.most answer) s.bound answer; notes = notes }) c.extend_with.ensures
+    ∙ ap (λ (k : Gating). record s { packets = after; time = time_with s.time answer; gates = k; bound = bound_if (is_large s.bound.most answer) s.bound answer; notes = notes }) gates_is))

@@ -1,0 +1,202 @@
+-- What the packets of a stream of video say of the frames that they begin, until these frames are released.
+use Rattle.std.specs.Prelude.{◌≡◌, ◌≤◌, ◌==◌, ◌^◌, ℕ, if◌then◌else◌, Bool, true, false, List, [], Option, Some, None, Result, Ok, Err}
+use Rattle.std.specs.Option.{is_some, option_map}
+use Rattle.codec_payload_base.specs.declared.error.PacketError.{PacketError}
+use Rattle.codec_payload_base.specs.Extended.{extended}
+use Rattle.codec_payload_base.specs.declared.wire.Codec.{Codec}
+use Rattle.codec_payload_base.specs.declared.wire.Codec.TheVariants as codecs
+use Rattle.codec_payload_buffer.specs.Release.{IsFirst, IsLast, Release}
+use Rattle.codec_payload_buffer.specs.declared.buffer.unit.RtpMeta.{RtpMeta}
+use Rattle.codec_payload_jitter.specs.declared.outcome.Outcome.{Outcome}
+use Rattle.codec_payload_jitter.specs.declared.outcome.Outcome.TheVariants as outcomes
+use Rattle.codec_payload_keyframes.specs.declared.unit_gate.FromKeyframe.{FromKeyframe}
+use Rattle.codec_payload_keyframes.specs.declared.unit_gate.FromKeyframe.TheVariants as modes
+use Rattle.codec_payload_keyframes.specs.References.{no_references}
+use Rattle.codec_payload_keyframes.specs.declared.references.UnitReferences.{UnitReferences}
+use Rattle.codec_payload_references.specs.FrameNotes.{Note, note_of}
+use Rattle.codec_payload_references.specs.Notes.{IsTaken, Notes, inserted}
+use Rattle.codec_payload_rtp.specs.ExtensionFormats.{bytes_for, elements_of}
+use Rattle.codec_payload_rtp.specs.RtpPackets.{Extension}
+use Rattle.codec_payload_rtp.specs.RtpValues.{extension_of}
+use Rattle.codec_payload_receiver.specs.Kinds.{Again, AgainEmpty, AgainInRed, Carrier, Datagram, InRed, Kinds, Malformed, OfOthers, RtcpPacket, WithMedia, WithoutMedia}
+use Rattle.codec_payload_receiver.specs.declared.notes.Media.{Media}
+use Rattle.codec_payload_receiver.specs.declared.notes.PendingNote.{PendingNote}
+use Rattle.codec_payload_receiver.specs.declared.notes.StreamNotes.{StreamNotes}
+
+-- the notes of a stream: whether its payload descriptors are those of VP9; the id of the element with the dependency descriptor;
+-- and the notes. For how many more there is memory is not seen
+pub record Noting : Type 0 where
+  pub is_vp9 : Bool
+  pub descriptor : Option ℕ
+  pub notes : Notes
+
+abbrev pub without_room : Notes → Notes
+without_room n = record n { room = 0 }
+
+-- none are held, and nothing is known of the stream
+abbrev pub no_notes : ℕ → Notes
+no_notes most = record { held = []; room = 0; most = most; following = record { stream = record { structure = None; active = 0 }; latest = 2 ^ 63 }; suspect = None }
+
+-- the notes in memory; without memory there are none
+abbrev pub notes_in : ℕ → Option Notes → Notes
+notes_in most None = no_notes most
+notes_in most (Some n) = n
+
+abbrev pub noting_of : StreamNotes → Noting
+noting_of s = record { is_vp9 = s.is_vp9; descriptor = s.descriptor; notes = without_room (notes_in s.most (option_map (λ b. b.value) s.notes)) }
+
+-- ---- which streams need notes
+
+abbrev pub is_inspected : FromKeyframe → Bool
+is_inspected modes.Off = false
+is_inspected modes.Mark = true
+is_inspected modes.Drop = true
+
+abbrev pub no_noting : Bool → Option ℕ → ℕ → Noting
+no_noting is_vp9 descriptor most = record { is_vp9 = is_vp9; descriptor = descriptor; notes = no_notes most }
+
+-- VP9, and other video with an id of the dependency descriptor
+abbrev pub noting_for : Codec → Option ℕ → ℕ → Option Noting
+noting_for codecs.Vp9 descriptor most = Some (no_noting true descriptor most)
+noting_for codecs.Vp8 (Some id) most = Some (no_noting false (Some id) most)
+noting_for codecs.Av1 (Some id) most = Some (no_noting false (Some id) most)
+noting_for _ descriptor most = None
+
+-- if the frames are inspected
+abbrev pub new_noting : FromKeyframe → Codec → Option ℕ → ℕ → Option Noting
+new_noting mode codec descriptor most = if is_inspected mode then noting_for codec descriptor most else None
+
+-- ---- what a datagram brings
+
+-- a packet with media: its original number, its header extension, and its payload
+pub record MediaPacket : Type 0 where
+  pub number : ℕ
+  pub extension : Option Extension
+  pub bytes : List ℕ
+
+abbrev pub media_of : Media → MediaPacket
+media_of m = record { number = m.number; extension = extension_of m.extension; bytes = m.payload.now }
+
+-- the primary block of a RED packet, if it is media of the stream; redundant blocks have no header extension
+abbrev pub primary_media : Kinds → Carrier → Option MediaPacket
+primary_media s c = if c.primary.pt == s.payload_type then Some (record { number = c.header.sequence_number; extension = c.header.extension; bytes = c.primary.payload }) else None
+
+abbrev pub media_in : Kinds → Datagram → Option MediaPacket
+media_in s RtcpPacket = None
+media_in s (Malformed e) = None
+media_in s OfOthers = None
+media_in s (WithoutMedia h) = None
+media_in s (WithMedia p) = Some (record { number = p.header.sequence_number; extension = p.header.extension; bytes = p.payload })
+media_in s (InRed c) = primary_media s c
+media_in s (Again o) = Some (record { number = o.number; extension = o.header.extension; bytes = o.bytes })
+media_in s (AgainInRed c) = primary_media s c
+media_in s AgainEmpty = None
+
+-- its note, if it begins a frame
+abbrev pub pending_by : Noting → MediaPacket → PendingNote
+pending_by n m = record { number = m.number; note = note_of n.is_vp9 m.bytes (bytes_for n.descriptor (elements_of m.extension)) }
+
+abbrev pub pending_in : Option Noting → Kinds → Datagram → Option PendingNote
+pending_in None s d = None
+pending_in (Some n) s d = option_map (pending_by n) (media_in s d)
+
+-- ---- notes of packets that are stored
+
+-- under the number nearest to the highest one
+abbrev pub with_near : Option ℕ → ℕ → Note → Notes → Notes
+with_near highest low note n = record n { held = inserted n.most (record { number = extended 65536 highest low; note = note }) n.held }
+
+abbrev pub with_note : Option ℕ → ℕ → Option Note → Notes → Notes
+with_note highest low None n = n
+with_note highest low (Some note) n = with_near highest low note n
+
+abbrev pub without_suspect : Notes → Notes
+without_suspect n = record n { suspect = None }
+
+-- the note of a suspect packet replaces that of the one before
+abbrev pub with_suspect : ℕ → Option Note → Notes → Notes
+with_suspect low note n = record n { suspect = option_map (λ x. (low, x)) note }
+
+-- the suspect packet was stored
+abbrev pub with_kept : Option ℕ → Option (ℕ × Note) → Notes → Notes
+with_kept highest None n = n
+with_kept highest (Some kept) n = with_near highest kept.0 kept.1 n
+
+abbrev pub with_kept_if : Bool → Option ℕ → Notes → Notes
+with_kept_if true highest n = with_kept highest n.suspect (without_suspect n)
+with_kept_if false highest n = without_suspect n
+
+-- by the outcome of the packet: a packet that was not stored has no note, and that of a suspect packet waits for a restart
+abbrev pub noted : PendingNote → Outcome → Option ℕ → Notes → Notes
+noted p outcomes.Held highest n = with_note highest p.number p.note n
+noted p outcomes.HeldAndEvicted highest n = with_note highest p.number p.note n
+noted p outcomes.Suspect highest n = with_suspect p.number p.note n
+noted p (outcomes.Restarted with_kept) highest n = with_note highest p.number p.note (with_kept_if with_kept highest n)
+noted p outcomes.Duplicate highest n = n
+noted p outcomes.Late highest n = n
+noted p outcomes.NoMedia highest n = n
+noted p outcomes.OtherStream highest n = n
+noted p outcomes.Undecided highest n = n
+noted p outcomes.Rtcp highest n = n
+
+abbrev pub settled_by : PendingNote → Outcome → Option ℕ → Noting → Noting
+settled_by p outcome highest n = record n { notes = noted p outcome highest n.notes }
+
+abbrev pub noted_with : Option Noting → Option PendingNote → Outcome → Option ℕ → Option Noting
+noted_with None p outcome highest = None
+noted_with (Some n) None outcome highest = Some n
+noted_with (Some n) (Some p) outcome highest = Some (settled_by p outcome highest n)
+
+-- the notes after a datagram with this outcome; `highest` is the highest extended number after it
+abbrev pub notes_after : Option Noting → Kinds → Datagram → Outcome → Option ℕ → Option Noting
+notes_after n s d outcome highest = noted_with n (pending_in n s d) outcome highest
+
+-- the note of the suspect packet is forgotten
+abbrev pub forgetting : Noting → Noting
+forgetting n = record n { notes = without_suspect n.notes }
+
+abbrev pub forgotten : Option Noting → Option Noting
+forgotten n = option_map forgetting n
+
+-- there is memory for two more notes, if there is one
+abbrev pub HasRoomFor : Option Notes → Bool → Type 0
+HasRoomFor None false = Unit {0}
+HasRoomFor None true = ⊥
+HasRoomFor (Some n) there = 2 ≤ n.room
+
+abbrev pub HasRoom : Option Note → StreamNotes → Type 0
+HasRoom note s = HasRoomFor (option_map (λ b. b.value) s.notes) (is_some note)
+
+abbrev pub HasRoomIf : Option StreamNotes → Option PendingNote → Type 0
+HasRoomIf None p = Unit {0}
+HasRoomIf (Some s) None = Unit {0}
+HasRoomIf (Some s) (Some p) = HasRoom p.note s
+
+-- ---- notes of units that are released
+
+-- the notes of all numbers up to the last one leave, and those from the first one on say what their unit refers to
+pub record TakesRange (first last : ℕ) (n : Noting) (references : UnitReferences) (t : Noting) : Type 0 where
+  pub is_vp9 : t.is_vp9 ≡ n.is_vp9
+  pub descriptor : t.descriptor ≡ n.descriptor
+  pub takes : IsTaken n.notes first last references t.notes
+
+-- the numbers are those of the packets of the unit
+pub record TakesOf (unit : Release) (n : Noting) (references : UnitReferences) (t : Noting) : Type 0 where
+  pub first : RtpMeta
+  pub last : RtpMeta
+  pub begins : IsFirst unit.metas first
+  pub ends : IsLast unit.metas last
+  pub takes : TakesRange first.seq_no.0 last.seq_no.0 n references t
+
+-- a stream without notes has none afterwards
+abbrev pub TakesBy : Release → Option Noting → UnitReferences → Option Noting → Type 0
+TakesBy unit None references None = references ≡ no_references
+TakesBy unit None references (Some t) = ⊥
+TakesBy unit (Some n) references None = ⊥
+TakesBy unit (Some n) references (Some t) = TakesOf unit n references t
+
+-- an answer without a unit leaves the notes to the next unit
+abbrev pub TakesNotes : Option (Result Release PacketError) → Option Noting → UnitReferences → Option Noting → Type 0
+TakesNotes None n references t = (references ≡ no_references) × (t ≡ n)
+TakesNotes (Some (Err fault)) n references t = (references ≡ no_references) × (t ≡ n)
+TakesNotes (Some (Ok unit)) n references t = TakesBy unit n references t

@@ -1,0 +1,5 @@
+mod FrameLemmas
+mod LayerLemmas
+mod NoteLemmas
+mod SetLemmas
+mod UnitLemmas

@@ -1,0 +1,6 @@
+pub mod FrameNotes
+pub mod Frames
+pub mod LayerFrames
+pub mod Notes
+pub mod Sets
+pub mod Units

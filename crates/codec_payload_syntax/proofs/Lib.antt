@@ -1,0 +1,3 @@
+pub mod ReaderLemmas
+pub mod RepeatLemmas
+pub mod SyntaxLemmas
