@@ -38,6 +38,7 @@ typedef struct {
     uint32_t rate;         /* of the RTP clock, in hertz */
     int channels;          /* of audio */
     uint8_t inner;         /* of RED and retransmissions: the payload type inside, or PAYLOAD_TYPES where it is not said */
+    uint8_t descriptor;    /* the id of the dependency descriptor, or 0 */
     bool octet_align;      /* of AMR-WB */
     bool guessed;
 } codec_use;

@@ -56,6 +56,7 @@ static bool receives(record *it) {
     cpay_receiver_settings settings;
     cpay_receiver_settings_init(&settings, use->codec->library, use->rate, it->stream.payload_type, CPAY_FOR_FILE);
     settings.spec.octet_align = use->octet_align;
+    settings.dependency_descriptor = use->descriptor;
     settings.has_ssrc = true;
     settings.ssrc = it->stream.ssrc;
     settings.start = 1;

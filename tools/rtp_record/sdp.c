@@ -27,7 +27,11 @@ static void describe(sdp_medium *medium, const cpay_sdp_media *read) {
     medium->source_count = read->source_count;
     memcpy(medium->sources, read->sources, sizeof medium->sources);
     for (size_t i = 0; i < PAYLOAD_TYPES; i++) medium->uses[i] = codec_use_unknown();
-    for (size_t i = 0; i < read->format_count; i++) medium->uses[read->formats[i].payload_type] = use_of(&read->formats[i]);
+    for (size_t i = 0; i < read->format_count; i++) {
+        codec_use *use = &medium->uses[read->formats[i].payload_type];
+        *use = use_of(&read->formats[i]);
+        use->descriptor = read->dependency_descriptor_id;
+    }
 }
 
 /* Adds the sections of a text. On failure prints a message that begins with `name`. */

@@ -113,10 +113,10 @@ class Recorded:
 
     def decodable(self, packets, whole, there, restart):
         """The frames among the whole ones that a decoder can show: keyframes, and each whose references were shown since the latest
-        keyframe. A frame that names no references follows such a frame without a gap. There a lost packet of padding is a gap too:
-        a receiver cannot know what was in it. So is a restart: no stream here has both picture ids of VP8, which could show that no
-        frame is missing."""
-        keyframes, shown, numbers = self.keyframes(), [], None
+        keyframe, which replaces what came before it. A frame that names no references follows such a frame without a gap. There a
+        lost packet of padding is a gap too: a receiver cannot know what was in it. So is a restart: no stream here has both picture
+        ids of VP8, which could show that no frame is missing."""
+        keyframes, shown, numbers, start = self.keyframes(), [], None, 0
         units, said = self.units(packets), self.said(packets)
         for place in whole:
             first = units[place][0][0]
@@ -124,8 +124,9 @@ class Recorded:
             follows = shown[-1:] == [place - 1] and there.issuperset(between) and first != restart
             if place in keyframes:
                 follows, numbers = True, set() if said[place] else None
+                start = min(said[place][0]) if said[place] else 0
             elif numbers is not None:
-                follows = said[place] is not None and said[place][1] <= numbers
+                follows = said[place] is not None and numbers.issuperset(it for it in said[place][1] if it >= start)
             if follows:
                 shown.append(place)
                 if numbers is not None:
