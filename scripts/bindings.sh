@@ -5,14 +5,14 @@
 #   scripts/bindings.sh            all that stands below
 #   scripts/bindings.sh proved     proves the library, builds c/out/proved/libcodec_payload.a, and prints that folder
 #
-# The tests, whose parts run side by side. The assembly belongs to these sources, and a new run of the script makes the same
-# (scripts/assembly.py check). The header agrees with the library; it compiles as C99 and C11 and, if there is a C++ compiler,
-# as C++11 and C++20; the compiler detects a struct of the wrong type, and an ignored status. `make check` (c/tests/check.sh
-# says what runs) over both archives; over the assembly also with the address and undefined-behaviour sanitizers, over jemalloc
-# and mimalloc, and for AArch64 by qemu. The header for C++ (c/tests/plus.cpp). The ABI (packaging/abi.sh). If there is cargo:
-# scripts of payload_vectors through each library, compared byte for byte with the program over the generated Rust crate
-# (c/tests/vectors.c, c/tests/inputs.py, tools/lines); the calls beside those of the crate (tools/twin); and changed session
-# descriptions read by c/src/sdp.c and by the crate. The installed files (install_test.sh).
+# The tests. The assembly belongs to these sources, and a new run of the script makes the same (scripts/assembly.py check). The
+# header agrees with the library; it compiles as C99 and C11 and, if there is a C++ compiler, as C++11 and C++20; the compiler
+# detects a struct of the wrong type, and an ignored status. `make check` (c/tests/check.sh says what runs) over both archives; over
+# the assembly also with the address and undefined-behaviour sanitizers, over jemalloc and mimalloc, and for AArch64 by qemu.
+# The header for C++ (c/tests/plus.cpp). The ABI (packaging/abi.sh). If there is cargo: scripts of payload_vectors through each library,
+# compared byte for byte with the program over the generated Rust crate (c/tests/vectors.c, c/tests/inputs.py, tools/lines); the calls beside
+# those of the crate (tools/twin); and changed session descriptions read by c/src/sdp.c and by the crate. The installed files
+# (install_test.sh).
 #
 # Needs a C compiler ($CC or cc) with its sanitizers, make, binutils and Python 3; for tools/lines and tools/twin cargo; for the
 # installed files pkg-config and a C++ compiler; for AArch64 gcc-aarch64-linux-gnu and qemu-user. No network. Without rt the
@@ -26,7 +26,6 @@ warnings="-pedantic -Wall -Wextra -Wconversion -Werror"
 work=$(mktemp -d)
 trap 'rm -rf "$work"' EXIT
 mkdir -p "$out/proved"
-. "$root/scripts/lanes.sh"
 
 fail() {
     echo "$1" >&2
@@ -64,9 +63,8 @@ build_proved() {
 # Runs every script through the library, by the program $1 of c/tests/vectors.c, and through payload_vectors of tools/lines; both answer
 # the same bytes and the same status.
 compare_scripts() {
-    command -v cargo >/dev/null || return 0
-    step cargo build --offline --quiet --release --manifest-path tools/lines/Cargo.toml
-    for script in "$scripts"/*; do
+    count=0
+    for script in "$work/scripts"/*; do
         status=0
         "$root/tools/lines/target/release/payload_vectors" <"$script" >"$work/wanted" 2>"$work/wanted-messages" || status=$?
         found=0
@@ -76,6 +74,7 @@ compare_scripts() {
             cp "$script" "$out/differs"
             fail "$1 answers another output or status to $(basename "$script"), which is kept as c/out/differs"
         }
+        count=$((count + 1))
     done
 }
 
@@ -130,80 +129,51 @@ all) ;;
 esac
 command -v "$compiler" >/dev/null || fail "there is no C compiler; set CC"
 plus=${CXX:-c++}
-scripts=$work/scripts
 cd "$root"
-c/tests/inputs.py "$scripts" >/dev/null
-step scripts/assembly.py sources
-# All parts build on the library, so make builds it before them.
-step make -s
-
-# Commands of rt wait for each other, so this part has them all. `rt lib` comes first, since it can begin with what an earlier check
-# on the machine kept. The compiler that scripts/assembly.py calls cannot, and goes on from what `rt lib` leaves.
-of_rt() {
-    proved="without rt, so without the archive that rt builds"
-    if command -v rt >/dev/null; then
-        build_proved
-        step make -j "$(nproc)" check LIBRARY=c/out/proved/libcodec_payload.a tests=c/out/proved/tests
-        compare_scripts "$out/proved/tests/vectors"
-        proved="the archive that rt builds"
-    fi
-    step scripts/assembly.py check
-    tail -n 1 "$work/log" >"$work/assembly"
-    echo "$proved"
-}
-
-plain() {
-    check_headers
-    step make -j "$(nproc)" check strict=-Werror
-    ! command -v "$plus" >/dev/null || step make -j "$(nproc)" check-plus strict=-Werror
-    allocators="the C library's allocator"
-    run_other_allocators
-    compare_scripts "$out/tests/vectors"
-    echo "$allocators"
-}
-
-sanitized() {
-    step make -j "$(nproc)" check-sanitized strict=-Werror
-    compare_scripts "$out/tests-sanitized/vectors"
-}
-
-by_qemu() {
-    if command -v aarch64-linux-gnu-gcc >/dev/null && command -v qemu-aarch64 >/dev/null; then
-        step make -j "$(nproc)" check-aarch64 strict=-Werror
-        echo "AArch64 by qemu"
-    else
-        echo "without gcc-aarch64-linux-gnu and qemu-user, so not for AArch64"
-    fi
-}
-
-abi() {
-    step packaging/abi.sh
-    tail -n 1 "$work/log"
-}
-
-twin() {
-    if command -v cargo >/dev/null; then
-        cd tools/twin
-        step cargo run --offline --quiet --release -- 20000
-        tail -n 1 "$work/log"
-    fi
-}
-
-installed() {
-    step packaging/install_test.sh
-    tail -n 1 "$work/log" | sed "s/: all passed$//"
-}
-
-side_by_side of_rt installed by_qemu sanitized plain twin abi
+step scripts/assembly.py check
+assembly=$(tail -n 1 "$work/log")
+check_headers
+step make check check-sanitized strict=-Werror
+! command -v "$plus" >/dev/null || step make check-plus strict=-Werror
+allocators="the C library's allocator"
+run_other_allocators
+proved="without rt, so without the archive that rt builds"
+if command -v rt >/dev/null; then
+    build_proved
+    step make check LIBRARY=c/out/proved/libcodec_payload.a tests=c/out/proved/tests
+    proved="the archive that rt builds"
+fi
+arm="without gcc-aarch64-linux-gnu and qemu-user, so not for AArch64"
+if command -v aarch64-linux-gnu-gcc >/dev/null && command -v qemu-aarch64 >/dev/null; then
+    step make check-aarch64 strict=-Werror
+    arm="AArch64 by qemu"
+fi
 twin="without cargo, so without tools/lines and tools/twin"
 if command -v cargo >/dev/null; then
+    step cargo build --offline --quiet --release --manifest-path tools/lines/Cargo.toml
+    c/tests/inputs.py "$work/scripts" >/dev/null
+    for tests in tests tests-sanitized proved/tests; do
+        case $tests in
+        proved/*) command -v rt >/dev/null || continue ;;
+        esac
+        compare_scripts "$out/$tests/vectors"
+    done
+    (cd tools/twin && cargo run --offline --quiet --release -- 20000) >"$work/twin" 2>&1 || {
+        cat "$work/twin" >&2
+        fail "the library and the generated Rust crate differ"
+    }
+    twin="$count scripts; $(tail -n 1 "$work/twin")"
     for given in c/tests/sdp/*.sdp; do
         "$out/tests/descriptions" changed 3000 <"$given" >"$work/wanted"
         (cd tools/twin && cargo run --offline --quiet --release -- changed 3000) <"$given" >"$work/found"
         cmp "$work/wanted" "$work/found" || fail "C and Rust read a changed copy of $given differently"
     done
-    twin="$(ls "$scripts" | wc -l) scripts; $(said twin); session descriptions in C and Rust"
+    twin="$twin; session descriptions in C and Rust"
 fi
+step packaging/abi.sh
+abi=$(tail -n 1 "$work/log")
+step packaging/install_test.sh
+installed=$(tail -n 1 "$work/log" | sed "s/: all passed$//")
 
-echo "C: $(cat "$work/of_rt/assembly"); the headers, the tests with and without sanitizers, over $(said plain); $(said of_rt);" \
-    "$(said by_qemu); $(said abi); $twin; $(said installed): all passed"
+echo "C: $assembly; the headers, the tests with and without sanitizers, over $allocators; $proved; $arm; $abi; $twin; $installed:" \
+    "all passed"

@@ -329,10 +329,12 @@ refuse_test() {
 }
 
 if command -v rt >/dev/null; then
-    program=$("$root/scripts/kit.py" tests payload_run_tests 2>"$work/run") || {
+    tests=$root/crates/payload_run_tests
+    (cd "$tests" && rt test) >"$work/run" 2>&1 || {
         cat "$work/run"
         exit 1
     }
+    program=$tests/out/payload_run_tests_tests
     input=$work/nothing
     for test in memory_sink_refused red_sink_refused push_sample_refused run_schedule_refused; do
         refuse_test "$test"

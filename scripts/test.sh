@@ -4,7 +4,7 @@
 #   scripts/test.sh              all of it
 #   scripts/test.sh --no-proofs  the scripts alone, over what was proved before
 #
-# Needs rt, a C and a C++ compiler, make, flock, binutils, pkg-config, Python 3, cargo and valgrind. Missing Debian packages are
+# Needs rt, a C and a C++ compiler, make, binutils, pkg-config, Python 3, cargo and valgrind. Missing Debian packages are
 # installed if that is allowed, and otherwise named before anything starts. The same applies to debhelper, lintian and doxygen;
 # without them no Debian packages and manual pages are made. Without gcc-aarch64-linux-gnu and qemu-user the library for C is
 # only tested natively; without abigail-tools its ABI is not compared; without libpcap, libavformat and ffmpeg the recorder is
@@ -21,6 +21,8 @@ cd "$root" || exit 2
 export CARGO_INCREMENTAL=0 CARGO_PROFILE_DEV_DEBUG=0
 work=$(mktemp -d)
 trap 'rm -rf "$work"' EXIT
+passed=0
+failed=0
 
 # wants PACKAGE COMMAND..: installs the package if a command is missing
 wants() {
@@ -35,7 +37,6 @@ absent=
 wants gcc cc
 wants g++ c++
 wants make make
-wants util-linux flock
 wants binutils ld objcopy nm
 wants pkg-config pkg-config
 wants python3 python3
@@ -70,7 +71,7 @@ if [ -n "$absent" ] && [ "$(id -u)" -eq 0 ] && command -v apt-get >/dev/null; th
     # shellcheck disable=SC2086
     { apt-get update && DEBIAN_FRONTEND=noninteractive apt-get install -y --no-install-recommends $absent; } >"$work/apt" 2>&1 ||
         echo "not installed:$absent"
-    needed=$(for tool in cc c++ make flock ld objcopy nm pkg-config python3 cargo valgrind; do command -v "$tool" >/dev/null || echo "$tool"; done)
+    needed=$(for tool in cc c++ make ld objcopy nm pkg-config python3 cargo valgrind; do command -v "$tool" >/dev/null || echo "$tool"; done)
 fi
 command -v rt >/dev/null || needed="$needed rt"
 if [ -n "$needed" ]; then
@@ -78,100 +79,52 @@ if [ -n "$needed" ]; then
     exit 2
 fi
 
-# Lanes of scripts run side by side (scripts/lanes.sh). What each script writes in this copy of the repository, beside its own
-# temporary folders:
-#
-#   rust.sh                                 rust/target, rust-extras/target, tools/{fuzz,lines,speed}/target
-#   process.py                              tools/lines/target, and by rt crates/*/out
-#   refuse.sh                               c/out/libcodec_payload.*, and by rt crates/*/out
-#   bindings.sh                             all of c/out, tools/{lines,twin}/target, and by rt crates/*/out
-#   allocations.sh, instructions.sh,        c/out/libcodec_payload.*
-#     receiving.py, examples.py, hostile.py
-#   forwarding.py, chromium_peer.py         rust/target; the first also tools/live_server
-#   rtp_record/test.sh, live_server         c/out/libcodec_payload.*, and their own folders
-#   all others                              nothing
-#
-# Two rt in one copy wait for each other, so scripts with rt share a lane. The library is built before the lanes, so make only
-# reads it there. Two cargo in one folder wait for each other, and build the same. The system chooses each port that a script
-# opens. The scripts that copy crates/ or rust/ leave out what is built there. Scripts that measure time run alone, after the
-# lanes. One step of rust.sh measures time in its lane: a pop may take 2,000 ns, and took 110 ns on processors with twice as
-# many processes to run.
-. scripts/lanes.sh
-exec 3>&1 # standard output, also in a lane
-answers=$work/answers
-: >"$answers"
-
-# The lane with rt takes longest, so scripts of other lanes run at a lower priority.
-behind=0
-
 # runs WORDS..: one script, which counts as one test
 runs() {
     began=$(date +%s)
-    answer=ok
-    nice -n "$behind" "$@" >"$work/output" 2>&1 3>&- || answer=FAILED
-    {
-        [ "$answer" = ok ] || cat "$work/output"
-        echo "$answer $* ($(($(date +%s) - began)) s): $(tail -n 1 "$work/output")"
-    } >"$work/shown"
-    echo "$answer" >>"$answers"
-    flock "$answers" cat "$work/shown" >&3 # no line of another lane comes between
-}
-
-layout() {
-    runs scripts/kit.py layout
-}
-
-texts() {
-    runs scripts/mutants.py --stale
-    runs scripts/documents.py --quick
-    runs scripts/statements.py --check
-    runs scripts/theorem.py --check
-    runs c/check_header.py
-}
-
-kit() {
-    runs tests/vectors/process.py --proved
-    runs scripts/refuse.sh
-    runs scripts/bindings.sh
-}
-
-rust() {
-    behind=5
-    runs scripts/rust.sh
-    runs scripts/toy_codec.sh
-}
-
-pages() {
-    behind=5
-    runs scripts/documents.py
-    runs scripts/examples.py
-    runs scripts/hostile.py
-}
-
-counts() {
-    behind=5
-    runs tests/vectors/feedback.py --check
-    runs tools/measure/allocations.sh
-    runs tools/measure/instructions.sh
-    runs tools/measure/receiving.py
+    if "$@" >"$work/output" 2>&1; then
+        passed=$((passed + 1))
+        answer=ok
+    else
+        failed=$((failed + 1))
+        cat "$work/output"
+        answer=FAILED
+    fi
+    echo "$answer $* ($(($(date +%s) - began)) s): $(tail -n 1 "$work/output")"
 }
 
 # The quick checks come first: a fault that they find costs no proof.
-side_by_side layout texts
-proved=0
-unproved=0
+runs scripts/kit.py layout
+runs scripts/mutants.py --stale
+runs scripts/documents.py --quick
+runs scripts/statements.py --check
+runs scripts/theorem.py --check
+runs c/check_header.py
+runs scripts/rust.sh
+runs scripts/toy_codec.sh
+early_passed=$passed
+early_failed=$failed
 if [ "${1:-}" != --no-proofs ]; then
     scripts/kit.py free || exit 1
     rt ci 2>&1 | tee "$work/proofs"
-    set -- $(tail -n 1 "$work/proofs" | sed -n 's/^\([0-9]*\) passed, \([0-9]*\) failed.*/\1 \2/p') '' ''
+    counts=$(tail -n 1 "$work/proofs")
+    set -- $(printf '%s\n' "$counts" | sed -n 's/^\([0-9]*\) passed, \([0-9]*\) failed.*/\1 \2/p') '' ''
     [ "${1:-0}" -gt 0 ] || set -- 0 1
     [ "$2" -ne 0 ] || scripts/kit.py keep
-    proved=$1
-    unproved=$2
+    passed=$((early_passed + $1))
+    failed=$((early_failed + $2))
 fi
-make -s >/dev/null 2>&1 # so no two lanes build the library
-side_by_side kit rust pages counts
+runs tests/vectors/process.py --proved
+runs tests/vectors/feedback.py --check
+runs scripts/refuse.sh
+runs tools/measure/allocations.sh
+runs scripts/bindings.sh
+runs scripts/documents.py
+runs scripts/examples.py
 runs tools/measure/forwarding.py
+runs scripts/hostile.py
+runs tools/measure/instructions.sh
+runs tools/measure/receiving.py
 if command -v ffmpeg >/dev/null; then
     runs tests/media/media_peers.py
 else
@@ -198,7 +151,5 @@ if pkg-config --exists openssl libsrtp2 libmicrohttpd libavformat libavcodec lib
 else
     echo "skipped tools/live_server: tools/live_server/install.sh installs what it needs"
 fi
-passed=$((proved + $(grep -c '^ok' "$answers")))
-failed=$((unproved + $(grep -c '^FAILED' "$answers")))
 echo "$passed passed, $failed failed"
 [ "$failed" -eq 0 ]
