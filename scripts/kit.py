@@ -3,7 +3,6 @@
 
   scripts/kit.py free [MINUTES]   waits until no other rt works here, and says what it waits for; by default at most 30 minutes
   scripts/kit.py keep             after an `rt ci` that passed: marks what it built, so that rt does not prove it once more
-  scripts/kit.py tests CRATE      prints the path of the program of a crate's tests; proves and builds it, if it has no mark
   scripts/kit.py layout           fails if a file of the crates is not in the layout of `rt fmt`
   scripts/kit.py over LIB,.. CRATE [FUNCTION ...]
                                   checks functions of a crate over the sources of these libraries, which need no proof yet
@@ -16,16 +15,12 @@ program. The marks are sums over the sources of a crate and of all crates below 
 changes. Never call it after anything else than an `rt ci` that passed. If the toolchain keeps its marks in another way, nothing is
 written, and rt proves the crates again. The status is 0 either way.
 
-tests: `rt test` knows no marks and proves the tests each time, so the marks of their programs are this script's own. What rt prints
-goes to standard error. The status is 0 if the program is there.
-
 layout: changes nothing, proves nothing, and takes half a minute. The last line says what passed.
 
 over: while a change is under way in a library, the crates above it can be tried at once. The other libraries below the crate must be
 built (crates/*/out/rlib). Functions are paths or parts of them; without any, the whole crate is checked, and the libraries too, which
 takes long. It gives no verdict: a library whose contract nobody meets passes as well. The status is that of `rattle check`.
 """
-import contextlib
 import fcntl
 import filecmp
 import glob
@@ -35,7 +30,6 @@ import subprocess
 import sys
 import tempfile
 import time
-from concurrent.futures import ThreadPoolExecutor
 
 ROOT = os.path.dirname(os.path.dirname(os.path.realpath(__file__)))
 PAUSE = 2  # seconds between two tries
@@ -106,12 +100,6 @@ def mark_of(crate, rtlib):
     return (os.path.join(out, "rlib", "stamp"), crate.stamp()) if os.path.isdir(crate.rlib) else None
 
 
-def mark_of_tests(crate, rtlib):
-    """The same for the program of a crate's tests."""
-    program = os.path.join(crate.folder, "out", f"{crate.name}_tests")
-    return (f"{program}.kept", crate.stamp() + rtlib.sum_of(program)) if os.path.isfile(program) else None
-
-
 def keep_proved():
     """Writes the marks, or says why not."""
     try:
@@ -120,8 +108,7 @@ def keep_proved():
             print("nothing kept: rt will prove again what it needs")
             return
         os.chdir(ROOT)
-        crates = rtlib.crates_below(ROOT)
-        marks = [mark for crate in crates for mark in (mark_of(crate, rtlib), mark_of_tests(crate, rtlib)) if mark]
+        marks = [mark for mark in (mark_of(crate, rtlib) for crate in rtlib.crates_below(ROOT)) if mark]
         for path, text in marks:
             with open(path, "w", encoding="utf-8") as file:
                 file.write(text)
@@ -167,48 +154,17 @@ def check_over(sources, crate, functions):
     return subprocess.run(words, cwd=f"{ROOT}/crates/{crate}", check=False).returncode
 
 
-def is_kept(folder):
-    """Whether the program of the tests of the crate in a folder has its mark."""
-    try:
-        rtlib = toolchain()
-        if rtlib is None:
-            return False
-        os.chdir(ROOT)
-        marks = [mark_of_tests(it, rtlib) for it in rtlib.crates_below(ROOT) if it.folder == folder]
-        return any(mark and rtlib.text_of(mark[0]) == mark[1] for mark in marks)
-    except (AttributeError, OSError, subprocess.CalledProcessError):
-        return False
-
-
-def tests_of(name):
-    """Prints the path of the program of a crate's tests; 0 if it is there."""
-    folder = f"{ROOT}/crates/{name}"
-    if not is_kept(folder):
-        with contextlib.redirect_stdout(sys.stderr):
-            is_busy = wait_until_free()
-        if is_busy or subprocess.run(["rt", "test"], cwd=folder, stdout=sys.stderr, check=False).returncode:
-            return 1
-    print(f"{folder}/out/{name}_tests")
-    return 0
-
-
-def laid_out(crate):
-    """Runs `rt fmt` in the folder of a crate; returns what it said if it failed."""
-    ran = subprocess.run(["rt", "fmt"], cwd=crate, stdout=subprocess.PIPE, stderr=subprocess.STDOUT, text=True, check=False)
-    return ran.stdout or f"{crate}: rt fmt failed\n" if ran.returncode else ""
-
-
 def check_layout():
     """0 if `rt fmt` changes nothing in a copy of the crates."""
     with tempfile.TemporaryDirectory() as work:
         for name in ("crates.txt", "HANDLES"):
             shutil.copy(f"{ROOT}/{name}", work)
         shutil.copytree(f"{ROOT}/crates", f"{work}/crates", ignore=shutil.ignore_patterns("out"))
-        with ThreadPoolExecutor(os.cpu_count()) as pool:
-            faults = [it for it in pool.map(laid_out, sorted(glob.glob(f"{work}/crates/*/"))) if it]
-        if faults:
-            print("".join(faults))
-            return 1
+        for crate in sorted(glob.glob(f"{work}/crates/*/")):
+            ran = subprocess.run(["rt", "fmt"], cwd=crate, stdout=subprocess.PIPE, stderr=subprocess.STDOUT, text=True, check=False)
+            if ran.returncode:
+                print(ran.stdout)
+                return 1
         files = [it for it in glob.glob("crates/**/*", root_dir=work, recursive=True) if it.endswith((".rt", ".antt"))]
         differ = sorted(it for it in files if not filecmp.cmp(f"{work}/{it}", f"{ROOT}/{it}", shallow=False))
     for it in differ:
@@ -223,13 +179,11 @@ def main(words):
         return wait_until_free(*map(float, words[1:]))
     if words == ["keep"]:
         return keep_proved()
-    if words[:1] == ["tests"] and len(words) == 2:
-        return tests_of(words[1])
     if words == ["layout"]:
         return check_layout()
     if words[:1] == ["over"] and len(words) >= 3:
         return check_over(words[1].split(","), words[2], words[3:])
-    print("usage: scripts/kit.py free [MINUTES] | keep | tests CRATE | layout | over LIB,.. CRATE [FUNCTION ...]", file=sys.stderr)
+    print("usage: scripts/kit.py free [MINUTES] | keep | layout | over LIB,.. CRATE [FUNCTION ...]", file=sys.stderr)
     return 2
 
 
