@@ -5,6 +5,7 @@
 
 #[doc(hidden)]
 pub mod jitter_buffer;
+mod kept_missing;
 #[doc(hidden)]
 pub mod missing;
 #[doc(hidden)]

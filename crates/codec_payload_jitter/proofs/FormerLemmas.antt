@@ -1,10 +1,9 @@
 -- A former sender is remembered only after a restart that is counted.
-use Rattle.std.proofs.Common.{◌≡◌, ◌∙◌, refl, ap, sym, ℕ, ◌+◌, ◌%◌, ◌^◌, List, [], ◌∷◌, Bool, true, false, Option, Some, None, arith, cond}
+use Rattle.std.proofs.Common.{◌≡◌, ◌∙◌, refl, ap, sym, ℕ, [], ◌∷◌, Bool, true, false, Option, Some, None, arith, cond}
 use Rattle.codec_payload_jitter.specs.NoMediaNumbers.{noted_no_media}
-use Rattle.codec_payload_jitter.specs.NotedTimes.{noted_with}
 use Rattle.codec_payload_jitter.specs.Pressure.{Event, Packet, Retransmitted, Recovered, WithoutMedia, Comes}
 use Rattle.codec_payload_jitter.specs.Receiving.{Receiving, Arrival, Confirms, GoesOn, NotesAs, PopsWith, ReceivesAs, ReceivesAgainAs, RecoversAs, RecoversIf, Restarts, settled, waiting_at}
-use Rattle.codec_payload_jitter.specs.Receiving.{answer_in, answer_to, count_outcome, counted, counted_again, former_by, former_of, kept_number, may_recover, next, number_again_for, outcome_at, restarted, with_former}
+use Rattle.codec_payload_jitter.specs.Receiving.{answer_in, answer_to, counted, counted_again, former_by, former_of, kept_number, may_recover, next, number_again_for, outcome_at, restarted, with_former}
 use Rattle.codec_payload_jitter.specs.Restarts.{Arrives, PopsAt, HaveNoFormer}
 use Rattle.codec_payload_jitter.specs.Runs.{Answer}
 use Rattle.codec_payload_jitter.specs.declared.noted_times.FormerSender.{FormerSender}

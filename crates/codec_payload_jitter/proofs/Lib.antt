@@ -10,3 +10,6 @@ pub mod TimesLemmas
 pub mod RestartingLemmas
 pub mod OwnLemmas
 pub mod FormerLemmas
+pub mod StayingLemmas
+pub mod KeptLemmas
+pub mod KeptStores

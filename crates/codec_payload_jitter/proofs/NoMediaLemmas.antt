@@ -1,6 +1,6 @@
 -- Numbers that carry no media, in rising order.
 use Rattle.std.proofs.Common.{◌≡◌, ◌≢◌, ◌∙◌, refl, ap, sym, ℕ, ◌+◌, ◌<◌, ◌≤◌, List, [], ◌∷◌, Bool, true, false}
-use Rattle.std.proofs.Common.{length, get_or, arith, cond, ltb, eqb, add-one, ◌&&◌, ◌||◌, not, Option, Some, None, inl, inr, zero, suc, drop, Result, Ok, Err}
+use Rattle.std.proofs.Common.{length, get_or, arith, cond, ltb, eqb, add-one, ◌&&◌, ◌||◌, not, Option, Some, None, inl, inr, zero, suc, drop}
 use Rattle.std.specs.List.{insert}
 use Rattle.std.proofs.lemmas.Bool.{eqb-true, cases_lt}
 use Rattle.std.proofs.lemmas.Bool.Decides.{nat_tests}

@@ -1,5 +1,5 @@
 -- How many times are noted.
-use Rattle.std.proofs.Common.{◌≡◌, ◌∙◌, refl, ap, sym, cond, zero, suc, ℕ, ◌+◌, ◌-◌, ◌<◌, ◌≤◌, List, [], ◌∷◌, ◌++◌, drop, length, length-append, length-drop, Bool, true, false, Option, Some, None, arith, min}
+use Rattle.std.proofs.Common.{◌≡◌, refl, cond, zero, suc, ℕ, ◌+◌, ◌-◌, ◌≤◌, List, [], ◌∷◌, ◌++◌, drop, length, length-append, length-drop, Bool, true, false, Option, None, arith, min}
 use Rattle.std.specs.Prelude.{nat_lt}
 use Rattle.std.proofs.lemmas.Bool.{ltb-true, ltb-false, lt-ltb, le-ltb}
 use Rattle.codec_payload_jitter.specs.NotedTimes.{Noted, gone_on, pushed_time, room_for, skipped}

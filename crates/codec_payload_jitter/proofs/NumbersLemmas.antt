@@ -5,7 +5,7 @@ use Rattle.codec_payload_jitter.specs.declared.numbers.Extended.TheVariants as e
 use Rattle.std.specs.Prelude.{nat_lt, nat_le}
 use Rattle.std.proofs.lemmas.Bool.{lt-ltb, le-ltb, le-leb, lt-leb, leb-true, cases_lt}
 use Rattle.codec_payload_jitter.specs.Numbers.{Numbering, ahead, behind, fitting, answer_near, answer_for, number_in, number_for, numbers_for, StayNear, low_bits, AreTrueNumbers, answer_by}
-use Rattle.codec_payload_jitter.specs.Numbers.{NeverMixAnew, AreTrueBegun, begun_with, answer_anew, answer_above, numbering_with, greater, is_restarting, follows_suspect, StartsAnew, AllGivenAbove, NeverMix, FitAnew, moved_by, AreTrueAnew, GoOn, NoneRestarts}
+use Rattle.codec_payload_jitter.specs.Numbers.{NeverMixAnew, AreTrueBegun, answer_anew, numbering_with, greater, is_restarting, follows_suspect, StartsAnew, AllGivenAbove, NeverMix, FitAnew, moved_by, AreTrueAnew, GoOn, NoneRestarts}
 
 -- a true number at or above the highest one
 ahead_is : (x g t q : ℕ) → x + 65536 * q ≡ g + 65536 → g ≤ t → t < g + 65536 → ahead x (t % 65536) ≡ t - g

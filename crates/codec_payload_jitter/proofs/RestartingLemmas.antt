@@ -1,5 +1,5 @@
 -- The first packets after a restart: with the suspect packet, or without one.
-use Rattle.std.proofs.Common.{◌≡◌, ◌∙◌, refl, ap, sym, subst, ℕ, List, [], ◌∷◌, length, Bool, true, false, Option, Some, None}
+use Rattle.std.proofs.Common.{◌≡◌, ◌∙◌, refl, ap, sym, subst, ℕ, List, [], ◌∷◌, length, true, false, Option, Some, None}
 use Rattle.std.proofs.Common.{cond}
 use Rattle.std.specs.Prelude.{nat_lt, ◌||◌}
 use Rattle.codec_payload_codec.specs.Depacketizers.{DepacketizerState}

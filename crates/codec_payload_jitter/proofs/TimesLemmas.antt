@@ -1,11 +1,10 @@
 -- The noted times of a sender that gives each number one RTP time contradict none of its packets.
-use Rattle.std.proofs.Common.{◌≡◌, ◌∙◌, refl, ap, sym, subst, zero, suc, ℕ, ◌+◌, ◌-◌, ◌*◌, ◌/◌, ◌%◌, ◌<◌, ◌≤◌, List, [], ◌∷◌, ◌++◌, drop, length, length-append, length-drop, Bool, true, false, not, ◌&&◌, Option, Some, None, cond, eqb, arith, slice_set}
+use Rattle.std.proofs.Common.{◌≡◌, ◌∙◌, refl, ap, sym, subst, zero, suc, ℕ, ◌+◌, ◌-◌, ◌*◌, ◌/◌, ◌%◌, ◌≤◌, List, [], ◌∷◌, ◌++◌, drop, length, length-append, Bool, true, false, not, Option, Some, None, cond, eqb, arith, slice_set}
 use Rattle.std.specs.Prelude.{IfSome, slice_index_or, nat_lt, nat_le}
 use Rattle.std.proofs.lemmas.Bool.{eq-eqb, eqb-true, leb-true, ltb-false}
-use Rattle.codec_payload_jitter.specs.NotedTimes.{AreTimesFrom, AreTimesOf, Noted, appended_to, contradicts, gone_on, index_of, is_another, is_noted, is_of_former, is_of_former_by, noted_at, noted_with, places_for, pushed_time, skipped, spacing_of, time_at, with_last}
+use Rattle.codec_payload_jitter.specs.NotedTimes.{AreTimesFrom, AreTimesOf, Noted, appended_to, contradicts, gone_on, index_of, is_another, is_noted, is_of_former, is_of_former_by, noted_at, noted_with, places_for, pushed_time, skipped, spacing_of}
 use Rattle.codec_payload_jitter.specs.declared.noted_times.FormerSender.{FormerSender}
 use Rattle.codec_payload_jitter.specs.declared.noted_times.NotedTime.{NotedTime}
-use Rattle.codec_payload_jitter.proofs.NotedLemmas.{length_pushed}
 
 abbrev pub IsTimeOf : (ℕ → ℕ) → NotedTime → Type 0
 IsTimeOf time_of x = x.time ≡ time_of x.number

@@ -8,3 +8,6 @@ pub mod Restarts
 pub mod Runs
 pub mod Waiting
 pub mod OwnReceiving
+pub mod Staying
+pub mod KeptMissing
+pub mod KeptRenewing

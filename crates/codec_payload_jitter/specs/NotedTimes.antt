@@ -141,7 +141,7 @@ has_gone_on rate begins (Some latest) =
     nat_le begins.number latest.number && (nat_lt (3 * rate) (ticks_between begins.time latest.time) && nat_lt (ticks_between begins.time latest.time) (2 ^ 31))
 
 -- A packet is of the former sender: it goes with that sender, and the new sender has not gone on by 3 seconds. The new sender's first
--- time is not from 20 seconds before the former's latest noted time up to it, since then times do not tell the two apart
+-- time is not from 20 seconds before the former's latest noted time up to it, since then times do not distinguish the two
 abbrev pub is_of_former_by : ℕ → Noted → Option FormerSender → Option NotedTime → ℕ → ℕ → Bool
 is_of_former_by rate s None begins low time = false
 is_of_former_by rate s (Some former) None low time = false

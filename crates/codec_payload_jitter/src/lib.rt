@@ -3,6 +3,7 @@
 #![tactic(auto)]
 
 pub mod jitter;
+mod kept_missing;
 pub mod missing;
 pub mod no_media_numbers;
 pub mod noted_times;

@@ -4,6 +4,7 @@ ghost use Rattle.std.specs.Prelude.{◌≡◌, ◌∷◌, ◌+◌, ◌<◌, ◌�
 ghost use Rattle.codec_payload_jitter.specs.Missing.{absent_between, missing_numbers};
 
 use crate::jitter::JitterBuffer;
+pub use crate::theorems::few_numbers_change;
 use codec_payload_codec::codec::{Depacketizer, NoBox};
 use std::marker::Model;
 
@@ -36,10 +37,7 @@ impl<'a, B: Depacketizer> MissingNumbers<'a, B> {
     pub(crate) fn of(packets: &'a JitterBuffer<B>, most: usize) -> Self
         ensures { result ≡ missing_numbers packets.now most }
     {
-        let (next, end) = match (packets.floor(), packets.greatest()) {
-            (Some(floor), Some(greatest)) => (floor.saturating_add(1), greatest),
-            _ => (0, 0),
-        };
+        let (next, end) = packets.missing_range();
         MissingNumbers {
             packets,
             next,
@@ -53,7 +51,7 @@ impl<'a, B: Depacketizer> MissingNumbers<'a, B> {
 /// Returns the first missing number from `from` up to `to`, exclusive. A row of held numbers is one step. `place` is where the search
 /// for a held number begins, and is moved on.
 #[tactic(auto, using(crate::proofs::MissingLemmas::absent_past, crate::proofs::MissingLemmas::absent_free, crate::proofs::MissingLemmas::absent_over, crate::proofs::MissingLemmas::absent_none))]
-fn first_absent<B: Depacketizer>(
+pub(crate) fn first_absent<B: Depacketizer>(
     packets: &JitterBuffer<B>,
     place: &mut usize,
     from: u64,

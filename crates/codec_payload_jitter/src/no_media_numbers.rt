@@ -6,6 +6,7 @@ ghost use Rattle.std.specs.Option.{option_map};
 ghost use Rattle.codec_payload_buffer.specs.Blanks.{is_right_after};
 ghost use Rattle.codec_payload_buffer.specs.Steps.{is_at_most};
 ghost use Rattle.codec_payload_jitter.specs.NoMediaNumbers.{below, no_media_in, kept_few, noted_no_media, is_done, passed_no_media, no_media_left, is_in};
+ghost use Rattle.codec_payload_jitter.specs.Staying.{lowest_if_full};
 
 pub use crate::theorems::passes_no_media_alone;
 use codec_payload_base::wire::SeqNo;
@@ -59,6 +60,16 @@ impl NoMediaNumbers {
         ensures { self.new.items ≡ noted_no_media number self.old.items }
     {
         note_in_room(&mut self.numbers, number);
+    }
+
+    /// Returns the lowest number, if no further number can be noted without forgetting it.
+    pub(crate) fn lowest_if_full(&self) -> Option<u64>
+        ensures { result ≡ lowest_if_full self.now.items }
+    {
+        match self.numbers.first() {
+            Some(lowest) if self.numbers.len() >= MOST => Some(*lowest),
+            _ => None,
+        }
     }
 
     /// Returns whether the number is remembered, by a search.

@@ -5,6 +5,7 @@ ghost use Rattle.codec_payload_jitter.specs.Numbers.{AreTrueNumbers, NoneRestart
 ghost use Rattle.codec_payload_jitter.specs.NoMediaNumbers.{PassesNoMediaAlone, PassesInPlace};
 ghost use Rattle.codec_payload_jitter.specs.Pressure.{SparesCompleteFrames};
 ghost use Rattle.codec_payload_jitter.specs.Restarts.{HaveNoFormer, NeverRestarts};
+ghost use Rattle.codec_payload_jitter.specs.Staying.{NoteChangesTwo, PassChangesNone, PopChangesNone, StoreChangesOne};
 ghost use Rattle.codec_payload_jitter.specs.Runs.{AreChains, AreStretches, AreTrueStretches};
 
 /// Proves that extended numbers are true numbers. If each true number lies within the windows of the highest one so far, each
@@ -51,4 +52,14 @@ pub fn receives_are_pushes()
 /// The same applies to several pushes between two pops, if they are fewer than the places that are kept free.
 pub fn spares_complete_frames()
     ensures { SparesCompleteFrames }
+{}
+
+/// Proves which numbers can become missing, or stop being missing. Above the cutoff a packet that is stored changes its own number
+/// alone, although another packet may be evicted. A number without media changes itself, and the number that is forgotten for
+/// it. If the cutoff moves past numbers without media, no number above it changes, nor by a pop.
+pub fn few_numbers_change()
+    ensures store { StoreChangesOne }
+    ensures note { NoteChangesTwo }
+    ensures pass { PassChangesNone }
+    ensures pop { PopChangesNone }
 {}

@@ -1,6 +1,6 @@
 //! The receiver of one stream: datagrams in, units out.
 
-ghost use Rattle.std.specs.Prelude.{◌≡◌, ◌≤◌, ◌+◌, ◌%◌, ◌^◌, ℕ, length, slice_get, IfOk, IfSome, OnErr, Option, Result, true, false};
+ghost use Rattle.std.specs.Prelude.{◌≡◌, ◌≤◌, ◌+◌, ◌%◌, ◌^◌, ℕ, length, slice_get, IfOk, IfSome, OnErr, OnOk, Option, Result, true, false};
 ghost use Rattle.std.specs.Option.{option_map};
 ghost use Rattle.codec_payload_codec.specs.Depacketizers.{depacketizer_state_of, is_built_in_depacketizer};
 ghost use Rattle.codec_payload_jitter.specs.Missing.{missing_numbers};
@@ -634,6 +634,19 @@ impl<B: Depacketizer> Receiver<B> {
         self.seen = LazySeenTimes::none();
         forget_suspect(&mut self.notes);
         self.packets.restart();
+    }
+
+    /// Writes the same numbers as [`Receiver::missing`] to `numbers`, in place of what it had, from a list that is kept from call to
+    /// call. So it costs little to ask after each datagram. See [`JitterBuffer::missing_into`].
+    ///
+    /// # Errors
+    ///
+    /// Out of memory: the receiver is unchanged, and the contents of `numbers` are unspecified.
+    pub fn missing_into(&mut self, most: usize, numbers: &mut Vec<u64>) -> Result<(), AllocError>
+        ensures numbers { OnOk result (numbers.new.items ≡ missing_numbers self.old.packets most) }
+        ensures same { self.new ≡ self.old }
+    {
+        self.packets.missing_into(most, numbers)
     }
 
     /// Returns the missing numbers in rising order, at most `most` of them: the numbers to request by NACK. Allocates nothing.

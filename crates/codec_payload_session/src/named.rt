@@ -1,6 +1,7 @@
 //! The receiver of a stream of a session: its settings name the SSRC, so no packet waits for the choice of a stream.
 
-ghost use Rattle.std.specs.Prelude.{◌≡◌, false};
+ghost use Rattle.std.specs.Prelude.{◌≡◌, OnOk, false};
+ghost use Rattle.codec_payload_jitter.specs.Missing.{missing_numbers};
 ghost use Rattle.codec_payload_codec.specs.Depacketizers.{depacketizer_state_of};
 ghost use Rattle.codec_payload_receiver.specs.Pops.{NamesFault, PopsGated, answer_of, is_large, is_too_large};
 ghost use Rattle.codec_payload_session.specs.Units.{popped_with};
@@ -61,6 +62,18 @@ impl NamedReceiver {
         ensures { result.now ≡ self.now }
     {
         &self.receiver
+    }
+
+    /// Writes the missing numbers to `numbers`, at most `most` of them. See [`Receiver::missing_into`].
+    pub(crate) fn missing_into(
+        &mut self,
+        most: usize,
+        numbers: &mut Vec<u64>,
+    ) -> Result<(), AllocError>
+        ensures numbers { OnOk result (numbers.new.items ≡ missing_numbers self.old.packets most) }
+        ensures same { self.new ≡ self.old }
+    {
+        self.receiver.missing_into(most, numbers)
     }
 
     /// Receives a datagram. See [`Receiver::receive_parsed`].

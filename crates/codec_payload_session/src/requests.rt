@@ -1,12 +1,12 @@
 //! What a stream of a session requests: missing packets and keyframes.
 
-ghost use Rattle.std.specs.Prelude.{◌≡◌, ◌<◌, ℕ, IfOk, OnOk, Option};
-ghost use Rattle.codec_payload_jitter.specs.Missing.{missing_numbers};
+ghost use Rattle.std.specs.Prelude.{◌≡◌, ◌<◌, ℕ, IfOk, Option};
 ghost use Rattle.codec_payload_session.specs.Quiet.{MayRest, is_calm};
 ghost use Rattle.codec_payload_session.specs.Requests.{Asks, Refreshes, after_number, answer_by, answered_if, asked_by, feedback_by, follows_round_trip, has_requested, heard_by, is_heard, is_patient, number_at, original_number, requests_due, range_for, range_if, round_trip_of, source_for, spaced, wait_by, wait_for, wait_of, wait_within, wants_keyframe};
 
 use crate::formats::{FeedbackSettings, Format, Waiting, is_video};
 use crate::keyframe::KeyframeAnswer;
+use crate::named::NamedReceiver;
 use codec_payload_base::wire::Ticks;
 use codec_payload_feedback::requests::{FeedbackSource, StreamRequests};
 use codec_payload_feedback_requests::nack::NackSettings;
@@ -145,12 +145,18 @@ impl Feedback {
     }
 
     /// Replaces what is requested by what the receiver misses now. Nothing is requested of a silent sender.
-    fn refresh(&mut self, now: Ticks, is_heard: bool, receiver: &Receiver) -> Result<(), AllocError>
-        ensures { Refreshes now.0 is_heard receiver.now self.old result self.new }
+    fn refresh(
+        &mut self,
+        now: Ticks,
+        is_heard: bool,
+        receiver: &mut NamedReceiver,
+    ) -> Result<(), AllocError>
+        ensures refreshes { Refreshes now.0 is_heard receiver.old self.old result self.new }
+        ensures same { receiver.new ≡ receiver.old }
     {
         let most = if is_heard { self.most } else { 0 };
-        collect_missing(receiver, most, &mut self.missing)?;
-        let wants_keyframe = is_heard && self.wants_keyframe(receiver);
+        let wants_keyframe = is_heard && self.wants_keyframe(receiver.inner());
+        receiver.missing_into(most, &mut self.missing)?;
         self.requests.update(now, &self.missing, wants_keyframe)
     }
 
@@ -160,11 +166,12 @@ impl Feedback {
         &mut self,
         now: Ticks,
         last: u64,
-        receiver: &Receiver,
+        receiver: &mut NamedReceiver,
     ) -> Result<Option<Vec<u8>>, AllocError>
-        ensures { Asks now.0 (is_heard now.0 last self.old) receiver.now self.old result self.new }
+        ensures asks { Asks now.0 (is_heard now.0 last self.old) receiver.old self.old result self.new }
+        ensures same { receiver.new ≡ receiver.old }
     {
-        if self.requests.is_idle() && self.is_calm(receiver) {
+        if self.requests.is_idle() && self.is_calm(receiver.inner()) {
             return Ok(None);
         }
         let is_heard = now.0.saturating_sub(last) <= self.silence;
@@ -353,21 +360,6 @@ pub(crate) fn source_for(
     let len = LONGEST_NAME.min(settings.cname.len());
     let cname = Vec::from_slice(alloc, &settings.cname[..len])?;
     Ok(FeedbackSource::new(alloc, settings.ssrc, cname, settings.has_report).unwrap())
-}
-
-/// Writes the missing numbers of the receiver to `missing`, at most `most` of them.
-fn collect_missing(
-    receiver: &Receiver,
-    most: usize,
-    missing: &mut Vec<u64>,
-) -> Result<(), AllocError>
-    ensures { OnOk result (missing.new.items ≡ missing_numbers receiver.now.packets most) }
-{
-    missing.clear();
-    for number in receiver.missing(most) {
-        missing.push(number)?;
-    }
-    Ok(())
 }
 
 /// Returns the number that a packet answers: that of a retransmission is its original number (RFC 4588, section 4). If

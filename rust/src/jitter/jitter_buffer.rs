@@ -8,6 +8,7 @@ use alloc::vec::Vec;
 mod answers;
 mod due;
 mod former;
+mod keeping;
 mod restarting;
 mod unit_pops;
 
@@ -16,6 +17,7 @@ use crate::buffer::{
 };
 use crate::codec::{CodecDepacketizer, Depacketizer, NoBox};
 use crate::error::PacketError;
+use crate::jitter::kept_missing::KeptMissing;
 use crate::jitter::missing::MissingNumbers;
 use crate::jitter::no_media_numbers::{NoMediaNumbers, is_late};
 use crate::jitter::noted_times::{NotedTime, NotedTimes};
@@ -52,6 +54,8 @@ pub struct JitterBuffer<B = NoBox> {
     buffer: DepacketizingBuffer<B>,
     /// The numbers without media above the cutoff, in rising order.
     no_media_numbers: NoMediaNumbers,
+    /// Memory for the missing numbers, and which of them may have changed since they were asked for.
+    kept_missing: KeptMissing,
     noted_times: NotedTimes,
     /// The first packet with media since the start, or since the latest restart.
     first: Option<NotedTime>,
@@ -98,6 +102,7 @@ impl<B: Depacketizer> JitterBuffer<B> {
             numbers,
             buffer,
             no_media_numbers: NoMediaNumbers::new(),
+            kept_missing: KeptMissing::new(),
             first: None,
             kept: None,
             clock_rate,
@@ -294,6 +299,7 @@ impl<B: Depacketizer> JitterBuffer<B> {
     /// `OutOfMemory`: the frame is kept; call again. Any other error: the payloads of a frame are invalid, and the frame is
     /// dropped.
     pub fn pop(&mut self, now: Ticks) -> Option<Result<Depacketized, PacketError>> {
+        self.is_sound();
         self.settle();
         let Some(hold_back) = self.waiting(now) else {
             return None;
@@ -316,6 +322,7 @@ impl<B: Depacketizer> JitterBuffer<B> {
         bytes: &mut Vec<u8>,
         metas: &mut Vec<RtpMeta>,
     ) -> Option<Result<UnitInfo, PacketError>> {
+        self.is_sound();
         self.settle();
         let Some(hold_back) = self.waiting(now) else {
             return None;
@@ -426,6 +433,7 @@ impl<B: Depacketizer> JitterBuffer<B> {
         };
         self.noted_times.make_room(noted)?;
         let outcome = store(&mut self.buffer, self.clock_rate, packet, number)?;
+        self.kept_missing.touch(number);
         self.noted_times.note(noted);
         self.counters = with_outcome(self.counters, outcome);
         Ok(outcome)
@@ -480,7 +488,10 @@ impl<B: Depacketizer> JitterBuffer<B> {
     /// Remembers and counts a number without media.
     fn note(&mut self, number: u64) -> Result<(), PacketError> {
         self.no_media_numbers.make_room()?;
+        let lowest = self.no_media_numbers.lowest_if_full();
         self.no_media_numbers.note(number);
+        self.kept_missing.touch(number);
+        self.kept_missing.touch_if(lowest);
         self.counters = with_outcome(self.counters, Outcome::NoMedia);
         Ok(())
     }
@@ -489,6 +500,7 @@ impl<B: Depacketizer> JitterBuffer<B> {
     #[inline(always)]
     fn accept(&mut self, number: u64, packet: KeptPacket) -> Result<Outcome, PacketError> {
         let outcome = store(&mut self.buffer, self.clock_rate, packet, number)?;
+        self.kept_missing.touch(number);
         count(&mut self.counters, outcome);
         Ok(outcome)
     }
@@ -502,6 +514,7 @@ fn store<B: Depacketizer>(
     packet: KeptPacket,
     number: u64,
 ) -> Result<Outcome, PacketError> {
+    buffer.held();
     let meta = meta_for(clock_rate, packet.received, packet.header, number);
     let placed = buffer.store_packed(meta, packet.payload)?;
     Ok(outcome_of(placed))

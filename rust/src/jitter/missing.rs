@@ -39,7 +39,7 @@ impl<'a, B: Depacketizer> MissingNumbers<'a, B> {
 
 /// Returns the first missing number from `from` up to `to`, exclusive. A row of held numbers is one step. `place` is where the search
 /// for a held number begins, and is moved on.
-fn first_absent<B: Depacketizer>(
+pub(crate) fn first_absent<B: Depacketizer>(
     packets: &JitterBuffer<B>,
     place: &mut usize,
     from: u64,

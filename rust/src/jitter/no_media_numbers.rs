@@ -35,6 +35,14 @@ impl NoMediaNumbers {
         note_in_room(&mut self.numbers, number);
     }
 
+    /// Returns the lowest number, if no further number can be noted without forgetting it.
+    pub(crate) fn lowest_if_full(&self) -> Option<u64> {
+        match self.numbers.first() {
+            Some(lowest) if self.numbers.len() >= MOST => Some(*lowest),
+            _ => None,
+        }
+    }
+
     /// Returns whether the number is remembered, by a search.
     pub(crate) fn contains(&self, number: u64) -> bool {
         match self.numbers.binary_search(&number) {

@@ -39,6 +39,11 @@ impl NamedReceiver {
         &self.receiver
     }
 
+    /// Returns the missing numbers, at most `most` of them. See [`Receiver::missing_kept`].
+    pub(crate) fn missing_kept(&mut self, most: usize) -> Result<&[u64], AllocError> {
+        self.receiver.missing_kept(most)
+    }
+
     /// Receives a datagram. See [`Receiver::receive_parsed`].
     #[inline(always)]
     pub(crate) fn receive(

@@ -7,6 +7,7 @@ use crate::memory::{AllocError, TryVec};
 use crate::requests::nack::NackSettings;
 use crate::session::formats::{FeedbackSettings, Format, Waiting, is_video};
 use crate::session::keyframe::KeyframeAnswer;
+use crate::session::named::NamedReceiver;
 use crate::stream::parsed::ParsedDatagram;
 use crate::stream::receiver::Receiver;
 use crate::wire::Ticks;
@@ -30,8 +31,6 @@ pub(crate) struct Feedback {
     waits: Option<WaitRange>,
     /// Whether the caller asked for a keyframe, and none was requested or released since.
     asked: bool,
-    /// Memory for the missing numbers.
-    missing: Vec<u64>,
 }
 
 /// The limits between which waiting follows the round trip, in ticks.
@@ -73,7 +72,6 @@ impl Feedback {
                     silence: settings.silence,
                     waits: wait_range(settings, format, max_wait),
                     asked: false,
-                    missing: Vec::new(),
                 }))
             }
             _ => Ok(None),
@@ -124,12 +122,12 @@ impl Feedback {
         &mut self,
         now: Ticks,
         is_heard: bool,
-        receiver: &Receiver,
+        receiver: &mut NamedReceiver,
     ) -> Result<(), AllocError> {
         let most = if is_heard { self.most } else { 0 };
-        collect_missing(receiver, most, &mut self.missing)?;
-        let wants_keyframe = is_heard && self.wants_keyframe(receiver);
-        self.requests.update(now, &self.missing, wants_keyframe)
+        let wants_keyframe = is_heard && self.wants_keyframe(receiver.inner());
+        let missing = receiver.missing_kept(most)?;
+        self.requests.update(now, missing, wants_keyframe)
     }
 
     /// Returns the packet with all requests that are due, by what the receiver misses now. `None`: nothing is due. `last` is when
@@ -138,9 +136,9 @@ impl Feedback {
         &mut self,
         now: Ticks,
         last: u64,
-        receiver: &Receiver,
+        receiver: &mut NamedReceiver,
     ) -> Result<Option<Vec<u8>>, AllocError> {
-        if self.requests.is_idle() && self.is_calm(receiver) {
+        if self.requests.is_idle() && self.is_calm(receiver.inner()) {
             return Ok(None);
         }
         let is_heard = now.0.saturating_sub(last) <= self.silence;
@@ -295,19 +293,6 @@ pub(crate) fn source_for(settings: &FeedbackSettings) -> Result<FeedbackSource, 
     let len = LONGEST_NAME.min(settings.cname.len());
     let cname = Vec::try_from_slice(&settings.cname[..len])?;
     Ok(FeedbackSource::new(settings.ssrc, cname, settings.has_report).unwrap())
-}
-
-/// Writes the missing numbers of the receiver to `missing`, at most `most` of them.
-fn collect_missing(
-    receiver: &Receiver,
-    most: usize,
-    missing: &mut Vec<u64>,
-) -> Result<(), AllocError> {
-    missing.clear();
-    for number in receiver.missing(most) {
-        missing.try_push(number)?;
-    }
-    Ok(())
 }
 
 /// Returns the number that a packet answers: that of a retransmission is its original number (RFC 4588, section 4). If

@@ -439,7 +439,7 @@ impl StreamState {
     fn request(&mut self, now: Ticks) -> Step<()> {
         self.quiet_until = 0;
         if let Some(feedback) = &mut self.feedback {
-            return step_of(feedback.take_due(now, self.last, self.receiver.inner()));
+            return step_of(feedback.take_due(now, self.last, &mut self.receiver));
         }
         Step::Nothing
     }

@@ -565,6 +565,16 @@ impl<B: Depacketizer> Receiver<B> {
         self.packets.restart();
     }
 
+    /// Returns the same numbers as [`Receiver::missing`], from a list that is kept from call to call, so that it costs little to
+    /// ask after each datagram. See [`JitterBuffer::missing_kept`].
+    ///
+    /// # Errors
+    ///
+    /// Out of memory: nothing has changed.
+    pub fn missing_kept(&mut self, most: usize) -> Result<&[u64], AllocError> {
+        self.packets.missing_kept(most)
+    }
+
     /// Returns the missing numbers in rising order, at most `most` of them: the numbers to request by NACK. Allocates nothing.
     /// See [`JitterBuffer::missing`].
     pub fn missing(&self, most: usize) -> MissingNumbers<'_, B> {

@@ -5,12 +5,14 @@ ghost use Rattle.std.specs.Prelude.{◌≡◌, IfOk, OnOk, OnErr, IfErr, Option,
 ghost use Rattle.std.specs.Option.{option_map};
 ghost use Rattle.codec_payload_base.specs.declared.error.PacketError.TheVariants.{OutOfMemory};
 ghost use Rattle.codec_payload_jitter.specs.Receiving.{Confirms, GoesInAgain, GoesOn, NotesRestart, Restarts, TakesInBoth, arrival_of, counted, first_past, first_with, kept_number, meta_for, restarted, RestartsWith};
+ghost use Rattle.codec_payload_buffer.specs.Steps.{IsSound};
 ghost use Rattle.codec_payload_codec.specs.Depacketizers.{is_built_in_depacketizer};
 ghost use Rattle.codec_payload_jitter.specs.NoMediaNumbers.{noted_no_media};
 ghost use Rattle.codec_payload_jitter.specs.OwnReceiving.{OwnStores};
 ghost use Rattle.codec_payload_jitter.specs.declared.outcome.Outcome.TheVariants as outcomes;
 
 use super::{JitterBuffer, KeptPacket, meta_for, store};
+use crate::kept_missing::is_sound;
 use crate::noted_times::NotedTime;
 use crate::numbers::{Extended, kept_number};
 use crate::outcome::{Outcome, outcome_of, with_kept, with_outcome, with_restart};
@@ -97,6 +99,8 @@ impl<B: Depacketizer> JitterBuffer<B> {
             (packet, number),
             (kept, before),
         )?;
+        self.kept_missing.touch(number);
+        self.kept_missing.touch(before);
         self.noted_times.note(noted);
         let counters = with_restart(with_outcome(self.counters, outcomes.0));
         self.counters = with_kept(counters, outcomes.1);
@@ -114,7 +118,11 @@ impl<B: Depacketizer> JitterBuffer<B> {
         self.no_media_numbers.make_room()?;
         let before = kept_number(number, kept.header.sequence_number());
         let outcome = store(&mut self.buffer, self.clock_rate, kept, before)?;
+        let lowest = self.no_media_numbers.lowest_if_full();
         self.no_media_numbers.note(number);
+        self.kept_missing.touch(before);
+        self.kept_missing.touch(number);
+        self.kept_missing.touch_if(lowest);
         let counters = with_restart(with_outcome(self.counters, Outcome::NoMedia));
         self.counters = with_kept(counters, outcome);
         self.kept = None;
@@ -176,8 +184,10 @@ fn store_two<B: Depacketizer>(
     ensures takes { IfOk result (λ both. TakesInBoth clock_rate (arrival_of first.0) first.1 (arrival_of second.0) second.1 buffer.old both buffer.new) }
     ensures err { OnErr result (buffer.new ≡ buffer.old) }
     ensures fault { IfErr result (λ f. f ≡ OutOfMemory) }
+    ensures sound { IsSound buffer.old }
     ensures own { is_built_in_depacketizer buffer.old.depacketizer ≡ false → OwnStores B.is_head B.is_tail buffer.old buffer.new }
 {
+    is_sound(buffer);
     let places = buffer.store_two(
         incoming(clock_rate, first.0, first.1),
         incoming(clock_rate, second.0, second.1),

@@ -8,6 +8,7 @@ ghost use Rattle.codec_payload_jitter.specs.OwnReceiving.{OwnPopsWith};
 ghost use Rattle.codec_payload_jitter.specs.Receiving.{PopsWith, has_little_room, is_pressed, settled, waiting_at};
 
 use super::JitterBuffer;
+use crate::kept_missing::is_sound;
 use crate::outcome::{packets_to, units_to, with_pop};
 use codec_payload_base::error::PacketError;
 use codec_payload_base::wire::Ticks;
@@ -39,6 +40,7 @@ impl<B: Depacketizer> JitterBuffer<B> {
             return None;
         };
         self.buffer.set_hold_back(hold_back);
+        is_sound(&self.buffer);
         let (answer, left) = self.buffer.pop_unit_counted(unit);
         let units = units_to(&answer);
         let released = packets_to(&answer, unit);

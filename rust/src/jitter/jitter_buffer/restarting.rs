@@ -74,6 +74,8 @@ impl<B: Depacketizer> JitterBuffer<B> {
             (packet, number),
             (kept, before),
         )?;
+        self.kept_missing.touch(number);
+        self.kept_missing.touch(before);
         self.noted_times.note(noted);
         let counters = with_restart(with_outcome(self.counters, outcomes.0));
         self.counters = with_kept(counters, outcomes.1);
@@ -86,7 +88,11 @@ impl<B: Depacketizer> JitterBuffer<B> {
         self.no_media_numbers.make_room()?;
         let before = kept_number(number, kept.header.sequence_number());
         let outcome = store(&mut self.buffer, self.clock_rate, kept, before)?;
+        let lowest = self.no_media_numbers.lowest_if_full();
         self.no_media_numbers.note(number);
+        self.kept_missing.touch(before);
+        self.kept_missing.touch(number);
+        self.kept_missing.touch_if(lowest);
         let counters = with_restart(with_outcome(self.counters, Outcome::NoMedia));
         self.counters = with_kept(counters, outcome);
         self.kept = None;
@@ -137,6 +143,7 @@ fn store_two<B: Depacketizer>(
     first: (KeptPacket, u64),
     second: (KeptPacket, u64),
 ) -> Result<(Outcome, Outcome), PacketError> {
+    buffer.held();
     let places = buffer.store_two(
         incoming(clock_rate, first.0, first.1),
         incoming(clock_rate, second.0, second.1),

@@ -19,6 +19,7 @@ impl<B: Depacketizer> JitterBuffer<B> {
         now: Ticks,
         unit: &mut PoppedUnit,
     ) -> Option<Result<(), PacketError>> {
+        self.is_sound();
         self.settle();
         let Some(hold_back) = self.waiting(now) else {
             return None;

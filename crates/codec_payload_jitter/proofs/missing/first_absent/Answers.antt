@@ -1,5 +1,4 @@
-use Rattle.std.proofs.Common.{◌≡◌, ◌∙◌, ◌+◌, ◌∷◌, ◌<◌, ℕ, true, false, sym, ap, subst, arith}
-use Rattle.codec_payload_buffer.specs.Held.{has_number}
+use Rattle.std.proofs.Common.{◌≡◌, ◌∙◌, ◌+◌, ◌∷◌, ◌<◌, true, false, sym, ap, arith}
 use Rattle.codec_payload_jitter.specs.Missing.{absent_between}
 use Rattle.codec_payload_jitter.specs.NoMediaNumbers.{is_in}
 use Rattle.codec_payload_jitter.proofs.MissingLemmas.{absent_past, absent_free, absent_over}

@@ -1,4 +1,4 @@
-use Rattle.std.proofs.Common.{◌≡◌, ◌<◌, ap, arith, length, length-drop}
+use Rattle.std.proofs.Common.{◌<◌, ap, arith, length, length-drop}
 use Rattle.std.specs.VecDeque.{deque_len, deque_capacity}
 use Rattle.codec_payload_jitter.proofs.noted_times.push.Goals as goal
 use Rattle.codec_payload_jitter.proofs.noted_times.push.Goals.{then-len-most, else-len-most}

@@ -1,5 +1,5 @@
-use Rattle.std.proofs.Common.{◌≡◌, ◌≤◌, ◌+◌, ◌-◌, length, min, ℕ}
-use Rattle.std.specs.VecDeque.{deque_len, deque_capacity}
+use Rattle.std.proofs.Common.{◌≡◌, ◌≤◌, ◌+◌, length}
+use Rattle.std.specs.VecDeque.{deque_capacity}
 use Rattle.codec_payload_jitter.specs.NotedTimes.{skipped}
 use Rattle.codec_payload_jitter.proofs.noted_times.skip.Given as goal
 

@@ -1,16 +1,21 @@
 use Rattle.std.proofs.Common.{ap, sym, subst, length}
 use Rattle.std.specs.Option.{option_map}
+use Rattle.codec_payload_jitter.specs.KeptMissing.{Keeps, Kept}
 use Rattle.codec_payload_jitter.specs.Receiving.{Receiving, Accepts, IsCounted, arrival_of, counted}
 use Rattle.codec_payload_jitter.specs.declared.outcome.PacketCounters.{PacketCounters}
 use Rattle.codec_payload_jitter.proofs.ReceivingLemmas.{conserved_in}
+use Rattle.codec_payload_jitter.proofs.KeptStores.{stored_keeps}
 use Rattle.codec_payload_jitter.proofs.jitter.JitterBuffer.accept.Goals as goal
 
 pub invariant_of-self-2 : goal.invariant_of-self-2
 invariant_of-self-2 g c =
     let kept : IsCounted (counted c.self.inside.counters c.in_ok-outcome.outcome) (length c.store.new.buffer.held) =
     conserved_in c.self.inside.clock_rate (arrival_of c.args.packet) c.args.number c.self.inside.buffer c.store.new.buffer c.in_ok-outcome.outcome c.self.inside.counters
-    c.in_ok-outcome.ensures.takes c.in_ok-outcome.ensures.outcome c.self.invariant in
-    subst (λ (k : PacketCounters). IsCounted k (length c.store.new.buffer.held)) (sym c.count.ensures) kept
+    c.in_ok-outcome.ensures.takes c.in_ok-outcome.ensures.outcome c.self.invariant.0 in (
+      subst (λ (k : PacketCounters). IsCounted k (length c.store.new.buffer.held)) (sym c.count.ensures) kept,
+      subst (λ (k : Kept). Keeps k c.store.new.buffer c.self.inside.no_media_numbers.items) (sym c.touch.ensures)
+          (stored_keeps c.self.inside.clock_rate c.args.number (arrival_of c.args.packet) c.self.inside.kept_missing c.self.inside.buffer c.store.new.buffer c.self.inside.no_media_numbers.items c.store.ensures.sound c.in_ok-outcome.ensures.takes c.self.invariant.1),
+    )
 
 pub returns-clause-ok : goal.returns-clause-ok
 returns-clause-ok g c =

@@ -12,6 +12,7 @@ use Rattle.codec_payload_jitter.specs.OwnReceiving.{OwnPopsWith}
 use Rattle.codec_payload_jitter.proofs.OwnLemmas.{settled_stays}
 use Rattle.codec_payload_jitter.proofs.ReceivingLemmas.{conserved_pop, pops_with_is, pressed_waits_for_none}
 use Rattle.codec_payload_jitter.proofs.PressureLemmas.{crowded_presses, crowded_waits, none_left, settled_holds, taken_from}
+use Rattle.codec_payload_jitter.proofs.KeptStores.{popped_keeps}
 use Rattle.codec_payload_jitter.proofs.jitter.JitterBuffer.pop.Goals as goal
 
 pub invariant_of-self : goal.invariant_of-self
@@ -19,10 +20,12 @@ invariant_of-self g c =
     let s : State = c.set_hold_back.new.self in
     let t : State = c.pop_counted-answer.new.self in
     let same : length s.held ≡ length c.self.inside.buffer.held = ap (λ (x : State). length x.held) c.set_hold_back.ensures in
-    let whole : IsWhole s c.pop_counted-answer.result.0 c.pop_counted-answer.result.1 t = c.pop_counted-answer.ensures.whole in
-    subst (λ (k : PacketCounters). IsCounted k (length t.held)) (sym c.with_pop-self-inside.ensures)
-    (conserved_pop c.self.inside.counters c.units_in-units.result c.packets_in-released.result (length s.held) (length t.held) (length c.self.inside.buffer.held) (length t.held)
-    c.pop_counted-answer.result.1 c.self.invariant same refl (omega (arith, whole, c.packets_in-released.ensures)))
+    let whole : IsWhole s c.pop_counted-answer.result.0 c.pop_counted-answer.result.1 t = c.pop_counted-answer.ensures.whole in (
+      subst (λ (k : PacketCounters). IsCounted k (length t.held)) (sym c.with_pop-self-inside.ensures)
+          (conserved_pop c.self.inside.counters c.units_in-units.result c.packets_in-released.result (length s.held) (length t.held) (length c.self.inside.buffer.held) (length t.held)
+          c.pop_counted-answer.result.1 c.self.invariant.0 same refl (omega (arith, whole, c.packets_in-released.ensures))),
+      popped_keeps c.in-Some.hold_back c.self.inside.kept_missing c.self.inside.buffer s t c.self.inside.no_media_numbers.items c.pop_counted-answer.result.0 c.set_hold_back.ensures c.is_sound.ensures c.pop_counted-answer.ensures.pops.0 c.self.invariant.1,
+    )
 
 pub returns-clause-pops : goal.returns-clause-pops
 returns-clause-pops g c =

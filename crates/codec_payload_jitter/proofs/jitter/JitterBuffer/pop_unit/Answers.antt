@@ -1,4 +1,4 @@
-use Rattle.std.proofs.Common.{◌≡◌, ◌≤◌, refl, ℕ, false, Some, ◌+◌, ◌∙◌, List, ap, sym, subst, arith, length, None, Option, Result}
+use Rattle.std.proofs.Common.{◌≡◌, ◌≤◌, refl, ℕ, false, Some, ◌∙◌, ap, sym, subst, arith, length, None, Option, Result}
 use Rattle.codec_payload_base.specs.declared.error.PacketError.{PacketError}
 use Rattle.codec_payload_buffer.specs.Blanks.{released_packets}
 use Rattle.codec_payload_codec.specs.Depacketizers.{is_built_in_depacketizer}
@@ -13,6 +13,7 @@ use Rattle.codec_payload_jitter.specs.OwnReceiving.{OwnPopsWith}
 use Rattle.codec_payload_jitter.proofs.OwnLemmas.{settled_stays}
 use Rattle.codec_payload_jitter.proofs.ReceivingLemmas.{conserved_pop, pops_with_is, pressed_waits_for_none}
 use Rattle.codec_payload_jitter.proofs.PressureLemmas.{crowded_presses, crowded_waits, none_left, settled_holds, taken_from}
+use Rattle.codec_payload_jitter.proofs.KeptStores.{popped_keeps}
 use Rattle.codec_payload_jitter.proofs.jitter.JitterBuffer.pop_unit.Goals as goal
 
 pub invariant_of-self : goal.invariant_of-self
@@ -23,10 +24,12 @@ invariant_of-self g c =
     let same : length s.held ≡ length c.self.inside.buffer.held = ap (λ (x : State). length x.held) c.set_hold_back.ensures in
     let released : c.packets_to-released.result ≡ released_packets answer =
     c.packets_to-released.ensures in
-    let whole : IsWhole s answer c.pop_unit_counted.result.1 t = c.pop_unit_counted.ensures.whole in
-    subst (λ (k : PacketCounters). IsCounted k (length t.held)) (sym c.with_pop-self-inside.ensures)
-    (conserved_pop c.self.inside.counters c.units_to-units.result c.packets_to-released.result (length s.held) (length t.held) (length c.self.inside.buffer.held) (length t.held)
-    c.pop_unit_counted.result.1 c.self.invariant same refl (omega (arith, whole, released)))
+    let whole : IsWhole s answer c.pop_unit_counted.result.1 t = c.pop_unit_counted.ensures.whole in (
+      subst (λ (k : PacketCounters). IsCounted k (length t.held)) (sym c.with_pop-self-inside.ensures)
+          (conserved_pop c.self.inside.counters c.units_to-units.result c.packets_to-released.result (length s.held) (length t.held) (length c.self.inside.buffer.held) (length t.held)
+          c.pop_unit_counted.result.1 c.self.invariant.0 same refl (omega (arith, whole, released))),
+      popped_keeps c.in-Some.hold_back c.self.inside.kept_missing c.self.inside.buffer s t c.self.inside.no_media_numbers.items answer c.set_hold_back.ensures c.is_sound.ensures c.pop_unit_counted.ensures.pops.0 c.self.invariant.1,
+    )
 
 pub returns-clause-pops : goal.returns-clause-pops
 returns-clause-pops g c =

@@ -2,7 +2,7 @@ use Rattle.std.proofs.Common.{◌≡◌, ◌∙◌, ap, sym, Option, None}
 use Rattle.std.specs.Option.{option_map}
 use Rattle.codec_payload_jitter.specs.Receiving.{Receiving, arrival_of}
 use Rattle.codec_payload_jitter.specs.declared.jitter.KeptPacket.{KeptPacket}
-use Rattle.codec_payload_jitter.proofs.RestartingLemmas.{restarts_alone, restarts_both}
+use Rattle.codec_payload_jitter.proofs.RestartingLemmas.{restarts_alone}
 use Rattle.codec_payload_jitter.proofs.jitter.JitterBuffer.restart_with.Goals as goal
 
 pub returns-in_ok-store_and_note-in-None-clause-ok : goal.returns-in_ok-store_and_note-in-None-clause-ok

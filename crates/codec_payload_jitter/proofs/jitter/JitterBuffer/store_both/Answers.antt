@@ -2,10 +2,12 @@ use Rattle.std.proofs.Common.{◌≡◌, ◌∙◌, ap, sym, subst, refl, length
 use Rattle.std.specs.Option.{option_map}
 use Rattle.codec_payload_jitter.specs.NotedTimes.{Noted, noted_with}
 use Rattle.codec_payload_jitter.specs.declared.noted_times.NotedTime.{NotedTime}
+use Rattle.codec_payload_jitter.specs.KeptMissing.{Keeps, Kept, touched}
 use Rattle.codec_payload_jitter.specs.Receiving.{Receiving, IsCounted, arrival_of, counted, counted_again, counted_restart}
 use Rattle.codec_payload_jitter.specs.declared.outcome.PacketCounters.{PacketCounters}
 use Rattle.codec_payload_jitter.proofs.ReceivingLemmas.{conserved_both}
 use Rattle.codec_payload_jitter.proofs.RestartingLemmas.{stored_both}
+use Rattle.codec_payload_jitter.proofs.KeptStores.{stored_both_keeps}
 use Rattle.codec_payload_jitter.proofs.jitter.JitterBuffer.store_both.Goals as goal
 
 pub invariant_of-self-2 : goal.invariant_of-self-2
@@ -15,8 +17,12 @@ invariant_of-self-2 g c =
     c.with_kept-self-inside.ensures ∙ (ap (λ (k : PacketCounters). counted_again k both.1) c.with_restart-counters.ensures
     ∙ ap (λ (k : PacketCounters). counted_again (counted_restart k) both.1) c.with_outcome.ensures) in
     let kept = conserved_both c.self.inside.clock_rate (arrival_of c.args.packet) c.args.number (arrival_of c.args.kept) c.kept_number-before.result c.self.inside.buffer c.store_two.new.buffer both
-    c.self.inside.counters c.in_ok-outcomes.ensures.takes c.self.invariant in
-    subst (λ (k : PacketCounters). IsCounted k (length c.store_two.new.buffer.held)) (sym counters) kept
+    c.self.inside.counters c.in_ok-outcomes.ensures.takes c.self.invariant.0 in (
+      subst (λ (k : PacketCounters). IsCounted k (length c.store_two.new.buffer.held)) (sym counters) kept,
+      subst (λ (k : Kept). Keeps k c.store_two.new.buffer c.self.inside.no_media_numbers.items) (sym (c.touch-2.ensures ∙ ap (touched c.kept_number-before.result) c.touch.ensures))
+          (stored_both_keeps c.self.inside.clock_rate c.args.number c.kept_number-before.result (arrival_of c.args.packet) (arrival_of c.args.kept) c.self.inside.kept_missing c.self.inside.buffer c.store_two.new.buffer
+          c.self.inside.no_media_numbers.items both c.store_two.ensures.sound c.in_ok-outcomes.ensures.takes c.self.invariant.1),
+    )
 
 pub returns-clause-ok : goal.returns-clause-ok
 returns-clause-ok g c =

@@ -1,5 +1,5 @@
-use Rattle.std.proofs.Common.{◌≡◌, ◌∙◌, ◌≤◌, ◌+◌, ◌-◌, ap, arith, length, min, Some, ℕ, refl}
-use Rattle.codec_payload_jitter.specs.NotedTimes.{Noted, gone_on, pushed_time, room_for}
+use Rattle.std.proofs.Common.{◌≡◌, ◌∙◌, ◌-◌, ap, arith, length, Some, ℕ}
+use Rattle.codec_payload_jitter.specs.NotedTimes.{Noted}
 use Rattle.codec_payload_jitter.proofs.NotedLemmas.{finds_room, length_gone_on, length_pushed}
 use Rattle.codec_payload_jitter.proofs.noted_times.NotedTimes.append.Goals as goal
 

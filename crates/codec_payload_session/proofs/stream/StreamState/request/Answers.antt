@@ -10,6 +10,6 @@ returns-in-Some c =
     let s : StreamState = seen c.self.inside in
     let t : StreamState = record s { feedback = Some c.take_due.new.self } in
     let asked : RequestsBy (Some c.in-Some.feedback) c.args.now.0 s c.step_of.result t =
-    record { told = c.take_due.result; asking = c.take_due.new.self; asks = subst (λ (r : Receiver). Asks c.args.now.0 (is_heard c.args.now.0 c.self.inside.last c.in-Some.feedback) r c.in-Some.feedback c.take_due.result c.take_due.new.self) c.inner.ensures c.take_due.ensures; answers = c.step_of.ensures; after = refl } in
+    record { told = c.take_due.result; asking = c.take_due.new.self; asks = c.take_due.ensures.asks; answers = c.step_of.ensures; after = refl } in
     let is : Some c.in-Some.feedback ≡ s.feedback = grind (arith, c.in-Some.is, c.in-Some.feedback-is) in
     subst (λ (x : StreamState). RequestsBy x.feedback c.args.now.0 x c.step_of.result t) c.self.view_is (subst (λ (o : Option Asking). RequestsBy o c.args.now.0 s c.step_of.result t) is asked)
