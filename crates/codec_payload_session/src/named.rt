@@ -1,6 +1,6 @@
 //! The receiver of a stream of a session: its settings name the SSRC, so no packet waits for the choice of a stream.
 
-ghost use Rattle.std.specs.Prelude.{◌≡◌, OnOk, false};
+ghost use Rattle.std.specs.Prelude.{◌≡◌, IfOk, OnOk, false};
 ghost use Rattle.codec_payload_jitter.specs.Missing.{missing_numbers};
 ghost use Rattle.codec_payload_codec.specs.Depacketizers.{depacketizer_state_of};
 ghost use Rattle.codec_payload_receiver.specs.Pops.{NamesFault, PopsGated, answer_of, is_large, is_too_large};
@@ -22,10 +22,10 @@ use codec_payload_receiver::reports::ReceptionReport;
 use std::alloc::{AllocError, Global};
 use std::marker::Model;
 
-/// A receiver whose settings name the SSRC.
+/// A receiver whose settings name the SSRC. It has its own memory, so that little is moved if a stream before it ends.
 #[derive(Debug, Drop)]
 pub(crate) struct NamedReceiver {
-    receiver: Receiver,
+    receiver: Box<Receiver>,
 }
 
 impl Model for NamedReceiver {
@@ -35,9 +35,9 @@ impl Model for NamedReceiver {
 
     ghost use Rattle.codec_payload_session.specs.Named.{IsNamed};
 
-    ghost view = { λ r. r.receiver };
+    ghost view = { λ r. r.receiver.value };
 
-    ghost invariant = { λ r. IsNamed r.receiver };
+    ghost invariant = { λ r. IsNamed r.receiver.value };
 }
 
 impl NamedReceiver {
@@ -46,13 +46,15 @@ impl NamedReceiver {
         alloc: Global,
         depacketizer: CodecDepacketizer,
         settings: Settings,
-    ) -> Result<NamedReceiver, SettingsError>
+    ) -> Result<Result<NamedReceiver, SettingsError>, AllocError>
         requires { is_none_of settings.ssrc ≡ false }
-        ensures { result ≡ session_by settings (depacketizer_state_of depacketizer) }
+        ensures { IfOk result (λ begun. begun ≡ session_by settings (depacketizer_state_of depacketizer)) }
     {
         match Receiver::new(alloc, depacketizer, settings) {
-            Ok(receiver) => Ok(NamedReceiver { receiver }),
-            Err(fault) => Err(fault),
+            Ok(receiver) => Ok(Ok(NamedReceiver {
+                receiver: Box::new(alloc, receiver)?,
+            })),
+            Err(fault) => Ok(Err(fault)),
         }
     }
 

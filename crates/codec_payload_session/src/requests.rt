@@ -22,7 +22,7 @@ pub(crate) const LONGEST_NAME: usize = 255;
 #[derive(Debug, Drop)]
 pub(crate) struct Feedback {
     source: FeedbackSource,
-    requests: StreamRequests,
+    requests: Box<StreamRequests>,
     /// How many missing packets are requested at most.
     most: usize,
     /// Whether keyframes are requested.
@@ -53,7 +53,7 @@ impl Model for Feedback {
 
     ghost Value = { Asking };
 
-    ghost view = { λ f. record { source = f.source; requests = f.requests; most = f.most; pli = f.pli; silence = f.silence; waits = f.waits; asked = f.asked } };
+    ghost view = { λ f. record { source = f.source; requests = f.requests.value; most = f.most; pli = f.pli; silence = f.silence; waits = f.waits; asked = f.asked } };
 }
 
 impl Feedback {
@@ -70,6 +70,12 @@ impl Feedback {
         match settings {
             Some(settings) if format.nack || format.pli => {
                 let source = source_for(alloc, settings)?;
+                let requests = StreamRequests::new(
+                    alloc,
+                    ssrc,
+                    spaced(settings.nack),
+                    settings.keyframe_interval.max(1),
+                );
                 let most = if format.nack {
                     settings.nack.capacity
                 } else {
@@ -77,12 +83,7 @@ impl Feedback {
                 };
                 Ok(Some(Feedback {
                     source,
-                    requests: StreamRequests::new(
-                        alloc,
-                        ssrc,
-                        spaced(settings.nack),
-                        settings.keyframe_interval.max(1),
-                    ),
+                    requests: Box::new(alloc, requests)?,
                     most,
                     pli: format.pli,
                     silence: settings.silence,

@@ -182,7 +182,7 @@ impl StreamState {
         let late = late_for(alloc, settings, format)?;
         let name_ids = settings.name_ids;
         let settings = settings.receiver(alloc, ssrc, format)?;
-        let receiver = NamedReceiver::begin(alloc, depacketizer, settings).unwrap();
+        let receiver = NamedReceiver::begin(alloc, depacketizer, settings)?.unwrap();
         Ok(StreamState {
             ssrc,
             format: *format,

@@ -17,7 +17,7 @@ use crate::buffer::{
 };
 use crate::codec::{CodecDepacketizer, Depacketizer, NoBox};
 use crate::error::PacketError;
-use crate::jitter::kept_missing::KeptMissing;
+use crate::jitter::kept_missing::{KeptMissing, is_sound};
 use crate::jitter::missing::MissingNumbers;
 use crate::jitter::no_media_numbers::{NoMediaNumbers, is_late};
 use crate::jitter::noted_times::{NotedTime, NotedTimes};
@@ -299,12 +299,12 @@ impl<B: Depacketizer> JitterBuffer<B> {
     /// `OutOfMemory`: the frame is kept; call again. Any other error: the payloads of a frame are invalid, and the frame is
     /// dropped.
     pub fn pop(&mut self, now: Ticks) -> Option<Result<Depacketized, PacketError>> {
-        self.is_sound();
         self.settle();
         let Some(hold_back) = self.waiting(now) else {
             return None;
         };
         self.buffer.set_hold_back(hold_back);
+        is_sound(&self.buffer);
         let (answer, left) = self.buffer.pop_counted();
         let units = units_in(&answer);
         let released = packets_in(&answer);
@@ -322,12 +322,12 @@ impl<B: Depacketizer> JitterBuffer<B> {
         bytes: &mut Vec<u8>,
         metas: &mut Vec<RtpMeta>,
     ) -> Option<Result<UnitInfo, PacketError>> {
-        self.is_sound();
         self.settle();
         let Some(hold_back) = self.waiting(now) else {
             return None;
         };
         self.buffer.set_hold_back(hold_back);
+        is_sound(&self.buffer);
         let (answer, left) = self.buffer.pop_counted_into(bytes, metas);
         let units = units_into(&answer);
         let released = packets_into(&answer, metas);
@@ -514,7 +514,7 @@ fn store<B: Depacketizer>(
     packet: KeptPacket,
     number: u64,
 ) -> Result<Outcome, PacketError> {
-    buffer.held();
+    is_sound(buffer);
     let meta = meta_for(clock_rate, packet.received, packet.header, number);
     let placed = buffer.store_packed(meta, packet.payload)?;
     Ok(outcome_of(placed))

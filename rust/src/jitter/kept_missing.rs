@@ -2,6 +2,7 @@
 
 //! A kept list of the missing numbers of a jitter buffer, so that those that did not change are not searched again.
 
+use crate::buffer::DepacketizingBuffer;
 use crate::codec::Depacketizer;
 use crate::jitter::jitter_buffer::JitterBuffer;
 use crate::jitter::missing::first_absent;
@@ -65,13 +66,28 @@ impl KeptMissing {
         end: u64,
         most: usize,
     ) -> Result<(), AllocError> {
-        if self.numbers.is_empty() {
-            self.low = self.low.max(next);
-        }
+        self.raise(next);
         if self.low != next || self.from < self.high || end < self.high {
             self.renew_changed(packets, next, end)?;
         }
         self.extend(packets, next, end, most)
+    }
+
+    /// Moves the start up to `next`, if no number is kept.
+    #[inline(always)]
+    fn raise(&mut self, next: u64) {
+        if self.numbers.is_empty() {
+            self.low = self.low.max(next);
+        }
+    }
+
+    /// Returns the first number from `next` on that may have changed, at most `high`.
+    fn changed_from(&self, next: u64, high: u64) -> u64 {
+        if next < self.low {
+            next
+        } else {
+            self.from.max(next).min(high)
+        }
     }
 
     /// Searches the numbers that may have changed, and keeps all others from `next` up to `end`.
@@ -83,11 +99,7 @@ impl KeptMissing {
         end: u64,
     ) -> Result<(), AllocError> {
         let high = self.high.max(next).min(end);
-        let from = if next < self.low {
-            next
-        } else {
-            self.from.max(next).min(high)
-        };
+        let from = self.changed_from(next, high);
         let to = self.to.max(self.low).max(from).min(high);
         self.spare.clear();
         copy_within(&self.numbers, next, from, &mut self.spare)?;
@@ -172,4 +184,10 @@ fn append_absent<B: Depacketizer>(
         next = number + 1;
     }
     Ok(next)
+}
+
+/// Proves that the held packets rise, and are above the cutoff. Does nothing else.
+#[inline(always)]
+pub(crate) fn is_sound<B: Depacketizer>(buffer: &DepacketizingBuffer<B>) {
+    buffer.held();
 }

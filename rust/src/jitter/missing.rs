@@ -23,10 +23,7 @@ pub struct MissingNumbers<'a, B = NoBox> {
 impl<'a, B: Depacketizer> MissingNumbers<'a, B> {
     /// Returns the missing numbers of this jitter buffer, at most `most` of them.
     pub(crate) fn of(packets: &'a JitterBuffer<B>, most: usize) -> Self {
-        let (next, end) = match (packets.floor(), packets.greatest()) {
-            (Some(floor), Some(greatest)) => (floor.saturating_add(1), greatest),
-            _ => (0, 0),
-        };
+        let (next, end) = packets.missing_range();
         MissingNumbers {
             packets,
             next,

@@ -6,7 +6,7 @@ use crate::buffer::PoppedUnit;
 use crate::codec::CodecDepacketizer;
 use crate::jitter::jitter_buffer::WaitLimits;
 use crate::jitter::outcome::Outcome;
-use crate::memory::AllocError;
+use crate::memory::{AllocError, One};
 use crate::stream::parsed::ParsedDatagram;
 use crate::stream::pops::Popped;
 use crate::stream::receiver::{
@@ -14,11 +14,12 @@ use crate::stream::receiver::{
 };
 use crate::stream::reports::ReceptionReport;
 use crate::wire::Ticks;
+use alloc::vec::Vec;
 
-/// A receiver whose settings name the SSRC.
+/// A receiver whose settings name the SSRC. It has its own memory, so that little is moved if a stream before it ends.
 #[derive(Debug)]
 pub(crate) struct NamedReceiver {
-    receiver: Receiver,
+    receiver: One<Receiver>,
 }
 
 impl NamedReceiver {
@@ -26,10 +27,12 @@ impl NamedReceiver {
     pub(crate) fn begin(
         depacketizer: CodecDepacketizer,
         settings: ReceiverSettings,
-    ) -> Result<NamedReceiver, SettingsError> {
+    ) -> Result<Result<NamedReceiver, SettingsError>, AllocError> {
         match Receiver::new(depacketizer, settings) {
-            Ok(receiver) => Ok(NamedReceiver { receiver }),
-            Err(fault) => Err(fault),
+            Ok(receiver) => Ok(Ok(NamedReceiver {
+                receiver: One::try_new(receiver)?,
+            })),
+            Err(fault) => Ok(Err(fault)),
         }
     }
 
@@ -39,9 +42,13 @@ impl NamedReceiver {
         &self.receiver
     }
 
-    /// Returns the missing numbers, at most `most` of them. See [`Receiver::missing_kept`].
-    pub(crate) fn missing_kept(&mut self, most: usize) -> Result<&[u64], AllocError> {
-        self.receiver.missing_kept(most)
+    /// Writes the missing numbers to `numbers`, at most `most` of them. See [`Receiver::missing_into`].
+    pub(crate) fn missing_into(
+        &mut self,
+        most: usize,
+        numbers: &mut Vec<u64>,
+    ) -> Result<(), AllocError> {
+        self.receiver.missing_into(most, numbers)
     }
 
     /// Receives a datagram. See [`Receiver::receive_parsed`].

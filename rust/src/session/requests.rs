@@ -3,7 +3,7 @@
 //! What a stream of a session requests: missing packets and keyframes.
 
 use crate::feedback::requests::{FeedbackSource, StreamRequests};
-use crate::memory::{AllocError, TryVec};
+use crate::memory::{AllocError, One, TryVec};
 use crate::requests::nack::NackSettings;
 use crate::session::formats::{FeedbackSettings, Format, Waiting, is_video};
 use crate::session::keyframe::KeyframeAnswer;
@@ -20,7 +20,7 @@ pub(crate) const LONGEST_NAME: usize = 255;
 #[derive(Debug)]
 pub(crate) struct Feedback {
     source: FeedbackSource,
-    requests: StreamRequests,
+    requests: One<StreamRequests>,
     /// How many missing packets are requested at most.
     most: usize,
     /// Whether keyframes are requested.
@@ -31,6 +31,8 @@ pub(crate) struct Feedback {
     waits: Option<WaitRange>,
     /// Whether the caller asked for a keyframe, and none was requested or released since.
     asked: bool,
+    /// Memory for the missing numbers.
+    missing: Vec<u64>,
 }
 
 /// The limits between which waiting follows the round trip, in ticks.
@@ -55,6 +57,11 @@ impl Feedback {
         match settings {
             Some(settings) if format.nack || format.pli => {
                 let source = source_for(settings)?;
+                let requests = StreamRequests::new(
+                    ssrc,
+                    spaced(settings.nack),
+                    settings.keyframe_interval.max(1),
+                );
                 let most = if format.nack {
                     settings.nack.capacity
                 } else {
@@ -62,16 +69,13 @@ impl Feedback {
                 };
                 Ok(Some(Feedback {
                     source,
-                    requests: StreamRequests::new(
-                        ssrc,
-                        spaced(settings.nack),
-                        settings.keyframe_interval.max(1),
-                    ),
+                    requests: One::try_new(requests)?,
                     most,
                     pli: format.pli,
                     silence: settings.silence,
                     waits: wait_range(settings, format, max_wait),
                     asked: false,
+                    missing: Vec::new(),
                 }))
             }
             _ => Ok(None),
@@ -126,8 +130,8 @@ impl Feedback {
     ) -> Result<(), AllocError> {
         let most = if is_heard { self.most } else { 0 };
         let wants_keyframe = is_heard && self.wants_keyframe(receiver.inner());
-        let missing = receiver.missing_kept(most)?;
-        self.requests.update(now, missing, wants_keyframe)
+        receiver.missing_into(most, &mut self.missing)?;
+        self.requests.update(now, &self.missing, wants_keyframe)
     }
 
     /// Returns the packet with all requests that are due, by what the receiver misses now. `None`: nothing is due. `last` is when

@@ -140,7 +140,7 @@ impl StreamState {
         let late = late_for(settings, format)?;
         let name_ids = settings.name_ids;
         let settings = settings.receiver(ssrc, format)?;
-        let receiver = NamedReceiver::begin(depacketizer, settings).unwrap();
+        let receiver = NamedReceiver::begin(depacketizer, settings)?.unwrap();
         Ok(StreamState {
             ssrc,
             format: *format,

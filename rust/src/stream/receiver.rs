@@ -565,14 +565,14 @@ impl<B: Depacketizer> Receiver<B> {
         self.packets.restart();
     }
 
-    /// Returns the same numbers as [`Receiver::missing`], from a list that is kept from call to call, so that it costs little to
-    /// ask after each datagram. See [`JitterBuffer::missing_kept`].
+    /// Writes the same numbers as [`Receiver::missing`] to `numbers`, in place of what it had, from a list that is kept from call to
+    /// call. So it costs little to ask after each datagram. See [`JitterBuffer::missing_into`].
     ///
     /// # Errors
     ///
-    /// Out of memory: nothing has changed.
-    pub fn missing_kept(&mut self, most: usize) -> Result<&[u64], AllocError> {
-        self.packets.missing_kept(most)
+    /// Out of memory: the receiver is unchanged, and the contents of `numbers` are unspecified.
+    pub fn missing_into(&mut self, most: usize, numbers: &mut Vec<u64>) -> Result<(), AllocError> {
+        self.packets.missing_into(most, numbers)
     }
 
     /// Returns the missing numbers in rising order, at most `most` of them: the numbers to request by NACK. Allocates nothing.

@@ -332,6 +332,40 @@ fn waiting_follows_the_round_trip() -> Result<(), Fail> {
     Ok(())
 }
 
+/// The round trip is 45 ms, and frames wait for 100 ms. At 265 ms number 5 is requested again. The answer is expected at 310 ms,
+/// and the frame behind it would be released at 300 ms. Then number 6 comes, which was only late: from now on the first complete
+/// frame waits until 370 ms, so the answer is in time. Without this request a unit would be lost.
+#[test]
+fn an_answer_expected_too_late_can_come_in_time() -> Result<(), Fail> {
+    let mut session = session(|s| {
+        s.audio.max_wait = Some(100);
+        s.formats[1].wait = Waiting::Fixed;
+    });
+    for number in [1, 2, 4] {
+        session.receive(Ticks(0), &opus(7, number))?;
+    }
+    assert_eq!(requested(&mut session, 0), []);
+    assert_eq!(requested(&mut session, 10), [(7, vec![3], 0)]);
+    session.receive(Ticks(55), &opus(7, 3))?;
+    assert_eq!(session.stream_at(0).unwrap().round_trip, Some(45));
+    session.receive(Ticks(200), &opus(7, 7))?;
+    assert_eq!(requested(&mut session, 200), []);
+    assert_eq!(requested(&mut session, 210), [(7, vec![5, 6], 0)]);
+    assert_eq!(requested(&mut session, 265), [(7, vec![5, 6], 0)]);
+    let due = |session: &Session| session.receiver_of(7, OPUS).unwrap().next_deadline();
+    assert_eq!(due(&session), Some(Ticks(300)));
+    session.receive(Ticks(270), &opus(7, 6))?;
+    assert_eq!(due(&session), Some(Ticks(370)));
+    assert_eq!(requested(&mut session, 300), []);
+    session.receive(Ticks(310), &opus(7, 5))?;
+    let mut units = 0;
+    while let Some(event) = session.poll(Ticks(310)) {
+        units += usize::from(matches!(event, Event::Unit { .. }));
+    }
+    assert_eq!(units, 3);
+    Ok(())
+}
+
 /// RFC 3550, sections 6.4.2 and 6.5: an empty report and the name come first.
 #[test]
 fn packets_carry_a_report_and_a_name() -> Result<(), Fail> {

@@ -5,38 +5,35 @@
 use super::JitterBuffer;
 use crate::codec::Depacketizer;
 use crate::jitter::kept_missing::KeptMissing;
-use crate::memory::AllocError;
+use crate::memory::{AllocError, TryVec};
+use alloc::vec::Vec;
 use core::mem::replace;
 
 impl<B: Depacketizer> JitterBuffer<B> {
-    /// Proves that the held packets rise, and are above the cutoff. Does nothing else.
-    #[inline(always)]
-    pub(super) fn is_sound(&self) {
-        self.buffer.held();
-    }
-
-    /// Returns the same numbers as [`JitterBuffer::missing`], from a list that is kept from call to call: only numbers that may
-    /// have changed since are searched. The list takes 16 bytes for each number.
+    /// Writes the same numbers as [`JitterBuffer::missing`] to `numbers`, in place of what it had. They come from a list that is
+    /// kept from call to call: only numbers that may have changed since the last call are searched, and the others are copied.
+    /// The list takes 16 bytes for each number.
     ///
     /// # Errors
     ///
-    /// Out of memory: nothing has changed.
-    pub fn missing_kept(&mut self, most: usize) -> Result<&[u64], AllocError> {
+    /// Out of memory: the jitter buffer is unchanged, and the contents of `numbers` are unspecified.
+    pub fn missing_into(&mut self, most: usize, numbers: &mut Vec<u64>) -> Result<(), AllocError> {
+        numbers.clear();
         let (next, end) = self.missing_range();
+        if next >= end {
+            return Ok(());
+        }
         let mut kept = replace(&mut self.kept_missing, KeptMissing::new());
         let answer = kept.renew(self, next, end, most);
         self.kept_missing = kept;
         answer?;
-        Ok(self.kept_missing.first(most))
+        numbers.try_extend(self.kept_missing.first(most))
     }
 
     /// Returns the number from which on numbers can be missing, and the number up to which they can.
-    fn missing_range(&self) -> (u64, u64) {
+    pub(crate) fn missing_range(&self) -> (u64, u64) {
         match (self.floor(), self.greatest()) {
-            (Some(floor), Some(greatest)) => {
-                let next = floor.saturating_add(1);
-                (next, greatest.max(next))
-            }
+            (Some(floor), Some(greatest)) => (floor.saturating_add(1), greatest),
             _ => (0, 0),
         }
     }

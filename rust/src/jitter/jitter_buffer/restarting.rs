@@ -7,6 +7,7 @@ use super::{JitterBuffer, KeptPacket, meta_for, store};
 use crate::buffer::{DepacketizingBuffer, Incoming, PackedHeader};
 use crate::codec::Depacketizer;
 use crate::error::PacketError;
+use crate::jitter::kept_missing::is_sound;
 use crate::jitter::noted_times::NotedTime;
 use crate::jitter::numbers::{Extended, kept_number};
 use crate::jitter::outcome::{Outcome, outcome_of, with_kept, with_outcome, with_restart};
@@ -143,7 +144,7 @@ fn store_two<B: Depacketizer>(
     first: (KeptPacket, u64),
     second: (KeptPacket, u64),
 ) -> Result<(Outcome, Outcome), PacketError> {
-    buffer.held();
+    is_sound(buffer);
     let places = buffer.store_two(
         incoming(clock_rate, first.0, first.1),
         incoming(clock_rate, second.0, second.1),

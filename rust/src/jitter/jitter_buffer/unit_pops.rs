@@ -6,6 +6,7 @@ use super::JitterBuffer;
 use crate::buffer::PoppedUnit;
 use crate::codec::Depacketizer;
 use crate::error::PacketError;
+use crate::jitter::kept_missing::is_sound;
 use crate::jitter::outcome::{packets_to, units_to, with_pop};
 use crate::wire::Ticks;
 
@@ -19,12 +20,12 @@ impl<B: Depacketizer> JitterBuffer<B> {
         now: Ticks,
         unit: &mut PoppedUnit,
     ) -> Option<Result<(), PacketError>> {
-        self.is_sound();
         self.settle();
         let Some(hold_back) = self.waiting(now) else {
             return None;
         };
         self.buffer.set_hold_back(hold_back);
+        is_sound(&self.buffer);
         let (answer, left) = self.buffer.pop_unit_counted(unit);
         let units = units_to(&answer);
         let released = packets_to(&answer, unit);
