@@ -105,6 +105,7 @@ impl<B: Depacketizer> JitterBuffer<B> {
     }
 
     /// Does the same, out of the way of packets of senders that did not restart.
+    #[cold]
     #[inline(never)]
     fn goes_with_former(&self, low: u16, time: u32) -> bool
         ensures { result ≡ is_of_former_sender self.now low time }
