@@ -21,7 +21,20 @@ const KEPT_BLOCKS: usize = 16;
 #[inline(always)]
 fn in_block(spare: &mut Vec<One<Packet>>, packet: Packet) -> Result<One<Packet>, AllocError> {
     if let Some(mut block) = spare.pop() {
-        *block = packet;
+        let Packet {
+            known,
+            bytes,
+            other_end,
+            row_head,
+            head,
+            tail,
+        } = packet;
+        block.known = known;
+        block.bytes = bytes;
+        block.other_end = other_end;
+        block.row_head = row_head;
+        block.head = head;
+        block.tail = tail;
         return Ok(block);
     }
     if spare.capacity() < KEPT_BLOCKS {
