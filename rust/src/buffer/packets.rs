@@ -132,9 +132,18 @@ pub(super) fn row_from(packets: &TieredQueue<HeldPacket>, place: usize) -> usize
     low
 }
 
-/// Returns the time at which the packet with this number arrived, if it is held.
+/// Returns the time at which the packet with this number arrived, if it is held. The first packet is inspected without a search.
 #[inline(always)]
 pub(super) fn received_at(packets: &TieredQueue<HeldPacket>, number: u64) -> Option<Ticks> {
+    match packets.front() {
+        Some(lowest) if lowest.number == number => Some(lowest.packet.known.received()),
+        _ => received_within(packets, number),
+    }
+}
+
+/// Returns the same, by a search.
+#[inline(never)]
+fn received_within(packets: &TieredQueue<HeldPacket>, number: u64) -> Option<Ticks> {
     let place = place_from_front(packets, number);
     if place >= packets.len() {
         return None;
