@@ -427,7 +427,7 @@ impl<B: Depacketizer> JitterBuffer<B> {
         self.noted_times.make_room(noted)?;
         let outcome = store(&mut self.buffer, self.clock_rate, packet, number)?;
         self.noted_times.note(noted);
-        self.counters = with_outcome(self.counters, outcome);
+        count(&mut self.counters, outcome);
         Ok(outcome)
     }
 

@@ -13,7 +13,7 @@ invariant_of-self-2 g c =
     let kept : IsCounted (counted c.self.inside.counters c.in_ok-outcome.outcome) (length c.store.new.buffer.held) =
     conserved_in c.self.inside.clock_rate (arrival_of c.args.packet) c.args.number c.self.inside.buffer c.store.new.buffer c.in_ok-outcome.outcome c.self.inside.counters
     c.in_ok-outcome.ensures.takes c.in_ok-outcome.ensures.outcome c.self.invariant in
-    subst (λ (k : PacketCounters). IsCounted k (length c.store.new.buffer.held)) (sym c.with_outcome-self-inside.ensures) kept
+    subst (λ (k : PacketCounters). IsCounted k (length c.store.new.buffer.held)) (sym c.count.ensures) kept
 
 pub returns-clause-ok : goal.returns-clause-ok
 returns-clause-ok g c =
@@ -34,5 +34,5 @@ returns-clause-ok g c =
     } in
     let x : NotedTime = record { number = c.args.number; time = c.args.packet.header.timestamp } in
     let noted : c.note.new.self.noted ≡ noted_with r.noted x = (rw c.timestamp.ensures at c.note.ensures) ∙ ap (λ (s : Noted). noted_with s x) c.make_room.ensures.same in
-    went_on c.args.number (arrival_of c.args.packet) r c.args.self.now _ c.store.new.buffer c.in_ok-outcome.outcome c.note.new.self.noted c.with_outcome-self-inside.result c.self.view_is
-    c.in_ok-outcome.ensures.takes c.in_ok-outcome.ensures.outcome noted c.with_outcome-self-inside.ensures refl
+    went_on c.args.number (arrival_of c.args.packet) r c.args.self.now _ c.store.new.buffer c.in_ok-outcome.outcome c.note.new.self.noted c.count.new.counters c.self.view_is
+    c.in_ok-outcome.ensures.takes c.in_ok-outcome.ensures.outcome noted c.count.ensures refl
