@@ -126,6 +126,9 @@ impl<T> TryVec<T> for Vec<T> {
     where
         T: Copy,
     {
+        if cfg!(not(feature = "fallible")) {
+            return Ok(items.to_vec());
+        }
         let mut made = Self::try_of_capacity(items.len())?;
         made.extend_from_slice(items);
         Ok(made)
@@ -245,8 +248,12 @@ impl<T> TryQueue<T> for VecDeque<T> {
         }
     }
 
-    #[inline]
+    #[inline(always)]
     fn try_room(&mut self, count: usize) -> Result<(), AllocError> {
+        // The call below asks the same, and is no part of its callers.
+        if count <= self.capacity() - self.len() {
+            return Ok(());
+        }
         if cfg!(not(feature = "fallible")) {
             self.reserve(count);
             return Ok(());

@@ -31,6 +31,7 @@ impl Contiguity {
 
     /// Returns whether a frame can be released, and whether it follows the previous one. `contiguous_seq` says whether its
     /// sequence numbers follow; this is the answer if the codec-specific data is of another codec.
+    #[inline(always)]
     pub fn check(&mut self, next: &CodecExtra, contiguous_seq: bool) -> (bool, bool)
         ensures { checked self.old next.now contiguous_seq ≡ (result.0, result.1, self.new) }
     {

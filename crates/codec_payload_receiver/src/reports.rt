@@ -217,6 +217,7 @@ impl<B> Receiver<B> {
 }
 
 /// Returns the distance between two 32-bit times, the shorter way round.
+#[inline(always)]
 fn distance(before: u32, after: u32) -> u32
     ensures value { result ≡ distance before after }
     ensures short { result ≤ 2 ^ 31 }

@@ -21,7 +21,20 @@ const KEPT_BLOCKS: usize = 16;
 #[inline(always)]
 fn in_block(spare: &mut Vec<One<Packet>>, packet: Packet) -> Result<One<Packet>, AllocError> {
     if let Some(mut block) = spare.pop() {
-        *block = packet;
+        let Packet {
+            known,
+            bytes,
+            other_end,
+            row_head,
+            head,
+            tail,
+        } = packet;
+        block.known = known;
+        block.bytes = bytes;
+        block.other_end = other_end;
+        block.row_head = row_head;
+        block.head = head;
+        block.tail = tail;
         return Ok(block);
     }
     if spare.capacity() < KEPT_BLOCKS {
@@ -119,9 +132,18 @@ pub(super) fn row_from(packets: &TieredQueue<HeldPacket>, place: usize) -> usize
     low
 }
 
-/// Returns the time at which the packet with this number arrived, if it is held.
+/// Returns the time at which the packet with this number arrived, if it is held. The first packet is inspected without a search.
 #[inline(always)]
 pub(super) fn received_at(packets: &TieredQueue<HeldPacket>, number: u64) -> Option<Ticks> {
+    match packets.front() {
+        Some(lowest) if lowest.number == number => Some(lowest.packet.known.received()),
+        _ => received_within(packets, number),
+    }
+}
+
+/// Returns the same, by a search.
+#[inline(never)]
+fn received_within(packets: &TieredQueue<HeldPacket>, number: u64) -> Option<Ticks> {
     let place = place_from_front(packets, number);
     if place >= packets.len() {
         return None;

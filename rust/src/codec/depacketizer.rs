@@ -122,6 +122,7 @@ impl<B: Depacketizer> Depacketizer for CodecDepacketizer<B> {
         }
     }
 
+    #[inline(always)]
     fn is_partition_head(&self, packet: &[u8]) -> bool {
         match self {
             CodecDepacketizer::G711(d) => d.is_partition_head(packet),

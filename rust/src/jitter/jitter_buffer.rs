@@ -435,7 +435,7 @@ impl<B: Depacketizer> JitterBuffer<B> {
         let outcome = store(&mut self.buffer, self.clock_rate, packet, number)?;
         self.kept_missing.touch(number);
         self.noted_times.note(noted);
-        self.counters = with_outcome(self.counters, outcome);
+        count(&mut self.counters, outcome);
         Ok(outcome)
     }
 

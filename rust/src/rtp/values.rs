@@ -2,7 +2,7 @@
 
 //! Values of header extensions as the bytes of their elements, in the formats of libwebrtc.
 
-use crate::rtp::elements::Elements;
+use crate::rtp::elements::{Element, Elements};
 use crate::rtp::packet::HeaderExtension;
 use crate::wire::{AbsCaptureTime, ExtensionValues, VideoLayersAllocation, VideoTiming};
 
@@ -104,21 +104,62 @@ pub struct ExtensionIds {
 
 impl ExtensionIds {
     /// The values in the extension of a packet: for each, the first element with its id. A value whose length is not that of its
-    /// format is absent. Reads the elements once for each id, and does not allocate.
+    /// format is absent. Reads the elements once, and does not allocate.
     pub fn values(&self, extension: &Option<HeaderExtension<'_>>) -> ExtensionValues {
-        if extension.is_none() {
+        let Some(extension) = extension else {
             return ExtensionValues::default();
+        };
+        match extension.elements() {
+            Some(elements) => self.values_among(elements),
+            None => ExtensionValues::default(),
         }
-        let level = byte_of(bytes_for(self.audio_level, extension));
+    }
+
+    /// The values of these elements.
+    #[inline(always)]
+    fn values_among(&self, elements: Elements<'_>) -> ExtensionValues {
+        let mut capture_time = None;
+        let mut orientation = None;
+        let mut content_type = None;
+        let mut timing = None;
+        let mut allocation = None;
+        let mut level = None;
+        for element in elements {
+            keep_first(&mut capture_time, self.abs_capture_time, &element);
+            keep_first(&mut orientation, self.video_orientation, &element);
+            keep_first(&mut content_type, self.video_content_type, &element);
+            keep_first(&mut timing, self.video_timing, &element);
+            keep_first(&mut allocation, self.layers_allocation, &element);
+            keep_first(&mut level, self.audio_level, &element);
+        }
+        let level = byte_of(level);
         ExtensionValues {
-            abs_capture_time: capture_time_of(bytes_for(self.abs_capture_time, extension)),
-            video_orientation: byte_of(bytes_for(self.video_orientation, extension)),
-            video_content_type: byte_of(bytes_for(self.video_content_type, extension)),
-            video_timing: timing_of(bytes_for(self.video_timing, extension)),
-            layers_allocation: allocation_of(bytes_for(self.layers_allocation, extension)),
+            abs_capture_time: capture_time_of(capture_time),
+            video_orientation: byte_of(orientation),
+            video_content_type: byte_of(content_type),
+            video_timing: timing_of(timing),
+            layers_allocation: allocation_of(allocation),
             audio_level: level_in(level),
             voice_activity: voice_in(level),
         }
+    }
+}
+
+/// Keeps the bytes of an element, if it has this id and nothing was kept so far.
+#[inline(always)]
+fn keep_first<'a>(kept: &mut Option<&'a [u8]>, id: Option<u8>, element: &Element<'a>) {
+    match id {
+        Some(id) if id == element.id => keep(kept, element.bytes),
+        _ => {}
+    }
+}
+
+/// Keeps these bytes, if nothing was kept so far. Most elements have no id that is searched.
+#[cold]
+#[inline(never)]
+fn keep<'a>(kept: &mut Option<&'a [u8]>, bytes: &'a [u8]) {
+    if kept.is_none() {
+        *kept = Some(bytes);
     }
 }
 

@@ -158,6 +158,7 @@ impl<B> Receiver<B> {
 }
 
 /// Returns the distance between two 32-bit times, the shorter way round.
+#[inline(always)]
 fn distance(before: u32, after: u32) -> u32 {
     after.wrapping_sub(before).min(before.wrapping_sub(after))
 }

@@ -145,6 +145,7 @@ impl<B: Depacketizer> Depacketizer for CodecDepacketizer<B> {
         }
     }
 
+    #[inline(always)]
     fn is_partition_head(&self, packet: &[u8]) -> bool
         ensures step { result ≡ ⟦<CodecDepacketizer<B> as Depacketizer>⟧.is_head self.now packet.now }
         ensures built_in { is_built_in_depacketizer (depacketizer_state_of self.now) ≡ true → result ≡ head_of (depacketizer_state_of self.now) packet.now }

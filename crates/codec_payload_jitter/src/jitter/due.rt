@@ -34,6 +34,7 @@ impl<B: Depacketizer> JitterBuffer<B> {
 
     /// Returns how many complete frames wait behind a gap at that time. `None`: the stream is starting, and no frame is
     /// released.
+    #[inline(always)]
     pub(super) fn waiting(&self, now: Ticks) -> Option<usize>
         ensures { result ≡ waiting_at self.now now.0 }
     {

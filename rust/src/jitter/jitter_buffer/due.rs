@@ -27,6 +27,7 @@ impl<B: Depacketizer> JitterBuffer<B> {
 
     /// Returns how many complete frames wait behind a gap at that time. `None`: the stream is starting, and no frame is
     /// released.
+    #[inline(always)]
     pub(super) fn waiting(&self, now: Ticks) -> Option<usize> {
         if self.is_pressed(now) {
             Some(0)

@@ -15,7 +15,7 @@ invariant_of-self-2 g c =
     let kept : IsCounted (counted c.self.inside.counters c.in_ok-outcome.outcome) (length c.store.new.buffer.held) =
     conserved_in c.self.inside.clock_rate (arrival_of c.args.packet) c.args.number c.self.inside.buffer c.store.new.buffer c.in_ok-outcome.outcome c.self.inside.counters
     c.in_ok-outcome.ensures.takes c.in_ok-outcome.ensures.outcome c.self.invariant.0 in (
-      subst (λ (k : PacketCounters). IsCounted k (length c.store.new.buffer.held)) (sym c.with_outcome-self-inside.ensures) kept,
+      subst (λ (k : PacketCounters). IsCounted k (length c.store.new.buffer.held)) (sym c.count.ensures) kept,
       subst (λ (k : Kept). Keeps k c.store.new.buffer c.self.inside.no_media_numbers.items) (sym c.touch.ensures)
           (stored_keeps c.self.inside.clock_rate c.args.number (arrival_of c.args.packet) c.self.inside.kept_missing c.self.inside.buffer c.store.new.buffer c.self.inside.no_media_numbers.items c.store.ensures.sound c.in_ok-outcome.ensures.takes c.self.invariant.1),
     )
@@ -39,5 +39,5 @@ returns-clause-ok g c =
     } in
     let x : NotedTime = record { number = c.args.number; time = c.args.packet.header.timestamp } in
     let noted : c.note.new.self.noted ≡ noted_with r.noted x = (rw c.timestamp.ensures at c.note.ensures) ∙ ap (λ (s : Noted). noted_with s x) c.make_room.ensures.same in
-    went_on c.args.number (arrival_of c.args.packet) r c.args.self.now _ c.store.new.buffer c.in_ok-outcome.outcome c.note.new.self.noted c.with_outcome-self-inside.result c.self.view_is
-    c.in_ok-outcome.ensures.takes c.in_ok-outcome.ensures.outcome noted c.with_outcome-self-inside.ensures refl
+    went_on c.args.number (arrival_of c.args.packet) r c.args.self.now _ c.store.new.buffer c.in_ok-outcome.outcome c.note.new.self.noted c.count.new.counters c.self.view_is
+    c.in_ok-outcome.ensures.takes c.in_ok-outcome.ensures.outcome noted c.count.ensures refl
