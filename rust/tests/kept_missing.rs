@@ -1,67 +1,103 @@
-//! The kept missing numbers beside those that are searched.
+//! The missing numbers that a jitter buffer keeps from call to call, beside those that are searched.
 
-use codec_payload::jitter::{JitterBuffer, SequenceNumbers, WaitLimits};
 use codec_payload::buffer::DepacketizingBuffer;
 use codec_payload::codec::CodecDepacketizer;
+use codec_payload::jitter::{JitterBuffer, SequenceNumbers, WaitLimits};
 use codec_payload::*;
 
 struct Dice(u64);
 
 impl Dice {
     fn below(&mut self, limit: u64) -> u64 {
-        self.0 = self.0.wrapping_mul(6_364_136_223_846_793_005).wrapping_add(1_442_695_040_888_963_407);
+        self.0 = self
+            .0
+            .wrapping_mul(6_364_136_223_846_793_005)
+            .wrapping_add(1_442_695_040_888_963_407);
         (self.0 >> 33) % limit
     }
 }
 
+/// A jitter buffer of VP8 with small windows, that holds at most so many packets.
+fn jitter_buffer(limit: usize) -> JitterBuffer {
+    let depacketizer: CodecDepacketizer = CodecDepacketizer::from_codec(Codec::Vp8).unwrap();
+    JitterBuffer::over(
+        SequenceNumbers::with_windows(300, 100).unwrap(),
+        DepacketizingBuffer::with_limit(depacketizer, 5, limit),
+        Frequency::NINETY_KHZ,
+        WaitLimits {
+            max_wait: Some(100),
+            hold_back: Some(3),
+            start: 0,
+        },
+    )
+}
+
+/// The number of the next packet, and the highest one so far: in order, behind a gap, late, or far ahead.
+fn next_number(dice: &mut Dice, top: &mut u64) -> u64 {
+    let ahead = match dice.below(40) {
+        0..20 => 1,
+        20..26 => 1 + dice.below(6),
+        26..36 => return top.saturating_sub(dice.below(60)),
+        36 => dice.below(200),
+        37 => 5_000,
+        _ => return top.saturating_sub(dice.below(1_000)),
+    };
+    *top += ahead;
+    *top
+}
+
+/// A packet of a frame of four packets, which arrives for the first time, as a retransmission or from RED.
+fn push(packets: &mut JitterBuffer, dice: &mut Dice, now: Ticks, number: u64) {
+    let header = RtpHeader {
+        marker: number % 4 == 3,
+        payload_type: Pt::new_with_value(96),
+        sequence_number: number as u16,
+        timestamp: (number / 4 * 3_000) as u32,
+        ssrc: 5,
+        ext_vals: ExtensionValues::default(),
+    };
+    let payload = vec![if number % 4 == 0 { 0x10 } else { 0 }, 7, 7];
+    match dice.below(10) {
+        0 | 1 => drop(packets.push_retransmitted(now, header, payload).unwrap()),
+        2 => drop(packets.push_recovered(now, header, payload).unwrap()),
+        _ => drop(packets.push(now, header, payload).unwrap()),
+    }
+}
+
+/// One call of a random kind.
+fn call(packets: &mut JitterBuffer, dice: &mut Dice, now: Ticks, number: u64) {
+    match dice.below(30) {
+        0..9 => packets.push_no_media(number as u16).unwrap(),
+        9 if dice.below(20) == 0 => packets.restart(),
+        9 if dice.below(40) == 0 => packets.finish(),
+        _ => push(packets, dice, now, number),
+    }
+}
+
+/// Random calls in any order, of which most change which numbers are missing.
 #[test]
-fn are_those_that_are_searched() {
-    let mut lists = 0usize;
+fn kept_numbers_are_those_that_are_searched() {
+    let mut compared = 0;
+    let mut kept = Vec::new();
     for seed in 0..300 {
         let mut dice = Dice(seed);
         let most = [1, 3, 20, 1_024][seed as usize % 4];
-        let limit = [8, 40, 3_000][seed as usize % 3];
-        let depacketizer: CodecDepacketizer = CodecDepacketizer::from_codec(Codec::Vp8).unwrap();
-        let buffer = DepacketizingBuffer::with_limit(depacketizer, 5, limit);
-        let mut packets = JitterBuffer::over(
-            SequenceNumbers::with_windows(300, 100).unwrap(),
-            buffer,
-            Frequency::NINETY_KHZ,
-            WaitLimits { max_wait: Some(100), hold_back: Some(3), start: 0 },
-        );
-        let mut top = 60_000u64;
-        let mut now = 0;
+        let mut packets = jitter_buffer([8, 40, 3_000][seed as usize % 3]);
+        let (mut top, mut now) = (60_000, 0);
         for _ in 0..3_000 {
             now += dice.below(4);
-            let number = match dice.below(40) {
-                0..20 => { top += 1; top }
-                20..26 => { top += 1 + dice.below(6); top }
-                26..36 => top.saturating_sub(dice.below(60)),
-                36 => { top += dice.below(200); top }
-                37 => { top += 5_000; top }
-                _ => top.saturating_sub(dice.below(1_000)),
-            };
-            let frame = number / 4;
-            match dice.below(30) {
-                0..9 => { packets.push_no_media(number as u16).unwrap(); }
-                9 if dice.below(20) == 0 => packets.restart(),
-                9 if dice.below(40) == 0 => packets.finish(),
-                _ => {
-                    let header = RtpHeader { marker: number % 4 == 3, payload_type: Pt::new_with_value(96), sequence_number: number as u16, timestamp: (frame * 3_000) as u32, ssrc: 5, ext_vals: ExtensionValues::default() };
-                    let payload = vec![if number % 4 == 0 { 0x10 } else { 0 }, 7, 7];
-                    let again = dice.below(5) == 0;
-                    if again { packets.push_retransmitted(Ticks(now), header, payload).unwrap(); } else if dice.below(8) == 0 { packets.push_recovered(Ticks(now), header, payload).unwrap(); } else { packets.push(Ticks(now), header, payload).unwrap(); }
-                }
-            }
+            let number = next_number(&mut dice, &mut top);
+            call(&mut packets, &mut dice, Ticks(now), number);
             if dice.below(3) > 0 {
-                while let Some(_) = packets.pop(Ticks(now)) {}
+                while packets.pop(Ticks(now)).is_some() {}
             }
             if dice.below(4) > 0 {
                 let searched: Vec<u64> = packets.missing(most).collect();
-                lists += searched.len();
-                assert_eq!(packets.missing_kept(most).unwrap(), searched);
+                packets.missing_into(most, &mut kept).unwrap();
+                compared += searched.len();
+                assert_eq!(kept, searched);
             }
         }
     }
-    println!("{lists} numbers compared");
+    assert!(compared > 1_000_000, "{compared} numbers");
 }

@@ -83,6 +83,7 @@ pub const CALLS: [Call; 18] = [
         &[
             "JitterBuffer::push_retransmitted",
             "JitterBuffer::push_recovered",
+            "JitterBuffer::missing_into",
         ],
         jitter_again,
     ),
@@ -498,11 +499,12 @@ fn jitter_no_media(size: usize) {
 }
 
 fn jitter_again(size: usize) {
-    let mut buffer = jitters(size);
+    let (mut buffer, mut missing) = (jitters(size), Vec::new());
     for place in 0..packets(size) as u16 {
         let number = 4 * (place % 700);
         made(buffer.push(Ticks(0), header(number), vec![1; size.min(1_500)]));
         made(buffer.push_retransmitted(Ticks(0), header(number.wrapping_sub(2)), vec![1; size]));
+        made(buffer.missing_into(size, &mut missing));
         made(buffer.push_recovered(Ticks(0), header(number.wrapping_sub(3)), vec![1; size]));
     }
 }

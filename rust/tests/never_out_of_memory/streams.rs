@@ -39,7 +39,11 @@ pub const CALLS: [Call; 13] = [
         packets_of_one_frame,
     ),
     Call(
-        &["Receiver::receive_parsed", "Receiver::pop_unit"],
+        &[
+            "Receiver::receive_parsed",
+            "Receiver::pop_unit",
+            "Receiver::missing_into",
+        ],
         packets_of_any_kind,
     ),
     Call(
@@ -259,6 +263,7 @@ fn packets_of_one_frame(size: usize) {
 /// Media, numbers without media, retransmissions with a gap before each, and RTCP.
 fn packets_of_any_kind(size: usize) {
     let (mut receiver, mut unit) = (receiver(Codec::Opus, size), PoppedUnit::new());
+    let mut missing = Vec::new();
     for place in 0..size.min(3_000) as u16 {
         let number = 5 * place;
         let datagrams = [
@@ -277,6 +282,7 @@ fn packets_of_any_kind(size: usize) {
             let parsed = ParsedDatagram::parse(&datagram);
             let _ = told(receiver.receive_parsed(Ticks(place.into()), &parsed));
         }
+        made(receiver.missing_into(size, &mut missing));
     }
     let large = packet(OPUS, 7, 9, 960, &vec![1; payload_size(size)]);
     made(receiver.receive_parsed(Ticks(0), &ParsedDatagram::parse(&large)));
