@@ -182,7 +182,8 @@ impl StreamState {
         let late = late_for(alloc, settings, format)?;
         let name_ids = settings.name_ids;
         let settings = settings.receiver(alloc, ssrc, format)?;
-        let receiver = NamedReceiver::begin(alloc, depacketizer, settings)?.unwrap();
+        let begun = NamedReceiver::begin(alloc, depacketizer, settings)?;
+        let receiver = begun.unwrap();
         Ok(StreamState {
             ssrc,
             format: *format,

@@ -8,17 +8,21 @@ use Rattle.codec_payload_session.proofs.UnitLemmas.{answer_with, large_with, nam
 use Rattle.codec_payload_session.proofs.named.NamedReceiver.pop_unit.Goals as goal
 
 pub invariant_of-self : goal.invariant_of-self
-invariant_of-self c = pops_named c.args.now.0 c.self.inside.receiver.value c.pop_unit.new.self (popped_to (answer_of c.pop_unit.result) c.pop_unit.new.unit) c.self.invariant c.pop_unit.ensures.pops
+invariant_of-self c =
+    let answer = popped_to (answer_of c.pop_unit.result) c.pop_unit.new.unit in
+    pops_named c.args.now.0 c.self.inside.receiver.value c.pop_unit.new.self answer c.self.invariant
+    (subst (λ (s : Receiver). PopsGated c.args.now.0 s answer c.pop_unit.new.self) c.deref_mut.ensures.value c.pop_unit.ensures.pops)
 
 pub returns-clause-pops : goal.returns-clause-pops
 returns-clause-pops c =
-    subst (λ (s : Receiver). PopsGated c.args.now.0 s (answer_of (popped_with c.pop_unit.result c.pop_unit.new.unit)) c.pop_unit.new.self) c.self.view_is
-    (subst (λ (a : Answer). PopsGated c.args.now.0 c.self.inside.receiver.value a c.pop_unit.new.self) (sym (answer_with c.pop_unit.result c.pop_unit.new.unit)) c.pop_unit.ensures.pops)
+    subst (λ (s : Receiver). PopsGated c.args.now.0 s (answer_of (popped_with c.pop_unit.result c.pop_unit.new.unit)) c.pop_unit.new.self) (c.deref_mut.ensures.value ∙ c.self.view_is)
+    (subst (λ (a : Answer). PopsGated c.args.now.0 c.deref_mut.result.now a c.pop_unit.new.self) (sym (answer_with c.pop_unit.result c.pop_unit.new.unit)) c.pop_unit.ensures.pops)
 
 pub returns-clause-refused : goal.returns-clause-refused
 returns-clause-refused c = names_with c.pop_unit.result c.pop_unit.new.unit c.pop_unit.ensures.refused
 
 pub returns-clause-large : goal.returns-clause-large
 returns-clause-large c =
-    subst (λ (s : Receiver). is_too_large (popped_with c.pop_unit.result c.pop_unit.new.unit) ≡ is_large s.bound.most (answer_of (popped_with c.pop_unit.result c.pop_unit.new.unit))) c.self.view_is
-    (large_with c.pop_unit.result c.pop_unit.new.unit ∙ (c.pop_unit.ensures.large ∙ ap (is_large c.self.inside.receiver.value.bound.most) (sym (answer_with c.pop_unit.result c.pop_unit.new.unit))))
+    subst (λ (s : Receiver). is_too_large (popped_with c.pop_unit.result c.pop_unit.new.unit) ≡ is_large s.bound.most (answer_of (popped_with c.pop_unit.result c.pop_unit.new.unit)))
+    (c.deref_mut.ensures.value ∙ c.self.view_is)
+    (large_with c.pop_unit.result c.pop_unit.new.unit ∙ (c.pop_unit.ensures.large ∙ ap (is_large c.deref_mut.result.now.bound.most) (sym (answer_with c.pop_unit.result c.pop_unit.new.unit))))

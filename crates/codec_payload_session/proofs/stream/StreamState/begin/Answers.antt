@@ -14,7 +14,7 @@ unwrap-depacketizer-requires c =
 
 pub unwrap-receiver-requires : goal.unwrap-receiver-requires
 unwrap-receiver-requires c =
-    subst (λ (o : Result Receiver SettingsError). IsOk o) (sym c.begin-2.ensures)
+    subst (λ (o : Result Receiver SettingsError). IsOk o) (sym c.in_ok-begun.ensures)
     (receiver_made c.args.settings.now c.args.ssrc c.args.format.now c.in_ok-settings.settings _ c.requires c.in_ok-settings.ensures)
 
 pub returns : goal.returns
@@ -40,5 +40,5 @@ returns c = record {
       c.unwrap-depacketizer.ensures;
   receiver_settings = c.in_ok-settings.settings;
   has_settings = c.in_ok-settings.ensures;
-  receiver = ap (λ (d : DepacketizerState). session_by c.in_ok-settings.settings d) (sym c.configure_for.ensures) ∙ (sym c.begin-2.ensures ∙ c.unwrap-receiver.ensures);
+  receiver = ap (λ (d : DepacketizerState). session_by c.in_ok-settings.settings d) (sym c.configure_for.ensures) ∙ (sym c.in_ok-begun.ensures ∙ c.unwrap-receiver.ensures);
 }
