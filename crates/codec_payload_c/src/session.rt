@@ -161,19 +161,31 @@ pub(crate) fn number_of(why: Ending) -> u32
     }
 }
 
-/// Describes a unit of a session: with its extended RTP time, and whether it is decodable.
-fn judged_unit(unit: &PoppedUnit, time: Option<u64>, decodable: bool, keyframe: bool) -> Unit
+/// Describes a unit of a session, in place of what `told` has: with its extended RTP time, and whether it is decodable.
+#[inline(always)]
+fn tell_unit(told: &mut Unit, unit: &PoppedUnit, time: Option<u64>, decodable: bool, keyframe: bool)
     requires { 0 < length unit.now.metas }
-    ensures { TellsJudgedBy time decodable keyframe unit.now result }
+    ensures { TellsJudgedBy time decodable keyframe unit.now told.new }
 {
-    let mut told = no_unit();
-    describe_popped(&mut told, unit);
+    describe_popped(told, unit);
     if let Some(time) = time {
         told.rtp_time = time;
     }
     told.decodable = decodable;
     told.keyframe = keyframe;
-    told
+}
+
+/// Describes the event of a unit, in place of what `told` has.
+#[inline(always)]
+fn tell_event_of(told: &mut Event, ssrc: u32, payload_type: u8)
+    ensures { told.new ≡ event_with 1 ssrc payload_type told.old.unit }
+{
+    told.kind = 1;
+    told.ssrc = ssrc;
+    told.status = status::OK;
+    told.why = 0;
+    told.bytes = told.unit.bytes;
+    told.payload_type = payload_type;
 }
 
 /// Returns an event of a stream without an error or a reason to end.
@@ -240,7 +252,32 @@ fn packet_event(kind: u32, ssrc: u32, payload_type: u8, packet: &[u8]) -> Event
     }
 }
 
-/// Describes an event with this unit for C, if it has one.
+/// Describes an event with this unit for C, if it has one, in place of what `told` has. A unit is described field by field, since
+/// most events are units.
+#[inline(always)]
+fn tell_event(told: &mut Event, event: &SessionEvent<()>, popped: &PoppedUnit)
+    requires { HasUnit (Option.Some (with_unit event.now popped.now)) }
+    ensures { TellsEvent (with_unit event.now popped.now) told.new }
+{
+    match event {
+        SessionEvent::Unit {
+            ssrc,
+            payload_type,
+            rtp_time,
+            decodable,
+            keyframe,
+            unit: Ok(()),
+        } => {
+            tell_unit(&mut told.unit, popped, *rtp_time, *decodable, *keyframe);
+            tell_event_of(told, *ssrc, *payload_type);
+        }
+        _ => *told = event_of(event, popped),
+    }
+}
+
+/// Returns the description of an event with this unit for C, if it has one.
+#[cold]
+#[inline(never)]
 fn event_of(event: &SessionEvent<()>, popped: &PoppedUnit) -> Event
     requires { HasUnit (Option.Some (with_unit event.now popped.now)) }
     ensures { TellsEvent (with_unit event.now popped.now) result }
@@ -256,7 +293,8 @@ fn event_of(event: &SessionEvent<()>, popped: &PoppedUnit) -> Event
             unit,
         } => match unit {
             Ok(()) => {
-                let unit = judged_unit(popped, *rtp_time, *decodable, *keyframe);
+                let mut unit = no_unit();
+                tell_unit(&mut unit, popped, *rtp_time, *decodable, *keyframe);
                 event_with(1, *ssrc, *payload_type, unit)
             }
             Err(_) => event_without_unit(1, *ssrc, *payload_type),
@@ -343,7 +381,7 @@ fn hand_over(port: &mut PortSession, alloc: Global, event: &mut Event, bytes: &m
         port.waiting.clear(alloc);
         return status::OUT_OF_MEMORY;
     }
-    *event = event_of(next, popped);
+    tell_event(event, next, popped);
     if !fill(bytes, bytes_of(next, popped)) {
         return status::TOO_SMALL;
     }

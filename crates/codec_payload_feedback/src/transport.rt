@@ -89,7 +89,10 @@ fn most_of(size: usize) -> usize
 pub fn quarters_at(now: Ticks, tick_rate: Frequency) -> u32
     ensures { result ≡ quarters_at now.0 tick_rate }
 {
-    (u128::from(now.0) * 4_000 / u128::from(tick_rate.get()) % 4_294_967_296) as u32
+    match now.0.checked_mul(4_000) {
+        Some(thousandths) => (thousandths / u64::from(tick_rate.get()) % 4_294_967_296) as u32,
+        None => { (u128::from(now.0) * 4_000 / u128::from(tick_rate.get()) % 4_294_967_296) as u32 }
+    }
 }
 
 impl TransportSettings {

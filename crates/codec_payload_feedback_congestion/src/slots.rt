@@ -41,6 +41,9 @@ pub(crate) fn drop_front(slots: &mut Vec<Option<u32>>, count: usize)
     requires { count ≤ length slots.old.items }
     ensures { slots.new.items ≡ drop count slots.old.items }
 {
+    if count == 0 {
+        return;
+    }
     let left = slots.len() - count;
     slots.copy_within(count.., 0);
     slots.truncate(left);

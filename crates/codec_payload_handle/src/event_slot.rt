@@ -73,8 +73,7 @@ impl EventSlot {
     pub fn clear(&mut self, alloc: Global)
         ensures { self.new ≡ None }
     {
-        self.event = None;
-        self.unit.free_above(alloc, MOST_BYTES, MOST_PACKETS);
+        drop_event(&mut self.event, &mut self.unit, alloc);
     }
 
     /// Drops the event, if there is one. If it has a unit, the packets of that move to `taken`, whose packets are dropped.
@@ -82,10 +81,18 @@ impl EventSlot {
         ensures moved { taken.new ≡ latest_packets self.old taken.old }
         ensures empty { self.new ≡ None }
     {
-        let event = self.event.take();
-        if let Some(Event::Unit { unit: Ok(()), .. }) = &event {
+        if matches!(&self.event, Some(Event::Unit { unit: Ok(()), .. })) {
             taken.take_from(&mut self.unit);
         }
-        self.clear(alloc);
+        drop_event(&mut self.event, &mut self.unit, alloc);
     }
+}
+
+/// Drops the event, if there is one, and keeps memory of the unit for the next one.
+#[inline(always)]
+fn drop_event(event: &mut Option<Event<()>>, unit: &mut PoppedUnit, alloc: Global)
+    ensures { event.new ≡ None }
+{
+    *event = None;
+    unit.free_above(alloc, MOST_BYTES, MOST_PACKETS);
 }

@@ -1,7 +1,7 @@
 //! Waiting that follows how late missing packets arrive.
 
 ghost use Rattle.std.specs.Prelude.{◌≡◌, IfOk};
-ghost use Rattle.codec_payload_session.specs.Late.{late_after, late_for, limit_by, missing_after, number_at, unboxed};
+ghost use Rattle.codec_payload_session.specs.Late.{arrived_after, late_after, late_for, limit_by, missing_after, number_at, unboxed};
 ghost use Rattle.codec_payload_jitter.specs.Missing.{missing_numbers};
 
 use crate::formats::{Format, SessionSettings, Waiting};
@@ -30,6 +30,7 @@ pub(crate) fn late_for(
 }
 
 /// Records which number a datagram has, and what the receiver misses after it.
+#[inline(always)]
 pub(crate) fn follow(
     late: &mut Option<Box<AdaptiveWait>>,
     format: &Format,
@@ -40,11 +41,19 @@ pub(crate) fn follow(
     ensures { unboxed late.new ≡ late_after now.0 (number_at format.now datagram.now) (missing_numbers receiver.now.packets 64) (unboxed late.old) }
 {
     if let Some(late) = late {
-        if let Some(number) = number_of(format, datagram) {
-            late.arrived(now, number);
-        }
-        follow_missing(late, now, receiver);
+        follow_late(late, number_of(format, datagram), now, receiver);
     }
+}
+
+/// Does the same for a stream that follows how late packets arrive.
+#[inline(never)]
+fn follow_late(late: &mut AdaptiveWait, number: Option<u16>, now: Ticks, receiver: &Receiver)
+    ensures { late.new ≡ missing_after now.0 (missing_numbers receiver.now.packets 64) (arrived_after now.0 number late.old) }
+{
+    if let Some(number) = number {
+        late.arrived(now, number);
+    }
+    follow_missing(late, now, receiver);
 }
 
 /// Records what the receiver misses.
@@ -57,6 +66,7 @@ fn follow_missing(late: &mut AdaptiveWait, now: Ticks, receiver: &Receiver)
 }
 
 /// Returns how long frames wait. `None`: waiting follows something else.
+#[inline(always)]
 pub(crate) fn limit_by(late: &Option<Box<AdaptiveWait>>) -> Option<u64>
     ensures { result ≡ limit_by (unboxed late.now) }
 {

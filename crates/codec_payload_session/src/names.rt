@@ -1,13 +1,15 @@
 //! The names of streams, as header extensions carry them: MID, RID and repaired RID.
 
-ghost use Rattle.std.specs.Prelude.{◌≡◌, ◌<◌, ◌≤◌, length};
-ghost use Rattle.codec_payload_rtp.specs.ExtensionFormats.{elements_of};
+ghost use Rattle.std.specs.Prelude.{◌≡◌, ◌<◌, ◌≤◌, ◌∷◌, [], Some, length};
+ghost use Rattle.std.specs.Option.{option_map};
+ghost use Rattle.codec_payload_rtp.specs.Elements.{element_of, elements_left};
+ghost use Rattle.codec_payload_rtp.specs.ExtensionFormats.{and_then, bytes_for, elements_of, first_of};
 ghost use Rattle.codec_payload_rtp.specs.RtpValues.{extension_of};
-ghost use Rattle.codec_payload_session.specs.Names.{are_of_one, is_any, is_same, name_for, name_of, names_after, names_by, newer};
+ghost use Rattle.codec_payload_session.specs.Names.{are_of_one, is_any, is_same, name_of, names_after, names_by, newer};
 
 use codec_payload_receiver::parsed::ParsedDatagram;
+use codec_payload_rtp::elements::{Element, Elements};
 use codec_payload_rtp::rtp::HeaderExtension;
-use codec_payload_rtp::values::extension_value;
 use std::fmt;
 use std::marker::Model;
 
@@ -147,13 +149,35 @@ impl StreamNames {
     }
 
     /// Replaces the names that the header extension has.
-    #[inline(always)]
+    #[inline(never)]
     fn read(&mut self, ids: &StreamNameIds, extension: &Option<HeaderExtension<'_>>)
         ensures { self.new ≡ names_by ids.now (elements_of (extension_of extension.now)) self.old }
     {
-        self.mid = newer(name_for(ids.mid, extension), self.mid);
-        self.rid = newer(name_for(ids.rid, extension), self.rid);
-        self.repaired_rid = newer(name_for(ids.repaired_rid, extension), self.repaired_rid);
+        let Some(extension) = extension else {
+            return;
+        };
+        match extension.elements() {
+            Some(elements) => self.read_among(ids, elements),
+            None => {}
+        }
+    }
+
+    /// Replaces the names that these elements have.
+    #[inline(always)]
+    fn read_among(&mut self, ids: &StreamNameIds, elements: Elements<'_>)
+        ensures { self.new ≡ names_by ids.now (elements_left elements.entry) self.old }
+    {
+        let mut mid = None;
+        let mut rid = None;
+        let mut repaired_rid = None;
+        for element in elements {
+            keep_first(&mut mid, ids.mid, &element);
+            keep_first(&mut rid, ids.rid, &element);
+            keep_first(&mut repaired_rid, ids.repaired_rid, &element);
+        }
+        replace(&mut self.mid, mid);
+        replace(&mut self.rid, rid);
+        replace(&mut self.repaired_rid, repaired_rid);
     }
 }
 
@@ -168,26 +192,45 @@ fn is_same(one: &Option<StreamName>, other: &Option<StreamName>) -> bool
     }
 }
 
-/// Returns the name in the first element with this id, if there is an id and such an element with 1 to 32 bytes.
+/// Keeps the bytes of an element, if it has this id and nothing was kept so far.
 #[inline(always)]
-fn name_for(id: Option<u8>, extension: &Option<HeaderExtension<'_>>) -> Option<StreamName>
-    ensures { result ≡ name_for id (elements_of (extension_of extension.now)) }
+fn keep_first<'a>(kept: &mut Option<&'a [u8]>, id: Option<u8>, element: &Element<'a>)
+    ensures { option_map (λ bytes. bytes.now) kept.new ≡ first_of (option_map (λ bytes. bytes.now) kept.old) (bytes_for id (element_of element.now ∷ [])) }
 {
-    let Some(id) = id else {
-        return None;
-    };
-    match extension_value(id, extension) {
-        Some(bytes) => StreamName::new(bytes),
-        None => None,
+    match id {
+        Some(id) if id == element.id => keep(kept, element.bytes),
+        _ => {}
     }
 }
 
-/// Returns the name that arrived, or else the one from before.
-fn newer(arrived: Option<StreamName>, before: Option<StreamName>) -> Option<StreamName>
-    ensures { result ≡ newer arrived before }
+/// Keeps these bytes, if nothing was kept so far. Senders stop sending names once they know that they arrived.
+#[cold]
+#[inline(never)]
+fn keep<'a>(kept: &mut Option<&'a [u8]>, bytes: &'a [u8])
+    ensures { option_map (λ bytes. bytes.now) kept.new ≡ first_of (option_map (λ bytes. bytes.now) kept.old) (Some bytes.now) }
 {
-    match arrived {
-        Some(name) => Some(name),
-        None => before,
+    if kept.is_none() {
+        *kept = Some(bytes);
+    }
+}
+
+/// Replaces the name from before, if these bytes are one.
+#[inline(always)]
+fn replace(name: &mut Option<StreamName>, arrived: Option<&[u8]>)
+    ensures { name.new ≡ newer (and_then name_of (option_map (λ bytes. bytes.now) arrived.entry)) name.old }
+{
+    if let Some(bytes) = arrived {
+        replace_by(name, bytes);
+    }
+}
+
+/// Replaces the name from before, if these bytes are one.
+#[cold]
+#[inline(never)]
+fn replace_by(name: &mut Option<StreamName>, bytes: &[u8])
+    ensures { name.new ≡ newer (name_of bytes.now) name.old }
+{
+    if let Some(arrived) = StreamName::new(bytes) {
+        *name = Some(arrived);
     }
 }

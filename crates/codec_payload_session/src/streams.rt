@@ -352,7 +352,40 @@ impl Streams {
     ) -> Option<Event<()>>
         ensures { TakesTurn now idle_timeout self.old (event_to result unit.new) self.new }
     {
+        if self.waking.holds(now, idle_timeout) {
+            self.turn_one(now, idle_timeout, unit)
+        } else {
+            self.turn_all(now, idle_timeout, unit)
+        }
+    }
+
+    /// Does the same, mostly while the bound holds: then `step` needs no list of all streams, and its answer no memory.
+    #[inline(always)]
+    fn turn_one(
+        &mut self,
+        now: Ticks,
+        idle_timeout: u64,
+        unit: &mut PoppedUnit,
+    ) -> Option<Event<()>>
+        ensures { TakesTurn now idle_timeout self.old (event_to result unit.new) self.new }
+    {
         match self.step(now, idle_timeout, unit) {
+            Some(turn) => self.tell(turn),
+            None => None,
+        }
+    }
+
+    /// Does the same, and asks all streams.
+    #[inline(never)]
+    fn turn_all(
+        &mut self,
+        now: Ticks,
+        idle_timeout: u64,
+        unit: &mut PoppedUnit,
+    ) -> Option<Event<()>>
+        ensures { TakesTurn now idle_timeout self.old (event_to result unit.new) self.new }
+    {
+        match self.step_all(now, idle_timeout, unit) {
             Some(turn) => self.tell(turn),
             None => None,
         }

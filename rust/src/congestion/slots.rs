@@ -32,6 +32,9 @@ pub(crate) fn append(
 
 /// Removes the first `count` slots.
 pub(crate) fn drop_front(slots: &mut Vec<Option<u32>>, count: usize) {
+    if count == 0 {
+        return;
+    }
     let left = slots.len() - count;
     slots.copy_within(count.., 0);
     slots.truncate(left);

@@ -67,7 +67,10 @@ fn most_of(size: usize) -> usize {
 
 /// Returns a time of your clock in quarters of a millisecond, rounded down, modulo 2^32.
 pub fn quarters_at(now: Ticks, tick_rate: Frequency) -> u32 {
-    (u128::from(now.0) * 4_000 / u128::from(tick_rate.get()) % 4_294_967_296) as u32
+    match now.0.checked_mul(4_000) {
+        Some(thousandths) => (thousandths / u64::from(tick_rate.get()) % 4_294_967_296) as u32,
+        None => (u128::from(now.0) * 4_000 / u128::from(tick_rate.get()) % 4_294_967_296) as u32,
+    }
 }
 
 impl TransportSettings {

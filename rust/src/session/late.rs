@@ -25,6 +25,7 @@ pub(crate) fn late_for(
 }
 
 /// Records which number a datagram has, and what the receiver misses after it.
+#[inline(always)]
 pub(crate) fn follow(
     late: &mut Option<One<AdaptiveWait>>,
     format: &Format,
@@ -33,11 +34,17 @@ pub(crate) fn follow(
     receiver: &Receiver,
 ) {
     if let Some(late) = late {
-        if let Some(number) = number_of(format, datagram) {
-            late.arrived(now, number);
-        }
-        follow_missing(late, now, receiver);
+        follow_late(late, number_of(format, datagram), now, receiver);
     }
+}
+
+/// Does the same for a stream that follows how late packets arrive.
+#[inline(never)]
+fn follow_late(late: &mut AdaptiveWait, number: Option<u16>, now: Ticks, receiver: &Receiver) {
+    if let Some(number) = number {
+        late.arrived(now, number);
+    }
+    follow_missing(late, now, receiver);
 }
 
 /// Records what the receiver misses.
@@ -48,6 +55,7 @@ fn follow_missing(late: &mut AdaptiveWait, now: Ticks, receiver: &Receiver) {
 }
 
 /// Returns how long frames wait. `None`: waiting follows something else.
+#[inline(always)]
 pub(crate) fn limit_by(late: &Option<One<AdaptiveWait>>) -> Option<u64> {
     match late {
         Some(late) => Some(late.limit()),

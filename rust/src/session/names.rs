@@ -2,8 +2,8 @@
 
 //! The names of streams, as header extensions carry them: MID, RID and repaired RID.
 
+use crate::rtp::elements::{Element, Elements};
 use crate::rtp::packet::HeaderExtension;
-use crate::rtp::values::extension_value;
 use crate::stream::parsed::ParsedDatagram;
 use core::fmt;
 
@@ -105,11 +105,31 @@ impl StreamNames {
     }
 
     /// Replaces the names that the header extension has.
-    #[inline(always)]
+    #[inline(never)]
     fn read(&mut self, ids: &StreamNameIds, extension: &Option<HeaderExtension<'_>>) {
-        self.mid = newer(name_for(ids.mid, extension), self.mid);
-        self.rid = newer(name_for(ids.rid, extension), self.rid);
-        self.repaired_rid = newer(name_for(ids.repaired_rid, extension), self.repaired_rid);
+        let Some(extension) = extension else {
+            return;
+        };
+        match extension.elements() {
+            Some(elements) => self.read_among(ids, elements),
+            None => {}
+        }
+    }
+
+    /// Replaces the names that these elements have.
+    #[inline(always)]
+    fn read_among(&mut self, ids: &StreamNameIds, elements: Elements<'_>) {
+        let mut mid = None;
+        let mut rid = None;
+        let mut repaired_rid = None;
+        for element in elements {
+            keep_first(&mut mid, ids.mid, &element);
+            keep_first(&mut rid, ids.rid, &element);
+            keep_first(&mut repaired_rid, ids.repaired_rid, &element);
+        }
+        replace(&mut self.mid, mid);
+        replace(&mut self.rid, rid);
+        replace(&mut self.repaired_rid, repaired_rid);
     }
 }
 
@@ -122,22 +142,37 @@ fn is_same(one: &Option<StreamName>, other: &Option<StreamName>) -> bool {
     }
 }
 
-/// Returns the name in the first element with this id, if there is an id and such an element with 1 to 32 bytes.
+/// Keeps the bytes of an element, if it has this id and nothing was kept so far.
 #[inline(always)]
-fn name_for(id: Option<u8>, extension: &Option<HeaderExtension<'_>>) -> Option<StreamName> {
-    let Some(id) = id else {
-        return None;
-    };
-    match extension_value(id, extension) {
-        Some(bytes) => StreamName::new(bytes),
-        None => None,
+fn keep_first<'a>(kept: &mut Option<&'a [u8]>, id: Option<u8>, element: &Element<'a>) {
+    match id {
+        Some(id) if id == element.id => keep(kept, element.bytes),
+        _ => {}
     }
 }
 
-/// Returns the name that arrived, or else the one from before.
-fn newer(arrived: Option<StreamName>, before: Option<StreamName>) -> Option<StreamName> {
-    match arrived {
-        Some(name) => Some(name),
-        None => before,
+/// Keeps these bytes, if nothing was kept so far. Senders stop sending names once they know that they arrived.
+#[cold]
+#[inline(never)]
+fn keep<'a>(kept: &mut Option<&'a [u8]>, bytes: &'a [u8]) {
+    if kept.is_none() {
+        *kept = Some(bytes);
+    }
+}
+
+/// Replaces the name from before, if these bytes are one.
+#[inline(always)]
+fn replace(name: &mut Option<StreamName>, arrived: Option<&[u8]>) {
+    if let Some(bytes) = arrived {
+        replace_by(name, bytes);
+    }
+}
+
+/// Replaces the name from before, if these bytes are one.
+#[cold]
+#[inline(never)]
+fn replace_by(name: &mut Option<StreamName>, bytes: &[u8]) {
+    if let Some(arrived) = StreamName::new(bytes) {
+        *name = Some(arrived);
     }
 }

@@ -8,7 +8,7 @@ use Rattle.codec_payload_session.specs.Waking.{StepsPort}
 use Rattle.codec_payload_session.specs.declared.session.Event.{Event as EventWith}
 use Rattle.codec_payload_session.proofs.QuietLemmas.{place_within, turn_tells}
 use Rattle.codec_payload_session.proofs.UnitLemmas.{after_to, told_to}
-use Rattle.codec_payload_session.proofs.streams.Streams.turn.Goals as goal
+use Rattle.codec_payload_session.proofs.streams.Streams.turn_one.Goals as goal
 
 pub tell-requires : goal.tell-requires
 tell-requires c =
