@@ -140,7 +140,8 @@ impl StreamState {
         let late = late_for(settings, format)?;
         let name_ids = settings.name_ids;
         let settings = settings.receiver(ssrc, format)?;
-        let receiver = NamedReceiver::begin(depacketizer, settings)?.unwrap();
+        let begun = NamedReceiver::begin(depacketizer, settings)?;
+        let receiver = begun.unwrap();
         Ok(StreamState {
             ssrc,
             format: *format,
