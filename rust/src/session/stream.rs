@@ -140,7 +140,8 @@ impl StreamState {
         let late = late_for(settings, format)?;
         let name_ids = settings.name_ids;
         let settings = settings.receiver(ssrc, format)?;
-        let receiver = NamedReceiver::begin(depacketizer, settings)?.unwrap();
+        let begun = NamedReceiver::begin(depacketizer, settings)?;
+        let receiver = begun.unwrap();
         Ok(StreamState {
             ssrc,
             format: *format,
@@ -227,6 +228,7 @@ impl StreamState {
     }
 
     /// Waits for as long as the round trip asks for, if waiting follows it and it is known.
+    #[inline(always)]
     fn follow_round_trip(&mut self) {
         let wait = wait_by(&self.feedback);
         self.wait_for(wait);
