@@ -55,7 +55,10 @@ impl EventSlot {
     pub fn poll(&mut self, session: &mut Session, now: Ticks)
         ensures { Polls now session.old self.new session.new }
     {
-        self.event = session.poll_into(now, &mut self.unit);
+        match session.poll_into(now, &mut self.unit) {
+            Some(event) => self.event = Some(event),
+            None => self.event = None,
+        }
     }
 
     /// Lends the event, if there is one, and the memory with its unit.

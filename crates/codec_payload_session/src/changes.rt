@@ -26,6 +26,7 @@ pub(crate) fn are_alike(one: Codec, other: Codec) -> bool
 }
 
 /// Returns whether the sender continues in this format: its stream is announced.
+#[inline(never)]
 pub(crate) fn continues(streams: &[StreamState], ssrc: u32, format: &Format) -> bool
     ensures { result ≡ continues ssrc format.now streams.now }
 {
@@ -40,6 +41,8 @@ fn playing(streams: &[StreamState], ssrc: u32, payload_type: u8) -> Option<usize
 }
 
 /// Ends the streams that the sender left for this format.
+#[cold]
+#[inline(never)]
 pub(crate) fn leave_behind(streams: &mut [StreamState], now: u64, wait: u64, of: (u32, Format))
     ensures { streams.new ≡ continued true now wait of.0 of.1 streams.old }
 {

@@ -56,6 +56,7 @@ impl Streams {
     }
 
     /// Does the same for a session with feedback.
+    #[inline(always)]
     fn report_each(
         &mut self,
         feedback: &FeedbackSettings,
@@ -78,6 +79,7 @@ impl Streams {
     }
 
     /// Returns the packet with the blocks of the first streams that are due. If memory runs out, nothing has changed.
+    #[inline(never)]
     fn report_all(
         &mut self,
         feedback: &FeedbackSettings,

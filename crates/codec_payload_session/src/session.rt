@@ -338,7 +338,7 @@ impl Session {
         let noted = self.telephone.note(&self.settings, datagram)?;
         let answer = take_in(&mut self.settings, &mut self.streams, now, datagram);
         self.telephone.settle(noted, &answer);
-        self.counts = self.counts.with_answer(&answer);
+        self.counts.count(&answer);
         answer
     }
 
@@ -731,19 +731,18 @@ impl ArrivalCounts {
 
     /// Counts a datagram by this answer; if memory ran out, nothing is counted.
     #[inline(always)]
-    fn with_answer(self, answer: &Result<Arrival, AllocError>) -> ArrivalCounts
-        ensures { result ≡ counted_if answer.now self }
+    fn count(&mut self, answer: &Result<Arrival, AllocError>)
+        ensures { self.new ≡ counted_if answer.now self.old }
     {
-        match answer {
-            Ok(arrival) => self.with(*arrival),
-            Err(_) => self,
+        if let Ok(arrival) = answer {
+            self.add(*arrival);
         }
     }
 
     /// Counts one more datagram with this result.
     #[inline(always)]
-    fn with(mut self, arrival: Arrival) -> ArrivalCounts
-        ensures { result ≡ counted arrival self }
+    fn add(&mut self, arrival: Arrival)
+        ensures { self.new ≡ counted arrival self.old }
     {
         self.received = self.received.wrapping_add(1);
         match arrival {
@@ -754,6 +753,5 @@ impl ArrivalCounts {
             Arrival::Unassociated => self.unassociated = self.unassociated.wrapping_add(1),
             Arrival::Stream { .. } | Arrival::Faulty { .. } => {}
         }
-        self
     }
 }

@@ -282,6 +282,7 @@ impl StreamState {
     }
 
     /// Waits for as long as the round trip asks for, if waiting follows it and it is known.
+    #[inline(always)]
     fn follow_round_trip(&mut self)
         ensures { self.new ≡ waiting_for (wait_by self.old.feedback) self.old }
     {

@@ -123,6 +123,7 @@ impl Streams {
     }
 
     /// Receives a datagram of RTCP. It is read once.
+    #[inline(never)]
     fn take_rtcp(&mut self, settings: &SessionSettings, now: Ticks, datagram: &[u8]) -> Arrival
         ensures { TakesInAs (sorted_rtcp (compound_at false datagram.now)) settings.now now datagram.now self.old (Result.Ok result) self.new }
     {
@@ -285,6 +286,8 @@ impl Streams {
     }
 
     /// Begins a stream with a datagram, if there is a place for it.
+    #[cold]
+    #[inline(never)]
     fn begin(
         &mut self,
         settings: &SessionSettings,

@@ -106,6 +106,7 @@ fn take_due(
 }
 
 /// Does the same for a session that reports.
+#[inline(always)]
 fn send(
     alloc: Global,
     reporter: &mut TransportReporter,
@@ -135,6 +136,7 @@ fn is_due(reporter: &TransportReporter, now: Ticks) -> bool
 }
 
 /// Returns the packet with the feedback that is due, and counts it as sent.
+#[inline(never)]
 fn write(
     alloc: Global,
     reporter: &mut TransportReporter,

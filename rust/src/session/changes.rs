@@ -19,6 +19,7 @@ pub(crate) fn are_alike(one: Codec, other: Codec) -> bool {
 }
 
 /// Returns whether the sender continues in this format: its stream is announced.
+#[inline(never)]
 pub(crate) fn continues(streams: &[StreamState], ssrc: u32, format: &Format) -> bool {
     !takes_turns(format.spec.codec) && playing(streams, ssrc, format.payload_type).is_some()
 }
@@ -29,6 +30,8 @@ fn playing(streams: &[StreamState], ssrc: u32, payload_type: u8) -> Option<usize
 }
 
 /// Ends the streams that the sender left for this format.
+#[cold]
+#[inline(never)]
 pub(crate) fn leave_behind(streams: &mut [StreamState], now: u64, wait: u64, of: (u32, Format)) {
     for place in 0..streams.len() {
         streams[place].leave_behind(now, wait, of.0, &of.1);

@@ -299,7 +299,7 @@ impl Session {
         let noted = self.telephone.note(&self.settings, datagram)?;
         let answer = take_in(&mut self.settings, &mut self.streams, now, datagram);
         self.telephone.settle(noted, &answer);
-        self.counts = self.counts.with_answer(&answer);
+        self.counts.count(&answer);
         answer
     }
 
@@ -625,16 +625,15 @@ impl ArrivalCounts {
 
     /// Counts a datagram by this answer; if memory ran out, nothing is counted.
     #[inline(always)]
-    fn with_answer(self, answer: &Result<Arrival, AllocError>) -> ArrivalCounts {
-        match answer {
-            Ok(arrival) => self.with(*arrival),
-            Err(_) => self,
+    fn count(&mut self, answer: &Result<Arrival, AllocError>) {
+        if let Ok(arrival) = answer {
+            self.add(*arrival);
         }
     }
 
     /// Counts one more datagram with this result.
     #[inline(always)]
-    fn with(mut self, arrival: Arrival) -> ArrivalCounts {
+    fn add(&mut self, arrival: Arrival) {
         self.received = self.received.wrapping_add(1);
         match arrival {
             Arrival::Rtcp => self.rtcp = self.rtcp.wrapping_add(1),
@@ -644,6 +643,5 @@ impl ArrivalCounts {
             Arrival::Unassociated => self.unassociated = self.unassociated.wrapping_add(1),
             Arrival::Stream { .. } | Arrival::Faulty { .. } => {}
         }
-        self
     }
 }

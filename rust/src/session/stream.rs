@@ -228,6 +228,7 @@ impl StreamState {
     }
 
     /// Waits for as long as the round trip asks for, if waiting follows it and it is known.
+    #[inline(always)]
     fn follow_round_trip(&mut self) {
         let wait = wait_by(&self.feedback);
         self.wait_for(wait);

@@ -86,6 +86,7 @@ impl Streams {
     }
 
     /// Receives a datagram of RTCP. It is read once.
+    #[inline(never)]
     fn take_rtcp(&mut self, settings: &SessionSettings, now: Ticks, datagram: &[u8]) -> Arrival {
         match read_compound(CompoundRule::ReducedSize, datagram) {
             Ok(packets) => {
@@ -222,6 +223,8 @@ impl Streams {
     }
 
     /// Begins a stream with a datagram, if there is a place for it.
+    #[cold]
+    #[inline(never)]
     fn begin(
         &mut self,
         settings: &SessionSettings,

@@ -86,6 +86,7 @@ fn take_due(
 }
 
 /// Does the same for a session that reports.
+#[inline(always)]
 fn send(
     reporter: &mut TransportReporter,
     feedback: &FeedbackSettings,
@@ -110,6 +111,7 @@ fn is_due(reporter: &TransportReporter, now: Ticks) -> bool {
 }
 
 /// Returns the packet with the feedback that is due, and counts it as sent.
+#[inline(never)]
 fn write(
     reporter: &mut TransportReporter,
     feedback: &FeedbackSettings,
