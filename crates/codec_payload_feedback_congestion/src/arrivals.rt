@@ -3,7 +3,7 @@
 ghost use Rattle.std.specs.Prelude.{◌≡◌, ℕ, ◌+◌, ◌-◌, ◌*◌, ◌/◌, ◌%◌, ◌<◌, ◌≤◌, ◌↔◌, length, slice_get, OnOk, OnErr, IsTrue};
 ghost use Rattle.codec_payload_feedback_congestion.specs.Arrivals.{AreTimes, added, after_reported, arrived, begun, filled_if, first_unreported, log_by, new_log, unreported, windowed};
 
-use crate::slots::{ahead_of, append, begin, drop_front};
+use crate::slots::{Slots, ahead_of};
 use std::alloc::{AllocError, Global};
 use std::marker::Model;
 use thiserror::Error;
@@ -22,13 +22,13 @@ pub enum ArrivalLogError {
 /// The numbers of the packets that arrived on a transport, each with its time, and how many of them were reported.
 ///
 /// A number has 16 bits and counts all packets of a transport (`transport-wide-cc-extensions`: media, retransmissions, padding).
-/// A time is in quarters of a millisecond, modulo 2^32 ([`quarters`]). The log keeps the last `window` numbers, 8 bytes each; in
-/// [`ArrivalLog::arrived`] it may allocate twice that.
+/// A time is in quarters of a millisecond, modulo 2^32 ([`quarters`]). The log keeps the last `window` numbers, 8 bytes each, and as many
+/// that it removed; in [`ArrivalLog::arrived`] it may allocate four times `window`.
 #[derive(Debug, Drop)]
 pub struct ArrivalLog {
     window: usize,
     start: u16,
-    slots: Vec<Option<u32>>,
+    slots: Slots,
     reported: usize,
 }
 
@@ -37,9 +37,9 @@ impl Model for ArrivalLog {
 
     ghost Value = { Log };
 
-    ghost view = { λ s. record { window = s.window; start = s.start; slots = s.slots.items; reported = s.reported } };
+    ghost view = { λ s. record { window = s.window; start = s.start; slots = s.slots; reported = s.reported } };
 
-    ghost invariant = { λ s. IsLog (record { window = s.window; start = s.start; slots = s.slots.items; reported = s.reported }) };
+    ghost invariant = { λ s. IsLog (record { window = s.window; start = s.start; slots = s.slots; reported = s.reported }) };
 }
 
 /// Returns a time in microseconds as quarters of a millisecond, rounded down, modulo 2^32.
@@ -65,7 +65,7 @@ impl ArrivalLog {
         Ok(ArrivalLog {
             window,
             start: 0,
-            slots: Vec::new(alloc),
+            slots: Slots::new(alloc),
             reported: 0,
         })
     }
@@ -75,7 +75,7 @@ impl ArrivalLog {
         ensures ok { OnOk result (self.new ≡ begun number time self.old) }
         ensures err { OnErr result (self.new ≡ self.old) }
     {
-        begin(&mut self.slots, time)?;
+        self.slots.begin(time)?;
         self.start = number;
         self.reported = 0;
         Ok(())
@@ -87,9 +87,9 @@ impl ArrivalLog {
         ensures ok { OnOk result (self.new ≡ windowed (added gap time self.old)) }
         ensures err { OnErr result (self.new ≡ self.old) }
     {
-        append(&mut self.slots, gap, time)?;
+        self.slots.append(gap, time)?;
         let excess = self.slots.len().saturating_sub(self.window);
-        drop_front(&mut self.slots, excess);
+        self.slots.drop_front(excess);
         self.start = self.start.wrapping_add(excess as u16);
         self.reported = self.reported.saturating_sub(excess);
         Ok(())
@@ -100,8 +100,8 @@ impl ArrivalLog {
         requires { index < length self.old.slots }
         ensures { self.new ≡ filled_if (slice_get self.old.slots index) index time self.old }
     {
-        if self.slots[index].is_none() {
-            self.slots[index] = Some(time);
+        if self.slots.at(index).is_none() {
+            self.slots.set(index, time);
             self.reported = self.reported.min(index);
         }
     }
@@ -157,8 +157,7 @@ impl ArrivalLog {
         ensures few { length result.now ≤ 32768 }
         ensures reported { self.now.reported ≤ length self.now.slots }
     {
-        let (_, unreported) = self.slots.split_at(self.reported);
-        unreported
+        self.slots.from(self.reported)
     }
 
     /// Forgets all numbers. Keeps the memory.

@@ -2,9 +2,8 @@
 
 //! The log of arrivals.
 
-use crate::congestion::slots::{ahead_of, append, begin, drop_front};
+use crate::congestion::slots::{Slots, ahead_of};
 use crate::memory::AllocError;
-use alloc::vec::Vec;
 use core::fmt;
 
 /// The largest window of a log: half of the numbers of 16 bits.
@@ -33,13 +32,13 @@ impl core::error::Error for ArrivalLogError {}
 /// The numbers of the packets that arrived on a transport, each with its time, and how many of them were reported.
 ///
 /// A number has 16 bits and counts all packets of a transport (`transport-wide-cc-extensions`: media, retransmissions, padding).
-/// A time is in quarters of a millisecond, modulo 2^32 ([`quarters`]). The log keeps the last `window` numbers, 8 bytes each; in
-/// [`ArrivalLog::arrived`] it may allocate twice that.
+/// A time is in quarters of a millisecond, modulo 2^32 ([`quarters`]). The log keeps the last `window` numbers, 8 bytes each, and as many
+/// that it removed; in [`ArrivalLog::arrived`] it may allocate four times `window`.
 #[derive(Debug)]
 pub struct ArrivalLog {
     window: usize,
     start: u16,
-    slots: Vec<Option<u32>>,
+    slots: Slots,
     reported: usize,
 }
 
@@ -62,14 +61,14 @@ impl ArrivalLog {
         Ok(ArrivalLog {
             window,
             start: 0,
-            slots: Vec::new(),
+            slots: Slots::new(),
             reported: 0,
         })
     }
 
     /// Begins with a number.
     fn begin(&mut self, number: u16, time: u32) -> Result<(), AllocError> {
-        begin(&mut self.slots, time)?;
+        self.slots.begin(time)?;
         self.start = number;
         self.reported = 0;
         Ok(())
@@ -77,9 +76,9 @@ impl ArrivalLog {
 
     /// Appends the slot of a number, and removes those before the window.
     fn add(&mut self, gap: usize, time: u32) -> Result<(), AllocError> {
-        append(&mut self.slots, gap, time)?;
+        self.slots.append(gap, time)?;
         let excess = self.slots.len().saturating_sub(self.window);
-        drop_front(&mut self.slots, excess);
+        self.slots.drop_front(excess);
         self.start = self.start.wrapping_add(excess as u16);
         self.reported = self.reported.saturating_sub(excess);
         Ok(())
@@ -87,8 +86,8 @@ impl ArrivalLog {
 
     /// Fills the slot of a number that did not arrive so far.
     fn fill(&mut self, index: usize, time: u32) {
-        if self.slots[index].is_none() {
-            self.slots[index] = Some(time);
+        if self.slots.at(index).is_none() {
+            self.slots.set(index, time);
             self.reported = self.reported.min(index);
         }
     }
@@ -132,8 +131,7 @@ impl ArrivalLog {
     /// Returns the arrivals that were not reported: for each number from [`ArrivalLog::first_unreported`] on the time at which it
     /// arrived, or `None` if it is missing. The last number arrived.
     pub fn unreported(&self) -> &[Option<u32>] {
-        let (_, unreported) = self.slots.split_at(self.reported);
-        unreported
+        self.slots.from(self.reported)
     }
 
     /// Forgets all numbers. Keeps the memory.

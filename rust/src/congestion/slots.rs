@@ -5,6 +5,75 @@
 use crate::memory::{AllocError, TryVec};
 use alloc::vec::Vec;
 
+/// Slots of numbers that follow one another. Slots that are removed in front keep their memory until they are more than the others,
+/// so that the others are seldom moved.
+#[derive(Debug)]
+pub(crate) struct Slots {
+    items: Vec<Option<u32>>,
+    /// How many slots in front were removed.
+    removed: usize,
+}
+
+impl Slots {
+    /// Returns no slots. Does not allocate.
+    pub(crate) fn new() -> Slots {
+        Slots {
+            items: Vec::new(),
+            removed: 0,
+        }
+    }
+
+    /// Returns the number of slots.
+    pub(crate) fn len(&self) -> usize {
+        self.items.len() - self.removed
+    }
+
+    /// Returns the slots from a place on.
+    pub(crate) fn from(&self, place: usize) -> &[Option<u32>] {
+        let (_, slots) = self.items.split_at(self.removed + place);
+        slots
+    }
+
+    /// Returns the slot at a place.
+    pub(crate) fn at(&self, place: usize) -> Option<u32> {
+        self.from(0)[place]
+    }
+
+    /// Fills the slot at a place.
+    pub(crate) fn set(&mut self, place: usize, time: u32) {
+        self.items[self.removed + place] = Some(time);
+    }
+
+    /// Makes the slots one slot, of a number that arrived.
+    pub(crate) fn begin(&mut self, time: u32) -> Result<(), AllocError> {
+        begin(&mut self.items, time)?;
+        self.removed = 0;
+        Ok(())
+    }
+
+    /// Appends the slot of a number that arrived, behind `gap` that did not.
+    pub(crate) fn append(&mut self, gap: usize, time: u32) -> Result<(), AllocError> {
+        append(&mut self.items, gap, time)
+    }
+
+    /// Removes the first `count` slots.
+    pub(crate) fn drop_front(&mut self, count: usize) {
+        let removed = self.removed + count;
+        if removed <= self.items.len() - removed {
+            self.removed = removed;
+        } else {
+            drop_front(&mut self.items, removed);
+            self.removed = 0;
+        }
+    }
+
+    /// Removes all slots. Keeps the memory.
+    pub(crate) fn clear(&mut self) {
+        self.items.clear();
+        self.removed = 0;
+    }
+}
+
 /// How many numbers are between the last slot and this number, modulo 2^16.
 pub(crate) fn ahead_of(start: u16, len: usize, number: u16) -> u16 {
     let end = start.wrapping_add(len as u16);
@@ -12,18 +81,14 @@ pub(crate) fn ahead_of(start: u16, len: usize, number: u16) -> u16 {
 }
 
 /// Makes the slots one slot, of a number that arrived.
-pub(crate) fn begin(slots: &mut Vec<Option<u32>>, time: u32) -> Result<(), AllocError> {
+fn begin(slots: &mut Vec<Option<u32>>, time: u32) -> Result<(), AllocError> {
     slots.try_resize(1, None)?;
     slots[0] = Some(time);
     Ok(())
 }
 
 /// Appends the slot of a number that arrived, behind `gap` that did not.
-pub(crate) fn append(
-    slots: &mut Vec<Option<u32>>,
-    gap: usize,
-    time: u32,
-) -> Result<(), AllocError> {
+fn append(slots: &mut Vec<Option<u32>>, gap: usize, time: u32) -> Result<(), AllocError> {
     let last = slots.len() + gap;
     slots.try_resize(last + 1, None)?;
     slots[last] = Some(time);
@@ -31,10 +96,7 @@ pub(crate) fn append(
 }
 
 /// Removes the first `count` slots.
-pub(crate) fn drop_front(slots: &mut Vec<Option<u32>>, count: usize) {
-    if count == 0 {
-        return;
-    }
+fn drop_front(slots: &mut Vec<Option<u32>>, count: usize) {
     let left = slots.len() - count;
     slots.copy_within(count.., 0);
     slots.truncate(left);
