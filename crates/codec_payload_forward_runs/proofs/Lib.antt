@@ -2,6 +2,13 @@ pub mod FirstHopLemmas
 pub mod ForwardLemmas
 pub mod ForwardRunExamples
 pub mod KeptPayloads
+pub mod LeaveCourses
+pub mod LeaveEvents
+pub mod LeaveLemmas
+pub mod LeaveLists
+pub mod LeaveNumbers
+pub mod LeaveSenders
+pub mod LeaveWalks
 pub mod MovedPayloads
 pub mod MovedStreams
 pub mod MovedVp8

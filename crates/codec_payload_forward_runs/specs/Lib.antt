@@ -2,6 +2,8 @@ pub mod FirstHop
 pub mod ForwardReleases
 pub mod ForwardRuns
 pub mod ForwardRunExample
+pub mod LeaveReleases
+pub mod LeaveRuns
 pub mod StoreReleases
 pub mod StoreRunExample
 pub mod StoreRuns
