@@ -1,18 +1,19 @@
 -- A run whose forwarder leaves whole frames out is, for the viewer's receiver, a run over one hop from the sender of the other frames.
-use Rattle.std.proofs.Common.{◌≡◌, ◌∙◌, refl, sym, ap, subst, ℕ, zero, suc, ◌+◌, ◌-◌, ◌%◌, ◌^◌, ◌<◌, List, [], ◌∷◌, ◌++◌, append_assoc, Bool, true, false, ltb, ◌&&◌, Option, Some, None, MatchOption, Result, length, map, arith}
-use Rattle.std.specs.Prelude.{slice_get}
+use Rattle.std.proofs.Common.{◌≡◌, ◌∙◌, refl, sym, ap, subst, ℕ, zero, suc, ◌+◌, ◌-◌, ◌%◌, ◌^◌, ◌<◌, List, [], ◌∷◌, ◌++◌, append_assoc, Bool, true, false, ltb, ◌&&◌, Option, Some, None, MatchOption, Result, Ok, length, map, arith}
+use Rattle.std.specs.Prelude.{slice_get, slice_index_or}
 use Rattle.std.specs.Option.{option_map}
 use Rattle.std.proofs.lemmas.Bool.{lt-ltb}
 use Rattle.std.proofs.lemmas.Option.{same_Some, slice_get-map}
 use Rattle.codec_payload_base.specs.declared.wire.Ticks.{Ticks}
-use Rattle.codec_payload_codec.specs.Packetizers.{PacketizerState, is_built_in}
+use Rattle.codec_payload_codec.specs.Packetizers.{PacketizerState, PacketizerStep, is_built_in}
 use Rattle.codec_payload_payloader.specs.Sending.{Sample}
 use Rattle.codec_payload_receiver.specs.Sessions.{Session}
 use Rattle.codec_payload_rtp.specs.RtpPackets.{Packet, packet_bytes}
 use Rattle.codec_payload_rtp.specs.declared.rtp.RtpError.{RtpError}
 use Rattle.codec_payload_sending.specs.Senders.{Sending}
-use Rattle.codec_payload_sending_forward.specs.Forwarding.{Forward, packet_under}
+use Rattle.codec_payload_sending_forward.specs.Forwarding.{Forward, payload_for}
 use Rattle.codec_payload_sending_forward.specs.Numbers.{Falls, is_in}
+use Rattle.codec_payload_sending_forward.specs.declared.ids.IdOffsets.{IdOffsets}
 use Rattle.codec_payload_sending_forward.specs.declared.forwarder.Forwarded.{Forwarded}
 use Rattle.codec_payload_sending_forward.specs.declared.forwarder.Forwarded.TheVariants as answers
 use Rattle.codec_payload_sending_forward.specs.declared.forwarder.ForwardSettings.{ForwardSettings}
@@ -24,12 +25,12 @@ use Rattle.codec_payload_datagram_runs.specs.declared.run.DatagramStep.TheVarian
 use Rattle.codec_payload_datagram_runs.specs.declared.run.SentSample.{SentSample}
 use Rattle.codec_payload_forward_runs.proofs.LeaveEvents.{DoesSend}
 use Rattle.codec_payload_forward_runs.proofs.LeaveLists.{kept_at}
-use Rattle.codec_payload_forward_runs.proofs.LeaveNumbers.{Agrees, AreOut, IsOut, Since, Stage, Wrote, number_since, off, on}
-use Rattle.codec_payload_forward_runs.proofs.LeaveSenders.{IsBeside, left_beside, own_stays, sends_beside}
+use Rattle.codec_payload_forward_runs.proofs.LeaveNumbers.{Agrees, AreOut, IsOut, Since, Stage, Wrote, off, offsets_since, on, out_bytes, same_out}
+use Rattle.codec_payload_forward_runs.proofs.LeaveSenders.{IsBeside, left_beside, mtu_stays, sends_beside}
 use Rattle.codec_payload_forward_runs.proofs.SenderLemmas.{map_append}
 use Rattle.codec_payload_forward_runs.specs.ForwardReleases.{forwarded_by, viewer_sample, viewer_samples}
 use Rattle.codec_payload_forward_runs.specs.ForwardRuns.{DoesPlain, Hops, packet_read}
-use Rattle.codec_payload_forward_runs.specs.LeaveReleases.{IsWhole, closed, closed_bytes, closed_datagram, count_of, entry_unless, leaves_sample, place_of, sends_no_ids, step_unless}
+use Rattle.codec_payload_forward_runs.specs.LeaveReleases.{IsWhole, Offsets, closed, closed_bytes, closed_datagram, count_of, entry_unless, ids_at, leaves_sample, place_of, sends_no_ids, step_unless}
 
 -- Lists
 
@@ -80,14 +81,17 @@ wrote_more (on since high) f gone datagrams new bs ks wrote = out_more since hig
 
 -- The run of the sender of the other frames
 
-module _ (e : Forward) (fits_type : e.settings.payload_type < 128) (fits_ssrc : e.settings.ssrc < 2 ^ 32) (rate : ℕ) (some : 0 < rate)
-    (packetizer : PacketizerState) (built : is_built_in packetizer ≡ true) (no_ids : sends_no_ids packetizer ≡ true) (number : ℕ) (gone : List ℕ) (falls : Falls gone) (samples : List Sample) where
+module _ (e : Forward) (fits_type : e.settings.payload_type < 128) (fits_ssrc : e.settings.ssrc < 2 ^ 32) (rate : ℕ) (some : 0 < rate) (o : Offsets)
+    (packetizer : PacketizerState) (no_ids : is_built_in packetizer ≡ true → sends_no_ids packetizer ≡ true)
+    (plain : is_built_in packetizer ≡ true → (mtu : ℕ) (frame : List ℕ) (payloads : List (List ℕ)) → PacketizerStep packetizer mtu frame (Ok payloads) packetizer
+    → (i : ℕ) → i < length payloads → (x : IdOffsets) → payload_for e.settings.codec x (slice_index_or payloads i []) ≡ slice_index_or payloads i [])
+    (gone : List ℕ) (falls : Falls gone) (samples : List Sample) where
   abbrev pub Beside : Sending → Hops → Type 0
-  Beside v s = IsBeside e fits_type fits_ssrc rate some packetizer built no_ids number gone v s.wire.sending s.wire.datagrams
+  Beside v s = IsBeside e fits_type fits_ssrc rate some o packetizer no_ids plain gone v s.wire.sending s.wire.datagrams
 
   -- what the viewer's receiver sees of a run
   abbrev pub seen_by : Hops → Sending → List SentSample → Wire
-  seen_by s v entries = record s.wire { sending = v; datagrams = closed e gone 0 number s.wire.datagrams; sends = entries }
+  seen_by s v entries = record s.wire { sending = v; datagrams = closed e o gone 0 o.number s.wire.datagrams; sends = entries }
 
   abbrev pub Goes : List DatagramStep → Wire → Wire → Type 0
   Goes = Runs (viewer_samples e rate samples)
@@ -114,7 +118,7 @@ module _ (e : Forward) (fits_type : e.settings.payload_type < 128) (fits_ssrc : 
   pop_leads now all_steps more s mid t v entries does leads =
       let wire : mid.wire ≡ record s.wire { session = does.1.1; pops = s.wire.pops ++ does.1.0 ∷ [] } = ap (λ (x : Hops). x.wire) does.2 ∙ does.1.4 in
       let seen_is : seen_by mid v entries ≡ record (seen_by s v entries) { session = does.1.1; pops = s.wire.pops ++ does.1.0 ∷ [] } =
-      ap (λ (w : Wire). record w { sending = v; datagrams = closed e gone 0 number w.datagrams; sends = entries }) wire in
+      ap (λ (w : Wire). record w { sending = v; datagrams = closed e o gone 0 o.number w.datagrams; sends = entries }) wire in
       one_leads (seen.Pop now) all_steps more s mid t v entries (does.1.0, does.1.1, does.1.2, does.1.3, seen_is) leads
 
   pub end_leads : (all_steps : List DatagramStep) (more : List SentSample) (s mid t : Hops) (v : Sending) (entries : List SentSample) → DoesPlain samples seen.Finish s mid
@@ -122,42 +126,38 @@ module _ (e : Forward) (fits_type : e.settings.payload_type < 128) (fits_ssrc : 
   end_leads all_steps more s mid t v entries does leads =
       let wire : mid.wire ≡ record s.wire { session = does.1.0 } = ap (λ (x : Hops). x.wire) does.2 ∙ does.1.2 in
       let seen_is : seen_by mid v entries ≡ record (seen_by s v entries) { session = does.1.0 } =
-      ap (λ (w : Wire). record w { sending = v; datagrams = closed e gone 0 number w.datagrams; sends = entries }) wire in
+      ap (λ (w : Wire). record w { sending = v; datagrams = closed e o gone 0 o.number w.datagrams; sends = entries }) wire in
       one_leads seen.Finish all_steps more s mid t v entries (does.1.0, does.1.1, seen_is) leads
 
   -- Deliveries
 
   -- a written datagram is one of those that were not left out
-  out_is : (since : Since) (high : ℕ) (f : Forward) (own : List ℕ) (datagrams : List (List ℕ)) (b : List ℕ) (k : ℕ) → Agrees number e gone (on since high) f own → IsOut since high f own datagrams b k
-      → slice_get (closed e gone 0 number datagrams) (place_of gone k) ≡ Some b
+  out_is : (since : Since) (high : ℕ) (f : Forward) (own : List ℕ) (datagrams : List (List ℕ)) (b : List ℕ) (k : ℕ) → Agrees o e gone (on since high) f own → IsOut since high f own datagrams b k
+      → slice_get (closed e o gone 0 o.number datagrams) (place_of gone k) ≡ Some b
   out_is since high f own datagrams b k agrees out =
-      let same = agrees.3 k out.within in
-      let n : ℕ = number + place_of gone k in
+      let same = agrees.4 k out.within in
       let p : Packet = out.packet in
-      let here : slice_get (closed e gone 0 number datagrams) (place_of gone k) ≡ Some (closed_datagram e n out.datagram) = kept_at e gone datagrams number k out.datagram falls out.there (same.0 ∙ out.kept) in
-      let bytes : closed_datagram e n out.datagram ≡ packet_bytes (packet_under e.settings (n % 65536) ((p.header.timestamp + e.times.offset) % 4294967296) p) =
-      ap (λ (r : Result Packet RtpError). closed_bytes e n (packet_read r)) out.reads in
-      let moved : packet_bytes (packet_under e.settings (n % 65536) ((p.header.timestamp + e.times.offset) % 4294967296) p)
-      ≡ packet_bytes (packet_under f.settings ((number_since since + place_of own k) % 65536) ((p.header.timestamp + f.times.offset) % 4294967296) p) =
-      ap (λ (x : ForwardSettings). packet_bytes (packet_under x (n % 65536) ((p.header.timestamp + e.times.offset) % 4294967296) p)) agrees.2
-      ∙ (ap (λ (x : ℕ). packet_bytes (packet_under f.settings ((x + place_of gone k) % 65536) ((p.header.timestamp + e.times.offset) % 4294967296) p)) agrees.0
-      ∙ (ap (λ (x : ℕ). packet_bytes (packet_under f.settings ((number_since since + (k - x)) % 65536) ((p.header.timestamp + e.times.offset) % 4294967296) p)) same.1
-      ∙ ap (λ (x : ℕ). packet_bytes (packet_under f.settings ((number_since since + place_of own k) % 65536) ((p.header.timestamp + x) % 4294967296) p)) agrees.1)) in
+      let here : slice_get (closed e o gone 0 o.number datagrams) (place_of gone k) ≡ Some (closed_datagram e (ids_at o k) (o.number + place_of gone k) out.datagram) =
+      kept_at e o gone datagrams o.number k out.datagram falls out.there (same.0 ∙ out.kept) in
+      let bytes : closed_datagram e (ids_at o k) (o.number + place_of gone k) out.datagram ≡ out_bytes e.settings o e.times.offset (place_of gone k) k p =
+      ap (λ (r : Result Packet RtpError). closed_bytes e (ids_at o k) (o.number + place_of gone k) (packet_read r)) out.reads in
+      let moved : out_bytes e.settings o e.times.offset (place_of gone k) k p ≡ out_bytes f.settings (offsets_since since) f.times.offset (place_of own k) k p =
+      same_out e.settings f.settings o (offsets_since since) e.times.offset f.times.offset (place_of gone k) (place_of own k) k p agrees.3 agrees.0 agrees.1 same.2 agrees.2 (ap (λ (n : ℕ). k - n) same.1) in
       here ∙ ap (λ (x : List ℕ). Some x) (bytes ∙ (moved ∙ sym out.is))
 
-  found : (st : Stage) (f : Forward) (own : List ℕ) (datagrams bs : List (List ℕ)) (ks : List ℕ) (j : ℕ) (b : List ℕ) → Agrees number e gone st f own → Wrote st f own datagrams bs ks → slice_get bs j ≡ Some b
-      → (k : ℕ) × (slice_get ks j ≡ Some k) × (slice_get (closed e gone 0 number datagrams) (place_of gone k) ≡ Some b)
+  found : (st : Stage) (f : Forward) (own : List ℕ) (datagrams bs : List (List ℕ)) (ks : List ℕ) (j : ℕ) (b : List ℕ) → Agrees o e gone st f own → Wrote st f own datagrams bs ks → slice_get bs j ≡ Some b
+      → (k : ℕ) × (slice_get ks j ≡ Some k) × (slice_get (closed e o gone 0 o.number datagrams) (place_of gone k) ≡ Some b)
   found off f own datagrams bs ks j b agrees wrote there = absurd (let none : None ≡ Some b = ap (λ (xs : List (List ℕ)). slice_get xs j) (sym wrote.0) ∙ there in cc)
   found (on since high) f own datagrams bs ks j b agrees wrote there =
       let one = out_at since high f own datagrams bs ks j b wrote there in
       (one.0, one.1, out_is since high f own datagrams b one.0 agrees one.2)
 
-  place_get : (ks : List ℕ) (j : ℕ) (o : Option ℕ) → slice_get ks j ≡ o → slice_get (map (place_of gone) ks) j ≡ option_map (place_of gone) o
-  place_get ks j o is = slice_get-map (place_of gone) ks j ∙ ap (option_map (place_of gone)) is
+  place_get : (ks : List ℕ) (j : ℕ) (x : Option ℕ) → slice_get ks j ≡ x → slice_get (map (place_of gone) ks) j ≡ option_map (place_of gone) x
+  place_get ks j x is = slice_get-map (place_of gone) ks j ∙ ap (option_map (place_of gone)) is
 
-  pub deliver_leads : (o : Option (List ℕ)) (j : ℕ) (now : Ticks) (st : Stage) (own ks : List ℕ) (all_steps : List DatagramStep) (more : List SentSample) (s mid t : Hops) (v : Sending) (entries : List SentSample)
-      → slice_get s.written j ≡ o → Agrees number e gone st s.forwarder own → Wrote st s.forwarder own s.wire.datagrams s.written ks
-      → MatchOption o (mid ≡ s) (λ bytes. (receipt : Receipt) × (session : Session) × Delivers now bytes s.wire.session receipt session
+  pub deliver_leads : (what : Option (List ℕ)) (j : ℕ) (now : Ticks) (st : Stage) (own ks : List ℕ) (all_steps : List DatagramStep) (more : List SentSample) (s mid t : Hops) (v : Sending) (entries : List SentSample)
+      → slice_get s.written j ≡ what → Agrees o e gone st s.forwarder own → Wrote st s.forwarder own s.wire.datagrams s.written ks
+      → MatchOption what (mid ≡ s) (λ bytes. (receipt : Receipt) × (session : Session) × Delivers now bytes s.wire.session receipt session
       × (mid ≡ record s { wire = record s.wire { session = session; receipts = s.wire.receipts ++ receipt ∷ [] } }))
       → Leads all_steps more mid t v entries → Leads (delivery_of (slice_get (map (place_of gone) ks) j) now ++ all_steps) more s t v entries
   deliver_leads None j now st own ks all_steps more s mid t v entries is agrees wrote same leads =
@@ -183,9 +183,9 @@ module _ (e : Forward) (fits_type : e.settings.payload_type < 128) (fits_ssrc : 
   left_in true c e = e
   left_in false c e = absurd (cc)
 
-  pub send_leads : (i : ℕ) (o : Option Sample) (entry : Option SentSample) (left : Bool) (s mid t : Hops) (v : Sending) (entries : List SentSample) (all_steps : List DatagramStep) (more : List SentSample)
-      → slice_get samples i ≡ o → leaves_sample gone (length s.wire.datagrams) (count_of entry) ≡ left → IsWhole gone (length s.wire.datagrams) (count_of entry)
-      → s.wire.sending.packetizer ≡ packetizer → s.wire.sending.stream.clock_rate ≡ rate → Beside v s → DoesSend o entry s mid
+  pub send_leads : (i : ℕ) (what : Option Sample) (entry : Option SentSample) (left : Bool) (s mid t : Hops) (v : Sending) (entries : List SentSample) (all_steps : List DatagramStep) (more : List SentSample)
+      → slice_get samples i ≡ what → leaves_sample gone (length s.wire.datagrams) (count_of entry) ≡ left → IsWhole gone (length s.wire.datagrams) (count_of entry)
+      → (is_built_in packetizer ≡ true → s.wire.sending.packetizer ≡ packetizer) → s.wire.sending.stream.clock_rate ≡ rate → Beside v s → DoesSend what entry s mid
       → ((w : Sending) (es : List SentSample) → Beside w mid → Leads all_steps more mid t w es)
       → Leads (step_unless left i ++ all_steps) (entry_unless left entry ++ more) s t v entries
   send_leads i None None true s mid t v entries all_steps more is left_is whole own clock beside same rest = absurd (cc)
@@ -198,30 +198,30 @@ module _ (e : Forward) (fits_type : e.settings.payload_type < 128) (fits_ssrc : 
   send_leads i (Some sample) None left s mid t v entries all_steps more is left_is whole own clock beside does rest = absurd does
   send_leads i (Some sample) (Some entry) true s mid t v entries all_steps more is left_is whole own clock beside does rest =
       let first : is_in (length s.wire.datagrams) gone ≡ true = left_in (ltb 0 entry.count) (is_in (length s.wire.datagrams) gone) left_is in
-      let nothing : closed e gone 0 number mid.wire.datagrams ≡ closed e gone 0 number s.wire.datagrams =
-      left_beside e fits_type fits_ssrc rate some packetizer built no_ids number gone s.wire.datagrams mid.wire.sending.datagrams mid.wire.datagrams does.0.gained
+      let nothing : closed e o gone 0 o.number mid.wire.datagrams ≡ closed e o gone 0 o.number s.wire.datagrams =
+      left_beside e fits_type fits_ssrc rate some o packetizer no_ids plain gone s.wire.datagrams mid.wire.sending.datagrams mid.wire.datagrams does.0.gained
       (λ place l. whole place (omega (arith, l, does.0.count)) ∙ first) in
-      let mtu : mid.wire.sending.mtu ≡ s.wire.sending.mtu = (own_stays packetizer built no_ids sample s.wire.sending mid.wire.sending entry.fault own does.0.sends).1 in
+      let mtu : mid.wire.sending.mtu ≡ s.wire.sending.mtu = mtu_stays sample s.wire.sending mid.wire.sending entry.fault does.0.sends in
       let here : Beside v mid = record {
         packetizer_is = beside.packetizer_is;
         mtu = beside.mtu ∙ sym mtu;
         stream = beside.stream;
-        next = beside.next ∙ ap (λ (ds : List (List ℕ)). (number + length ds) % 65536) (sym nothing);
+        next = beside.next ∙ ap (λ (ds : List (List ℕ)). (o.number + length ds) % 65536) (sym nothing);
       } in
       let wire : mid.wire ≡ record s.wire { sending = mid.wire.sending; datagrams = mid.wire.datagrams; sends = s.wire.sends ++ entry ∷ [] } = ap (λ (x : Hops). x.wire) does.1 in
       let seen_is : seen_by mid v entries ≡ seen_by s v entries =
-      ap (λ (w : Wire). record w { sending = v; datagrams = closed e gone 0 number mid.wire.datagrams; sends = entries }) wire
+      ap (λ (w : Wire). record w { sending = v; datagrams = closed e o gone 0 o.number mid.wire.datagrams; sends = entries }) wire
       ∙ ap (λ (ds : List (List ℕ)). record s.wire { sending = v; datagrams = ds; sends = entries }) nothing in
       same_leads all_steps more s mid t v entries seen_is (rest v entries here)
   send_leads i (Some sample) (Some entry) false s mid t v entries all_steps more is left_is whole own clock beside does rest =
-      let one = sends_beside e fits_type fits_ssrc rate some packetizer built no_ids number gone sample v s.wire.sending mid.wire.sending s.wire.datagrams mid.wire.datagrams entry own clock beside does.0
+      let one = sends_beside e fits_type fits_ssrc rate some o packetizer no_ids plain gone sample v s.wire.sending mid.wire.sending s.wire.datagrams mid.wire.datagrams entry own clock beside does.0
       (kept_out (length s.wire.datagrams) entry.count left_is whole) in
       let r = rest one.left (entries ++ entry ∷ []) one.beside in
       let there : slice_get (viewer_samples e rate samples) i ≡ Some (viewer_sample e rate sample) = slice_get-map (viewer_sample e rate) samples i ∙ ap (option_map (viewer_sample e rate)) is in
       let wire : mid.wire ≡ record s.wire { sending = mid.wire.sending; datagrams = mid.wire.datagrams; sends = s.wire.sends ++ entry ∷ [] } = ap (λ (x : Hops). x.wire) does.1 in
       let seen_is : seen_by mid one.left (entries ++ entry ∷ [])
-      ≡ record (seen_by s v entries) { sending = one.left; datagrams = closed e gone 0 number mid.wire.datagrams; sends = entries ++ entry ∷ [] } =
-      ap (λ (w : Wire). record w { sending = one.left; datagrams = closed e gone 0 number mid.wire.datagrams; sends = entries ++ entry ∷ [] }) wire in
+      ≡ record (seen_by s v entries) { sending = one.left; datagrams = closed e o gone 0 o.number mid.wire.datagrams; sends = entries ++ entry ∷ [] } =
+      ap (λ (w : Wire). record w { sending = one.left; datagrams = closed e o gone 0 o.number mid.wire.datagrams; sends = entries ++ entry ∷ [] }) wire in
       let step : DoesStep (viewer_samples e rate samples) (seen.Send i) (seen_by s v entries) (seen_by mid one.left (entries ++ entry ∷ [])) = rw there (entry, one.sends, seen_is) in
       record {
         end = r.end;

@@ -5,7 +5,7 @@ use Rattle.std.proofs.lemmas.Bool.{eq-eqb, leb-false, leb-true, ne_eqb}
 use Rattle.codec_payload_base.specs.Extended.{ahead, nearest}
 use Rattle.codec_payload_sending_forward.specs.Numbers.{Falls, below, is_in}
 use Rattle.codec_payload_sending_forward.proofs.NumberLemmas.{Order, all_below_less, below_all, below_more, below_same, in_more, less, more, not_in, order, same}
-use Rattle.codec_payload_forward_runs.specs.LeaveReleases.{closed, closed_datagram, place_of}
+use Rattle.codec_payload_forward_runs.specs.LeaveReleases.{Offsets, closed, closed_datagram, ids_at, place_of}
 use Rattle.codec_payload_sending_forward.specs.Forwarding.{Forward}
 
 -- Numbers that differ from indices by a constant
@@ -84,7 +84,7 @@ abbrev pub kept_from : List ℕ → (k count : ℕ) → ℕ
 kept_from gone k zero = 0
 kept_from gone k (suc count) = cond (is_in k gone) (kept_from gone (k + 1) count) (suc (kept_from gone (k + 1) count))
 
-below_next : (gone : List ℕ) (k : ℕ) → Falls gone → below (k + 1) gone ≡ cond (is_in k gone) (suc (below k gone)) (below k gone)
+pub below_next : (gone : List ℕ) (k : ℕ) → Falls gone → below (k + 1) gone ≡ cond (is_in k gone) (suc (below k gone)) (below k gone)
 below_next [] k f = refl
 below_next (x ∷ xs) k f = by (order k x) (below_next xs k f.1)
   where
@@ -111,6 +111,15 @@ kept_count gone k (suc count) f = by (is_in k gone) refl (below_next gone k f) (
         let whole : below (k + suc count) gone ≡ below (k + 1 + count) gone = ap (λ (n : ℕ). below n gone) (omega arith) in
         rw e (omega (arith, step, whole, rest))
 
+-- between indices that are none of them nothing is below more
+pub below_flat : (ks : List ℕ) (first place : ℕ) → Falls ks → ((i : ℕ) → i < place → is_in (first + i) ks ≡ false) → below (first + place) ks ≡ below first ks
+below_flat ks first zero f out = ap (λ (n : ℕ). below n ks) (omega arith)
+below_flat ks first (suc place) f out =
+    let next : below (first + place + 1) ks ≡ cond (is_in (first + place) ks) (suc (below (first + place) ks)) (below (first + place) ks) = below_next ks (first + place) f in
+    ap (λ (n : ℕ). below n ks) (omega arith)
+    ∙ (next ∙ (ap (λ (b : Bool). cond b (suc (below (first + place) ks)) (below (first + place) ks)) (out place (omega arith))
+    ∙ below_flat ks first place f (λ i l. out i (omega (arith, l)))))
+
 below_zero : (gone : List ℕ) → below 0 gone ≡ 0
 below_zero [] = refl
 below_zero (x ∷ xs) = below_same 0 x xs (omega arith) ∙ below_zero xs
@@ -121,14 +130,15 @@ place_is gone k f =
     let same : below (0 + k) gone ≡ below k gone = ap (λ (n : ℕ). below n gone) (omega arith) in
     omega (arith, all, same, below_zero gone)
 
-module _ (f : Forward) (gone : List ℕ) where
+module _ (f : Forward) (o : Offsets) (gone : List ℕ) where
   -- one of them
   kept_get : (ds : List (List ℕ)) (k number j : ℕ) (d : List ℕ) → slice_get ds j ≡ Some d → is_in (k + j) gone ≡ false
-      → slice_get (closed f gone k number ds) (kept_from gone k j) ≡ Some (closed_datagram f (number + kept_from gone k j) d)
+      → slice_get (closed f o gone k number ds) (kept_from gone k j) ≡ Some (closed_datagram f (ids_at o (k + j)) (number + kept_from gone k j) d)
   kept_get [] k number j d there out = absurd (cc)
   kept_get (x ∷ ds) k number zero d there out =
       let here : is_in k gone ≡ false = ap (λ (n : ℕ). is_in n gone) (omega arith) ∙ out in
-      rw here (ap (λ (o : Option (List ℕ)). o) (ap (λ (y : List ℕ). Some (closed_datagram f number y)) (first x d there) ∙ ap (λ (n : ℕ). Some (closed_datagram f n d)) (omega arith)))
+      rw here (ap (λ (y : List ℕ). Some (closed_datagram f (ids_at o k) number y)) (first x d there)
+      ∙ (ap (λ (n : ℕ). Some (closed_datagram f (ids_at o k) n d)) (omega arith) ∙ ap (λ (n : ℕ). Some (closed_datagram f (ids_at o n) (number + 0) d)) (omega arith)))
     where
       first : (x d : List ℕ) → Some x ≡ Some d → x ≡ d
       first x d e = cc
@@ -137,61 +147,63 @@ module _ (f : Forward) (gone : List ℕ) where
       by (is_in k gone) refl (kept_get ds (k + 1) number j d there later) (kept_get ds (k + 1) (number + 1) j d there later)
     where
       by : (b : Bool) → is_in k gone ≡ b
-          → slice_get (closed f gone (k + 1) number ds) (kept_from gone (k + 1) j) ≡ Some (closed_datagram f (number + kept_from gone (k + 1) j) d)
-          → slice_get (closed f gone (k + 1) (number + 1) ds) (kept_from gone (k + 1) j) ≡ Some (closed_datagram f (number + 1 + kept_from gone (k + 1) j) d)
-          → slice_get (cond (is_in k gone) (closed f gone (k + 1) number ds) (closed_datagram f number x ∷ closed f gone (k + 1) (number + 1) ds))
+          → slice_get (closed f o gone (k + 1) number ds) (kept_from gone (k + 1) j) ≡ Some (closed_datagram f (ids_at o (k + 1 + j)) (number + kept_from gone (k + 1) j) d)
+          → slice_get (closed f o gone (k + 1) (number + 1) ds) (kept_from gone (k + 1) j) ≡ Some (closed_datagram f (ids_at o (k + 1 + j)) (number + 1 + kept_from gone (k + 1) j) d)
+          → slice_get (cond (is_in k gone) (closed f o gone (k + 1) number ds) (closed_datagram f (ids_at o k) number x ∷ closed f o gone (k + 1) (number + 1) ds))
           (cond (is_in k gone) (kept_from gone (k + 1) j) (suc (kept_from gone (k + 1) j)))
-          ≡ Some (closed_datagram f (number + cond (is_in k gone) (kept_from gone (k + 1) j) (suc (kept_from gone (k + 1) j))) d)
-      by true e left kept = rw e left
-      by false e left kept = rw e (kept ∙ ap (λ (n : ℕ). Some (closed_datagram f n d)) (omega arith))
+          ≡ Some (closed_datagram f (ids_at o (k + suc j)) (number + cond (is_in k gone) (kept_from gone (k + 1) j) (suc (kept_from gone (k + 1) j))) d)
+      by true e left kept = rw e (left ∙ ap (λ (n : ℕ). Some (closed_datagram f (ids_at o n) (number + kept_from gone (k + 1) j) d)) (omega arith))
+      by false e left kept = rw e (kept ∙ (ap (λ (n : ℕ). Some (closed_datagram f (ids_at o (k + 1 + j)) n d)) (omega arith)
+          ∙ ap (λ (n : ℕ). Some (closed_datagram f (ids_at o n) (number + suc (kept_from gone (k + 1) j)) d)) (omega arith)))
 
   pub kept_at : (ds : List (List ℕ)) (number k : ℕ) (d : List ℕ) → Falls gone → slice_get ds k ≡ Some d → is_in k gone ≡ false
-      → slice_get (closed f gone 0 number ds) (place_of gone k) ≡ Some (closed_datagram f (number + place_of gone k) d)
+      → slice_get (closed f o gone 0 number ds) (place_of gone k) ≡ Some (closed_datagram f (ids_at o k) (number + place_of gone k) d)
   kept_at ds number k d falls there out =
-      subst (λ (n : ℕ). slice_get (closed f gone 0 number ds) n ≡ Some (closed_datagram f (number + n) d)) (place_is gone k falls)
-      (kept_get ds 0 number k d there (ap (λ (n : ℕ). is_in n gone) (omega arith) ∙ out))
+      subst (λ (n : ℕ). slice_get (closed f o gone 0 number ds) n ≡ Some (closed_datagram f (ids_at o k) (number + n) d)) (place_is gone k falls)
+      (kept_get ds 0 number k d there (ap (λ (n : ℕ). is_in n gone) (omega arith) ∙ out)
+      ∙ ap (λ (n : ℕ). Some (closed_datagram f (ids_at o n) (number + kept_from gone 0 k) d)) (omega arith))
 
   -- more of them
   pub closed_append : (ds es : List (List ℕ)) (k number : ℕ)
-      → closed f gone k number (ds ++ es) ≡ closed f gone k number ds ++ closed f gone (k + length ds) (number + length (closed f gone k number ds)) es
-  closed_append [] es k number = ap (λ (n : ℕ). closed f gone n number es) (omega arith) ∙ ap (λ (n : ℕ). closed f gone (k + 0) n es) (omega arith)
+      → closed f o gone k number (ds ++ es) ≡ closed f o gone k number ds ++ closed f o gone (k + length ds) (number + length (closed f o gone k number ds)) es
+  closed_append [] es k number = ap (λ (n : ℕ). closed f o gone n number es) (omega arith) ∙ ap (λ (n : ℕ). closed f o gone (k + 0) n es) (omega arith)
   closed_append (x ∷ ds) es k number = by (is_in k gone) refl (closed_append ds es (k + 1) number) (closed_append ds es (k + 1) (number + 1))
     where
       by : (b : Bool) → is_in k gone ≡ b
-          → closed f gone (k + 1) number (ds ++ es) ≡ closed f gone (k + 1) number ds ++ closed f gone (k + 1 + length ds) (number + length (closed f gone (k + 1) number ds)) es
-          → closed f gone (k + 1) (number + 1) (ds ++ es) ≡ closed f gone (k + 1) (number + 1) ds ++ closed f gone (k + 1 + length ds) (number + 1 + length (closed f gone (k + 1) (number + 1) ds)) es
-          → cond (is_in k gone) (closed f gone (k + 1) number (ds ++ es)) (closed_datagram f number x ∷ closed f gone (k + 1) (number + 1) (ds ++ es))
-          ≡ cond (is_in k gone) (closed f gone (k + 1) number ds) (closed_datagram f number x ∷ closed f gone (k + 1) (number + 1) ds)
-          ++ closed f gone (k + suc (length ds)) (number + length (cond (is_in k gone) (closed f gone (k + 1) number ds) (closed_datagram f number x ∷ closed f gone (k + 1) (number + 1) ds))) es
-      by true e left kept = rw e (left ∙ ap (λ (n : ℕ). closed f gone (k + 1) number ds ++ closed f gone n (number + length (closed f gone (k + 1) number ds)) es) (omega arith))
-      by false e left kept = rw e (ap (λ (xs : List (List ℕ)). closed_datagram f number x ∷ xs)
+          → closed f o gone (k + 1) number (ds ++ es) ≡ closed f o gone (k + 1) number ds ++ closed f o gone (k + 1 + length ds) (number + length (closed f o gone (k + 1) number ds)) es
+          → closed f o gone (k + 1) (number + 1) (ds ++ es) ≡ closed f o gone (k + 1) (number + 1) ds ++ closed f o gone (k + 1 + length ds) (number + 1 + length (closed f o gone (k + 1) (number + 1) ds)) es
+          → cond (is_in k gone) (closed f o gone (k + 1) number (ds ++ es)) (closed_datagram f (ids_at o k) number x ∷ closed f o gone (k + 1) (number + 1) (ds ++ es))
+          ≡ cond (is_in k gone) (closed f o gone (k + 1) number ds) (closed_datagram f (ids_at o k) number x ∷ closed f o gone (k + 1) (number + 1) ds)
+          ++ closed f o gone (k + suc (length ds)) (number + length (cond (is_in k gone) (closed f o gone (k + 1) number ds) (closed_datagram f (ids_at o k) number x ∷ closed f o gone (k + 1) (number + 1) ds))) es
+      by true e left kept = rw e (left ∙ ap (λ (n : ℕ). closed f o gone (k + 1) number ds ++ closed f o gone n (number + length (closed f o gone (k + 1) number ds)) es) (omega arith))
+      by false e left kept = rw e (ap (λ (xs : List (List ℕ)). closed_datagram f (ids_at o k) number x ∷ xs)
           (kept
-          ∙ (ap (λ (n : ℕ). closed f gone (k + 1) (number + 1) ds ++ closed f gone n (number + 1 + length (closed f gone (k + 1) (number + 1) ds)) es) (omega arith)
-          ∙ ap (λ (n : ℕ). closed f gone (k + 1) (number + 1) ds ++ closed f gone (k + suc (length ds)) n es) (omega arith))))
+          ∙ (ap (λ (n : ℕ). closed f o gone (k + 1) (number + 1) ds ++ closed f o gone n (number + 1 + length (closed f o gone (k + 1) (number + 1) ds)) es) (omega arith)
+          ∙ ap (λ (n : ℕ). closed f o gone (k + 1) (number + 1) ds ++ closed f o gone (k + suc (length ds)) n es) (omega arith))))
 
-  pub closed_few : (ds : List (List ℕ)) (k number : ℕ) → length (closed f gone k number ds) ≤ length ds
+  pub closed_few : (ds : List (List ℕ)) (k number : ℕ) → length (closed f o gone k number ds) ≤ length ds
   closed_few [] k number = omega arith
   closed_few (x ∷ ds) k number = by (is_in k gone) refl (closed_few ds (k + 1) number) (closed_few ds (k + 1) (number + 1))
     where
-      by : (b : Bool) → is_in k gone ≡ b → length (closed f gone (k + 1) number ds) ≤ length ds → length (closed f gone (k + 1) (number + 1) ds) ≤ length ds
-          → length (cond (is_in k gone) (closed f gone (k + 1) number ds) (closed_datagram f number x ∷ closed f gone (k + 1) (number + 1) ds)) ≤ suc (length ds)
+      by : (b : Bool) → is_in k gone ≡ b → length (closed f o gone (k + 1) number ds) ≤ length ds → length (closed f o gone (k + 1) (number + 1) ds) ≤ length ds
+          → length (cond (is_in k gone) (closed f o gone (k + 1) number ds) (closed_datagram f (ids_at o k) number x ∷ closed f o gone (k + 1) (number + 1) ds)) ≤ suc (length ds)
       by true e left kept = rw e (omega (arith, left))
       by false e left kept = rw e (omega (arith, kept))
 
   -- all are left out, or none
-  pub closed_none : (ds : List (List ℕ)) (k number : ℕ) → ((place : ℕ) → place < length ds → is_in (k + place) gone ≡ true) → closed f gone k number ds ≡ []
+  pub closed_none : (ds : List (List ℕ)) (k number : ℕ) → ((place : ℕ) → place < length ds → is_in (k + place) gone ≡ true) → closed f o gone k number ds ≡ []
   closed_none [] k number out = refl
   closed_none (x ∷ ds) k number out =
       let here : is_in k gone ≡ true = ap (λ (n : ℕ). is_in n gone) (omega arith) ∙ out 0 (omega arith) in
       rw here (closed_none ds (k + 1) number (λ place l. ap (λ (n : ℕ). is_in n gone) (omega arith) ∙ out (suc place) (omega (arith, l))))
 
-  abbrev pub numbered : (number : ℕ) → List (List ℕ) → List (List ℕ)
-  numbered number [] = []
-  numbered number (x ∷ ds) = closed_datagram f number x ∷ numbered (number + 1) ds
+  abbrev pub numbered : (k number : ℕ) → List (List ℕ) → List (List ℕ)
+  numbered k number [] = []
+  numbered k number (x ∷ ds) = closed_datagram f (ids_at o k) number x ∷ numbered (k + 1) (number + 1) ds
 
-  pub closed_all : (ds : List (List ℕ)) (k number : ℕ) → ((place : ℕ) → place < length ds → is_in (k + place) gone ≡ false) → closed f gone k number ds ≡ numbered number ds
+  pub closed_all : (ds : List (List ℕ)) (k number : ℕ) → ((place : ℕ) → place < length ds → is_in (k + place) gone ≡ false) → closed f o gone k number ds ≡ numbered k number ds
   closed_all [] k number out = refl
   closed_all (x ∷ ds) k number out =
       let here : is_in k gone ≡ false = ap (λ (n : ℕ). is_in n gone) (omega arith) ∙ out 0 (omega arith) in
-      rw here (ap (λ (xs : List (List ℕ)). closed_datagram f number x ∷ xs)
+      rw here (ap (λ (xs : List (List ℕ)). closed_datagram f (ids_at o k) number x ∷ xs)
       (closed_all ds (k + 1) (number + 1) (λ place l. ap (λ (n : ℕ). is_in n gone) (omega arith) ∙ out (suc place) (omega (arith, l)))))

@@ -1,14 +1,20 @@
 -- What a forwarder that leaves packets out writes: each written datagram has a number by its place among the datagrams that were not left
 -- out.
-use Rattle.std.proofs.Common.{◌≡◌, ◌∙◌, refl, sym, ap, subst, ℕ, zero, suc, ◌+◌, ◌-◌, ◌*◌, ◌%◌, ◌^◌, ◌<◌, ◌≤◌, ◌⊎◌, inl, inr, List, [], ◌∷◌, ◌++◌, append-nil, get_or, length, Bool, true, false, cond, ltb, Option, Some, Ok, arith}
+use Rattle.std.proofs.Common.{◌||◌, eqb, ◌≡◌, ◌∙◌, refl, sym, ap, subst, ℕ, zero, suc, ◌+◌, ◌-◌, ◌*◌, ◌%◌, ◌^◌, ◌<◌, ◌≤◌, ◌⊎◌, inl, inr, List, [], ◌∷◌, ◌++◌, append-nil, get_or, length, Bool, true, false, cond, ltb, Option, Some, None, Ok, arith}
 use Rattle.std.specs.Prelude.{slice_get}
 use Rattle.std.proofs.lemmas.Bool.{eq-eqb, le-ltb, lt-ltb, lt-leb}
 use Rattle.codec_payload_rtp.specs.RtpPackets.{Packet, packet_bytes}
 use Rattle.codec_payload_rtp.specs.RtpReading.{rtp_at}
-use Rattle.codec_payload_sending_forward.specs.Forwarding.{Forward, Forwards, Leaves, after_begin, after_next, first_packet, ids_in, ids_left, is_source, next_packet, number_in, offsets_for, packet_under, payload_for, ticks_between}
-use Rattle.codec_payload_sending_forward.specs.Ids.{offsets_switched}
+use Rattle.codec_payload_sending_forward.specs.Forwarding.{Forward, Forwards, Leaves, after_begin, after_next, closing_id, first_packet, ids_in, ids_left, is_source, next_packet, number_in, offsets_for, packet_under, payload_for, sent_packet, ticks_between}
+use Rattle.codec_payload_base.specs.declared.wire.Codec.{Codec}
+use Rattle.codec_payload_base.specs.declared.wire.Codec.TheVariants as codecs
+use Rattle.codec_payload_sending_forward.specs.Ids.{Ids, id_to_leave, offsets_at, offsets_switched, picture_closed}
+use Rattle.codec_payload_sending_forward.specs.Vp8Numbers.{payload_as}
+use Rattle.codec_payload_sending_forward.specs.declared.ids.PayloadIds.{PayloadIds}
+use Rattle.codec_payload_forward_runs.proofs.KeptPayloads.{same_moved}
+use Rattle.codec_payload_forward_runs.proofs.ViewerLemmas.{ids_stay, left_stay, switched_none, switched_to}
 use Rattle.codec_payload_sending_forward.specs.NumberRuns.{Call, Stretch, after_call, map_after, number_of, packet, stretch_after}
-use Rattle.codec_payload_sending_forward.specs.Numbers.{AllBelow, Falls, Numbers, after_packet, begun, below, closed, is_in, is_too_old, next_number, placed, sent_as}
+use Rattle.codec_payload_sending_forward.specs.Numbers.{AllBelow, Falls, Numbers, above, after_packet, begun, below, closed, is_in, is_too_old, next_number, placed, sent_as}
 use Rattle.codec_payload_sending_forward.specs.declared.forwarder.Forwarded.{Forwarded}
 use Rattle.codec_payload_sending_forward.specs.declared.forwarder.Forwarded.TheVariants as answers
 use Rattle.codec_payload_sending_forward.specs.declared.forwarder.ForwardSettings.{ForwardSettings}
@@ -16,13 +22,13 @@ use Rattle.codec_payload_sending_forward.specs.declared.renumbering.Placed.TheVa
 use Rattle.codec_payload_sending_forward.specs.declared.ids.IdOffsets.{IdOffsets}
 use Rattle.codec_payload_sending_forward.specs.declared.times.Retiming.{Retiming}
 use Rattle.codec_payload_base.specs.Extended.{nearest}
-use Rattle.codec_payload_sending_forward.proofs.NumberLemmas.{Order, all_below_less, all_below_take, less, more, not_in, order, same}
+use Rattle.codec_payload_sending_forward.proofs.NumberLemmas.{Order, above_few, all_below_less, all_below_take, below_more, below_same, less, more, not_in, order, same}
 use Rattle.codec_payload_sending_forward.proofs.NumberRunLemmas.{renumbers, sends_given}
 use Rattle.codec_payload_datagram_runs.specs.Releases.{StayWithin}
-use Rattle.codec_payload_forward_runs.proofs.LeaveLists.{AllAbove, AreGone, below_gone, below_higher, few_above, in_gone, in_higher, near_number}
+use Rattle.codec_payload_forward_runs.proofs.LeaveLists.{AllAbove, AreGone, below_gone, below_higher, below_next, few_above, in_gone, in_higher, near_number}
 use Rattle.codec_payload_forward_runs.specs.ForwardReleases.{forwarded_by}
 use Rattle.codec_payload_forward_runs.specs.ForwardRuns.{written_by}
-use Rattle.codec_payload_forward_runs.specs.LeaveReleases.{ComeNear, came_by, fills, gone_by, place_of}
+use Rattle.codec_payload_forward_runs.specs.LeaveReleases.{ComeNear, Offsets, came_by, fills, gone_by, ids_at, place_of}
 use Rattle.codec_payload_forward_runs.specs.LeaveRuns.{filled_by}
 
 -- The map of numbers
@@ -118,19 +124,88 @@ left_top m n top l = by (ltb (length m.left_out) 4096) refl
 
 -- ---- since the forwarder began
 
--- the datagram with which it began, the number of that packet, extended, and the number that it was sent under
+-- the datagram with which it began, the number of that packet, extended, and the number that it was sent under; what was added to its
+-- ids, and the first datagrams of the pictures that were left out so far
 pub record Since : Type 0 where
   pub begin : ℕ
   pub base : ℕ
   pub start : ℕ
+  pub ids : IdOffsets
+  pub pictures : List ℕ
 
--- the number of the viewer's stream for the first datagram of the sender
-abbrev pub number_since : Since → ℕ
-number_since since = since.start + 65535 * since.begin
+-- the offsets of the viewer's stream
+abbrev pub offsets_since : Since → Offsets
+offsets_since since = record { number = since.start + 65535 * since.begin; ids = since.ids; pictures = since.pictures }
+
+-- the map of ids, if there are ids that close up
+pub record IdsHold (since : Since) (m : Ids) (gone : List ℕ) : Type 0 where
+  pub falls : Falls since.pictures
+  pub among : (k : ℕ) → is_in k since.pictures ≡ true → is_in k gone ≡ true
+  pub counts : (n k : ℕ) → n + since.begin ≡ k + since.base → length m.left_out - above n m.left_out ≡ below (k + 1) since.pictures
+  pub offset : m.offsets.picture % 65536 ≡ since.ids.picture % 65536
+  pub tl0 : m.offsets.tl0 ≡ since.ids.tl0
+  pub size : length m.left_out ≤ length gone
+  pub few : length m.left_out ≤ 4096
+
+ids_same : (since : Since) (m t : Ids) (gone : List ℕ) → t.offsets ≡ m.offsets → t.left_out ≡ m.left_out → IdsHold since m gone → IdsHold since t gone
+ids_same since m t gone offsets left is = record {
+  falls = is.falls;
+  among = is.among;
+  counts = λ n k e. ap (λ (xs : List ℕ). length xs - above n xs) left ∙ is.counts n k e;
+  offset = ap (λ (o : IdOffsets). o.picture % 65536) offsets ∙ is.offset;
+  tl0 = ap (λ (o : IdOffsets). o.tl0) offsets ∙ is.tl0;
+  size = subst (λ (xs : List ℕ). length xs ≤ length gone) (sym left) is.size;
+  few = subst (λ (xs : List ℕ). length xs ≤ 4096) (sym left) is.few;
+}
+
+-- the codec is not VP9
+abbrev pub is_moved : Codec → Bool
+is_moved codecs.Vp9 = true
+is_moved codec = false
+
+-- a payload by offsets that are the same
+payload_same : (codec : Codec) (o x : IdOffsets) (payload : List ℕ) → is_moved codec ≡ false → o.picture % 65536 ≡ x.picture % 65536 → o.tl0 ≡ x.tl0 → payload_for codec o payload ≡ payload_for codec x payload
+payload_same codecs.Vp8 o x payload fixed pictures tl0s = same_moved o.picture x.picture o.tl0 payload pictures ∙ ap (λ (n : ℕ). payload_as (record { picture = x.picture; tl0 = n }) payload) tl0s
+payload_same codecs.Vp9 o x payload fixed pictures tl0s = absurd (cc)
+payload_same codecs.Opus o x payload fixed pictures tl0s = refl
+payload_same codecs.PCMU o x payload fixed pictures tl0s = refl
+payload_same codecs.PCMA o x payload fixed pictures tl0s = refl
+payload_same codecs.G722 o x payload fixed pictures tl0s = refl
+payload_same codecs.CN o x payload fixed pictures tl0s = refl
+payload_same codecs.AmrWb o x payload fixed pictures tl0s = refl
+payload_same codecs.H264 o x payload fixed pictures tl0s = refl
+payload_same codecs.H265 o x payload fixed pictures tl0s = refl
+payload_same codecs.H266 o x payload fixed pictures tl0s = refl
+payload_same codecs.Av1 o x payload fixed pictures tl0s = refl
+payload_same codecs.Null o x payload fixed pictures tl0s = refl
+payload_same codecs.Tele o x payload fixed pictures tl0s = refl
+payload_same codecs.Rtx o x payload fixed pictures tl0s = refl
+payload_same codecs.Red o x payload fixed pictures tl0s = refl
+payload_same codecs.Unknown o x payload fixed pictures tl0s = refl
+
+payload_at : (codec : Codec) (ids : Ids) (n : ℕ) (x : IdOffsets) (payload : List ℕ) → is_moved codec ≡ false → (offsets_at ids n).picture % 65536 ≡ x.picture % 65536 → ids.offsets.tl0 ≡ x.tl0
+    → payload_for codec (offsets_for codec ids n) payload ≡ payload_for codec x payload
+payload_at codecs.Vp8 ids n x payload fixed pictures tl0s = payload_same codecs.Vp8 (offsets_at ids n) x payload fixed pictures tl0s
+payload_at codecs.Vp9 ids n x payload fixed pictures tl0s = absurd (cc)
+payload_at codecs.Opus ids n x payload fixed pictures tl0s = refl
+payload_at codecs.PCMU ids n x payload fixed pictures tl0s = refl
+payload_at codecs.PCMA ids n x payload fixed pictures tl0s = refl
+payload_at codecs.G722 ids n x payload fixed pictures tl0s = refl
+payload_at codecs.CN ids n x payload fixed pictures tl0s = refl
+payload_at codecs.AmrWb ids n x payload fixed pictures tl0s = refl
+payload_at codecs.H264 ids n x payload fixed pictures tl0s = refl
+payload_at codecs.H265 ids n x payload fixed pictures tl0s = refl
+payload_at codecs.H266 ids n x payload fixed pictures tl0s = refl
+payload_at codecs.Av1 ids n x payload fixed pictures tl0s = refl
+payload_at codecs.Null ids n x payload fixed pictures tl0s = refl
+payload_at codecs.Tele ids n x payload fixed pictures tl0s = refl
+payload_at codecs.Rtx ids n x payload fixed pictures tl0s = refl
+payload_at codecs.Red ids n x payload fixed pictures tl0s = refl
+payload_at codecs.Unknown ids n x payload fixed pictures tl0s = refl
 
 -- A forwarder that has begun with the source. The datagrams come with numbers from `low` on; `gone` were left out, and `high` is the
--- highest index so far
-pub record IsOn (ssrc low : ℕ) (since : Since) (high : ℕ) (f : Forward) (gone : List ℕ) : Type 0 where
+-- highest index so far. `steady` says that there are no ids that close up
+pub record IsOn (ssrc low : ℕ) (steady : Bool) (since : Since) (high : ℕ) (f : Forward) (gone : List ℕ) : Type 0 where
   pub source : is_source f.source ssrc ≡ true
   pub base_is : since.base ≡ 65536 + (low + since.begin) % 65536
   pub calls : List Call
@@ -147,20 +222,26 @@ pub record IsOn (ssrc low : ℕ) (since : Since) (high : ℕ) (f : Forward) (gon
   pub falls : Falls gone
   pub within : AllBelow (suc high) gone
   pub above : AllAbove since.begin gone
+  pub ids : steady ≡ false → IdsHold since f.ids gone
+  pub pictures : AllBelow (suc high) since.pictures
 
 -- the forwarder has not begun, or has
 pub data Stage : Type 0 where
   off : Stage
   on : (since : Since) (high : ℕ) → Stage
 
-abbrev pub Holds : ℕ → ℕ → Stage → Forward → List ℕ → Type 0
-Holds ssrc low off f gone = (is_source f.source ssrc ≡ false) × (gone ≡ [])
-Holds ssrc low (on since high) f gone = IsOn ssrc low since high f gone
+abbrev pub Holds : ℕ → ℕ → Bool → Stage → Forward → List ℕ → Type 0
+Holds ssrc low steady off f gone = (is_source f.source ssrc ≡ false) × (gone ≡ [])
+Holds ssrc low steady (on since high) f gone = IsOn ssrc low steady since high f gone
 
 -- the datagrams that come next are near the highest one
 abbrev pub AreNear : Stage → List ℕ → Type 0
 AreNear off ks = ComeNear ks
 AreNear (on since high) ks = StayWithin 32769 32767 high ks
+
+-- a packet as it is written: in this place, with ids moved as for its index
+abbrev pub out_bytes : ForwardSettings → Offsets → (time place k : ℕ) → Packet → List ℕ
+out_bytes s o time place k p = packet_bytes (sent_packet s (ids_at o k) ((o.number + place) % 65536) ((p.header.timestamp + time) % 4294967296) p)
 
 -- a written datagram has the place of this index
 pub record IsOut (since : Since) (high : ℕ) (f : Forward) (gone : List ℕ) (datagrams : List (List ℕ)) (bytes : List ℕ) (k : ℕ) : Type 0 where
@@ -170,7 +251,7 @@ pub record IsOut (since : Since) (high : ℕ) (f : Forward) (gone : List ℕ) (d
   pub packet : Packet
   pub there : slice_get datagrams k ≡ Some datagram
   pub reads : rtp_at datagram ≡ Ok packet
-  pub is : bytes ≡ packet_bytes (packet_under f.settings ((number_since since + place_of gone k) % 65536) ((packet.header.timestamp + f.times.offset) % 4294967296) packet)
+  pub is : bytes ≡ out_bytes f.settings (offsets_since since) f.times.offset (place_of gone k) k packet
 
 abbrev pub AreOut : Since → ℕ → Forward → List ℕ → List (List ℕ) → List (List ℕ) → List ℕ → Type 0
 AreOut since high f gone datagrams [] [] = Unit {0}
@@ -183,19 +264,32 @@ Wrote off f gone datagrams written ks = (written ≡ []) × (ks ≡ [])
 Wrote (on since high) f gone datagrams written ks = AreOut since high f gone datagrams written ks
 
 -- what is left out by the end, for indices up to the highest one, and what stays of the forwarder
-abbrev pub Agrees : ℕ → Forward → List ℕ → Stage → Forward → List ℕ → Type 0
-Agrees number e all off f gone = Unit {0}
-Agrees number e all (on since high) f gone =
-    (number ≡ number_since since) × (e.times.offset ≡ f.times.offset) × (e.settings ≡ f.settings)
-    × ((k : ℕ) → k ≤ high → (is_in k all ≡ is_in k gone) × (below k all ≡ below k gone))
+abbrev pub Agrees : Offsets → Forward → List ℕ → Stage → Forward → List ℕ → Type 0
+Agrees o e all off f gone = Unit {0}
+Agrees o e all (on since high) f gone =
+    (o.number ≡ (offsets_since since).number) × (o.ids ≡ since.ids) × (e.times.offset ≡ f.times.offset) × (e.settings ≡ f.settings)
+    × ((k : ℕ) → k ≤ high → (is_in k all ≡ is_in k gone) × (below k all ≡ below k gone) × (below k o.pictures ≡ below k since.pictures))
+
+-- the same bytes
+pub same_out : (s s' : ForwardSettings) (o o' : Offsets) (time time' place place' k : ℕ) (p : Packet) → s ≡ s' → o.number ≡ o'.number → o.ids ≡ o'.ids → below k o.pictures ≡ below k o'.pictures → time ≡ time' → place ≡ place'
+    → out_bytes s o time place k p ≡ out_bytes s' o' time' place' k p
+same_out s s' o o' time time' place place' k p settings numbers ids pictures times places =
+    ap (λ (x : ForwardSettings). out_bytes x o time place k p) settings
+    ∙ (ap (λ (x : ℕ). packet_bytes (sent_packet s' (ids_at o k) ((x + place) % 65536) ((p.header.timestamp + time) % 4294967296) p)) numbers
+    ∙ (ap (λ (x : IdOffsets).
+    packet_bytes (sent_packet s' (record x { picture = (x.picture + 65535 * below k o.pictures) % 65536 }) ((o'.number + place) % 65536) ((p.header.timestamp + time) % 4294967296) p)) ids
+    ∙ (ap (λ (x : ℕ). packet_bytes (sent_packet s' (record o'.ids { picture = (o'.ids.picture + 65535 * x) % 65536 }) ((o'.number + place) % 65536) ((p.header.timestamp + time) % 4294967296) p)) pictures
+    ∙ (ap (λ (x : ℕ). out_bytes s' o' x place k p) times ∙ ap (λ (x : ℕ). out_bytes s' o' time' x k p) places))))
 
 -- the same packets are out later
-out_later : (since : Since) (high later : ℕ) (f t : Forward) (gone most : List ℕ) (datagrams written : List (List ℕ)) (ks : List ℕ) → high ≤ later → t.settings ≡ f.settings → t.times.offset ≡ f.times.offset
-    → ((k : ℕ) → k ≤ high → (is_in k most ≡ is_in k gone) × (below k most ≡ below k gone)) → AreOut since high f gone datagrams written ks → AreOut since later t most datagrams written ks
-out_later since high later f t gone most datagrams [] [] l settings times agree_at out = tt
-out_later since high later f t gone most datagrams [] (k ∷ ks) l settings times agree_at out = absurd out
-out_later since high later f t gone most datagrams (b ∷ written) [] l settings times agree_at out = absurd out
-out_later since high later f t gone most datagrams (b ∷ written) (k ∷ ks) l settings times agree_at out =
+out_later : (since moved_since : Since) (high later : ℕ) (f t : Forward) (gone most : List ℕ) (datagrams written : List (List ℕ)) (ks : List ℕ) → high ≤ later
+    → (offsets_since since).number ≡ (offsets_since moved_since).number → since.ids ≡ moved_since.ids → f.settings ≡ t.settings → f.times.offset ≡ t.times.offset
+    → ((k : ℕ) → k ≤ high → (is_in k most ≡ is_in k gone) × (below k most ≡ below k gone) × (below k moved_since.pictures ≡ below k since.pictures)) → AreOut since high f gone datagrams written ks
+    → AreOut moved_since later t most datagrams written ks
+out_later since moved_since high later f t gone most datagrams [] [] l numbers ids settings times agree_at out = tt
+out_later since moved_since high later f t gone most datagrams [] (k ∷ ks) l numbers ids settings times agree_at out = absurd out
+out_later since moved_since high later f t gone most datagrams (b ∷ written) [] l numbers ids settings times agree_at out = absurd out
+out_later since moved_since high later f t gone most datagrams (b ∷ written) (k ∷ ks) l numbers ids settings times agree_at out =
     let one = out.0 in
     let agree = agree_at k one.within in (
       record {
@@ -205,11 +299,10 @@ out_later since high later f t gone most datagrams (b ∷ written) (k ∷ ks) l 
         packet = one.packet;
         there = one.there;
         reads = one.reads;
-        is = one.is ∙ (ap (λ (s : ForwardSettings). packet_bytes (packet_under s ((number_since since + place_of gone k) % 65536) ((one.packet.header.timestamp + f.times.offset) % 4294967296) one.packet)) (sym settings)
-            ∙ (ap (λ (n : ℕ). packet_bytes (packet_under t.settings ((number_since since + (k - n)) % 65536) ((one.packet.header.timestamp + f.times.offset) % 4294967296) one.packet)) (sym agree.1)
-            ∙ ap (λ (n : ℕ). packet_bytes (packet_under t.settings ((number_since since + place_of most k) % 65536) ((one.packet.header.timestamp + n) % 4294967296) one.packet)) (sym times)));
+        is = one.is ∙ same_out f.settings t.settings (offsets_since since) (offsets_since moved_since) f.times.offset t.times.offset (place_of gone k) (place_of most k) k one.packet settings numbers ids (sym agree.2) times
+            (ap (λ (n : ℕ). k - n) (sym agree.1));
       },
-      out_later since high later f t gone most datagrams written ks l settings times agree_at out.1,
+      out_later since moved_since high later f t gone most datagrams written ks l numbers ids settings times agree_at out.1,
     )
 
 out_append : (since : Since) (high : ℕ) (f : Forward) (gone : List ℕ) (datagrams bs : List (List ℕ)) (ks : List ℕ) (cs : List (List ℕ)) (js : List ℕ) → AreOut since high f gone datagrams bs ks
@@ -219,16 +312,20 @@ out_append since high f gone datagrams [] (k ∷ ks) cs js here rest = absurd he
 out_append since high f gone datagrams (b ∷ bs) [] cs js here rest = absurd here
 out_append since high f gone datagrams (b ∷ bs) (k ∷ ks) cs js here rest = (here.0, out_append since high f gone datagrams bs ks cs js here.1 rest)
 
+or_true : (b : Bool) → (b || true) ≡ true
+or_true true = refl
+or_true false = refl
+
 -- ---- one datagram
 
-module _ (ssrc low : ℕ) where
+module _ (ssrc low : ℕ) (steady : Bool) (codec : Codec) (fixed : is_moved codec ≡ false) where
   -- The forwarder after a datagram, which is the one with the index `k`; `later` come after it. `wrote` was written, for these indices
   pub record Turned (k : ℕ) (d : List ℕ) (st : Stage) (f : Forward) (gone later : List ℕ) (t : Forward) (more : List ℕ) (wrote : List (List ℕ)) (outs : List ℕ) : Type 0 where
     pub next : Stage
-    pub holds : Holds ssrc low next t more
+    pub holds : Holds ssrc low steady next t more
     pub near : AreNear next later
     pub settings : t.settings ≡ f.settings
-    pub agrees : (number : ℕ) (e : Forward) (all : List ℕ) → Agrees number e all next t more → Agrees number e all st f gone
+    pub agrees : (o : Offsets) (e : Forward) (all : List ℕ) → Agrees o e all next t more → Agrees o e all st f gone
     pub out : (datagrams written : List (List ℕ)) (ks : List ℕ) → slice_get datagrams k ≡ Some d → Wrote st f gone datagrams written ks → Wrote next t more datagrams (written ++ wrote) (ks ++ outs)
 
   module _ (k : ℕ) (d : List ℕ) (few : k < 2 ^ 63) (p : Packet) (reads : rtp_at d ≡ Ok p) (source_is : p.header.ssrc ≡ ssrc) (number_is : p.header.sequence_number ≡ (low + k) % 65536)
@@ -238,10 +335,10 @@ module _ (ssrc low : ℕ) where
     wrote_same st f gone datagrams written ks out =
         subst (λ (xs : List ℕ). Wrote st f gone datagrams (written ++ []) xs) (sym (append-nil ks)) (subst (λ (xs : List (List ℕ)). Wrote st f gone datagrams xs ks) (sym (append-nil written)) out)
 
-    quiet : (st : Stage) (f t : Forward) (gone later : List ℕ) → t ≡ f → Holds ssrc low st f gone → AreNear st later → Turned k d st f gone later t gone [] []
+    quiet : (st : Stage) (f t : Forward) (gone later : List ℕ) → t ≡ f → Holds ssrc low steady st f gone → AreNear st later → Turned k d st f gone later t gone [] []
     quiet st f t gone later is holds near =
         subst (λ (x : Forward). Turned k d st f gone later x gone [] []) (sym is)
-        (record { next = st; holds = holds; near = near; settings = refl; agrees = λ number e all agrees. agrees; out = λ datagrams written ks there out. wrote_same st f gone datagrams written ks out })
+        (record { next = st; holds = holds; near = near; settings = refl; agrees = λ o e all agrees. agrees; out = λ datagrams written ks there out. wrote_same st f gone datagrams written ks out })
 
     clash : (f : Forward) → is_source f.source p.header.ssrc ≡ false → is_source f.source ssrc ≡ true → ⊥
     clash f other own = let here : is_source f.source ssrc ≡ false = subst (λ (n : ℕ). is_source f.source n ≡ false) source_is other in cc
@@ -249,22 +346,26 @@ module _ (ssrc low : ℕ) where
     clash_off : (f : Forward) → is_source f.source p.header.ssrc ≡ true → is_source f.source ssrc ≡ false → ⊥
     clash_off f own other = let here : is_source f.source ssrc ≡ true = subst (λ (n : ℕ). is_source f.source n ≡ true) source_is own in cc
 
-    -- the packet as it is written, under this number and at this time
-    under : (s : ForwardSettings) (o : IdOffsets) (n n' t t' : ℕ) → payload_for s.codec o p.payload ≡ p.payload → n ≡ n' → t ≡ t'
-        → packet_under s n t (record p { payload = payload_for s.codec o p.payload }) ≡ packet_under s n' t' p
-    under s o n n' t t' kept numbers times =
-        ap (λ (x : List ℕ). packet_under s n t (record p { payload = x })) kept ∙ (ap (λ (m : ℕ). packet_under s m t p) numbers ∙ ap (λ (m : ℕ). packet_under s n' m p) times)
+    -- the packet as it is written, under this number, at this time and with these ids
+    under : (s : ForwardSettings) (o x : IdOffsets) (n n' t t' : ℕ) → payload_for s.codec o p.payload ≡ payload_for s.codec x p.payload → n ≡ n' → t ≡ t' → sent_packet s o n t p ≡ sent_packet s x n' t' p
+    under s o x n n' t t' kept numbers times =
+        ap (λ (y : List ℕ). packet_under s n t (record p { payload = y })) kept ∙ (ap (λ (m : ℕ). sent_packet s x m t p) numbers ∙ ap (λ (m : ℕ). sent_packet s x n' m p) times)
 
     -- the first packet
 
+    -- the codec is this one, and a payload without ids stays
     abbrev Kept : Forward → Type 0
-    Kept f = (o : IdOffsets) → payload_for f.settings.codec o p.payload ≡ p.payload
+    Kept f = (f.settings.codec ≡ codec) × (steady ≡ true → (o : IdOffsets) → payload_for f.settings.codec o p.payload ≡ p.payload)
+
+    is_fixed : (f : Forward) → Kept f → is_moved f.settings.codec ≡ false
+    is_fixed f kept = ap is_moved kept.0 ∙ fixed
 
     begins_turn : (now : ℕ) (f t : Forward) (bytes later : List ℕ) → Kept f → is_source f.source p.header.ssrc ≡ false → (bytes ≡ packet_bytes (first_packet now f p)) → t ≡ after_begin now p f
         → AreNear off (k ∷ later) → Turned k d off f [] later t [] (bytes ∷ []) (k ∷ [])
     begins_turn now f t bytes later kept other written is near =
-        let since : Since = record { begin = k; base = 65536 + p.header.sequence_number; start = next_number f.numbers } in
-        let start : next_number f.numbers ≡ (number_since since + (k - 0)) % 65536 = omega arith in
+        let ids : Option PayloadIds = ids_in f.settings.codec p.payload in
+        let since : Since = record { begin = k; base = 65536 + p.header.sequence_number; start = next_number f.numbers; ids = offsets_switched f.ids ids; pictures = [] } in
+        let start : next_number f.numbers ≡ ((offsets_since since).number + (k - 0)) % 65536 = omega arith in
         let time : (f.times.highest + ticks_between f.written_at now) % 4294967296
         ≡ (p.header.timestamp + ((f.times.highest + ticks_between f.written_at now) % 4294967296 + (4294967296 - p.header.timestamp)) % 4294967296) % 4294967296 = omega (arith, time_fits) in
         subst (λ (x : Forward). Turned k d off f [] later x [] (bytes ∷ []) (k ∷ [])) (sym is)
@@ -287,10 +388,20 @@ module _ (ssrc low : ℕ) where
             falls = tt;
             within = tt;
             above = tt;
+            ids = λ moves. record {
+              falls = tt;
+              among = λ j is_there. absurd (cc);
+              counts = λ n j same_index. ap (λ (xs : List ℕ). length xs - above n xs) (switched_none ids f.ids);
+              offset = ap (λ (x : IdOffsets). x.picture % 65536) (switched_to ids f.ids);
+              tl0 = ap (λ (x : IdOffsets). x.tl0) (switched_to ids f.ids);
+              size = omega (arith, ap length (switched_none ids f.ids));
+              few = omega (arith, ap length (switched_none ids f.ids));
+            };
+            pictures = tt;
           };
           near = near;
           settings = refl;
-          agrees = λ number e all agrees. tt;
+          agrees = λ o e all agrees. tt;
           out = λ datagrams old ks there out.
               subst (λ (xs : List ℕ). AreOut since k (after_begin now p f) [] datagrams (old ++ bytes ∷ []) (xs ++ k ∷ [])) (sym out.1)
               (subst (λ (xs : List (List ℕ)). AreOut since k (after_begin now p f) [] datagrams (xs ++ bytes ∷ []) (k ∷ [])) (sym out.0) (
@@ -301,7 +412,9 @@ module _ (ssrc low : ℕ) where
                   packet = p;
                   there = there;
                   reads = reads;
-                  is = written ∙ ap packet_bytes (under f.settings (offsets_switched f.ids (ids_in f.settings.codec p.payload)) _ _ _ _ (kept _) start time);
+                  is = written ∙ ap packet_bytes
+                    (under f.settings (offsets_switched f.ids ids) (ids_at (offsets_since since) k) _ _ _ _
+                    (payload_same f.settings.codec (offsets_switched f.ids ids) (ids_at (offsets_since since) k) p.payload (is_fixed f kept) (omega arith) refl) start time);
                 },
                 tt,
               ));
@@ -309,7 +422,7 @@ module _ (ssrc low : ℕ) where
 
     -- a later packet
 
-    module _ (since : Since) (high : ℕ) (f : Forward) (gone later : List ℕ) (is_on : IsOn ssrc low since high f gone) (near : AreNear (on since high) (k ∷ later)) where
+    module _ (since : Since) (high : ℕ) (f : Forward) (gone later : List ℕ) (is_on : IsOn ssrc low steady since high f gone) (near : AreNear (on since high) (k ∷ later)) where
       abbrev n : ℕ
       n = number_in f p
 
@@ -350,10 +463,10 @@ module _ (ssrc low : ℕ) where
           by true e = rw e refl
           by false e = rw e refl
 
-      number_by : (sent b : ℕ) → sent ≡ (since.start + (n - since.base) - b) % 65536 → since.base ≤ n → b + since.begin ≤ k → sent ≡ (number_since since + (k - b)) % 65536
+      number_by : (sent b : ℕ) → sent ≡ (since.start + (n - since.base) - b) % 65536 → since.base ≤ n → b + since.begin ≤ k → sent ≡ ((offsets_since since).number + (k - b)) % 65536
       number_by sent b is first few_gone = omega (arith, is, first, few_gone, n_is)
 
-      sent_place : (sent : ℕ) → placed f.numbers n true ≡ places.Sent sent → (sent ≡ (number_since since + place_of gone k) % 65536) × (is_in k gone ≡ false)
+      sent_place : (sent : ℕ) → placed f.numbers n true ≡ places.Sent sent → (sent ≡ ((offsets_since since).number + place_of gone k) % 65536) × (is_in k gone ≡ false)
       sent_place sent is =
           let young = sent_young f.numbers n sent is in
           let given = sends_given since.base since.start is_on.calls n sent (subst (λ (m : Numbers). placed m n true ≡ places.Sent sent) is_on.numbers is) in
@@ -366,6 +479,35 @@ module _ (ssrc low : ℕ) where
             number_by sent (below k gone) (number ∙ ap (λ (b : ℕ). (since.start + (n - since.base) - b) % 65536) same_below) from (few_above since.begin k gone low_index is_on.falls is_on.above),
             sym (among_is young.0) ∙ young.1,
           )
+
+      -- the ids of a packet that was not left out
+      picture_by : (x a c b : ℕ) → (x + (65536 - c)) % 65536 ≡ a → c ≡ b → c ≤ 4096 → a % 65536 ≡ (x + 65535 * b) % 65536
+      picture_by x a c b e f l = omega (arith, e, f, l)
+
+      picture_same : (x y b : ℕ) → x % 65536 ≡ y % 65536 → (x + 65535 * b) % 65536 ≡ (y + 65535 * b) % 65536 % 65536
+      picture_same x y b e = omega (arith, e)
+
+      -- the datagram itself is no picture that was left out
+      not_picture : IdsHold since f.ids gone → is_in k gone ≡ false → below (k + 1) since.pictures ≡ below k since.pictures
+      not_picture ids kept_index = below_next since.pictures k ids.falls ∙ ap (λ (b : Bool). cond b (suc (below k since.pictures)) (below k since.pictures)) (by (is_in k since.pictures) refl)
+        where
+          by : (b : Bool) → is_in k since.pictures ≡ b → is_in k since.pictures ≡ false
+          by true e = absurd (let there : is_in k gone ≡ true = ids.among k e in cc)
+          by false e = e
+
+      picture_is : IdsHold since f.ids gone → is_in k gone ≡ false → (offsets_at f.ids n).picture % 65536 ≡ (ids_at (offsets_since since) k).picture % 65536
+      picture_is ids kept_index =
+          let left : List ℕ = f.ids.left_out in
+          let count : length left - above n left ≡ below k since.pictures = ids.counts n k n_is ∙ not_picture ids kept_index in
+          picture_by f.ids.offsets.picture (offsets_at f.ids n).picture (length left - above n left) (below k since.pictures) refl count (omega (arith, ids.few))
+          ∙ picture_same f.ids.offsets.picture since.ids.picture (below k since.pictures) ids.offset
+
+      payload_is : (b : Bool) → steady ≡ b → Kept f → is_in k gone ≡ false
+          → payload_for f.settings.codec (offsets_for f.settings.codec f.ids n) p.payload ≡ payload_for f.settings.codec (ids_at (offsets_since since) k) p.payload
+      payload_is true plain kept kept_index = kept.1 plain (offsets_for f.settings.codec f.ids n) ∙ sym (kept.1 plain (ids_at (offsets_since since) k))
+      payload_is false moves kept kept_index =
+          let ids : IdsHold since f.ids gone = is_on.ids moves in
+          payload_at f.settings.codec f.ids n (ids_at (offsets_since since) k) p.payload (is_fixed f kept) (picture_is ids kept_index) ids.tl0
 
       -- a packet of the source is written
       written_out : (now sent high' : ℕ) (t : Forward) (bytes : List ℕ) → Kept f → placed f.numbers n true ≡ places.Sent sent → bytes ≡ packet_bytes (next_packet f sent p) → t.settings ≡ f.settings
@@ -381,11 +523,12 @@ module _ (ssrc low : ℕ) where
             packet = p;
             there = there;
             reads = reads;
-            is = written ∙ ap packet_bytes (under f.settings (offsets_for f.settings.codec f.ids n) _ _ _ _ (kept _) place.0 refl);
+            is = written ∙ ap packet_bytes
+                (under f.settings (offsets_for f.settings.codec f.ids n) (ids_at (offsets_since since) k) _ _ _ _ (payload_is steady refl kept place.1) place.0 refl);
           } in
-          out_later since high' high' f t gone gone datagrams (old ++ bytes ∷ []) (ks ++ k ∷ []) (omega arith) settings times (λ j l. (refl, refl))
+          out_later since since high' high' f t gone gone datagrams (old ++ bytes ∷ []) (ks ++ k ∷ []) (omega arith) refl refl (sym settings) (sym times) (λ j l. (refl, refl, refl))
           (out_append since high' f gone datagrams old ks (bytes ∷ []) (k ∷ [])
-          (out_later since high high' f f gone gone datagrams old ks up refl refl (λ j l. (refl, refl)) out)
+          (out_later since since high high' f f gone gone datagrams old ks up refl refl refl refl (λ j l. (refl, refl, refl)) out)
           (one, tt))
 
       written_turn : (now sent : ℕ) (t : Forward) (bytes : List ℕ) → Kept f → placed f.numbers n true ≡ places.Sent sent → bytes ≡ packet_bytes (next_packet f sent p) → t ≡ after_next now p f
@@ -393,6 +536,10 @@ module _ (ssrc low : ℕ) where
       written_turn now sent t bytes kept placed_is written is =
           subst (λ (x : Forward). Turned k d (on since high) f gone later x gone (bytes ∷ []) (k ∷ [])) (sym is) (by (order n f.numbers.highest))
         where
+          ids_next : IdsHold since f.ids gone → IdsHold since (after_next now p f).ids gone
+          ids_next =
+              ids_same since f.ids (after_next now p f).ids gone (ids_stay (ltb f.numbers.highest n) f.settings.codec n p.payload f.ids) (left_stay (ltb f.numbers.highest n) f.settings.codec n p.payload f.ids)
+
           below_top : n ≤ f.numbers.highest → Turned k d (on since high) f gone later (after_next now p f) gone (bytes ∷ []) (k ∷ [])
           below_top l =
               let map_same : after_packet n true f.numbers ≡ f.numbers = low_same f.numbers n true l in
@@ -415,10 +562,12 @@ module _ (ssrc low : ℕ) where
                   falls = is_on.falls;
                   within = is_on.within;
                   above = is_on.above;
+                  ids = λ moves. ids_next (is_on.ids moves);
+                  pictures = is_on.pictures;
                 };
                 near = near_low (index_low l);
                 settings = refl;
-                agrees = λ number e all agrees. agrees;
+                agrees = λ o e all agrees. agrees;
                 out = written_out now sent high (after_next now p f) bytes kept placed_is written refl refl (omega arith) (index_low l);
               }
 
@@ -446,10 +595,12 @@ module _ (ssrc low : ℕ) where
                   falls = is_on.falls;
                   within = all_below_less (suc high) (suc k) gone (omega (arith, up)) is_on.within;
                   above = is_on.above;
+                  ids = λ moves. ids_next (is_on.ids moves);
+                  pictures = all_below_less (suc high) (suc k) since.pictures (omega (arith, up)) is_on.pictures;
                 };
                 near = near_high up;
                 settings = refl;
-                agrees = λ number e all agrees. (agrees.0, agrees.1, agrees.2, λ j within. agrees.3 j (omega (arith, within, up)));
+                agrees = λ o e all agrees. (agrees.0, agrees.1, agrees.2, agrees.3, λ j within. agrees.4 j (omega (arith, within, up)));
                 out = written_out now sent k (after_next now p f) bytes kept placed_is written refl refl (omega (arith, up)) (omega arith);
               }
 
@@ -458,18 +609,21 @@ module _ (ssrc low : ℕ) where
           by (same l) = below_top (omega (arith, l))
           by (more l) = above_top l
 
-      -- a packet above all others is left out
-      left_turn : (t y : Forward) → f.numbers.highest < n → y.settings ≡ f.settings → y.source ≡ f.source → y.times ≡ f.times → y.numbers ≡ after_packet n false f.numbers → t ≡ y
+      -- a packet above all others is left out; these are the pictures after it
+      left_turn : (ps : List ℕ) (t y : Forward) → f.numbers.highest < n → y.settings ≡ f.settings → y.source ≡ f.source → y.times ≡ f.times → y.numbers ≡ after_packet n false f.numbers → t ≡ y
+          → (steady ≡ false → IdsHold (record since { pictures = ps }) y.ids (k ∷ gone)) → AllBelow (suc k) ps → ((j : ℕ) → j ≤ high → below j ps ≡ below j since.pictures)
           → Turned k d (on since high) f gone later t (k ∷ gone) [] []
-      left_turn t y l settings source times numbers is =
+      left_turn ps t y l settings source times numbers is ids low_pictures pictures =
           let up : high < k = index_high l in
           let map_is : y.numbers ≡ closed n f.numbers = numbers ∙ top_left f.numbers n is_on.top l in
           let over : is_on.highest < n = omega (arith, l, is_on.highest_is) in
           let top = left_top f.numbers n is_on.top l in
-          let higher : (j : ℕ) → j ≤ high → (is_in j (k ∷ gone) ≡ is_in j gone) × (below j (k ∷ gone) ≡ below j gone) = λ j within. (in_higher j k gone (omega (arith, within, up)), below_higher j k gone (omega (arith, within, up))) in
+          let moved_since : Since = record since { pictures = ps } in
+          let higher : (j : ℕ) → j ≤ high → (is_in j (k ∷ gone) ≡ is_in j gone) × (below j (k ∷ gone) ≡ below j gone) × (below j ps ≡ below j since.pictures) =
+          λ j within. (in_higher j k gone (omega (arith, within, up)), below_higher j k gone (omega (arith, within, up)), pictures j within) in
           subst (λ (x : Forward). Turned k d (on since high) f gone later x (k ∷ gone) [] []) (sym is)
           (record {
-            next = on since k;
+            next = on moved_since k;
             holds = record {
               source = ap (λ (o : Option ℕ). is_source o ssrc) source ∙ is_on.source;
               base_is = is_on.base_is;
@@ -487,24 +641,67 @@ module _ (ssrc low : ℕ) where
               falls = (all_below_less (suc high) k gone (omega (arith, up)) is_on.within, is_on.falls);
               within = (omega arith, all_below_less (suc high) (suc k) gone (omega (arith, up)) is_on.within);
               above = (omega (arith, is_on.from, up), is_on.above);
+              ids = ids;
+              pictures = low_pictures;
             };
             near = near_high up;
             settings = settings;
-            agrees = λ number e all agrees. (
+            agrees = λ o e all agrees. (
               agrees.0,
-              agrees.1 ∙ ap (λ (x : Retiming). x.offset) times,
-              agrees.2 ∙ settings,
+              agrees.1,
+              agrees.2 ∙ ap (λ (x : Retiming). x.offset) times,
+              agrees.3 ∙ settings,
               λ j within.
-                  let later_on = agrees.3 j (omega (arith, within, up)) in
-                  (later_on.0 ∙ (higher j within).0, later_on.1 ∙ (higher j within).1),
+                  let later_on = agrees.4 j (omega (arith, within, up)) in
+                  let here = higher j within in
+                  (later_on.0 ∙ here.0, later_on.1 ∙ here.1, later_on.2 ∙ here.2),
             );
             out = λ datagrams written ks there out.
-                wrote_same (on since k) y (k ∷ gone) datagrams written ks
-                (out_later since high k f y gone (k ∷ gone) datagrams written ks (omega (arith, up)) settings (ap (λ (x : Retiming). x.offset) times) higher out);
+                wrote_same (on moved_since k) y (k ∷ gone) datagrams written ks
+                (out_later since moved_since high k f y gone (k ∷ gone) datagrams written ks (omega (arith, up)) refl refl (sym settings) (sym (ap (λ (x : Retiming). x.offset) times)) higher out);
           })
 
+      -- the map of ids after it: no picture closes
+      ids_open : high < k → IdsHold since f.ids gone → IdsHold since f.ids (k ∷ gone)
+      ids_open up ids = record {
+        falls = ids.falls;
+        among = λ j there. rw (ids.among j there) (or_true (eqb k j));
+        counts = ids.counts;
+        offset = ids.offset;
+        tl0 = ids.tl0;
+        size = omega (arith, ids.size);
+        few = ids.few;
+      }
+
+      -- or one closes
+      ids_closed : (m : Ids) → high < k → m.offsets ≡ f.ids.offsets → m.left_out ≡ n ∷ f.ids.left_out → length gone < 4096 → IdsHold since f.ids gone → IdsHold (record since { pictures = k ∷ since.pictures }) m (k ∷ gone)
+      ids_closed m up offsets left room ids = record {
+        falls = (all_below_less (suc high) k since.pictures (omega (arith, up)) is_on.pictures, ids.falls);
+        among = λ j there. among_more j there;
+        counts = λ x j same_index. ap (λ (xs : List ℕ). length xs - above x xs) left ∙ counts_more x j same_index (order n x);
+        offset = ap (λ (o : IdOffsets). o.picture % 65536) offsets ∙ ids.offset;
+        tl0 = ap (λ (o : IdOffsets). o.tl0) offsets ∙ ids.tl0;
+        size = subst (λ (xs : List ℕ). length xs ≤ suc (length gone)) (sym left) (omega (arith, ids.size));
+        few = subst (λ (xs : List ℕ). length xs ≤ 4096) (sym left) (omega (arith, ids.size, room));
+      }
+        where
+          among_more : (j : ℕ) → is_in j (k ∷ since.pictures) ≡ true → is_in j (k ∷ gone) ≡ true
+          among_more j there = by (eqb k j) refl
+            where
+              by : (b : Bool) → eqb k j ≡ b → is_in j (k ∷ gone) ≡ true
+              by true e = rw e refl
+              by false e = rw e (ids.among j (subst (λ (b : Bool). (b || is_in j since.pictures) ≡ true) e there))
+
+          counts_more : (x j : ℕ) → x + since.begin ≡ j + since.base → Order n x → length (n ∷ f.ids.left_out) - above x (n ∷ f.ids.left_out) ≡ below (j + 1) (k ∷ since.pictures)
+          counts_more x j same_index (less l) =
+              rw (le-ltb x n (omega (arith, l)), below_more (j + 1) k since.pictures (omega (arith, l, n_is, same_index))) (omega (arith, ids.counts x j same_index, above_few x f.ids.left_out))
+          counts_more x j same_index (same l) =
+              rw (le-ltb x n (omega (arith, l)), below_more (j + 1) k since.pictures (omega (arith, l, n_is, same_index))) (omega (arith, ids.counts x j same_index, above_few x f.ids.left_out))
+          counts_more x j same_index (more l) =
+              rw (lt-ltb x n l, below_same (j + 1) k since.pictures (omega (arith, l, n_is, same_index))) (omega (arith, ids.counts x j same_index))
+
     -- any datagram that is to be forwarded
-    pub forward_turn : (now : ℕ) (answer : Forwarded) (bytes : List ℕ) (st : Stage) (f t : Forward) (gone later : List ℕ) → Kept f → Holds ssrc low st f gone → Forwards now p f answer bytes t
+    pub forward_turn : (now : ℕ) (answer : Forwarded) (bytes : List ℕ) (st : Stage) (f t : Forward) (gone later : List ℕ) → Kept f → Holds ssrc low steady st f gone → Forwards now p f answer bytes t
         → AreNear st (came_by answer k ++ later) → Turned k d st f gone later t gone (written_by answer bytes) (forwarded_by answer k)
     forward_turn now answers.Began bytes off f t gone later kept holds does near =
         subst (λ (xs : List ℕ). Turned k d off f xs later t xs (bytes ∷ []) (k ∷ [])) (sym holds.1) (begins_turn now f t bytes later kept does.0 does.3.0 does.4 near)
@@ -526,7 +723,7 @@ module _ (ssrc low : ℕ) where
     forward_turn now answers.Filled bytes (on since high) f t gone later kept holds does near = absurd does
 
     -- a datagram that was left out before
-    again_turn : (since : Since) (high : ℕ) (f t : Forward) (gone later : List ℕ) → (holds : IsOn ssrc low since high f gone) → AreNear (on since high) (k ∷ later)
+    again_turn : (since : Since) (high : ℕ) (f t : Forward) (gone later : List ℕ) → (holds : IsOn ssrc low steady since high f gone) → AreNear (on since high) (k ∷ later)
         → placed f.numbers (number_in f p) true ≡ places.LeftOut → t ≡ f → Turned k d (on since high) f gone later t (gone_by answers.LeftOut k gone) [] []
     again_turn since high f t gone later holds near is stay =
         let left = left_young f.numbers (number_in f p) is in
@@ -534,32 +731,56 @@ module _ (ssrc low : ℕ) where
         rw here (stays_turn since high f gone later holds near t (left_low f.numbers (number_in f p) holds.top left.1) stay)
 
     -- a datagram above all others
-    ahead_turn : (since : Since) (high : ℕ) (f t y : Forward) (gone later : List ℕ) → (holds : IsOn ssrc low since high f gone) → AreNear (on since high) (k ∷ later)
-        → f.numbers.highest < number_in f p → y.settings ≡ f.settings → y.source ≡ f.source → y.times ≡ f.times → y.numbers ≡ after_packet (number_in f p) false f.numbers → t ≡ y
+    ahead_turn : (since : Since) (high : ℕ) (f t : Forward) (gone later : List ℕ) → (holds : IsOn ssrc low steady since high f gone) → AreNear (on since high) (k ∷ later)
+        → (steady ≡ false → length (gone_by answers.LeftOut k gone) ≤ 4096) → f.numbers.highest < number_in f p
+        → t ≡ record f { numbers = after_packet (number_in f p) false f.numbers; ids = ids_left f.settings.codec (number_in f p) p.payload f.ids }
         → Turned k d (on since high) f gone later t (gone_by answers.LeftOut k gone) [] []
-    ahead_turn since high f t y gone later holds near l settings source times numbers after =
+    ahead_turn since high f t gone later holds near room l after =
         let up : high < k = index_high since high f gone later holds near l in
         let here : is_in k gone ≡ false = not_in k gone (all_below_less (suc high) k gone (omega (arith, up)) holds.within) in
-        rw here (left_turn since high f gone later holds near t y l settings source times numbers after)
+        let few_gone : steady ≡ false → length (k ∷ gone) ≤ 4096 = λ moves. subst (λ (b : Bool). length (cond b gone (k ∷ gone)) ≤ 4096) here (room moves) in
+        rw here (by (id_to_leave f.ids (number_in f p) (closing_id f.settings.codec p.payload)) refl steady refl up few_gone)
+      where
+        by : (o : Option ℕ) → id_to_leave f.ids (number_in f p) (closing_id f.settings.codec p.payload) ≡ o → (b : Bool) → steady ≡ b → high < k → (steady ≡ false → length (k ∷ gone) ≤ 4096)
+            → Turned k d (on since high) f gone later t (k ∷ gone) [] []
+        by None e b is up few_gone =
+            let ids : ids_left f.settings.codec (number_in f p) p.payload f.ids ≡ f.ids = ap (λ (o : Option ℕ). picture_closed (number_in f p) o f.ids) e in
+            left_turn since high f gone later holds near since.pictures t (record f { numbers = after_packet (number_in f p) false f.numbers; ids = f.ids }) l refl refl refl refl
+            (after ∙ ap (λ (m : Ids). record f { numbers = after_packet (number_in f p) false f.numbers; ids = m }) ids) (λ moves. ids_open since high f gone later holds near up (holds.ids moves))
+            (all_below_less (suc high) (suc k) since.pictures (omega (arith, up)) holds.pictures) (λ j within. refl)
+        by (Some id) e true plain up few_gone =
+            left_turn since high f gone later holds near since.pictures t (record f { numbers = after_packet (number_in f p) false f.numbers; ids = ids_left f.settings.codec (number_in f p) p.payload f.ids }) l refl refl refl refl
+            after (λ moves. absurd (let no : true ≡ false = sym plain ∙ moves in cc))
+            (all_below_less (suc high) (suc k) since.pictures (omega (arith, up)) holds.pictures) (λ j within. refl)
+        by (Some id) e false moves up few_gone =
+            let hold : IdsHold since f.ids gone = holds.ids moves in
+            let room_left : ltb (length f.ids.left_out) 4096 ≡ true = lt-ltb (length f.ids.left_out) 4096 (omega (arith, hold.size, few_gone moves)) in
+            let next : Ids = record f.ids { left_out = number_in f p ∷ f.ids.left_out; leaving = Some id } in
+            let ids : ids_left f.settings.codec (number_in f p) p.payload f.ids ≡ next = ap (λ (o : Option ℕ). picture_closed (number_in f p) o f.ids) e ∙ rw room_left refl in
+            left_turn since high f gone later holds near (k ∷ since.pictures) t (record f { numbers = after_packet (number_in f p) false f.numbers; ids = next }) l refl refl refl refl
+            (after ∙ ap (λ (m : Ids). record f { numbers = after_packet (number_in f p) false f.numbers; ids = m }) ids)
+            (λ moves. ids_closed since high f gone later holds near next up refl refl (omega (arith, few_gone moves)) (holds.ids moves))
+            (omega arith, all_below_less (suc high) (suc k) since.pictures (omega (arith, up)) holds.pictures) (λ j within. below_higher j k since.pictures (omega (arith, within, up)))
 
     -- any datagram that is to be left out, and comes in time
-    pub leave_turn : (answer : Forwarded) (bytes : List ℕ) (st : Stage) (f t : Forward) (gone later : List ℕ) → fills answer ≡ false → Holds ssrc low st f gone → Leaves p f answer bytes t
+    pub leave_turn : (answer : Forwarded) (bytes : List ℕ) (st : Stage) (f t : Forward) (gone later : List ℕ) → fills answer ≡ false → (steady ≡ false → length (gone_by answer k gone) ≤ 4096)
+        → Holds ssrc low steady st f gone → Leaves p f answer bytes t
         → AreNear st (came_by answer k ++ later) → Turned k d st f gone later t (gone_by answer k gone) (filled_by answer bytes) []
-    leave_turn answers.Began bytes st f t gone later none holds does near = absurd does
-    leave_turn answers.Written bytes st f t gone later none holds does near = absurd does
-    leave_turn answers.NoKeyframe bytes st f t gone later none holds does near = absurd does
-    leave_turn answers.Filled bytes st f t gone later none holds does near = absurd (cc)
-    leave_turn answers.OtherSource bytes off f t gone later none holds does near = quiet off f t gone later does.1.1 holds near
-    leave_turn answers.TooOld bytes off f t gone later none holds does near = absurd (clash_off f does.0 holds.0)
-    leave_turn answers.LeftOut bytes off f t gone later none holds does near = absurd (clash_off f does.0 holds.0)
-    leave_turn answers.OtherSource bytes (on since high) f t gone later none holds does near = absurd (clash f does.0 holds.source)
-    leave_turn answers.TooOld bytes (on since high) f t gone later none holds does near =
+    leave_turn answers.Began bytes st f t gone later none room holds does near = absurd does
+    leave_turn answers.Written bytes st f t gone later none room holds does near = absurd does
+    leave_turn answers.NoKeyframe bytes st f t gone later none room holds does near = absurd does
+    leave_turn answers.Filled bytes st f t gone later none room holds does near = absurd (cc)
+    leave_turn answers.OtherSource bytes off f t gone later none room holds does near = quiet off f t gone later does.1.1 holds near
+    leave_turn answers.TooOld bytes off f t gone later none room holds does near = absurd (clash_off f does.0 holds.0)
+    leave_turn answers.LeftOut bytes off f t gone later none room holds does near = absurd (clash_off f does.0 holds.0)
+    leave_turn answers.OtherSource bytes (on since high) f t gone later none room holds does near = absurd (clash f does.0 holds.source)
+    leave_turn answers.TooOld bytes (on since high) f t gone later none room holds does near =
         stays_turn since high f gone later holds near t (old_low f.numbers (number_in f p) holds.top (placed_old f.numbers (number_in f p) does.1)) does.2.1
-    leave_turn answers.LeftOut bytes (on since high) f t gone later none holds does near = by does.2
+    leave_turn answers.LeftOut bytes (on since high) f t gone later none room holds does near = by does.2
       where
         by : ((placed f.numbers (number_in f p) true ≡ places.LeftOut) × (t ≡ f))
             ⊎ ((f.numbers.highest < number_in f p)
             × (t ≡ record f { numbers = after_packet (number_in f p) false f.numbers; ids = ids_left f.settings.codec (number_in f p) p.payload f.ids }))
             → Turned k d (on since high) f gone later t (gone_by answers.LeftOut k gone) [] []
         by (inl is) = again_turn since high f t gone later holds near is.0 is.1
-        by (inr is) = ahead_turn since high f t (record f { numbers = after_packet (number_in f p) false f.numbers; ids = ids_left f.settings.codec (number_in f p) p.payload f.ids }) gone later holds near is.0 refl refl refl refl is.1
+        by (inr is) = ahead_turn since high f t gone later holds near room is.0 is.1

@@ -1,12 +1,12 @@
 -- What happens in a run whose forwarder leaves whole frames out, from the first step to the last.
-use Rattle.std.proofs.Common.{◌≡◌, ◌∙◌, refl, sym, ap, subst, ℕ, zero, suc, ◌+◌, ◌%◌, ◌^◌, ◌<◌, List, [], ◌∷◌, ◌++◌, append-nil, Bool, true, false, Option, Some, None, MatchOption, Result, Ok, length, map, arith, length-append}
+use Rattle.std.proofs.Common.{◌≡◌, ◌∙◌, refl, sym, ap, subst, ℕ, zero, suc, cond, ◌+◌, ◌%◌, ◌^◌, ◌<◌, ◌≤◌, List, [], ◌∷◌, ◌++◌, append-nil, Bool, true, false, Option, Some, None, MatchOption, Result, Ok, length, map, arith, length-append}
 use Rattle.std.specs.Prelude.{slice_get, slice_index_or}
 use Rattle.std.proofs.lemmas.Option.{same_Some, slice_get_within}
 use Rattle.codec_payload_base.specs.declared.error.PacketError.{PacketError}
 use Rattle.codec_payload_base.specs.declared.wire.Codec.{Codec}
 use Rattle.codec_payload_base.specs.declared.wire.Codec.TheVariants as codecs
 use Rattle.codec_payload_base.specs.declared.wire.Ticks.{Ticks}
-use Rattle.codec_payload_codec.specs.Packetizers.{PacketizerState, is_built_in}
+use Rattle.codec_payload_codec.specs.Packetizers.{PacketizerState, PacketizerStep, is_built_in}
 use Rattle.codec_payload_payloader.specs.Sending.{Sample}
 use Rattle.codec_payload_receiver.specs.Sessions.{Session}
 use Rattle.codec_payload_rtp.specs.RtpPackets.{Packet}
@@ -14,8 +14,9 @@ use Rattle.codec_payload_rtp.specs.RtpReading.{rtp_at}
 use Rattle.codec_payload_rtp.specs.declared.rtp.RtpError.{RtpError}
 use Rattle.codec_payload_sending.specs.Senders.{Sending, Sends}
 use Rattle.codec_payload_sending_forward.specs.Forwarding.{Forward, payload_for}
-use Rattle.codec_payload_sending_forward.specs.Numbers.{Falls}
+use Rattle.codec_payload_sending_forward.specs.Numbers.{Falls, is_in}
 use Rattle.codec_payload_sending_forward.specs.declared.forwarder.Forwarded.{Forwarded}
+use Rattle.codec_payload_sending_forward.specs.declared.forwarder.Forwarded.TheVariants as answers
 use Rattle.codec_payload_sending_forward.specs.declared.forwarder.ForwardSettings.{ForwardSettings}
 use Rattle.codec_payload_sending_forward.specs.declared.ids.IdOffsets.{IdOffsets}
 use Rattle.codec_payload_datagram_runs.specs.WireRuns.{Delivers, Receipt, SendsOrRefuses, Wire, sent_sample}
@@ -25,12 +26,12 @@ use Rattle.codec_payload_datagram_runs.specs.declared.run.SentSample.{SentSample
 use Rattle.codec_payload_forward_runs.proofs.KeptPayloads.{IsKept}
 use Rattle.codec_payload_forward_runs.proofs.LeaveCourses.{Beside, Leads, deliver_leads, end_leads, places_append, pop_leads, same_leads, send_leads, seen_by, wrote_more}
 use Rattle.codec_payload_forward_runs.proofs.LeaveEvents.{DoesDeliver, DoesForward, DoesLeave, DoesSend, Happens}
-use Rattle.codec_payload_forward_runs.proofs.LeaveNumbers.{Agrees, AreNear, Holds, Stage, Turned, Wrote, forward_turn, leave_turn}
+use Rattle.codec_payload_forward_runs.proofs.LeaveNumbers.{Agrees, AreNear, Holds, Stage, Turned, Wrote, forward_turn, is_moved, leave_turn}
 use Rattle.codec_payload_forward_runs.proofs.LeaveSenders.{IsBeside, own_stays}
 use Rattle.codec_payload_forward_runs.proofs.SourceLemmas.{IsDatagramOf, IsSource, of_at, source_after}
 use Rattle.codec_payload_forward_runs.specs.ForwardReleases.{forwarded_by}
 use Rattle.codec_payload_forward_runs.specs.ForwardRuns.{DoesPlain, Hops, written_by}
-use Rattle.codec_payload_forward_runs.specs.LeaveReleases.{AreWhole, Event, NoneFilled, came, came_by, closed, count_of, delivers, ends, fills, forwards, gone_by, gone_in, kept_sends, kept_steps, leaves, leaves_sample, place_of, pops, sends, sends_no_ids}
+use Rattle.codec_payload_forward_runs.specs.LeaveReleases.{AreWhole, Event, NoneFilled, Offsets, came, came_by, closed, count_of, delivers, ends, fills, forwards, gone_by, gone_in, kept_sends, kept_steps, leaves, leaves_sample, place_of, pops, sends, sends_no_ids}
 use Rattle.codec_payload_forward_runs.specs.LeaveRuns.{filled_by}
 
 -- Numbers of datagrams
@@ -68,11 +69,6 @@ sent_numbers sample s t low is made =
 
 -- Payloads that a forwarder does not change
 
--- the codec is not VP9
-abbrev pub is_moved : Codec → Bool
-is_moved codecs.Vp9 = true
-is_moved codec = false
-
 pub stays_same : (codec : Codec) (o : IdOffsets) (payload : List ℕ) → is_moved codec ≡ false → IsKept codec payload → payload_for codec o payload ≡ payload
 stays_same codecs.Vp8 o payload fixed kept = kept o
 stays_same codecs.Vp9 o payload fixed kept = absurd (cc)
@@ -94,11 +90,35 @@ stays_same codecs.Unknown o payload fixed kept = refl
 
 -- Whole runs
 
-module _ (ssrc rate low : ℕ) (codec : Codec) (fixed : is_moved codec ≡ false) (packetizer : PacketizerState) (built : is_built_in packetizer ≡ true) (no_ids : sends_no_ids packetizer ≡ true) (samples : List Sample) where
+left_grows : (b : Bool) (k : ℕ) (gone : List ℕ) → length gone ≤ length (cond b gone (k ∷ gone))
+left_grows true k gone = omega arith
+left_grows false k gone = omega arith
+
+one_grows : (answer : Forwarded) (k : ℕ) (gone : List ℕ) → length gone ≤ length (gone_by answer k gone)
+one_grows answers.Began k gone = omega arith
+one_grows answers.Written k gone = omega arith
+one_grows answers.NoKeyframe k gone = omega arith
+one_grows answers.OtherSource k gone = omega arith
+one_grows answers.TooOld k gone = omega arith
+one_grows answers.LeftOut k gone = left_grows (is_in k gone) k gone
+one_grows answers.Filled k gone = omega arith
+
+-- what was left out stays left out
+pub gone_grows : (all_events : List Event) (gone : List ℕ) → length gone ≤ length (gone_in gone all_events)
+gone_grows [] gone = omega arith
+gone_grows (sends i entry ∷ later) gone = gone_grows later gone
+gone_grows (forwards k answer ∷ later) gone = gone_grows later gone
+gone_grows (leaves k answer ∷ later) gone = omega (arith, one_grows answer k gone, gone_grows later (gone_by answer k gone))
+gone_grows (delivers j now ∷ later) gone = gone_grows later gone
+gone_grows (pops now ∷ later) gone = gone_grows later gone
+gone_grows (ends ∷ later) gone = gone_grows later gone
+
+module _ (ssrc rate low : ℕ) (codec : Codec) (fixed : is_moved codec ≡ false) (steady : Bool) (packetizer : PacketizerState) (no_ids : is_built_in packetizer ≡ true → sends_no_ids packetizer ≡ true)
+    (samples : List Sample) where
   -- a state of the run
   pub record IsBase (s : Hops) : Type 0 where
-    pub source : IsSource ssrc rate codec true true s.wire.sending s.wire.datagrams
-    pub own : s.wire.sending.packetizer ≡ packetizer
+    pub source : IsSource ssrc rate codec true steady s.wire.sending s.wire.datagrams
+    pub own : is_built_in packetizer ≡ true → s.wire.sending.packetizer ≡ packetizer
     pub next : s.wire.sending.stream.number % 65536 ≡ (low + length s.wire.datagrams) % 65536
     pub numbers : HaveNumbers low s.wire.datagrams
     pub few : length s.wire.datagrams < 2 ^ 63
@@ -107,9 +127,9 @@ module _ (ssrc rate low : ℕ) (codec : Codec) (fixed : is_moved codec ≡ false
   -- the receiver's steps leave it
   base_same : (s mid : Hops) → IsBase s → mid.wire.sending ≡ s.wire.sending → mid.wire.datagrams ≡ s.wire.datagrams → mid.forwarder.settings ≡ s.forwarder.settings → IsBase mid
   base_same s mid base sending datagrams settings = record {
-    source = subst (λ (ds : List (List ℕ)). IsSource ssrc rate codec true true mid.wire.sending ds) (sym datagrams)
-        (subst (λ (x : Sending). IsSource ssrc rate codec true true x s.wire.datagrams) (sym sending) base.source);
-    own = ap (λ (x : Sending). x.packetizer) sending ∙ base.own;
+    source = subst (λ (ds : List (List ℕ)). IsSource ssrc rate codec true steady mid.wire.sending ds) (sym datagrams)
+        (subst (λ (x : Sending). IsSource ssrc rate codec true steady x s.wire.datagrams) (sym sending) base.source);
+    own = λ built. ap (λ (x : Sending). x.packetizer) sending ∙ base.own built;
     next = ap (λ (x : Sending). x.stream.number % 65536) sending ∙ (base.next ∙ ap (λ (ds : List (List ℕ)). (low + length ds) % 65536) (sym datagrams));
     numbers = subst (HaveNumbers low) (sym datagrams) base.numbers;
     few = subst (λ (ds : List (List ℕ)). length ds < 2 ^ 63) (sym datagrams) base.few;
@@ -135,8 +155,8 @@ module _ (ssrc rate low : ℕ) (codec : Codec) (fixed : is_moved codec ≡ false
       let all : mid.wire.datagrams ≡ s.wire.datagrams ++ mid.wire.sending.datagrams = does.0.gained in
       let wire : mid.wire ≡ record s.wire { sending = mid.wire.sending; datagrams = mid.wire.datagrams; sends = s.wire.sends ++ entry ∷ [] } = ap (λ (x : Hops). x.wire) does.1 in
       record {
-        source = source_after ssrc rate codec true true samples i s.wire mid.wire base.source (rw is (entry, does.0, wire));
-        own = (own_stays packetizer built no_ids sample s.wire.sending mid.wire.sending entry.fault base.own does.0.sends).0;
+        source = source_after ssrc rate codec true steady samples i s.wire mid.wire base.source (rw is (entry, does.0, wire));
+        own = λ built. own_stays packetizer built (no_ids built) sample s.wire.sending mid.wire.sending entry.fault (base.own built) does.0.sends;
         next = next.0 ∙ ap (λ (n : ℕ). (low + n) % 65536) (sym (ap length all ∙ length-append s.wire.datagrams mid.wire.sending.datagrams));
         numbers = subst (HaveNumbers low) (sym all) (numbers_append low s.wire.datagrams mid.wire.sending.datagrams base.numbers next.1);
         few = does.0.few;
@@ -146,43 +166,46 @@ module _ (ssrc rate low : ℕ) (codec : Codec) (fixed : is_moved codec ≡ false
   -- A whole run
 
   -- what is known of the forwarder after the run by which these packets are known
-  pub record IsFinal (number : ℕ) (e : Forward) (all : List ℕ) : Type 0 where
+  pub record IsFinal (o : Offsets) (e : Forward) (all : List ℕ) : Type 0 where
     pub fits_type : e.settings.payload_type < 128
     pub fits_ssrc : e.settings.ssrc < 2 ^ 32
     pub some : 0 < rate
     pub falls : Falls all
+    pub plain : is_built_in packetizer ≡ true → (mtu : ℕ) (frame : List ℕ) (payloads : List (List ℕ)) → PacketizerStep packetizer mtu frame (Ok payloads) packetizer
+        → (i : ℕ) → i < length payloads → (x : IdOffsets) → payload_for e.settings.codec x (slice_index_or payloads i []) ≡ slice_index_or payloads i []
 
-  abbrev LeadsTo : (number : ℕ) (e : Forward) (all : List ℕ) → IsFinal number e all → List Event → List ℕ → Hops → Hops → Type 0
-  LeadsTo number e all final later ks s t =
-      (v : Sending) (entries : List SentSample) → Beside e final.fits_type final.fits_ssrc rate final.some packetizer built no_ids number all final.falls samples v s
-      → Leads e final.fits_type final.fits_ssrc rate final.some packetizer built no_ids number all final.falls samples (kept_steps all (length s.wire.datagrams) (map (place_of all) ks) later) (kept_sends all (length s.wire.datagrams) later) s t v entries
+  abbrev LeadsTo : (o : Offsets) (e : Forward) (all : List ℕ) → IsFinal o e all → List Event → List ℕ → Hops → Hops → Type 0
+  LeadsTo o e all final later ks s t =
+      (v : Sending) (entries : List SentSample) → Beside e final.fits_type final.fits_ssrc rate final.some o packetizer no_ids final.plain all final.falls samples v s
+      → Leads e final.fits_type final.fits_ssrc rate final.some o packetizer no_ids final.plain all final.falls samples
+      (kept_steps all (length s.wire.datagrams) (map (place_of all) ks) later) (kept_sends all (length s.wire.datagrams) later) s t v entries
 
   pub record Walks (later : List Event) (s t : Hops) (st : Stage) (gone ks : List ℕ) : Type 0 where
     pub end : Stage
-    pub holds : Holds ssrc low end t.forwarder (gone_in gone later)
+    pub holds : Holds ssrc low steady end t.forwarder (gone_in gone later)
     pub settings : t.forwarder.settings ≡ s.forwarder.settings
-    pub course : (number : ℕ) (e : Forward) (all : List ℕ) (final : IsFinal number e all) → Agrees number e all end t.forwarder (gone_in gone later) → AreWhole all (length s.wire.datagrams) later
-        → Agrees number e all st s.forwarder gone × LeadsTo number e all final later ks s t
+    pub course : (o : Offsets) (e : Forward) (all : List ℕ) (final : IsFinal o e all) → Agrees o e all end t.forwarder (gone_in gone later) → AreWhole all (length s.wire.datagrams) later
+        → Agrees o e all st s.forwarder gone × LeadsTo o e all final later ks s t
 
   -- One event: what is known after it is known before it, and its steps lead to those after it
   pub record OneWalk (event : Event) (s mid : Hops) (st next : Stage) (gone further ks js : List ℕ) : Type 0 where
     pub settings : mid.forwarder.settings ≡ s.forwarder.settings
     pub whole : (all : List ℕ) (later : List Event) → AreWhole all (length s.wire.datagrams) (event ∷ later) → AreWhole all (length mid.wire.datagrams) later
-    pub known : (number : ℕ) (e : Forward) (all : List ℕ) → Agrees number e all next mid.forwarder further → Agrees number e all st s.forwarder gone
-    pub leads : (number : ℕ) (e : Forward) (all : List ℕ) (final : IsFinal number e all) (later : List Event) (t : Hops) → Agrees number e all st s.forwarder gone
-        → AreWhole all (length s.wire.datagrams) (event ∷ later) → LeadsTo number e all final later js mid t → LeadsTo number e all final (event ∷ later) ks s t
+    pub known : (o : Offsets) (e : Forward) (all : List ℕ) → Agrees o e all next mid.forwarder further → Agrees o e all st s.forwarder gone
+    pub leads : (o : Offsets) (e : Forward) (all : List ℕ) (final : IsFinal o e all) (later : List Event) (t : Hops) → Agrees o e all st s.forwarder gone
+        → AreWhole all (length s.wire.datagrams) (event ∷ later) → LeadsTo o e all final later js mid t → LeadsTo o e all final (event ∷ later) ks s t
 
   first_walks : (event : Event) (later : List Event) (s mid t : Hops) (st next : Stage) (gone further ks js : List ℕ) → gone_in gone (event ∷ later) ≡ gone_in further later
       → OneWalk event s mid st next gone further ks js → Walks later mid t next further js → Walks (event ∷ later) s t st gone ks
   first_walks event later s mid t st next gone further ks js gone_is one rest = record {
     end = rest.end;
-    holds = subst (λ (xs : List ℕ). Holds ssrc low rest.end t.forwarder xs) (sym gone_is) rest.holds;
+    holds = subst (λ (xs : List ℕ). Holds ssrc low steady rest.end t.forwarder xs) (sym gone_is) rest.holds;
     settings = rest.settings ∙ one.settings;
-    course = λ number e all final agrees whole.
-        let at_end : Agrees number e all rest.end t.forwarder (gone_in further later) = subst (λ (xs : List ℕ). Agrees number e all rest.end t.forwarder xs) gone_is agrees in
-        let c = rest.course number e all final at_end (one.whole all later whole) in
-        let here : Agrees number e all st s.forwarder gone = one.known number e all c.0 in
-        (here, one.leads number e all final later t here whole c.1);
+    course = λ o e all final agrees whole.
+        let at_end : Agrees o e all rest.end t.forwarder (gone_in further later) = subst (λ (xs : List ℕ). Agrees o e all rest.end t.forwarder xs) gone_is agrees in
+        let c = rest.course o e all final at_end (one.whole all later whole) in
+        let here : Agrees o e all st s.forwarder gone = one.known o e all c.0 in
+        (here, one.leads o e all final later t here whole c.1);
   }
 
   -- A sample
@@ -206,62 +229,62 @@ module _ (ssrc rate low : ℕ) (codec : Codec) (fixed : is_moved codec ≡ false
       record {
         settings = ap (λ (x : Forward). x.settings) stays.0;
         whole = λ all later whole. subst (λ (n : ℕ). AreWhole all n later) (sym count) whole.1;
-        known = λ number e all agrees. subst (λ (x : Forward). Agrees number e all st x gone) stays.0 agrees;
-        leads = λ number e all final later t agrees whole rest v entries beside.
-            send_leads e final.fits_type final.fits_ssrc rate final.some packetizer built no_ids number all final.falls samples i (slice_get samples i) entry
+        known = λ o e all agrees. subst (λ (x : Forward). Agrees o e all st x gone) stays.0 agrees;
+        leads = λ o e all final later t agrees whole rest v entries beside.
+            send_leads e final.fits_type final.fits_ssrc rate final.some o packetizer no_ids final.plain all final.falls samples i (slice_get samples i) entry
             (leaves_sample all (length s.wire.datagrams) (count_of entry)) s mid t v entries
             (kept_steps all (length s.wire.datagrams + count_of entry) (map (place_of all) ks) later) (kept_sends all (length s.wire.datagrams + count_of entry) later)
             refl refl whole.0 base.own base.source.clock beside does
             (λ w es next.
             subst (λ (n : ℕ).
-            Leads e final.fits_type final.fits_ssrc rate final.some packetizer built no_ids number all final.falls samples (kept_steps all n (map (place_of all) ks) later) (kept_sends all n later) mid t w es)
+            Leads e final.fits_type final.fits_ssrc rate final.some o packetizer no_ids final.plain all final.falls samples (kept_steps all n (map (place_of all) ks) later) (kept_sends all n later) mid t w es)
             count (rest w es next));
       }
 
   -- A datagram that comes to the forwarder
 
   -- the receiver sees nothing of it
-  quiet_leads : (number : ℕ) (e : Forward) (all : List ℕ) (final : IsFinal number e all) (all_steps : List DatagramStep) (entries more : List SentSample) (s mid t : Hops) (v : Sending) → mid.wire ≡ s.wire
-      → Beside e final.fits_type final.fits_ssrc rate final.some packetizer built no_ids number all final.falls samples v s
-      → (Beside e final.fits_type final.fits_ssrc rate final.some packetizer built no_ids number all final.falls samples v mid
-      → Leads e final.fits_type final.fits_ssrc rate final.some packetizer built no_ids number all final.falls samples all_steps more mid t v entries)
-      → Leads e final.fits_type final.fits_ssrc rate final.some packetizer built no_ids number all final.falls samples all_steps more s t v entries
-  quiet_leads number e all final all_steps entries more s mid t v wire beside rest =
-      same_leads e final.fits_type final.fits_ssrc rate final.some packetizer built no_ids number all final.falls samples all_steps more s mid t v entries
-      (ap (λ (w : Wire). record w { sending = v; datagrams = closed e all 0 number w.datagrams; sends = entries }) wire)
-      (rest (subst (λ (w : Wire). IsBeside e final.fits_type final.fits_ssrc rate final.some packetizer built no_ids number all v w.sending w.datagrams) (sym wire) beside))
+  quiet_leads : (o : Offsets) (e : Forward) (all : List ℕ) (final : IsFinal o e all) (all_steps : List DatagramStep) (entries more : List SentSample) (s mid t : Hops) (v : Sending) → mid.wire ≡ s.wire
+      → Beside e final.fits_type final.fits_ssrc rate final.some o packetizer no_ids final.plain all final.falls samples v s
+      → (Beside e final.fits_type final.fits_ssrc rate final.some o packetizer no_ids final.plain all final.falls samples v mid
+      → Leads e final.fits_type final.fits_ssrc rate final.some o packetizer no_ids final.plain all final.falls samples all_steps more mid t v entries)
+      → Leads e final.fits_type final.fits_ssrc rate final.some o packetizer no_ids final.plain all final.falls samples all_steps more s t v entries
+  quiet_leads o e all final all_steps entries more s mid t v wire beside rest =
+      same_leads e final.fits_type final.fits_ssrc rate final.some o packetizer no_ids final.plain all final.falls samples all_steps more s mid t v entries
+      (ap (λ (w : Wire). record w { sending = v; datagrams = closed e o all 0 o.number w.datagrams; sends = entries }) wire)
+      (rest (subst (λ (w : Wire). IsBeside e final.fits_type final.fits_ssrc rate final.some o packetizer no_ids final.plain all v w.sending w.datagrams) (sym wire) beside))
 
   forwards_walk : (k : ℕ) (answer : Forwarded) (s mid : Hops) (st next : Stage) (gone ks : List ℕ) → mid.wire ≡ s.wire → mid.forwarder.settings ≡ s.forwarder.settings
-      → ((number : ℕ) (e : Forward) (all : List ℕ) → Agrees number e all next mid.forwarder gone → Agrees number e all st s.forwarder gone)
+      → ((o : Offsets) (e : Forward) (all : List ℕ) → Agrees o e all next mid.forwarder gone → Agrees o e all st s.forwarder gone)
       → OneWalk (forwards k answer) s mid st next gone gone ks (ks ++ forwarded_by answer k)
   forwards_walk k answer s mid st next gone ks wire settings known = record {
     settings = settings;
     whole = λ all later whole. subst (λ (w : Wire). AreWhole all (length w.datagrams) later) (sym wire) whole;
     known = known;
-    leads = λ number e all final later t agrees whole rest v entries beside.
-        quiet_leads number e all final (kept_steps all (length s.wire.datagrams) (map (place_of all) ks ++ forwarded_by answer (place_of all k)) later) entries (kept_sends all (length s.wire.datagrams) later) s mid t v wire beside
+    leads = λ o e all final later t agrees whole rest v entries beside.
+        quiet_leads o e all final (kept_steps all (length s.wire.datagrams) (map (place_of all) ks ++ forwarded_by answer (place_of all k)) later) entries (kept_sends all (length s.wire.datagrams) later) s mid t v wire beside
         (λ next_beside.
         subst (λ (js : List ℕ).
-        Leads e final.fits_type final.fits_ssrc rate final.some packetizer built no_ids number all final.falls samples (kept_steps all (length s.wire.datagrams) js later) (kept_sends all (length s.wire.datagrams) later) mid t v entries)
+        Leads e final.fits_type final.fits_ssrc rate final.some o packetizer no_ids final.plain all final.falls samples (kept_steps all (length s.wire.datagrams) js later) (kept_sends all (length s.wire.datagrams) later) mid t v entries)
         (places_append all answer k ks)
         (subst (λ (w : Wire).
-        Leads e final.fits_type final.fits_ssrc rate final.some packetizer built no_ids number all final.falls samples (kept_steps all (length w.datagrams) (map (place_of all) (ks ++ forwarded_by answer k)) later)
+        Leads e final.fits_type final.fits_ssrc rate final.some o packetizer no_ids final.plain all final.falls samples (kept_steps all (length w.datagrams) (map (place_of all) (ks ++ forwarded_by answer k)) later)
         (kept_sends all (length w.datagrams) later) mid t v entries)
         wire (rest v entries next_beside)));
   }
 
   leaves_walk : (k : ℕ) (answer : Forwarded) (s mid : Hops) (st next : Stage) (gone ks : List ℕ) → mid.wire ≡ s.wire → mid.forwarder.settings ≡ s.forwarder.settings
-      → ((number : ℕ) (e : Forward) (all : List ℕ) → Agrees number e all next mid.forwarder (gone_by answer k gone) → Agrees number e all st s.forwarder gone)
+      → ((o : Offsets) (e : Forward) (all : List ℕ) → Agrees o e all next mid.forwarder (gone_by answer k gone) → Agrees o e all st s.forwarder gone)
       → OneWalk (leaves k answer) s mid st next gone (gone_by answer k gone) ks ks
   leaves_walk k answer s mid st next gone ks wire settings known = record {
     settings = settings;
     whole = λ all later whole. subst (λ (w : Wire). AreWhole all (length w.datagrams) later) (sym wire) whole;
     known = known;
-    leads = λ number e all final later t agrees whole rest v entries beside.
-        quiet_leads number e all final (kept_steps all (length s.wire.datagrams) (map (place_of all) ks) later) entries (kept_sends all (length s.wire.datagrams) later) s mid t v wire beside
+    leads = λ o e all final later t agrees whole rest v entries beside.
+        quiet_leads o e all final (kept_steps all (length s.wire.datagrams) (map (place_of all) ks) later) entries (kept_sends all (length s.wire.datagrams) later) s mid t v wire beside
         (λ next_beside.
         subst (λ (w : Wire).
-        Leads e final.fits_type final.fits_ssrc rate final.some packetizer built no_ids number all final.falls samples (kept_steps all (length w.datagrams) (map (place_of all) ks) later)
+        Leads e final.fits_type final.fits_ssrc rate final.some o packetizer no_ids final.plain all final.falls samples (kept_steps all (length w.datagrams) (map (place_of all) ks) later)
         (kept_sends all (length w.datagrams) later) mid t v entries)
         wire (rest v entries next_beside));
   }
@@ -275,43 +298,43 @@ module _ (ssrc rate low : ℕ) (codec : Codec) (fixed : is_moved codec ≡ false
     pub datagrams : mid.wire.datagrams ≡ s.wire.datagrams
     pub written : mid.written ≡ s.written
 
-  quiet_beside : (number : ℕ) (e : Forward) (all : List ℕ) (final : IsFinal number e all) (s mid : Hops) (v : Sending) → IsQuiet s mid
-      → Beside e final.fits_type final.fits_ssrc rate final.some packetizer built no_ids number all final.falls samples v s
-      → Beside e final.fits_type final.fits_ssrc rate final.some packetizer built no_ids number all final.falls samples v mid
-  quiet_beside number e all final s mid v is beside =
-      subst (λ (ds : List (List ℕ)). IsBeside e final.fits_type final.fits_ssrc rate final.some packetizer built no_ids number all v mid.wire.sending ds) (sym is.datagrams)
-      (subst (λ (x : Sending). IsBeside e final.fits_type final.fits_ssrc rate final.some packetizer built no_ids number all v x s.wire.datagrams) (sym is.sending) beside)
+  quiet_beside : (o : Offsets) (e : Forward) (all : List ℕ) (final : IsFinal o e all) (s mid : Hops) (v : Sending) → IsQuiet s mid
+      → Beside e final.fits_type final.fits_ssrc rate final.some o packetizer no_ids final.plain all final.falls samples v s
+      → Beside e final.fits_type final.fits_ssrc rate final.some o packetizer no_ids final.plain all final.falls samples v mid
+  quiet_beside o e all final s mid v is beside =
+      subst (λ (ds : List (List ℕ)). IsBeside e final.fits_type final.fits_ssrc rate final.some o packetizer no_ids final.plain all v mid.wire.sending ds) (sym is.datagrams)
+      (subst (λ (x : Sending). IsBeside e final.fits_type final.fits_ssrc rate final.some o packetizer no_ids final.plain all v x s.wire.datagrams) (sym is.sending) beside)
 
-  abbrev After : (number : ℕ) (e : Forward) (all : List ℕ) → IsFinal number e all → List Event → List ℕ → Hops → Hops → Hops → Sending → List SentSample → Type 0
-  After number e all final later ks s mid t v entries =
-      Leads e final.fits_type final.fits_ssrc rate final.some packetizer built no_ids number all final.falls samples (kept_steps all (length s.wire.datagrams) (map (place_of all) ks) later)
+  abbrev After : (o : Offsets) (e : Forward) (all : List ℕ) → IsFinal o e all → List Event → List ℕ → Hops → Hops → Hops → Sending → List SentSample → Type 0
+  After o e all final later ks s mid t v entries =
+      Leads e final.fits_type final.fits_ssrc rate final.some o packetizer no_ids final.plain all final.falls samples (kept_steps all (length s.wire.datagrams) (map (place_of all) ks) later)
       (kept_sends all (length s.wire.datagrams) later) mid t v entries
 
-  quiet_after : (number : ℕ) (e : Forward) (all : List ℕ) (final : IsFinal number e all) (later : List Event) (ks : List ℕ) (s mid t : Hops) (v : Sending) (entries : List SentSample) → IsQuiet s mid
-      → Beside e final.fits_type final.fits_ssrc rate final.some packetizer built no_ids number all final.falls samples v s → LeadsTo number e all final later ks mid t → After number e all final later ks s mid t v entries
-  quiet_after number e all final later ks s mid t v entries is beside rest =
+  quiet_after : (o : Offsets) (e : Forward) (all : List ℕ) (final : IsFinal o e all) (later : List Event) (ks : List ℕ) (s mid t : Hops) (v : Sending) (entries : List SentSample) → IsQuiet s mid
+      → Beside e final.fits_type final.fits_ssrc rate final.some o packetizer no_ids final.plain all final.falls samples v s → LeadsTo o e all final later ks mid t → After o e all final later ks s mid t v entries
+  quiet_after o e all final later ks s mid t v entries is beside rest =
       subst (λ (ds : List (List ℕ)).
-      Leads e final.fits_type final.fits_ssrc rate final.some packetizer built no_ids number all final.falls samples (kept_steps all (length ds) (map (place_of all) ks) later) (kept_sends all (length ds) later) mid t v entries)
-      is.datagrams (rest v entries (quiet_beside number e all final s mid v is beside))
+      Leads e final.fits_type final.fits_ssrc rate final.some o packetizer no_ids final.plain all final.falls samples (kept_steps all (length ds) (map (place_of all) ks) later) (kept_sends all (length ds) later) mid t v entries)
+      is.datagrams (rest v entries (quiet_beside o e all final s mid v is beside))
 
   pops_walk : (now : Ticks) (s mid : Hops) (st : Stage) (gone ks : List ℕ) → IsQuiet s mid → DoesPlain samples (seen.Pop now) s mid → OneWalk (pops now) s mid st st gone gone ks ks
   pops_walk now s mid st gone ks is does = record {
     settings = ap (λ (x : Forward). x.settings) is.forwarder;
     whole = λ all later whole. subst (λ (ds : List (List ℕ)). AreWhole all (length ds) later) (sym is.datagrams) whole;
-    known = λ number e all agrees. subst (λ (x : Forward). Agrees number e all st x gone) is.forwarder agrees;
-    leads = λ number e all final later t agrees whole rest v entries beside.
-        pop_leads e final.fits_type final.fits_ssrc rate final.some packetizer built no_ids number all final.falls samples now (kept_steps all (length s.wire.datagrams) (map (place_of all) ks) later)
-        (kept_sends all (length s.wire.datagrams) later) s mid t v entries does (quiet_after number e all final later ks s mid t v entries is beside rest);
+    known = λ o e all agrees. subst (λ (x : Forward). Agrees o e all st x gone) is.forwarder agrees;
+    leads = λ o e all final later t agrees whole rest v entries beside.
+        pop_leads e final.fits_type final.fits_ssrc rate final.some o packetizer no_ids final.plain all final.falls samples now (kept_steps all (length s.wire.datagrams) (map (place_of all) ks) later)
+        (kept_sends all (length s.wire.datagrams) later) s mid t v entries does (quiet_after o e all final later ks s mid t v entries is beside rest);
   }
 
   ends_walk : (s mid : Hops) (st : Stage) (gone ks : List ℕ) → IsQuiet s mid → DoesPlain samples seen.Finish s mid → OneWalk ends s mid st st gone gone ks ks
   ends_walk s mid st gone ks is does = record {
     settings = ap (λ (x : Forward). x.settings) is.forwarder;
     whole = λ all later whole. subst (λ (ds : List (List ℕ)). AreWhole all (length ds) later) (sym is.datagrams) whole;
-    known = λ number e all agrees. subst (λ (x : Forward). Agrees number e all st x gone) is.forwarder agrees;
-    leads = λ number e all final later t agrees whole rest v entries beside.
-        end_leads e final.fits_type final.fits_ssrc rate final.some packetizer built no_ids number all final.falls samples (kept_steps all (length s.wire.datagrams) (map (place_of all) ks) later)
-        (kept_sends all (length s.wire.datagrams) later) s mid t v entries does (quiet_after number e all final later ks s mid t v entries is beside rest);
+    known = λ o e all agrees. subst (λ (x : Forward). Agrees o e all st x gone) is.forwarder agrees;
+    leads = λ o e all final later t agrees whole rest v entries beside.
+        end_leads e final.fits_type final.fits_ssrc rate final.some o packetizer no_ids final.plain all final.falls samples (kept_steps all (length s.wire.datagrams) (map (place_of all) ks) later)
+        (kept_sends all (length s.wire.datagrams) later) s mid t v entries does (quiet_after o e all final later ks s mid t v entries is beside rest);
   }
 
   delivers_walk : (j : ℕ) (now : Ticks) (s mid : Hops) (st : Stage) (gone ks : List ℕ) → IsQuiet s mid → Wrote st s.forwarder gone s.wire.datagrams s.written ks → DoesDeliver j now s mid
@@ -319,11 +342,11 @@ module _ (ssrc rate low : ℕ) (codec : Codec) (fixed : is_moved codec ≡ false
   delivers_walk j now s mid st gone ks is wrote does = record {
     settings = ap (λ (x : Forward). x.settings) is.forwarder;
     whole = λ all later whole. subst (λ (ds : List (List ℕ)). AreWhole all (length ds) later) (sym is.datagrams) whole;
-    known = λ number e all agrees. subst (λ (x : Forward). Agrees number e all st x gone) is.forwarder agrees;
-    leads = λ number e all final later t agrees whole rest v entries beside.
-        deliver_leads e final.fits_type final.fits_ssrc rate final.some packetizer built no_ids number all final.falls samples (slice_get s.written j) j now st gone ks
+    known = λ o e all agrees. subst (λ (x : Forward). Agrees o e all st x gone) is.forwarder agrees;
+    leads = λ o e all final later t agrees whole rest v entries beside.
+        deliver_leads e final.fits_type final.fits_ssrc rate final.some o packetizer no_ids final.plain all final.falls samples (slice_get s.written j) j now st gone ks
         (kept_steps all (length s.wire.datagrams) (map (place_of all) ks) later) (kept_sends all (length s.wire.datagrams) later) s mid t v entries refl agrees wrote does
-        (quiet_after number e all final later ks s mid t v entries is beside rest);
+        (quiet_after o e all final later ks s mid t v entries is beside rest);
   }
 
   -- What the steps of the receiver leave
@@ -375,11 +398,11 @@ module _ (ssrc rate low : ℕ) (codec : Codec) (fixed : is_moved codec ≡ false
     pub source : packet.header.ssrc ≡ ssrc
     pub number : packet.header.sequence_number ≡ (low + k) % 65536
     pub time : packet.header.timestamp < 4294967296
-    pub kept : (o : IdOffsets) → payload_for s.forwarder.settings.codec o packet.payload ≡ packet.payload
+    pub kept : (s.forwarder.settings.codec ≡ codec) × (steady ≡ true → (o : IdOffsets) → payload_for s.forwarder.settings.codec o packet.payload ≡ packet.payload)
 
   comes : (k : ℕ) (d : List ℕ) (s : Hops) → IsBase s → slice_get s.wire.datagrams k ≡ Some d → Comes k d s
   comes k d s base there =
-      let of : IsDatagramOf true ssrc codec d = of_at true ssrc codec s.wire.datagrams k d base.source.all there in
+      let of : IsDatagramOf steady ssrc codec d = of_at steady ssrc codec s.wire.datagrams k d base.source.all there in
       record {
         packet = of.0;
         few = omega (arith, slice_get_within s.wire.datagrams k d there, base.few);
@@ -387,50 +410,53 @@ module _ (ssrc rate low : ℕ) (codec : Codec) (fixed : is_moved codec ≡ false
         source = of.2.source;
         number = number_at low s.wire.datagrams k d of.0 base.numbers there of.1;
         time = of.2.time;
-        kept = λ o. subst (λ (c : Codec). payload_for c o of.0.payload ≡ of.0.payload) (sym base.codec_is) (stays_same codec o of.0.payload fixed (of.2.kept refl));
+        kept = (
+          base.codec_is,
+          λ plain o. subst (λ (c : Codec). payload_for c o of.0.payload ≡ of.0.payload) (sym base.codec_is) (stays_same codec o of.0.payload fixed (of.2.kept plain)),
+        );
       }
 
-  forward_turned : (k : ℕ) (answer : Forwarded) (s mid : Hops) (st : Stage) (gone later : List ℕ) → IsBase s → (does : DoesForward k answer s mid) → Holds ssrc low st s.forwarder gone
-      → AreNear st (came_by answer k ++ later) → Turned ssrc low k does.datagram st s.forwarder gone later does.forwarder gone (written_by answer does.bytes) (forwarded_by answer k)
+  forward_turned : (k : ℕ) (answer : Forwarded) (s mid : Hops) (st : Stage) (gone later : List ℕ) → IsBase s → (does : DoesForward k answer s mid) → Holds ssrc low steady st s.forwarder gone
+      → AreNear st (came_by answer k ++ later) → Turned ssrc low steady codec fixed k does.datagram st s.forwarder gone later does.forwarder gone (written_by answer does.bytes) (forwarded_by answer k)
   forward_turned k answer s mid st gone later base does holds near =
       let c = comes k does.datagram s base does.there in
       let p : c.packet ≡ does.packet = same_packet c.packet does.packet (sym c.reads ∙ does.reads) in
-      forward_turn ssrc low k does.datagram c.few does.packet does.reads (subst (λ (x : Packet). x.header.ssrc ≡ ssrc) p c.source) (subst (λ (x : Packet). x.header.sequence_number ≡ (low + k) % 65536) p c.number)
+      forward_turn ssrc low steady codec fixed k does.datagram c.few does.packet does.reads (subst (λ (x : Packet). x.header.ssrc ≡ ssrc) p c.source) (subst (λ (x : Packet). x.header.sequence_number ≡ (low + k) % 65536) p c.number)
       (subst (λ (x : Packet). x.header.timestamp < 4294967296) p c.time) does.now answer does.bytes st s.forwarder does.forwarder gone later
-      (subst (λ (x : Packet). (o : IdOffsets) → payload_for s.forwarder.settings.codec o x.payload ≡ x.payload) p c.kept) holds does.does near
+      (subst (λ (x : Packet). (s.forwarder.settings.codec ≡ codec) × (steady ≡ true → (o : IdOffsets) → payload_for s.forwarder.settings.codec o x.payload ≡ x.payload)) p c.kept) holds does.does near
 
-  leave_turned : (k : ℕ) (answer : Forwarded) (s mid : Hops) (st : Stage) (gone later : List ℕ) → IsBase s → (does : DoesLeave k answer s mid) → fills answer ≡ false → Holds ssrc low st s.forwarder gone
-      → AreNear st (came_by answer k ++ later) → Turned ssrc low k does.datagram st s.forwarder gone later does.forwarder (gone_by answer k gone) (filled_by answer does.bytes) []
-  leave_turned k answer s mid st gone later base does none holds near =
+  leave_turned : (k : ℕ) (answer : Forwarded) (s mid : Hops) (st : Stage) (gone later : List ℕ) → IsBase s → (does : DoesLeave k answer s mid) → fills answer ≡ false → (steady ≡ false → length (gone_by answer k gone) ≤ 4096) → Holds ssrc low steady st s.forwarder gone
+      → AreNear st (came_by answer k ++ later) → Turned ssrc low steady codec fixed k does.datagram st s.forwarder gone later does.forwarder (gone_by answer k gone) (filled_by answer does.bytes) []
+  leave_turned k answer s mid st gone later base does none room holds near =
       let c = comes k does.datagram s base does.there in
       let p : c.packet ≡ does.packet = same_packet c.packet does.packet (sym c.reads ∙ does.reads) in
-      leave_turn ssrc low k does.datagram c.few does.packet does.reads (subst (λ (x : Packet). x.header.ssrc ≡ ssrc) p c.source) (subst (λ (x : Packet). x.header.sequence_number ≡ (low + k) % 65536) p c.number)
-      (subst (λ (x : Packet). x.header.timestamp < 4294967296) p c.time) answer does.bytes st s.forwarder does.forwarder gone later none holds does.does near
+      leave_turn ssrc low steady codec fixed k does.datagram c.few does.packet does.reads (subst (λ (x : Packet). x.header.ssrc ≡ ssrc) p c.source) (subst (λ (x : Packet). x.header.sequence_number ≡ (low + k) % 65536) p c.number)
+      (subst (λ (x : Packet). x.header.timestamp < 4294967296) p c.time) answer does.bytes st s.forwarder does.forwarder gone later none room holds does.does near
 
   -- All events
 
-  pub walks : (all_events : List Event) (s t : Hops) (st : Stage) (gone ks : List ℕ) → IsBase s → Holds ssrc low st s.forwarder gone → Wrote st s.forwarder gone s.wire.datagrams s.written ks
-      → AreNear st (came all_events) → NoneFilled all_events → Happens samples all_events s t → Walks all_events s t st gone ks
-  walks [] s t st gone ks base holds wrote near none run = record {
+  pub walks : (all_events : List Event) (s t : Hops) (st : Stage) (gone ks : List ℕ) → IsBase s → Holds ssrc low steady st s.forwarder gone → Wrote st s.forwarder gone s.wire.datagrams s.written ks
+      → AreNear st (came all_events) → NoneFilled all_events → (steady ≡ false → length (gone_in gone all_events) ≤ 4096) → Happens samples all_events s t → Walks all_events s t st gone ks
+  walks [] s t st gone ks base holds wrote near none room run = record {
     end = st;
-    holds = subst (λ (x : Hops). Holds ssrc low st x.forwarder gone) (sym run) holds;
+    holds = subst (λ (x : Hops). Holds ssrc low steady st x.forwarder gone) (sym run) holds;
     settings = ap (λ (x : Hops). x.forwarder.settings) run;
-    course = λ number e all final agrees whole. (
-      subst (λ (x : Hops). Agrees number e all st x.forwarder gone) run agrees,
+    course = λ o e all final agrees whole. (
+      subst (λ (x : Hops). Agrees o e all st x.forwarder gone) run agrees,
       λ v entries beside. record {
         end = v;
-        runs = ap (λ (x : Hops). seen_by e final.fits_type final.fits_ssrc rate final.some packetizer built no_ids number all final.falls samples x v (entries ++ [])) run
-            ∙ ap (λ (es : List SentSample). seen_by e final.fits_type final.fits_ssrc rate final.some packetizer built no_ids number all final.falls samples s v es) (append-nil entries);
+        runs = ap (λ (x : Hops). seen_by e final.fits_type final.fits_ssrc rate final.some o packetizer no_ids final.plain all final.falls samples x v (entries ++ [])) run
+            ∙ ap (λ (es : List SentSample). seen_by e final.fits_type final.fits_ssrc rate final.some o packetizer no_ids final.plain all final.falls samples s v es) (append-nil entries);
       },
     );
   }
-  walks (sends i entry ∷ later) s t st gone ks base holds wrote near none run =
+  walks (sends i entry ∷ later) s t st gone ks base holds wrote near none room run =
       let mid : Hops = run.0 in
       let stays = send_forwarder entry (slice_get samples i) s mid run.1 in
       first_walks (sends i entry) later s mid t st st gone gone ks ks refl (sends_walk i entry s mid st gone ks base run.1)
-      (walks later mid t st gone ks (base_sent i (slice_get samples i) entry s mid refl base run.1) (subst (λ (x : Forward). Holds ssrc low st x gone) (sym stays.0) holds)
-      (send_wrote entry (slice_get samples i) s mid st gone ks run.1 wrote) near none run.2)
-  walks (forwards k answer ∷ later) s t st gone ks base holds wrote near none run =
+      (walks later mid t st gone ks (base_sent i (slice_get samples i) entry s mid refl base run.1) (subst (λ (x : Forward). Holds ssrc low steady st x gone) (sym stays.0) holds)
+      (send_wrote entry (slice_get samples i) s mid st gone ks run.1 wrote) near none room run.2)
+  walks (forwards k answer ∷ later) s t st gone ks base holds wrote near none room run =
       let mid : Hops = run.0 in
       let does : DoesForward k answer s mid = run.1 in
       let turn = forward_turned k answer s mid st gone (came later) base does holds near in
@@ -438,35 +464,35 @@ module _ (ssrc rate low : ℕ) (codec : Codec) (fixed : is_moved codec ≡ false
       let wire : mid.wire ≡ s.wire = ap (λ (x : Hops). x.wire) does.is in
       let settings : mid.forwarder.settings ≡ s.forwarder.settings = ap (λ (x : Forward). x.settings) forwarder ∙ turn.settings in
       first_walks (forwards k answer) later s mid t st turn.next gone gone ks (ks ++ forwarded_by answer k) refl
-      (forwards_walk k answer s mid st turn.next gone ks wire settings (λ number e all agrees. turn.agrees number e all (subst (λ (x : Forward). Agrees number e all turn.next x gone) forwarder agrees)))
+      (forwards_walk k answer s mid st turn.next gone ks wire settings (λ o e all agrees. turn.agrees o e all (subst (λ (x : Forward). Agrees o e all turn.next x gone) forwarder agrees)))
       (walks later mid t turn.next gone (ks ++ forwarded_by answer k) (base_same s mid base (ap (λ (w : Wire). w.sending) wire) (ap (λ (w : Wire). w.datagrams) wire) settings)
-      (subst (λ (x : Forward). Holds ssrc low turn.next x gone) (sym forwarder) turn.holds)
-      (subst (λ (x : Hops). Wrote turn.next x.forwarder gone x.wire.datagrams x.written (ks ++ forwarded_by answer k)) (sym does.is) (turn.out s.wire.datagrams s.written ks does.there wrote)) turn.near none run.2)
-  walks (leaves k answer ∷ later) s t st gone ks base holds wrote near none run =
+      (subst (λ (x : Forward). Holds ssrc low steady turn.next x gone) (sym forwarder) turn.holds)
+      (subst (λ (x : Hops). Wrote turn.next x.forwarder gone x.wire.datagrams x.written (ks ++ forwarded_by answer k)) (sym does.is) (turn.out s.wire.datagrams s.written ks does.there wrote)) turn.near none room run.2)
+  walks (leaves k answer ∷ later) s t st gone ks base holds wrote near none room run =
       let mid : Hops = run.0 in
       let does : DoesLeave k answer s mid = run.1 in
-      let turn = leave_turned k answer s mid st gone (came later) base does none.0 holds near in
+      let turn = leave_turned k answer s mid st gone (came later) base does none.0 (λ moves. omega (arith, room moves, gone_grows later (gone_by answer k gone))) holds near in
       let forwarder : mid.forwarder ≡ does.forwarder = ap (λ (x : Hops). x.forwarder) does.is in
       let wire : mid.wire ≡ s.wire = ap (λ (x : Hops). x.wire) does.is in
       let settings : mid.forwarder.settings ≡ s.forwarder.settings = ap (λ (x : Forward). x.settings) forwarder ∙ turn.settings in
       first_walks (leaves k answer) later s mid t st turn.next gone (gone_by answer k gone) ks ks refl
-      (leaves_walk k answer s mid st turn.next gone ks wire settings (λ number e all agrees. turn.agrees number e all (subst (λ (x : Forward). Agrees number e all turn.next x (gone_by answer k gone)) forwarder agrees)))
+      (leaves_walk k answer s mid st turn.next gone ks wire settings (λ o e all agrees. turn.agrees o e all (subst (λ (x : Forward). Agrees o e all turn.next x (gone_by answer k gone)) forwarder agrees)))
       (walks later mid t turn.next (gone_by answer k gone) ks (base_same s mid base (ap (λ (w : Wire). w.sending) wire) (ap (λ (w : Wire). w.datagrams) wire) settings)
-      (subst (λ (x : Forward). Holds ssrc low turn.next x (gone_by answer k gone)) (sym forwarder) turn.holds)
+      (subst (λ (x : Forward). Holds ssrc low steady turn.next x (gone_by answer k gone)) (sym forwarder) turn.holds)
       (subst (λ (x : Hops). Wrote turn.next x.forwarder (gone_by answer k gone) x.wire.datagrams x.written ks) (sym does.is)
-      (subst (λ (js : List ℕ). Wrote turn.next does.forwarder (gone_by answer k gone) s.wire.datagrams (s.written ++ filled_by answer does.bytes) js) (append-nil ks) (turn.out s.wire.datagrams s.written ks does.there wrote))) turn.near none.1 run.2)
-  walks (delivers j now ∷ later) s t st gone ks base holds wrote near none run =
+      (subst (λ (js : List ℕ). Wrote turn.next does.forwarder (gone_by answer k gone) s.wire.datagrams (s.written ++ filled_by answer does.bytes) js) (append-nil ks) (turn.out s.wire.datagrams s.written ks does.there wrote))) turn.near none.1 room run.2)
+  walks (delivers j now ∷ later) s t st gone ks base holds wrote near none room run =
       let mid : Hops = run.0 in
       let is : IsQuiet s mid = deliver_quiet (slice_get s.written j) now s mid run.1 in
       first_walks (delivers j now) later s mid t st st gone gone ks ks refl (delivers_walk j now s mid st gone ks is wrote run.1)
-      (walks later mid t st gone ks (quiet_base s mid is base) (subst (λ (x : Forward). Holds ssrc low st x gone) (sym is.forwarder) holds) (quiet_wrote s mid st gone ks is wrote) near none run.2)
-  walks (pops now ∷ later) s t st gone ks base holds wrote near none run =
+      (walks later mid t st gone ks (quiet_base s mid is base) (subst (λ (x : Forward). Holds ssrc low steady st x gone) (sym is.forwarder) holds) (quiet_wrote s mid st gone ks is wrote) near none room run.2)
+  walks (pops now ∷ later) s t st gone ks base holds wrote near none room run =
       let mid : Hops = run.0 in
       let is : IsQuiet s mid = plain_quiet s mid run.1.0 run.1.2 (ap (λ (w : Wire). w.sending) run.1.1.4) (ap (λ (w : Wire). w.datagrams) run.1.1.4) in
       first_walks (pops now) later s mid t st st gone gone ks ks refl (pops_walk now s mid st gone ks is run.1)
-      (walks later mid t st gone ks (quiet_base s mid is base) (subst (λ (x : Forward). Holds ssrc low st x gone) (sym is.forwarder) holds) (quiet_wrote s mid st gone ks is wrote) near none run.2)
-  walks (ends ∷ later) s t st gone ks base holds wrote near none run =
+      (walks later mid t st gone ks (quiet_base s mid is base) (subst (λ (x : Forward). Holds ssrc low steady st x gone) (sym is.forwarder) holds) (quiet_wrote s mid st gone ks is wrote) near none room run.2)
+  walks (ends ∷ later) s t st gone ks base holds wrote near none room run =
       let mid : Hops = run.0 in
       let is : IsQuiet s mid = plain_quiet s mid run.1.0 run.1.2 (ap (λ (w : Wire). w.sending) run.1.1.2) (ap (λ (w : Wire). w.datagrams) run.1.1.2) in
       first_walks ends later s mid t st st gone gone ks ks refl (ends_walk s mid st gone ks is run.1)
-      (walks later mid t st gone ks (quiet_base s mid is base) (subst (λ (x : Forward). Holds ssrc low st x gone) (sym is.forwarder) holds) (quiet_wrote s mid st gone ks is wrote) near none run.2)
+      (walks later mid t st gone ks (quiet_base s mid is base) (subst (λ (x : Forward). Holds ssrc low steady st x gone) (sym is.forwarder) holds) (quiet_wrote s mid st gone ks is wrote) near none room run.2)

@@ -3,7 +3,7 @@
 -- A packet that is left out ahead of all others takes no number, so the viewer's receiver sees the datagrams of a sender that sends only
 -- the other frames: with consecutive numbers, and at the viewer's times. Premises and guarantees are those of a run over one hop from
 -- that sender.
-use Rattle.std.specs.Prelude.{◌≡◌, ℕ, ◌+◌, ◌-◌, ◌%◌, ◌<◌, ◌&&◌, nat_lt, if◌then◌else◌, Bool, true, false, List, [], ◌∷◌, ◌++◌, Option, Some, None, Ok, drop, map, slice_get}
+use Rattle.std.specs.Prelude.{◌≡◌, ℕ, ◌+◌, ◌-◌, ◌*◌, ◌%◌, ◌<◌, ◌≤◌, ◌&&◌, nat_lt, if◌then◌else◌, Bool, true, false, List, [], ◌∷◌, ◌++◌, Option, Some, None, Ok, drop, length, map, slice_get}
 use Rattle.codec_payload_base.specs.declared.wire.Ticks.{Ticks}
 use Rattle.codec_payload_buffer_runs.specs.SentStream.{AreReadable, SentUnit, units_of_run}
 use Rattle.codec_payload_codec.specs.Depacketizers.{DepacketizerState}
@@ -14,9 +14,10 @@ use Rattle.codec_payload_receiver.specs.declared.receiver.Settings.{Settings}
 use Rattle.codec_payload_rtp.specs.RtpPackets.{Packet, packet_bytes}
 use Rattle.codec_payload_rtp.specs.RtpReading.{rtp_at}
 use Rattle.codec_payload_sending.specs.Senders.{Sending}
-use Rattle.codec_payload_sending_forward.specs.Forwarding.{Forward, is_source, packet_under}
+use Rattle.codec_payload_sending_forward.specs.Forwarding.{Forward, is_source, sent_packet}
 use Rattle.codec_payload_sending_forward.specs.Numbers.{below, is_in}
 use Rattle.codec_payload_sending_forward.specs.Times.{time_as}
+use Rattle.codec_payload_sending_forward.specs.declared.ids.IdOffsets.{IdOffsets}
 use Rattle.codec_payload_sending_forward.specs.declared.forwarder.Forwarded.{Forwarded}
 use Rattle.codec_payload_sending_forward.specs.declared.forwarder.Forwarded.TheVariants as answers
 use Rattle.codec_payload_datagram_runs.specs.HistoryReleases.{delivery_of}
@@ -212,24 +213,35 @@ kept_sends_of samples all_steps t = kept_sends (gone_of samples all_steps t) 0 (
 
 -- The viewer's stream
 
--- a packet of the sender as the viewer gets it, under this number: the same payload and marker, under the viewer's SSRC and payload
--- type, at the viewer's time, without header extension
-abbrev pub closed_packet : Forward → ℕ → Packet → Packet
-closed_packet f number p = packet_under f.settings (number % 65536) (time_as f.times p.header.timestamp) p
+-- How numbers and ids of the viewer's stream close up: the number of the sender's first datagram; what is added to the ids before all
+-- pictures that are left out; and the first datagram of each picture that was left out, the highest first
+pub record Offsets : Type 0 where
+  pub number : ℕ
+  pub ids : IdOffsets
+  pub pictures : List ℕ
+
+-- what is added to the ids of the datagram with that index: a picture id is less by the pictures that were left out before it
+abbrev pub ids_at : Offsets → ℕ → IdOffsets
+ids_at o k = record o.ids { picture = (o.ids.picture + 65535 * below k o.pictures) % 65536 }
+
+-- A packet of the sender as the viewer gets it, under this number and with ids moved so: the same payload otherwise, and the same marker,
+-- under the viewer's SSRC and payload type, at the viewer's time, without header extension
+abbrev pub closed_packet : Forward → IdOffsets → ℕ → Packet → Packet
+closed_packet f ids number p = sent_packet f.settings ids (number % 65536) (time_as f.times p.header.timestamp) p
 
 -- its datagram
-abbrev pub closed_bytes : Forward → ℕ → Option Packet → List ℕ
-closed_bytes f number None = []
-closed_bytes f number (Some p) = packet_bytes (closed_packet f number p)
+abbrev pub closed_bytes : Forward → IdOffsets → ℕ → Option Packet → List ℕ
+closed_bytes f ids number None = []
+closed_bytes f ids number (Some p) = packet_bytes (closed_packet f ids number p)
 
-abbrev pub closed_datagram : Forward → ℕ → List ℕ → List ℕ
-closed_datagram f number datagram = closed_bytes f number (packet_read (rtp_at datagram))
+abbrev pub closed_datagram : Forward → IdOffsets → ℕ → List ℕ → List ℕ
+closed_datagram f ids number datagram = closed_bytes f ids number (packet_read (rtp_at datagram))
 
 -- The datagrams that were not left out, as the viewer gets them, with consecutive numbers from `number` on. The first of the datagrams has
 -- the index `k`
-abbrev pub closed : Forward → (gone : List ℕ) → (k number : ℕ) → List (List ℕ) → List (List ℕ)
-closed f gone k number [] = []
-closed f gone k number (d ∷ ds) = if is_in k gone then closed f gone (k + 1) number ds else closed_datagram f number d ∷ closed f gone (k + 1) (number + 1) ds
+abbrev pub closed : Forward → Offsets → (gone : List ℕ) → (k number : ℕ) → List (List ℕ) → List (List ℕ)
+closed f o gone k number [] = []
+closed f o gone k number (d ∷ ds) = if is_in k gone then closed f o gone (k + 1) number ds else closed_datagram f (ids_at o k) number d ∷ closed f o gone (k + 1) (number + 1) ds
 
 -- the sender whose datagrams the viewer gets: the sender of the run, whose first number is this one
 abbrev pub closed_sender : Forward → (number : ℕ) → Sending → Sending
@@ -239,8 +251,8 @@ closed_sender f number s = record (viewer_sender f s) { packetizer = s.packetize
 abbrev pub closed_begins : Forward → (number : ℕ) → Wire → Wire
 closed_begins f number s = begins (closed_sender f number s.sending) s.session
 
-abbrev pub closed_wire : Forward → (gone : List ℕ) → (number : ℕ) → List SentSample → Wire → Wire
-closed_wire f gone number entries t = record t { sending = closed_sender f number t.sending; datagrams = closed f gone 0 number t.datagrams; sends = entries }
+abbrev pub closed_wire : Forward → Offsets → (gone : List ℕ) → List SentSample → Wire → Wire
+closed_wire f o gone entries t = record t { sending = closed_sender f o.number t.sending; datagrams = closed f o gone 0 o.number t.datagrams; sends = entries }
 
 -- Premises
 
@@ -250,12 +262,19 @@ sends_no_ids (Vp8Packetizing (Some id)) = false
 sends_no_ids (Vp9Packetizing sender) = false
 sends_no_ids packetizer = true
 
--- The packetizer sends no ids. The forwarder has not begun with the sender's stream before the run. Of each frame all packets are left out
--- ahead of all others, or none, and the datagrams that come to the forwarder are near each other. All other premises are those of a run
--- in which nothing is left out
+-- or it sends ids that close up: those of VP8
+abbrev pub ids_close : PacketizerState → Bool
+ids_close (Vp9Packetizing sender) = false
+ids_close packetizer = true
+
+-- The forwarder has not begun with the sender's stream before the run. Of each frame all packets are left out ahead of all others, or
+-- none, and the datagrams that come to the forwarder are near each other. If there are picture ids, payloads have room for those of two
+-- bytes, and at most 4,096 packets are left out. All other premises are those of a run in which nothing is left out
 pub record IsLeftOutWithinWindows (samples : List Sample) (all_steps : List LeaveStep) (s t : Hops) : Type 0 where
   pub other : is_source s.forwarder.source s.wire.sending.stream.ssrc ≡ false
-  pub no_ids : sends_no_ids s.wire.sending.packetizer ≡ true
+  pub ids : ids_close s.wire.sending.packetizer ≡ true
+  pub roomy : sends_no_ids s.wire.sending.packetizer ≡ false → 4 < s.wire.sending.mtu
+  pub few_gone : sends_no_ids s.wire.sending.packetizer ≡ false → length (gone_of samples all_steps t) ≤ 4096
   pub of_codec : keeps_packetizer s.forwarder.settings.codec s.wire.sending.packetizer ≡ true
   pub widths : HaveWidths s.wire.sending s.forwarder
   pub whole : AreWhole (gone_of samples all_steps t) 0 (events_of samples all_steps t)
@@ -272,12 +291,12 @@ pub record IsLeftOutWithinWindows (samples : List Sample) (all_steps : List Leav
 
 -- Guarantees
 
--- What a viewer's receiver releases: what it releases in a run over one hop from the sender whose datagrams the viewer gets, which has some
--- first number. The units are those of the samples that were not left out
+-- What a viewer's receiver releases: what it releases in a run over one hop from the sender whose datagrams the viewer gets, with some
+-- offsets. The units are those of the samples that were not left out
 pub record ReleasesKept (samples : List Sample) (all_steps : List LeaveStep) (s t : Hops) : Type 0 where
-  pub number : ℕ
+  pub offsets : Offsets
   pub promises : KeepsPromises (viewer_samples t.forwarder s.wire.sending.stream.clock_rate samples) (kept_steps_of samples all_steps t)
-      (closed_begins t.forwarder number s.wire) (closed_wire t.forwarder (gone_of samples all_steps t) number (kept_sends_of samples all_steps t) t.wire)
+      (closed_begins t.forwarder offsets.number s.wire) (closed_wire t.forwarder offsets (gone_of samples all_steps t) (kept_sends_of samples all_steps t) t.wire)
   pub canonical : map (λ (u : SentUnit). u.parts) promises.released.units
       ≡ units_of_run s.wire.sending.packetizer samples (sending_steps s.wire.sending.mtu (kept_steps_of samples all_steps t))
 
