@@ -8,7 +8,7 @@ use Rattle.codec_payload_base.specs.declared.wire.Ticks.{Ticks}
 use Rattle.codec_payload_codec.specs.Packetizers.{PacketizerState, PacketizerStep, is_built_in}
 use Rattle.codec_payload_payloader.specs.Sending.{Sample}
 use Rattle.codec_payload_receiver.specs.Sessions.{Session}
-use Rattle.codec_payload_rtp.specs.RtpPackets.{Packet, packet_bytes}
+use Rattle.codec_payload_rtp.specs.RtpPackets.{Packet}
 use Rattle.codec_payload_rtp.specs.declared.rtp.RtpError.{RtpError}
 use Rattle.codec_payload_sending.specs.Senders.{Sending}
 use Rattle.codec_payload_sending_forward.specs.Forwarding.{Forward, payload_for}
@@ -16,7 +16,6 @@ use Rattle.codec_payload_sending_forward.specs.Numbers.{Falls, is_in}
 use Rattle.codec_payload_sending_forward.specs.declared.ids.IdOffsets.{IdOffsets}
 use Rattle.codec_payload_sending_forward.specs.declared.forwarder.Forwarded.{Forwarded}
 use Rattle.codec_payload_sending_forward.specs.declared.forwarder.Forwarded.TheVariants as answers
-use Rattle.codec_payload_sending_forward.specs.declared.forwarder.ForwardSettings.{ForwardSettings}
 use Rattle.codec_payload_datagram_runs.proofs.StepLemmas.{get_append}
 use Rattle.codec_payload_datagram_runs.specs.HistoryReleases.{delivery_of}
 use Rattle.codec_payload_datagram_runs.specs.WireRuns.{Delivers, DoesStep, Receipt, Runs, Wire}
@@ -199,7 +198,7 @@ module _ (e : Forward) (fits_type : e.settings.payload_type < 128) (fits_ssrc : 
   send_leads i (Some sample) (Some entry) true s mid t v entries all_steps more is left_is whole own clock beside does rest =
       let first : is_in (length s.wire.datagrams) gone ≡ true = left_in (ltb 0 entry.count) (is_in (length s.wire.datagrams) gone) left_is in
       let nothing : closed e o gone 0 o.number mid.wire.datagrams ≡ closed e o gone 0 o.number s.wire.datagrams =
-      left_beside e fits_type fits_ssrc rate some o packetizer no_ids plain gone s.wire.datagrams mid.wire.sending.datagrams mid.wire.datagrams does.0.gained
+      left_beside e fits_type fits_ssrc rate some o gone s.wire.datagrams mid.wire.sending.datagrams mid.wire.datagrams does.0.gained
       (λ place l. whole place (omega (arith, l, does.0.count)) ∙ first) in
       let mtu : mid.wire.sending.mtu ≡ s.wire.sending.mtu = mtu_stays sample s.wire.sending mid.wire.sending entry.fault does.0.sends in
       let here : Beside v mid = record {

@@ -1,23 +1,26 @@
 -- The units that a viewer's receiver releases behind a forwarder that leaves whole frames out, from the theorem of runs over one hop.
-use Rattle.std.proofs.Common.{◌≡◌, ◌∙◌, refl, sym, ap, subst, ℕ, ◌^◌, ◌<◌, List, [], true, false, Option, Some, None, arith}
+use Rattle.std.proofs.Common.{◌≡◌, ◌∙◌, refl, sym, ap, subst, ℕ, ◌^◌, ◌<◌, List, [], Bool, true, false, length, Option, Some, None, Ok, arith}
+use Rattle.std.specs.Prelude.{slice_index_or}
 use Rattle.codec_payload_base.specs.declared.wire.Codec.{Codec}
 use Rattle.codec_payload_base.specs.declared.wire.Codec.TheVariants as codecs
 use Rattle.codec_payload_buffer.specs.Steps.{State}
 use Rattle.codec_payload_buffer_runs.proofs.units.BuiltInRuns.{plainly, unused_exactly}
-use Rattle.codec_payload_buffer_runs.proofs.units.StreamLemmas.{streams}
+use Rattle.codec_payload_buffer_runs.specs.Schedule.{Runs as PlainRuns}
+use Rattle.codec_payload_buffer_runs.proofs.units.StreamLemmas.{Streams, streams}
 use Rattle.codec_payload_buffer_runs.specs.Headline.{IsUnused}
 use Rattle.codec_payload_buffer_runs.specs.Schedule.{RunState}
 use Rattle.codec_payload_buffer_runs.specs.declared.run.Step.{Step}
 use Rattle.codec_payload_codec.specs.Depacketizers.{DepacketizerState}
-use Rattle.codec_payload_codec.specs.Packetizers.{PacketizerState, Vp8Packetizing, is_built_in}
+use Rattle.codec_payload_codec.specs.Packetizers.{BoxedPacketizing, PacketizerState, PacketizerStep, Vp8Packetizing, is_built_in}
 use Rattle.codec_payload_payloader.specs.Sending.{Sample}
 use Rattle.codec_payload_receiver.specs.Sessions.{Session}
 use Rattle.codec_payload_receiver.specs.declared.receiver.Retransmission.{Retransmission}
 use Rattle.codec_payload_receiver.specs.declared.receiver.Settings.{Settings}
 use Rattle.codec_payload_sending.specs.Senders.{Sending}
 use Rattle.codec_payload_sending.specs.declared.sender.Outgoing.{Outgoing}
-use Rattle.codec_payload_sending_forward.specs.Forwarding.{Forward}
-use Rattle.codec_payload_sending_forward.specs.Numbers.{Falls}
+use Rattle.codec_payload_sending_forward.specs.Forwarding.{Forward, payload_for}
+use Rattle.codec_payload_sending_forward.specs.Numbers.{Falls, is_in}
+use Rattle.codec_payload_sending_forward.specs.declared.ids.IdOffsets.{IdOffsets}
 use Rattle.codec_payload_sending_forward.specs.declared.forwarder.Forwarded.{Forwarded}
 use Rattle.codec_payload_sending_forward.specs.declared.forwarder.ForwardSettings.{ForwardSettings}
 use Rattle.codec_payload_datagram_runs.proofs.Courses.{Proceeds, proceeds}
@@ -30,25 +33,31 @@ use Rattle.codec_payload_datagram_runs.specs.WireRuns.{Wire, begins}
 use Rattle.codec_payload_datagram_runs.specs.declared.run.DatagramStep.{DatagramStep}
 use Rattle.codec_payload_datagram_runs.specs.declared.run.SentSample.{SentSample}
 use Rattle.codec_payload_forward_runs.proofs.ForwardLemmas.{moved_within, same_units}
-use Rattle.codec_payload_forward_runs.proofs.KeptPayloads.{is_vp8, is_vp9}
+use Rattle.codec_payload_forward_runs.proofs.KeptPayloads.{IsKept, is_vp8, is_vp9, kept_each}
 use Rattle.codec_payload_forward_runs.proofs.LeaveCourses.{Leads, seen_by}
 use Rattle.codec_payload_forward_runs.proofs.LeaveEvents.{Became, Happens, became}
-use Rattle.codec_payload_forward_runs.proofs.LeaveNumbers.{Agrees, Holds, Stage, number_since, off, on}
-use Rattle.codec_payload_forward_runs.proofs.LeaveWalks.{IsBase, IsFinal, Walks, is_moved, walks}
+use Rattle.codec_payload_forward_runs.proofs.LeaveNumbers.{Agrees, Holds, Stage, is_moved, off, offsets_since, on}
+use Rattle.codec_payload_forward_runs.proofs.LeaveStreams.{Comes, comes}
+use Rattle.codec_payload_forward_runs.proofs.LeaveWalks.{IsBase, IsFinal, Walks, stays_same, walks}
 use Rattle.codec_payload_forward_runs.proofs.SenderLemmas.{without_ids}
 use Rattle.codec_payload_forward_runs.proofs.SourceLemmas.{IsSource}
 use Rattle.codec_payload_forward_runs.specs.ForwardReleases.{keeps_packetizer, keeps_payloads, viewer_samples, viewer_sender}
 use Rattle.codec_payload_forward_runs.specs.ForwardRuns.{Hops, begins_forwarding}
-use Rattle.codec_payload_forward_runs.specs.LeaveReleases.{Event, IsLeftOutWithinWindows, ReleaseLeavingOut, closed_sender, closed_wire, events, events_of, gone_of, kept_sends_of, kept_steps_of, sends_no_ids}
+use Rattle.codec_payload_forward_runs.specs.LeaveReleases.{Event, IsLeftOutWithinWindows, Offsets, ReleaseLeavingOut, ReleasesKept, closed_sender, closed_wire, events, events_of, gone_of, kept_sends_of, kept_steps_of, sends_no_ids}
 use Rattle.codec_payload_forward_runs.specs.LeaveRuns.{LeaveRuns}
 use Rattle.codec_payload_forward_runs.specs.declared.leave_run.LeaveStep.{LeaveStep}
 
--- A packetizer without ids sends payloads that the forwarder keeps
+-- Packetizers
+
+vp8_with : (packetizer : PacketizerState) (id : Option ℕ) → packetizer ≡ Vp8Packetizing id → sends_no_ids packetizer ≡ false → (n : ℕ) × (packetizer ≡ Vp8Packetizing (Some n))
+vp8_with packetizer None is moves = absurd (let none : sends_no_ids packetizer ≡ true = ap sends_no_ids is in cc)
+vp8_with packetizer (Some n) is moves = (n, is)
 
 plain_vp8 : (packetizer : PacketizerState) (id : Option ℕ) → packetizer ≡ Vp8Packetizing id → sends_no_ids packetizer ≡ true → (keeps_payloads codecs.Vp8 packetizer ≡ true) × (is_moved codecs.Vp8 ≡ false)
 plain_vp8 packetizer None is none = (ap (keeps_payloads codecs.Vp8) is, refl)
 plain_vp8 packetizer (Some id) is none = absurd (let sent : sends_no_ids packetizer ≡ false = ap sends_no_ids is in cc)
 
+-- a packetizer without ids sends payloads that the forwarder keeps
 are_kept : (codec : Codec) (packetizer : PacketizerState) → keeps_packetizer codec packetizer ≡ true → sends_no_ids packetizer ≡ true → (keeps_payloads codec packetizer ≡ true) × (is_moved codec ≡ false)
 are_kept codecs.Vp8 packetizer of none = plain_vp8 packetizer (is_vp8 packetizer of).0 (is_vp8 packetizer of).1 none
 are_kept codecs.Vp9 packetizer of none = absurd (let sent : sends_no_ids packetizer ≡ false = ap sends_no_ids (is_vp9 packetizer of).1 in cc)
@@ -75,15 +84,29 @@ again_same (Some r) stream n m = refl
 
 -- After the run
 
--- the number of the viewer's stream for the first datagram
-pub record Ended (ssrc low : ℕ) (st : Stage) (f : Forward) (gone : List ℕ) : Type 0 where
-  pub number : ℕ
-  pub agrees : Agrees number f gone st f gone
+-- the offsets of the viewer's stream
+pub record Ended (steady : Bool) (st : Stage) (f : Forward) (gone : List ℕ) : Type 0 where
+  pub offsets : Offsets
+  pub agrees : Agrees offsets f gone st f gone
   pub falls : Falls gone
+  pub pictures : steady ≡ false → Falls offsets.pictures
+  pub among : steady ≡ false → (k : ℕ) → is_in k offsets.pictures ≡ true → is_in k gone ≡ true
 
-ended : (ssrc low : ℕ) (st : Stage) (f : Forward) (gone : List ℕ) → Holds ssrc low st f gone → Ended ssrc low st f gone
-ended ssrc low off f gone holds = record { number = 0; agrees = tt; falls = subst Falls (sym holds.1) tt }
-ended ssrc low (on since high) f gone holds = record { number = number_since since; agrees = (refl, refl, refl, λ k within. (refl, refl)); falls = holds.falls }
+ended : (ssrc low : ℕ) (steady : Bool) (st : Stage) (f : Forward) (gone : List ℕ) → Holds ssrc low steady st f gone → Ended steady st f gone
+ended ssrc low steady off f gone holds = record {
+  offsets = record { number = 0; ids = record { picture = 0; tl0 = 0 }; pictures = [] };
+  agrees = tt;
+  falls = subst Falls (sym holds.1) tt;
+  pictures = λ moves. tt;
+  among = λ moves k there. absurd (cc);
+}
+ended ssrc low steady (on since high) f gone holds = record {
+  offsets = offsets_since since;
+  agrees = (refl, refl, refl, refl, λ k within. (refl, refl, refl));
+  falls = holds.falls;
+  pictures = λ moves. (holds.ids moves).falls;
+  among = λ moves. (holds.ids moves).among;
+}
 
 -- The theorem
 
@@ -107,6 +130,10 @@ module _ (samples : List Sample) (all_steps : List LeaveStep) (sender : Sending)
   abbrev codec : Codec
   codec = forwarder.settings.codec
 
+  -- whether the packetizer sends no ids
+  abbrev steady : Bool
+  steady = sends_no_ids sender.packetizer
+
   abbrev happened : List Event
   happened = events_of samples all_steps t
 
@@ -119,75 +146,29 @@ module _ (samples : List Sample) (all_steps : List LeaveStep) (sender : Sending)
   abbrev entries : List SentSample
   entries = kept_sends_of samples all_steps t
 
-  kept : (keeps_payloads codec sender.packetizer ≡ true) × (is_moved codec ≡ false)
-  kept = are_kept codec sender.packetizer within.of_codec within.no_ids
+  fixed_by : (b : Bool) → sends_no_ids sender.packetizer ≡ b → is_moved forwarder.settings.codec ≡ false
+  fixed_by true none = (are_kept forwarder.settings.codec sender.packetizer within.of_codec none).1
+  fixed_by false moves = ap is_moved (within.ids moves).0
 
-  built : is_built_in sender.packetizer ≡ true
-  built = within.one_stream.built_in
+  fixed : is_moved forwarder.settings.codec ≡ false
+  fixed = fixed_by (sends_no_ids sender.packetizer) refl
 
-  source : IsSource ssrc rate codec true true sender []
-  source = record { source = refl; clock = refl; keeps = λ _. kept.0; of_codec = λ _. within.of_codec; all = tt }
+  source : IsSource sender.stream.ssrc sender.stream.clock_rate forwarder.settings.codec true (sends_no_ids sender.packetizer) sender []
+  source = record {
+    source = refl;
+    clock = refl;
+    keeps = λ none. (are_kept forwarder.settings.codec sender.packetizer within.of_codec none).0;
+    of_codec = λ _. within.of_codec;
+    all = tt;
+  }
 
-  happens : Happens samples happened s t
+  happens : Happens samples (events_of samples all_steps t) (begins_forwarding sender forwarder receiver) t
   happens =
-      let b : Became ssrc rate codec true true samples all_steps s t = became ssrc rate codec true true samples all_steps s t source run in
+      let b : Became ssrc rate codec true steady samples all_steps s t = became ssrc rate codec true steady samples all_steps s t source run in
       subst (λ (rs : List Forwarded). Happens samples (events samples 0 all_steps t.wire.sends rs) s t) (sym b.answers_are)
       (subst (λ (es : List SentSample). Happens samples (events samples 0 all_steps es b.more) s t) (sym b.sends_are) b.happens)
 
-  base : IsBase ssrc rate low codec kept.1 sender.packetizer built within.no_ids samples s
-  base = record { source = source; own = refl; next = omega arith; numbers = tt; few = omega arith; codec_is = refl }
-
-  walk : Walks ssrc rate low codec kept.1 sender.packetizer built within.no_ids samples happened s t off [] []
-  walk = walks ssrc rate low codec kept.1 sender.packetizer built within.no_ids samples happened s t off [] [] base (within.other, refl) (refl, refl) within.near within.none_filled happens
-
-  end : Ended ssrc low walk.end e gone
-  end = ended ssrc low walk.end e gone walk.holds
-
-  settings : e.settings ≡ forwarder.settings
-  settings = walk.settings
-
-  final : IsFinal ssrc rate low codec kept.1 sender.packetizer built within.no_ids samples end.number e gone
-  final = record {
-    fits_type = subst (λ (x : ForwardSettings). x.payload_type < 128) (sym settings) within.widths.payload_type;
-    fits_ssrc = subst (λ (x : ForwardSettings). x.ssrc < 2 ^ 32) (sym settings) within.widths.ssrc;
-    some = within.widths.clock_rate;
-    falls = end.falls;
-  }
-
-  abbrev first : Sending
-  first = closed_sender e end.number sender
-
-  abbrev all_samples : List Sample
-  all_samples = viewer_samples e rate samples
-
-  led : Leads e final.fits_type final.fits_ssrc rate final.some sender.packetizer built within.no_ids end.number gone final.falls samples steps entries s t first []
-  led = (walk.course end.number e gone final end.agrees within.whole).1 first [] (record { packetizer_is = refl; mtu = refl; stream = refl; next = omega arith })
-
-  -- what the viewer's receiver sees
-  abbrev saw : Wire
-  saw = seen_by e final.fits_type final.fits_ssrc rate final.some sender.packetizer built within.no_ids end.number gone final.falls samples t led.end entries
-
-  course : Proceeds None all_samples steps (begins first receiver) saw
-  course = proceeds None all_samples steps (begins first receiver) saw led.runs
-
-  -- the run over one hop
-  abbrev whole_run : Wire
-  whole_run = closed_wire e gone end.number entries t.wire
-
-  first_one_stream : (settings : Settings) (depacketizer : DepacketizerState) → AreOfOneStream (viewer_sender (without_ids e) sender) settings depacketizer → AreOfOneStream first settings depacketizer
-  first_one_stream settings depacketizer is = record {
-    built_in = is.built_in;
-    alike = is.alike;
-    nothing_read = is.nothing_read;
-    clock_rate = is.clock_rate;
-    payload_type = is.payload_type;
-    not_rtcp = is.not_rtcp;
-    ssrc = is.ssrc;
-    not_again = again_same settings.retransmission first.stream first.stream.number (viewer_sender (without_ids e) sender).stream.number ∙ is.not_again;
-    drops_none = is.drops_none;
-  }
-
-  viewer_one_stream : AreOfOneStream (viewer_sender (without_ids e) sender) within.settings within.depacketizer
+  viewer_one_stream : AreOfOneStream (viewer_sender (without_ids t.forwarder) sender) within.settings within.depacketizer
   viewer_one_stream = record {
     built_in = within.one_stream.built_in;
     alike = within.one_stream.alike;
@@ -196,47 +177,156 @@ module _ (samples : List Sample) (all_steps : List LeaveStep) (sender : Sending)
     payload_type = within.one_stream.payload_type;
     not_rtcp = within.one_stream.not_rtcp;
     ssrc = within.one_stream.ssrc;
-    not_again = again_same within.settings.retransmission first.stream (viewer_sender (without_ids e) sender).stream.number 0 ∙ within.one_stream.not_again;
+    not_again = again_same within.settings.retransmission (viewer_sender (without_ids e) sender).stream (viewer_sender (without_ids e) sender).stream.number 0 ∙ within.one_stream.not_again;
     drops_none = within.one_stream.drops_none;
   }
 
-  is_within : IsWithinWindows all_samples steps first receiver entries
-  is_within =
-      let w = moved_within (without_ids e) samples steps sender receiver entries within.settings within.depacketizer within.widths.clock_rate within.new viewer_one_stream within.readable within.within within.timely in
-      record { settings = w.settings; depacketizer = w.depacketizer; new = w.new; one_stream = first_one_stream w.settings w.depacketizer w.one_stream; readable = w.readable; within = w.within; timely = w.timely }
+  -- With the packetizer of the run, or without what it does
 
-  takes : Takes None (received_steps all_samples 0 steps entries) whole_run.datagrams receiver whole_run.pops whole_run.session
-  takes = takes_of None all_samples steps first receiver saw course
+  module _ (packetizer : PacketizerState) (own : is_built_in packetizer ≡ true → sender.packetizer ≡ packetizer) (no_ids : is_built_in packetizer ≡ true → sends_no_ids packetizer ≡ true) where
+    base : IsBase ssrc rate low codec fixed steady packetizer no_ids samples s
+    base = record { source = source; own = own; next = omega arith; numbers = tt; few = omega arith; codec_is = refl }
 
-  sends_from : SendsFrom all_samples steps first receiver whole_run
-  sends_from start small same =
-      let buffer : State = receiver.packets.buffer in
-      let runs : SendsRun buffer first.stream first.mtu start 0 all_samples steps (begins first receiver) saw [] =
-      sends_run buffer first.stream first.mtu start small all_samples None 0 steps (begins first receiver) saw []
-      (record { mtu = refl; built_in = built; kept = refl; number = same; reads = tt; numbered = tt; few = omega arith }) course in
-      let before : RunState = running buffer start rate first [] in
-      let after : RunState = running buffer start rate led.end runs.all in
-      let sends : List Step = sending_steps first.mtu steps in
-      let unused : IsUnused before = starts_unused is_within.settings is_within.depacketizer first receiver start is_within.new is_within.one_stream in
-      record {
-        all = runs.all;
-        reads = runs.at.reads;
-        numbered = runs.at.numbered;
-        few = runs.at.few;
-        times = runs.times ∙ ap (times_sent rate all_samples steps) (sym runs.sends_are);
-        end = led.end;
-        stream = streams plainly all_samples 0 sends before after runs.entries [] (unused_exactly all_samples sends before runs.entries [] after unused runs.runs);
-      }
+    walk : Walks ssrc rate low codec fixed steady packetizer no_ids samples happened s t off [] []
+    walk = walks ssrc rate low codec fixed steady packetizer no_ids samples happened s t off [] [] base (within.other, refl) (refl, refl) within.near within.none_filled (λ moves. (within.ids moves).2) happens
 
-  promises : KeepsPromises all_samples steps (begins first receiver) whole_run
-  promises = keeps_all None all_samples steps first receiver whole_run takes sends_from tt is_within
+    end : Ended steady walk.end e gone
+    end = ended ssrc low steady walk.end e gone walk.holds
+
+    settings : e.settings ≡ forwarder.settings
+    settings = walk.settings
+
+    plain : is_built_in packetizer ≡ true → (mtu : ℕ) (frame : List ℕ) (payloads : List (List ℕ)) → PacketizerStep packetizer mtu frame (Ok payloads) packetizer
+        → (i : ℕ) → i < length payloads → (x : IdOffsets) → payload_for e.settings.codec x (slice_index_or payloads i []) ≡ slice_index_or payloads i []
+    plain built mtu frame payloads step i l x =
+        let of : keeps_packetizer codec packetizer ≡ true = sym (ap (keeps_packetizer codec) (own built)) ∙ within.of_codec in
+        let kept : IsKept codec (slice_index_or payloads i []) = kept_each codec packetizer packetizer mtu frame payloads (are_kept codec packetizer of (no_ids built)).0 (λ _. step) i l in
+        subst (λ (c : ForwardSettings). payload_for c.codec x (slice_index_or payloads i []) ≡ slice_index_or payloads i []) (sym settings) (stays_same codec x (slice_index_or payloads i []) fixed kept)
+
+    final : IsFinal ssrc rate low codec fixed steady packetizer no_ids samples end.offsets e gone
+    final = record {
+      fits_type = subst (λ (x : ForwardSettings). x.payload_type < 128) (sym settings) within.widths.payload_type;
+      fits_ssrc = subst (λ (x : ForwardSettings). x.ssrc < 2 ^ 32) (sym settings) within.widths.ssrc;
+      some = within.widths.clock_rate;
+      falls = end.falls;
+      plain = plain;
+    }
+
+    -- the sender whose datagrams the viewer gets, and the same without what its packetizer does
+    abbrev first : Sending
+    first = closed_sender e end.offsets.number sender
+
+    abbrev unknown : Sending
+    unknown = record first { packetizer = packetizer }
+
+    abbrev all_samples : List Sample
+    all_samples = viewer_samples e rate samples
+
+    led : Leads e final.fits_type final.fits_ssrc rate final.some end.offsets packetizer no_ids final.plain gone final.falls samples steps entries s t unknown []
+    led = (walk.course end.offsets e gone final end.agrees within.whole).1 unknown [] (record { packetizer_is = refl; mtu = refl; stream = refl; next = omega arith })
+
+    -- what the viewer's receiver sees
+    abbrev saw : Wire
+    saw = seen_by e final.fits_type final.fits_ssrc rate final.some end.offsets packetizer no_ids final.plain gone final.falls samples t led.end entries
+
+    course : Proceeds None all_samples steps (begins unknown receiver) saw
+    course = proceeds None all_samples steps (begins unknown receiver) saw led.runs
+
+    -- the run over one hop
+    abbrev whole_run : Wire
+    whole_run = closed_wire e end.offsets gone entries t.wire
+
+    first_one_stream : (settings : Settings) (depacketizer : DepacketizerState) → AreOfOneStream (viewer_sender (without_ids e) sender) settings depacketizer → AreOfOneStream first settings depacketizer
+    first_one_stream settings depacketizer is = record {
+      built_in = is.built_in;
+      alike = is.alike;
+      nothing_read = is.nothing_read;
+      clock_rate = is.clock_rate;
+      payload_type = is.payload_type;
+      not_rtcp = is.not_rtcp;
+      ssrc = is.ssrc;
+      not_again = again_same settings.retransmission first.stream first.stream.number (viewer_sender (without_ids e) sender).stream.number ∙ is.not_again;
+      drops_none = is.drops_none;
+    }
+
+    is_within : IsWithinWindows all_samples steps first receiver entries
+    is_within =
+        let w = moved_within (without_ids e) samples steps sender receiver entries within.settings within.depacketizer within.widths.clock_rate within.new viewer_one_stream within.readable within.within within.timely in
+        record {
+          settings = w.settings;
+          depacketizer = w.depacketizer;
+          new = w.new;
+          one_stream = first_one_stream w.settings w.depacketizer w.one_stream;
+          readable = w.readable;
+          within = w.within;
+          timely = w.timely;
+        }
+
+    takes : Takes None (received_steps all_samples 0 steps entries) whole_run.datagrams receiver whole_run.pops whole_run.session
+    takes = takes_of None all_samples steps unknown receiver saw course
+
+    kept_all : SendsFrom all_samples steps first receiver whole_run → ReleasesKept samples all_steps s t
+    kept_all sends_from =
+        let promises : KeepsPromises all_samples steps (begins first receiver) whole_run = keeps_all None all_samples steps first receiver whole_run takes sends_from tt is_within in
+        record {
+          offsets = end.offsets;
+          promises = promises;
+          canonical = promises.released.canonical ∙ same_units (without_ids e) rate sender.packetizer samples (sending_steps sender.mtu steps);
+        }
+
+    -- A packetizer without ids
+
+    plain_sends : packetizer ≡ sender.packetizer → SendsFrom all_samples steps first receiver whole_run
+    plain_sends is start small same =
+        let buffer : State = receiver.packets.buffer in
+        let built : is_built_in packetizer ≡ true = ap is_built_in is ∙ within.one_stream.built_in in
+        let runs : SendsRun buffer first.stream first.mtu start 0 all_samples steps (begins unknown receiver) saw [] =
+        sends_run buffer first.stream first.mtu start small all_samples None 0 steps (begins unknown receiver) saw []
+        (record { mtu = refl; built_in = built; kept = refl; number = same; reads = tt; numbered = tt; few = omega arith }) course in
+        let before : RunState = running buffer start rate first [] in
+        let after : RunState = running buffer start rate led.end runs.all in
+        let sends : List Step = sending_steps first.mtu steps in
+        let unused : IsUnused before = starts_unused is_within.settings is_within.depacketizer first receiver start is_within.new is_within.one_stream in
+        let exact : PlainRuns all_samples 0 sends before runs.entries [] after =
+        subst (λ (p : PacketizerState). PlainRuns all_samples 0 sends (running buffer start rate (record first { packetizer = p }) []) runs.entries [] after) is runs.runs in
+        record {
+          all = runs.all;
+          reads = runs.at.reads;
+          numbered = runs.at.numbered;
+          few = runs.at.few;
+          times = runs.times ∙ ap (times_sent rate all_samples steps) (sym runs.sends_are);
+          end = led.end;
+          stream = streams plainly all_samples 0 sends before after runs.entries [] (unused_exactly all_samples sends before runs.entries [] after unused exact);
+        }
+
+    -- One that sends ids of VP8
+
+    ids_sends : sends_no_ids sender.packetizer ≡ false → SendsFrom all_samples steps first receiver whole_run
+    ids_sends moves start small same =
+        let allowed = within.ids moves in
+        let buffer : State = receiver.packets.buffer in
+        let of : keeps_packetizer codecs.Vp8 sender.packetizer ≡ true = subst (λ (c : Codec). keeps_packetizer c sender.packetizer ≡ true) allowed.0 within.of_codec in
+        let vp8 = is_vp8 sender.packetizer of in
+        let ids = vp8_with sender.packetizer vp8.0 vp8.1 moves in
+        let codec_is : e.settings.codec ≡ codecs.Vp8 = ap (λ (x : ForwardSettings). x.codec) settings ∙ allowed.0 in
+        let o : Offsets = end.offsets in
+        let c : Comes e final.fits_type final.fits_ssrc rate final.some o codec_is gone (end.pictures moves) (end.among moves) samples sender.mtu allowed.1 buffer start small (omega (arith, same)) steps entries t ids.0 [] =
+        comes e final.fits_type final.fits_ssrc rate final.some o codec_is gone (end.pictures moves) (end.among moves) samples sender.mtu allowed.1 buffer start small (omega (arith, same)) happened s t [] ids.0 []
+        (record { id = ids.0; own = ids.1; mtu_is = refl; clock = refl; reads = tt; numbers = tt; few = omega arith }) within.whole happens in
+        record {
+          all = c.all;
+          reads = c.reads;
+          numbered = c.numbers;
+          few = c.few;
+          times = c.times;
+          end = record first { packetizer = Vp8Packetizing (Some c.last) };
+          stream = subst (λ (p : PacketizerState). Streams all_samples (sending_steps sender.mtu steps) (running buffer start rate (record first { packetizer = p }) []) (running buffer start rate (record first { packetizer = Vp8Packetizing (Some c.last) }) c.all))
+              (sym ids.1) c.streams;
+        }
+
+  by_ids : (b : Bool) → sends_no_ids sender.packetizer ≡ b → ReleasesKept samples all_steps (begins_forwarding sender forwarder receiver) t
+  by_ids true none = kept_all sender.packetizer (λ _. refl) (λ _. none) (plain_sends sender.packetizer (λ _. refl) (λ _. none) refl)
+  by_ids false moves = kept_all BoxedPacketizing (λ built. absurd (cc)) (λ built. absurd (cc)) (ids_sends BoxedPacketizing (λ built. absurd (cc)) (λ built. absurd (cc)) moves)
 
 pub release_leaving_out : ReleaseLeavingOut
-release_leaving_out samples all_steps sender forwarder receiver t run within =
-    let kept_promises = promises samples all_steps sender forwarder receiver t run within in
-    record {
-      number = (end samples all_steps sender forwarder receiver t run within).number;
-      promises = kept_promises;
-      canonical = kept_promises.released.canonical
-          ∙ same_units (without_ids t.forwarder) sender.stream.clock_rate sender.packetizer samples (sending_steps sender.mtu (kept_steps_of samples all_steps t));
-    }
+release_leaving_out samples all_steps sender forwarder receiver t run within = by_ids samples all_steps sender forwarder receiver t run within (sends_no_ids sender.packetizer) refl

@@ -413,8 +413,8 @@ module _ (ssrc low : ℕ) (steady : Bool) (codec : Codec) (fixed : is_moved code
                   there = there;
                   reads = reads;
                   is = written ∙ ap packet_bytes
-                    (under f.settings (offsets_switched f.ids ids) (ids_at (offsets_since since) k) _ _ _ _
-                    (payload_same f.settings.codec (offsets_switched f.ids ids) (ids_at (offsets_since since) k) p.payload (is_fixed f kept) (omega arith) refl) start time);
+                      (under f.settings (offsets_switched f.ids ids) (ids_at (offsets_since since) k) _ _ _ _
+                      (payload_same f.settings.codec (offsets_switched f.ids ids) (ids_at (offsets_since since) k) p.payload (is_fixed f kept) (omega arith) refl) start time);
                 },
                 tt,
               ));

@@ -156,6 +156,27 @@ module _ (e : Forward) (fits_type : e.settings.payload_type < 128) (fits_ssrc : 
           (sent_at ids next n is own packetizer same (length payloads) place (slice_index_or payloads place []) (slice_index_or datagrams place []) (are.1 place low)))),
     )
 
+  -- datagrams that are sent: none of them is left out, or all are
+
+  pub after_is : (gone : List ℕ) (before new after : List (List ℕ)) → after ≡ before ++ new → ((place : ℕ) → place < length new → is_in (length before + place) gone ≡ false)
+      → closed e o gone 0 o.number after ≡ closed e o gone 0 o.number before ++ numbered e o gone (length before) (o.number + length (closed e o gone 0 o.number before)) new
+  after_is gone before new after is out =
+      let c : ℕ = length (closed e o gone 0 o.number before) in
+      ap (closed e o gone 0 o.number) is
+      ∙ (closed_append e o gone before new 0 o.number
+      ∙ ap (λ (xs : List (List ℕ)). closed e o gone 0 o.number before ++ xs)
+      (ap (λ (n : ℕ). closed e o gone n (o.number + c) new) (omega arith) ∙ closed_all e o gone new (length before) (o.number + c) out))
+
+  -- a sample that was left out adds nothing
+  pub left_beside : (gone : List ℕ) (before new after : List (List ℕ)) → after ≡ before ++ new → ((place : ℕ) → place < length new → is_in (length before + place) gone ≡ true)
+      → closed e o gone 0 o.number after ≡ closed e o gone 0 o.number before
+  left_beside gone before new after is out =
+      let c : ℕ = length (closed e o gone 0 o.number before) in
+      ap (closed e o gone 0 o.number) is
+      ∙ (closed_append e o gone before new 0 o.number
+      ∙ (ap (λ (xs : List (List ℕ)). closed e o gone 0 o.number before ++ xs) (ap (λ (n : ℕ). closed e o gone n (o.number + c) new) (omega arith) ∙ closed_none e o gone new (length before) (o.number + c) out)
+      ∙ append-nil (closed e o gone 0 o.number before)))
+
   -- A sender of the kept frames, beside the sender of the run. Its packetizer has no ids, or nothing is known of it
 
   module _ (packetizer : PacketizerState) (none : is_built_in packetizer ≡ true → sends_no_ids packetizer ≡ true)
@@ -178,15 +199,6 @@ module _ (e : Forward) (fits_type : e.settings.payload_type < 128) (fits_ssrc : 
       pub sends : SendsIt (viewer_sample e rate sample) v (closed e o gone 0 o.number before) entry left (closed e o gone 0 o.number after)
       pub beside : IsBeside left t after
 
-    pub after_is : (before new after : List (List ℕ)) → after ≡ before ++ new → ((place : ℕ) → place < length new → is_in (length before + place) gone ≡ false)
-        → closed e o gone 0 o.number after ≡ closed e o gone 0 o.number before ++ numbered e o gone (length before) (o.number + length (closed e o gone 0 o.number before)) new
-    after_is before new after is out =
-        let c : ℕ = length (shown before) in
-        ap shown is
-        ∙ (closed_append e o gone before new 0 o.number
-        ∙ ap (λ (xs : List (List ℕ)). shown before ++ xs)
-        (ap (λ (n : ℕ). closed e o gone n (o.number + c) new) (omega arith) ∙ closed_all e o gone new (length before) (o.number + c) out))
-
     sent_beside : (sample : Sample) (v s t : Sending) (before after : List (List ℕ)) (entry : SentSample) → (is_built_in packetizer ≡ true → s.packetizer ≡ packetizer) → s.stream.clock_rate ≡ rate
         → IsBeside v s before → Sends s (sent_sample sample) t → entry.fault ≡ None → after ≡ before ++ t.datagrams → entry.count ≡ length t.datagrams → length after < 2 ^ 63
         → ((place : ℕ) → place < length t.datagrams → is_in (length before + place) gone ≡ false) → SendsBeside sample v t before after entry
@@ -202,7 +214,7 @@ module _ (e : Forward) (fits_type : e.settings.payload_type < 128) (fits_ssrc : 
           counts = counted v.counts (time_of v.stream (sent_sample sample')) payloads;
           datagrams = new;
         } in
-        let whole : shown after ≡ shown before ++ new = after_is before t.datagrams after gained out in
+        let whole : shown after ≡ shown before ++ new = after_is gone before t.datagrams after gained out in
         let new_length : length new ≡ length t.datagrams = numbered_length gone t.datagrams k (o.number + c) in
         let length_is : length (shown after) ≡ c + length t.datagrams = ap length whole ∙ (length-append (shown before) new ∙ ap (λ (n : ℕ). c + n) new_length) in
         let moved_length : length payloads ≡ length sends.payloads = moves_length sends.payloads k in
@@ -287,13 +299,3 @@ module _ (e : Forward) (fits_type : e.settings.payload_type < 128) (fits_ssrc : 
         by : (fault : Option PacketError) → entry.fault ≡ fault → SendsOrRefuses (sent_sample sample) s fault t → SendsBeside sample v t before after entry
         by None is does = sent_beside sample v s t before after entry own clock beside does is sends.gained sends.count sends.few (λ place l. out place (omega (arith, l, sends.count)))
         by (Some fault) is does = refused_beside sample v s t before after entry fault own beside does is sends.gained sends.count sends.few
-
-    -- a sample that was left out adds nothing
-    pub left_beside : (before new after : List (List ℕ)) → after ≡ before ++ new → ((place : ℕ) → place < length new → is_in (length before + place) gone ≡ true)
-        → closed e o gone 0 o.number after ≡ closed e o gone 0 o.number before
-    left_beside before new after is out =
-        let c : ℕ = length (shown before) in
-        ap shown is
-        ∙ (closed_append e o gone before new 0 o.number
-        ∙ (ap (λ (xs : List (List ℕ)). shown before ++ xs) (ap (λ (n : ℕ). closed e o gone n (o.number + c) new) (omega arith) ∙ closed_none e o gone new (length before) (o.number + c) out)
-        ∙ append-nil (shown before)))

@@ -8,6 +8,7 @@ pub mod LeaveLemmas
 pub mod LeaveLists
 pub mod LeaveNumbers
 pub mod LeaveSenders
+pub mod LeaveStreams
 pub mod LeaveWalks
 pub mod MovedPayloads
 pub mod MovedStreams

@@ -1,4 +1,3 @@
-use Rattle.codec_payload_forward_runs.proofs.LeaveWalks.{walks}
 use Rattle.codec_payload_forward_runs.proofs.FirstHopLemmas.{reads_as_sent}
 use Rattle.codec_payload_forward_runs.proofs.theorems.unwrapped_reads_as_sent.Goals as goal
 
