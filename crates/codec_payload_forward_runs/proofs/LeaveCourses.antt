@@ -23,8 +23,9 @@ use Rattle.codec_payload_datagram_runs.specs.declared.run.DatagramStep.{Datagram
 use Rattle.codec_payload_datagram_runs.specs.declared.run.DatagramStep.TheVariants as seen
 use Rattle.codec_payload_datagram_runs.specs.declared.run.SentSample.{SentSample}
 use Rattle.codec_payload_forward_runs.proofs.LeaveEvents.{DoesSend}
+use Rattle.codec_payload_forward_runs.proofs.LeaveIds.{Since, offsets_since}
 use Rattle.codec_payload_forward_runs.proofs.LeaveLists.{kept_at}
-use Rattle.codec_payload_forward_runs.proofs.LeaveNumbers.{Agrees, AreOut, IsOut, Since, Stage, Wrote, off, offsets_since, on, out_bytes, same_out}
+use Rattle.codec_payload_forward_runs.proofs.LeaveNumbers.{Agrees, AreOut, IsOut, Stage, Wrote, off, on, out_bytes, same_out}
 use Rattle.codec_payload_forward_runs.proofs.LeaveSenders.{IsBeside, left_beside, mtu_stays, sends_beside}
 use Rattle.codec_payload_forward_runs.proofs.SenderLemmas.{map_append}
 use Rattle.codec_payload_forward_runs.specs.ForwardReleases.{forwarded_by, viewer_sample, viewer_samples}

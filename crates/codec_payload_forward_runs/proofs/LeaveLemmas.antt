@@ -36,7 +36,8 @@ use Rattle.codec_payload_forward_runs.proofs.ForwardLemmas.{moved_within, same_u
 use Rattle.codec_payload_forward_runs.proofs.KeptPayloads.{IsKept, is_vp8, is_vp9, kept_each}
 use Rattle.codec_payload_forward_runs.proofs.LeaveCourses.{Leads, seen_by}
 use Rattle.codec_payload_forward_runs.proofs.LeaveEvents.{Became, Happens, became}
-use Rattle.codec_payload_forward_runs.proofs.LeaveNumbers.{Agrees, Holds, Stage, is_moved, off, offsets_since, on}
+use Rattle.codec_payload_forward_runs.proofs.LeaveIds.{is_moved, offsets_since}
+use Rattle.codec_payload_forward_runs.proofs.LeaveNumbers.{Agrees, Holds, Stage, off, on}
 use Rattle.codec_payload_forward_runs.proofs.LeaveStreams.{Comes, comes}
 use Rattle.codec_payload_forward_runs.proofs.LeaveWalks.{IsBase, IsFinal, Walks, stays_same, walks}
 use Rattle.codec_payload_forward_runs.proofs.SenderLemmas.{without_ids}
@@ -188,7 +189,7 @@ module _ (samples : List Sample) (all_steps : List LeaveStep) (sender : Sending)
     base = record { source = source; own = own; next = omega arith; numbers = tt; few = omega arith; codec_is = refl }
 
     walk : Walks ssrc rate low codec fixed steady packetizer no_ids samples happened s t off [] []
-    walk = walks ssrc rate low codec fixed steady packetizer no_ids samples happened s t off [] [] base (within.other, refl) (refl, refl) within.near within.none_filled (λ moves. (within.ids moves).2) happens
+    walk = walks ssrc rate low codec fixed steady packetizer no_ids samples happened s t off [] [] base (within.other, refl) (refl, refl) within.near within.none_filled happens
 
     end : Ended steady walk.end e gone
     end = ended ssrc low steady walk.end e gone walk.holds

@@ -22,9 +22,11 @@ use Rattle.codec_payload_sending_forward.specs.declared.renumbering.Placed.TheVa
 use Rattle.codec_payload_sending_forward.specs.declared.ids.IdOffsets.{IdOffsets}
 use Rattle.codec_payload_sending_forward.specs.declared.times.Retiming.{Retiming}
 use Rattle.codec_payload_base.specs.Extended.{nearest}
+use Rattle.codec_payload_sending_forward.proofs.MapLemmas.{young_by}
 use Rattle.codec_payload_sending_forward.proofs.NumberLemmas.{Order, above_few, all_below_less, all_below_take, below_more, below_same, less, more, not_in, order, same}
 use Rattle.codec_payload_sending_forward.proofs.NumberRunLemmas.{renumbers, sends_given}
 use Rattle.codec_payload_datagram_runs.specs.Releases.{StayWithin}
+use Rattle.codec_payload_forward_runs.proofs.LeaveIds.{IdsHold, IsTop, Since, ids_closed, ids_open, ids_same, is_moved, left_top, offsets_since, payload_at, payload_same, sent_top}
 use Rattle.codec_payload_forward_runs.proofs.LeaveLists.{AllAbove, AreGone, below_gone, below_higher, below_next, few_above, in_gone, in_higher, near_number}
 use Rattle.codec_payload_forward_runs.specs.ForwardReleases.{forwarded_by}
 use Rattle.codec_payload_forward_runs.specs.ForwardRuns.{written_by}
@@ -63,10 +65,6 @@ placed_old m n is = by (is_too_old m n) refl (is_in n m.left_out) refl
     by false e true f = absurd (let none : places.LeftOut ≡ places.TooOld = sym (is_placed m n false true e f) ∙ is in cc)
     by false e false f = absurd (let none : places.Sent (sent_as m n) ≡ places.TooOld = sym (is_placed m n false false e f) ∙ is in cc)
 
--- what holds of the fields of a map
-abbrev pub IsTop : Numbers → Type 0
-IsTop m = (m.first ≤ m.highest) × AllBelow (suc m.highest) m.left_out
-
 -- a packet above all others is young
 above_young : (m : Numbers) (n : ℕ) → IsTop m → m.highest < n → is_too_old m n ≡ false
 above_young m n top l = rw (le-ltb n m.first (omega (arith, top.0, l)), lt-leb 32768 (m.highest - n) (omega (arith, l))) refl
@@ -101,107 +99,7 @@ top_sent m n top l = rw (above_young m n top l, lt-ltb m.highest n l) refl
 top_left : (m : Numbers) (n : ℕ) → IsTop m → m.highest < n → after_packet n false m ≡ closed n m
 top_left m n top l = rw (above_young m n top l, lt-ltb m.highest n l) refl
 
-sent_top : (m : Numbers) (n : ℕ) → IsTop m → m.highest < n → IsTop (record m { highest = n })
-sent_top m n top l = (omega (arith, top.0, l), all_below_less (suc m.highest) (suc n) m.left_out (omega (arith, l)) top.1)
-
-low_at : (bound k : ℕ) (xs : List ℕ) → 0 < bound → AllBelow bound xs → get_or xs k 0 < bound
-low_at bound k [] some all = some
-low_at bound zero (x ∷ xs) some all = all.0
-low_at bound (suc k) (x ∷ xs) some all = low_at bound k xs some all.1
-
-left_top : (m : Numbers) (n : ℕ) → IsTop m → m.highest < n → IsTop (closed n m) × ((closed n m).highest ≡ n)
-left_top m n top l = by (ltb (length m.left_out) 4096) refl
-  where
-    all : AllBelow (suc n) m.left_out
-    all = all_below_less (suc m.highest) (suc n) m.left_out (omega (arith, l)) top.1
-
-    low : get_or m.left_out 4095 0 < suc m.highest
-    low = low_at (suc m.highest) 4095 m.left_out (omega arith) top.1
-
-    by : (b : Bool) → ltb (length m.left_out) 4096 ≡ b → IsTop (closed n m) × ((closed n m).highest ≡ n)
-    by true e = rw e ((omega (arith, top.0, l), (omega arith, all)), refl)
-    by false e = rw e ((omega (arith, low, l), (omega arith, all_below_take (suc n) 4095 m.left_out all)), refl)
-
 -- ---- since the forwarder began
-
--- the datagram with which it began, the number of that packet, extended, and the number that it was sent under; what was added to its
--- ids, and the first datagrams of the pictures that were left out so far
-pub record Since : Type 0 where
-  pub begin : ℕ
-  pub base : ℕ
-  pub start : ℕ
-  pub ids : IdOffsets
-  pub pictures : List ℕ
-
--- the offsets of the viewer's stream
-abbrev pub offsets_since : Since → Offsets
-offsets_since since = record { number = since.start + 65535 * since.begin; ids = since.ids; pictures = since.pictures }
-
--- the map of ids, if there are ids that close up
-pub record IdsHold (since : Since) (m : Ids) (gone : List ℕ) : Type 0 where
-  pub falls : Falls since.pictures
-  pub among : (k : ℕ) → is_in k since.pictures ≡ true → is_in k gone ≡ true
-  pub counts : (n k : ℕ) → n + since.begin ≡ k + since.base → length m.left_out - above n m.left_out ≡ below (k + 1) since.pictures
-  pub offset : m.offsets.picture % 65536 ≡ since.ids.picture % 65536
-  pub tl0 : m.offsets.tl0 ≡ since.ids.tl0
-  pub size : length m.left_out ≤ length gone
-  pub few : length m.left_out ≤ 4096
-
-ids_same : (since : Since) (m t : Ids) (gone : List ℕ) → t.offsets ≡ m.offsets → t.left_out ≡ m.left_out → IdsHold since m gone → IdsHold since t gone
-ids_same since m t gone offsets left is = record {
-  falls = is.falls;
-  among = is.among;
-  counts = λ n k e. ap (λ (xs : List ℕ). length xs - above n xs) left ∙ is.counts n k e;
-  offset = ap (λ (o : IdOffsets). o.picture % 65536) offsets ∙ is.offset;
-  tl0 = ap (λ (o : IdOffsets). o.tl0) offsets ∙ is.tl0;
-  size = subst (λ (xs : List ℕ). length xs ≤ length gone) (sym left) is.size;
-  few = subst (λ (xs : List ℕ). length xs ≤ 4096) (sym left) is.few;
-}
-
--- the codec is not VP9
-abbrev pub is_moved : Codec → Bool
-is_moved codecs.Vp9 = true
-is_moved codec = false
-
--- a payload by offsets that are the same
-payload_same : (codec : Codec) (o x : IdOffsets) (payload : List ℕ) → is_moved codec ≡ false → o.picture % 65536 ≡ x.picture % 65536 → o.tl0 ≡ x.tl0 → payload_for codec o payload ≡ payload_for codec x payload
-payload_same codecs.Vp8 o x payload fixed pictures tl0s = same_moved o.picture x.picture o.tl0 payload pictures ∙ ap (λ (n : ℕ). payload_as (record { picture = x.picture; tl0 = n }) payload) tl0s
-payload_same codecs.Vp9 o x payload fixed pictures tl0s = absurd (cc)
-payload_same codecs.Opus o x payload fixed pictures tl0s = refl
-payload_same codecs.PCMU o x payload fixed pictures tl0s = refl
-payload_same codecs.PCMA o x payload fixed pictures tl0s = refl
-payload_same codecs.G722 o x payload fixed pictures tl0s = refl
-payload_same codecs.CN o x payload fixed pictures tl0s = refl
-payload_same codecs.AmrWb o x payload fixed pictures tl0s = refl
-payload_same codecs.H264 o x payload fixed pictures tl0s = refl
-payload_same codecs.H265 o x payload fixed pictures tl0s = refl
-payload_same codecs.H266 o x payload fixed pictures tl0s = refl
-payload_same codecs.Av1 o x payload fixed pictures tl0s = refl
-payload_same codecs.Null o x payload fixed pictures tl0s = refl
-payload_same codecs.Tele o x payload fixed pictures tl0s = refl
-payload_same codecs.Rtx o x payload fixed pictures tl0s = refl
-payload_same codecs.Red o x payload fixed pictures tl0s = refl
-payload_same codecs.Unknown o x payload fixed pictures tl0s = refl
-
-payload_at : (codec : Codec) (ids : Ids) (n : ℕ) (x : IdOffsets) (payload : List ℕ) → is_moved codec ≡ false → (offsets_at ids n).picture % 65536 ≡ x.picture % 65536 → ids.offsets.tl0 ≡ x.tl0
-    → payload_for codec (offsets_for codec ids n) payload ≡ payload_for codec x payload
-payload_at codecs.Vp8 ids n x payload fixed pictures tl0s = payload_same codecs.Vp8 (offsets_at ids n) x payload fixed pictures tl0s
-payload_at codecs.Vp9 ids n x payload fixed pictures tl0s = absurd (cc)
-payload_at codecs.Opus ids n x payload fixed pictures tl0s = refl
-payload_at codecs.PCMU ids n x payload fixed pictures tl0s = refl
-payload_at codecs.PCMA ids n x payload fixed pictures tl0s = refl
-payload_at codecs.G722 ids n x payload fixed pictures tl0s = refl
-payload_at codecs.CN ids n x payload fixed pictures tl0s = refl
-payload_at codecs.AmrWb ids n x payload fixed pictures tl0s = refl
-payload_at codecs.H264 ids n x payload fixed pictures tl0s = refl
-payload_at codecs.H265 ids n x payload fixed pictures tl0s = refl
-payload_at codecs.H266 ids n x payload fixed pictures tl0s = refl
-payload_at codecs.Av1 ids n x payload fixed pictures tl0s = refl
-payload_at codecs.Null ids n x payload fixed pictures tl0s = refl
-payload_at codecs.Tele ids n x payload fixed pictures tl0s = refl
-payload_at codecs.Rtx ids n x payload fixed pictures tl0s = refl
-payload_at codecs.Red ids n x payload fixed pictures tl0s = refl
-payload_at codecs.Unknown ids n x payload fixed pictures tl0s = refl
 
 -- A forwarder that has begun with the source. The datagrams come with numbers from `low` on; `gone` were left out, and `high` is the
 -- highest index so far. `steady` says that there are no ids that close up
@@ -222,7 +120,7 @@ pub record IsOn (ssrc low : ℕ) (steady : Bool) (since : Since) (high : ℕ) (f
   pub falls : Falls gone
   pub within : AllBelow (suc high) gone
   pub above : AllAbove since.begin gone
-  pub ids : steady ≡ false → IdsHold since f.ids gone
+  pub ids : steady ≡ false → IdsHold since f.ids f.numbers gone
   pub pictures : AllBelow (suc high) since.pictures
 
 -- the forwarder has not begun, or has
@@ -382,20 +280,23 @@ module _ (ssrc low : ℕ) (steady : Bool) (codec : Codec) (fixed : is_moved code
             are_gone = tt;
             high_is = omega arith;
             highest_is = refl;
-            top = (omega arith, tt);
+            top = (omega arith, tt, tt, omega arith, tt);
             from = omega arith;
             small = few;
             falls = tt;
             within = tt;
             above = tt;
             ids = λ moves. record {
+              lost = 0;
               falls = tt;
               among = λ j is_there. absurd (cc);
-              counts = λ n j same_index. ap (λ (xs : List ℕ). length xs - above n xs) (switched_none ids f.ids);
-              offset = ap (λ (x : IdOffsets). x.picture % 65536) (switched_to ids f.ids);
+              counts = λ n j same_index from. ap (λ (xs : List ℕ). 0 + (length xs - above n xs)) (switched_none ids f.ids);
+              offset = ap (λ (x : IdOffsets). (x.picture + 0) % 65536) (switched_to ids f.ids) ∙ omega arith;
               tl0 = ap (λ (x : IdOffsets). x.tl0) (switched_to ids f.ids);
-              size = omega (arith, ap length (switched_none ids f.ids));
               few = omega (arith, ap length (switched_none ids f.ids));
+              order = subst Falls (sym (switched_none ids f.ids)) tt;
+              low = subst (AllBelow _) (sym (switched_none ids f.ids)) tt;
+              part = λ n there from. absurd (let no : false ≡ true = sym (ap (is_in n) (switched_none ids f.ids)) ∙ there in cc);
             };
             pictures = tt;
           };
@@ -481,33 +382,29 @@ module _ (ssrc low : ℕ) (steady : Bool) (codec : Codec) (fixed : is_moved code
           )
 
       -- the ids of a packet that was not left out
-      picture_by : (x a c b : ℕ) → (x + (65536 - c)) % 65536 ≡ a → c ≡ b → c ≤ 4096 → a % 65536 ≡ (x + 65535 * b) % 65536
-      picture_by x a c b e f l = omega (arith, e, f, l)
-
-      picture_same : (x y b : ℕ) → x % 65536 ≡ y % 65536 → (x + 65535 * b) % 65536 ≡ (y + 65535 * b) % 65536 % 65536
-      picture_same x y b e = omega (arith, e)
+      picture_by : (x a c b lost y : ℕ) → (x + (65536 - c)) % 65536 ≡ a → (x + lost) % 65536 ≡ y % 65536 → lost + c ≡ b → c ≤ 4096 → a % 65536 ≡ (y + 65535 * b) % 65536 % 65536
+      picture_by x a c b lost y e g f l = omega (arith, e, f, g, l)
 
       -- the datagram itself is no picture that was left out
-      not_picture : IdsHold since f.ids gone → is_in k gone ≡ false → below (k + 1) since.pictures ≡ below k since.pictures
+      not_picture : IdsHold since f.ids f.numbers gone → is_in k gone ≡ false → below (k + 1) since.pictures ≡ below k since.pictures
       not_picture ids kept_index = below_next since.pictures k ids.falls ∙ ap (λ (b : Bool). cond b (suc (below k since.pictures)) (below k since.pictures)) (by (is_in k since.pictures) refl)
         where
           by : (b : Bool) → is_in k since.pictures ≡ b → is_in k since.pictures ≡ false
           by true e = absurd (let there : is_in k gone ≡ true = ids.among k e in cc)
           by false e = e
 
-      picture_is : IdsHold since f.ids gone → is_in k gone ≡ false → (offsets_at f.ids n).picture % 65536 ≡ (ids_at (offsets_since since) k).picture % 65536
-      picture_is ids kept_index =
+      picture_is : IdsHold since f.ids f.numbers gone → is_in k gone ≡ false → f.numbers.first ≤ n → (offsets_at f.ids n).picture % 65536 ≡ (ids_at (offsets_since since) k).picture % 65536
+      picture_is ids kept_index from =
           let left : List ℕ = f.ids.left_out in
-          let count : length left - above n left ≡ below k since.pictures = ids.counts n k n_is ∙ not_picture ids kept_index in
-          picture_by f.ids.offsets.picture (offsets_at f.ids n).picture (length left - above n left) (below k since.pictures) refl count (omega (arith, ids.few))
-          ∙ picture_same f.ids.offsets.picture since.ids.picture (below k since.pictures) ids.offset
+          let count : ids.lost + (length left - above n left) ≡ below k since.pictures = ids.counts n k n_is from ∙ not_picture ids kept_index in
+          picture_by f.ids.offsets.picture (offsets_at f.ids n).picture (length left - above n left) (below k since.pictures) ids.lost since.ids.picture refl ids.offset count (omega (arith, ids.few))
 
-      payload_is : (b : Bool) → steady ≡ b → Kept f → is_in k gone ≡ false
+      payload_is : (b : Bool) → steady ≡ b → Kept f → is_in k gone ≡ false → f.numbers.first ≤ n
           → payload_for f.settings.codec (offsets_for f.settings.codec f.ids n) p.payload ≡ payload_for f.settings.codec (ids_at (offsets_since since) k) p.payload
-      payload_is true plain kept kept_index = kept.1 plain (offsets_for f.settings.codec f.ids n) ∙ sym (kept.1 plain (ids_at (offsets_since since) k))
-      payload_is false moves kept kept_index =
-          let ids : IdsHold since f.ids gone = is_on.ids moves in
-          payload_at f.settings.codec f.ids n (ids_at (offsets_since since) k) p.payload (is_fixed f kept) (picture_is ids kept_index) ids.tl0
+      payload_is true plain kept kept_index from = kept.1 plain (offsets_for f.settings.codec f.ids n) ∙ sym (kept.1 plain (ids_at (offsets_since since) k))
+      payload_is false moves kept kept_index from =
+          let ids : IdsHold since f.ids f.numbers gone = is_on.ids moves in
+          payload_at f.settings.codec f.ids n (ids_at (offsets_since since) k) p.payload (is_fixed f kept) (picture_is ids kept_index from) ids.tl0
 
       -- a packet of the source is written
       written_out : (now sent high' : ℕ) (t : Forward) (bytes : List ℕ) → Kept f → placed f.numbers n true ≡ places.Sent sent → bytes ≡ packet_bytes (next_packet f sent p) → t.settings ≡ f.settings
@@ -524,7 +421,7 @@ module _ (ssrc low : ℕ) (steady : Bool) (codec : Codec) (fixed : is_moved code
             there = there;
             reads = reads;
             is = written ∙ ap packet_bytes
-                (under f.settings (offsets_for f.settings.codec f.ids n) (ids_at (offsets_since since) k) _ _ _ _ (payload_is steady refl kept place.1) place.0 refl);
+                (under f.settings (offsets_for f.settings.codec f.ids n) (ids_at (offsets_since since) k) _ _ _ _ (payload_is steady refl kept place.1 (young_by f.numbers n (sent_young f.numbers n sent is).0).0) place.0 refl);
           } in
           out_later since since high' high' f t gone gone datagrams (old ++ bytes ∷ []) (ks ++ k ∷ []) (omega arith) refl refl (sym settings) (sym times) (λ j l. (refl, refl, refl))
           (out_append since high' f gone datagrams old ks (bytes ∷ []) (k ∷ [])
@@ -536,9 +433,11 @@ module _ (ssrc low : ℕ) (steady : Bool) (codec : Codec) (fixed : is_moved code
       written_turn now sent t bytes kept placed_is written is =
           subst (λ (x : Forward). Turned k d (on since high) f gone later x gone (bytes ∷ []) (k ∷ [])) (sym is) (by (order n f.numbers.highest))
         where
-          ids_next : IdsHold since f.ids gone → IdsHold since (after_next now p f).ids gone
-          ids_next =
-              ids_same since f.ids (after_next now p f).ids gone (ids_stay (ltb f.numbers.highest n) f.settings.codec n p.payload f.ids) (left_stay (ltb f.numbers.highest n) f.settings.codec n p.payload f.ids)
+          ids_next : (f.numbers.highest ≤ (after_packet n true f.numbers).highest) → (after_packet n true f.numbers).first ≡ f.numbers.first → (after_packet n true f.numbers).left_out ≡ f.numbers.left_out
+              → IdsHold since f.ids f.numbers gone → IdsHold since (after_next now p f).ids (after_next now p f).numbers gone
+          ids_next highest first out =
+              ids_same since f.ids (after_next now p f).ids f.numbers (after_packet n true f.numbers) gone (ids_stay (ltb f.numbers.highest n) f.settings.codec n p.payload f.ids)
+              (left_stay (ltb f.numbers.highest n) f.settings.codec n p.payload f.ids) first highest out
 
           below_top : n ≤ f.numbers.highest → Turned k d (on since high) f gone later (after_next now p f) gone (bytes ∷ []) (k ∷ [])
           below_top l =
@@ -562,7 +461,7 @@ module _ (ssrc low : ℕ) (steady : Bool) (codec : Codec) (fixed : is_moved code
                   falls = is_on.falls;
                   within = is_on.within;
                   above = is_on.above;
-                  ids = λ moves. ids_next (is_on.ids moves);
+                  ids = λ moves. ids_next (omega (arith, ap (λ (m : Numbers). m.highest) map_same)) (ap (λ (m : Numbers). m.first) map_same) (ap (λ (m : Numbers). m.left_out) map_same) (is_on.ids moves);
                   pictures = is_on.pictures;
                 };
                 near = near_low (index_low l);
@@ -595,7 +494,7 @@ module _ (ssrc low : ℕ) (steady : Bool) (codec : Codec) (fixed : is_moved code
                   falls = is_on.falls;
                   within = all_below_less (suc high) (suc k) gone (omega (arith, up)) is_on.within;
                   above = is_on.above;
-                  ids = λ moves. ids_next (is_on.ids moves);
+                  ids = λ moves. ids_next (omega (arith, l, ap (λ (m : Numbers). m.highest) map_is)) (ap (λ (m : Numbers). m.first) map_is) (ap (λ (m : Numbers). m.left_out) map_is) (is_on.ids moves);
                   pictures = all_below_less (suc high) (suc k) since.pictures (omega (arith, up)) is_on.pictures;
                 };
                 near = near_high up;
@@ -611,7 +510,7 @@ module _ (ssrc low : ℕ) (steady : Bool) (codec : Codec) (fixed : is_moved code
 
       -- a packet above all others is left out; these are the pictures after it
       left_turn : (ps : List ℕ) (t y : Forward) → f.numbers.highest < n → y.settings ≡ f.settings → y.source ≡ f.source → y.times ≡ f.times → y.numbers ≡ after_packet n false f.numbers → t ≡ y
-          → (steady ≡ false → IdsHold (record since { pictures = ps }) y.ids (k ∷ gone)) → AllBelow (suc k) ps → ((j : ℕ) → j ≤ high → below j ps ≡ below j since.pictures)
+          → (steady ≡ false → IdsHold (record since { pictures = ps }) y.ids (closed n f.numbers) (k ∷ gone)) → AllBelow (suc k) ps → ((j : ℕ) → j ≤ high → below j ps ≡ below j since.pictures)
           → Turned k d (on since high) f gone later t (k ∷ gone) [] []
       left_turn ps t y l settings source times numbers is ids low_pictures pictures =
           let up : high < k = index_high l in
@@ -641,7 +540,7 @@ module _ (ssrc low : ℕ) (steady : Bool) (codec : Codec) (fixed : is_moved code
               falls = (all_below_less (suc high) k gone (omega (arith, up)) is_on.within, is_on.falls);
               within = (omega arith, all_below_less (suc high) (suc k) gone (omega (arith, up)) is_on.within);
               above = (omega (arith, is_on.from, up), is_on.above);
-              ids = ids;
+              ids = λ moves. subst (λ (m : Numbers). IdsHold moved_since y.ids m (k ∷ gone)) (sym map_is) (ids moves);
               pictures = low_pictures;
             };
             near = near_high up;
@@ -660,45 +559,6 @@ module _ (ssrc low : ℕ) (steady : Bool) (codec : Codec) (fixed : is_moved code
                 wrote_same (on moved_since k) y (k ∷ gone) datagrams written ks
                 (out_later since moved_since high k f y gone (k ∷ gone) datagrams written ks (omega (arith, up)) refl refl (sym settings) (sym (ap (λ (x : Retiming). x.offset) times)) higher out);
           })
-
-      -- the map of ids after it: no picture closes
-      ids_open : high < k → IdsHold since f.ids gone → IdsHold since f.ids (k ∷ gone)
-      ids_open up ids = record {
-        falls = ids.falls;
-        among = λ j there. rw (ids.among j there) (or_true (eqb k j));
-        counts = ids.counts;
-        offset = ids.offset;
-        tl0 = ids.tl0;
-        size = omega (arith, ids.size);
-        few = ids.few;
-      }
-
-      -- or one closes
-      ids_closed : (m : Ids) → high < k → m.offsets ≡ f.ids.offsets → m.left_out ≡ n ∷ f.ids.left_out → length gone < 4096 → IdsHold since f.ids gone → IdsHold (record since { pictures = k ∷ since.pictures }) m (k ∷ gone)
-      ids_closed m up offsets left room ids = record {
-        falls = (all_below_less (suc high) k since.pictures (omega (arith, up)) is_on.pictures, ids.falls);
-        among = λ j there. among_more j there;
-        counts = λ x j same_index. ap (λ (xs : List ℕ). length xs - above x xs) left ∙ counts_more x j same_index (order n x);
-        offset = ap (λ (o : IdOffsets). o.picture % 65536) offsets ∙ ids.offset;
-        tl0 = ap (λ (o : IdOffsets). o.tl0) offsets ∙ ids.tl0;
-        size = subst (λ (xs : List ℕ). length xs ≤ suc (length gone)) (sym left) (omega (arith, ids.size));
-        few = subst (λ (xs : List ℕ). length xs ≤ 4096) (sym left) (omega (arith, ids.size, room));
-      }
-        where
-          among_more : (j : ℕ) → is_in j (k ∷ since.pictures) ≡ true → is_in j (k ∷ gone) ≡ true
-          among_more j there = by (eqb k j) refl
-            where
-              by : (b : Bool) → eqb k j ≡ b → is_in j (k ∷ gone) ≡ true
-              by true e = rw e refl
-              by false e = rw e (ids.among j (subst (λ (b : Bool). (b || is_in j since.pictures) ≡ true) e there))
-
-          counts_more : (x j : ℕ) → x + since.begin ≡ j + since.base → Order n x → length (n ∷ f.ids.left_out) - above x (n ∷ f.ids.left_out) ≡ below (j + 1) (k ∷ since.pictures)
-          counts_more x j same_index (less l) =
-              rw (le-ltb x n (omega (arith, l)), below_more (j + 1) k since.pictures (omega (arith, l, n_is, same_index))) (omega (arith, ids.counts x j same_index, above_few x f.ids.left_out))
-          counts_more x j same_index (same l) =
-              rw (le-ltb x n (omega (arith, l)), below_more (j + 1) k since.pictures (omega (arith, l, n_is, same_index))) (omega (arith, ids.counts x j same_index, above_few x f.ids.left_out))
-          counts_more x j same_index (more l) =
-              rw (lt-ltb x n l, below_same (j + 1) k since.pictures (omega (arith, l, n_is, same_index))) (omega (arith, ids.counts x j same_index))
 
     -- any datagram that is to be forwarded
     pub forward_turn : (now : ℕ) (answer : Forwarded) (bytes : List ℕ) (st : Stage) (f t : Forward) (gone later : List ℕ) → Kept f → Holds ssrc low steady st f gone → Forwards now p f answer bytes t
@@ -731,56 +591,47 @@ module _ (ssrc low : ℕ) (steady : Bool) (codec : Codec) (fixed : is_moved code
         rw here (stays_turn since high f gone later holds near t (left_low f.numbers (number_in f p) holds.top left.1) stay)
 
     -- a datagram above all others
-    ahead_turn : (since : Since) (high : ℕ) (f t : Forward) (gone later : List ℕ) → (holds : IsOn ssrc low steady since high f gone) → AreNear (on since high) (k ∷ later)
-        → (steady ≡ false → length (gone_by answers.LeftOut k gone) ≤ 4096) → f.numbers.highest < number_in f p
+    ahead_turn : (since : Since) (high : ℕ) (f t : Forward) (gone later : List ℕ) → (holds : IsOn ssrc low steady since high f gone) → AreNear (on since high) (k ∷ later) → f.numbers.highest < number_in f p
         → t ≡ record f { numbers = after_packet (number_in f p) false f.numbers; ids = ids_left f.settings.codec (number_in f p) p.payload f.ids }
         → Turned k d (on since high) f gone later t (gone_by answers.LeftOut k gone) [] []
-    ahead_turn since high f t gone later holds near room l after =
+    ahead_turn since high f t gone later holds near l after =
         let up : high < k = index_high since high f gone later holds near l in
         let here : is_in k gone ≡ false = not_in k gone (all_below_less (suc high) k gone (omega (arith, up)) holds.within) in
-        let few_gone : steady ≡ false → length (k ∷ gone) ≤ 4096 = λ moves. subst (λ (b : Bool). length (cond b gone (k ∷ gone)) ≤ 4096) here (room moves) in
-        rw here (by (id_to_leave f.ids (number_in f p) (closing_id f.settings.codec p.payload)) refl steady refl up few_gone)
+        rw here (by (id_to_leave f.ids (number_in f p) (closing_id f.settings.codec p.payload)) refl up)
       where
-        by : (o : Option ℕ) → id_to_leave f.ids (number_in f p) (closing_id f.settings.codec p.payload) ≡ o → (b : Bool) → steady ≡ b → high < k → (steady ≡ false → length (k ∷ gone) ≤ 4096)
-            → Turned k d (on since high) f gone later t (k ∷ gone) [] []
-        by None e b is up few_gone =
+        by : (o : Option ℕ) → id_to_leave f.ids (number_in f p) (closing_id f.settings.codec p.payload) ≡ o → high < k → Turned k d (on since high) f gone later t (k ∷ gone) [] []
+        by None e up =
             let ids : ids_left f.settings.codec (number_in f p) p.payload f.ids ≡ f.ids = ap (λ (o : Option ℕ). picture_closed (number_in f p) o f.ids) e in
             left_turn since high f gone later holds near since.pictures t (record f { numbers = after_packet (number_in f p) false f.numbers; ids = f.ids }) l refl refl refl refl
-            (after ∙ ap (λ (m : Ids). record f { numbers = after_packet (number_in f p) false f.numbers; ids = m }) ids) (λ moves. ids_open since high f gone later holds near up (holds.ids moves))
+            (after ∙ ap (λ (m : Ids). record f { numbers = after_packet (number_in f p) false f.numbers; ids = m }) ids)
+            (λ moves. ids_open since f.ids f.numbers gone (number_in f p) k (n_is since high f gone later holds near) holds.top l (all_below_less (suc high) k since.pictures (omega (arith, up)) holds.pictures) (holds.ids moves))
             (all_below_less (suc high) (suc k) since.pictures (omega (arith, up)) holds.pictures) (λ j within. refl)
-        by (Some id) e true plain up few_gone =
-            left_turn since high f gone later holds near since.pictures t (record f { numbers = after_packet (number_in f p) false f.numbers; ids = ids_left f.settings.codec (number_in f p) p.payload f.ids }) l refl refl refl refl
-            after (λ moves. absurd (let no : true ≡ false = sym plain ∙ moves in cc))
-            (all_below_less (suc high) (suc k) since.pictures (omega (arith, up)) holds.pictures) (λ j within. refl)
-        by (Some id) e false moves up few_gone =
-            let hold : IdsHold since f.ids gone = holds.ids moves in
-            let room_left : ltb (length f.ids.left_out) 4096 ≡ true = lt-ltb (length f.ids.left_out) 4096 (omega (arith, hold.size, few_gone moves)) in
-            let next : Ids = record f.ids { left_out = number_in f p ∷ f.ids.left_out; leaving = Some id } in
-            let ids : ids_left f.settings.codec (number_in f p) p.payload f.ids ≡ next = ap (λ (o : Option ℕ). picture_closed (number_in f p) o f.ids) e ∙ rw room_left refl in
+        by (Some id) e up =
+            let next : Ids = picture_closed (number_in f p) (Some id) f.ids in
+            let ids : ids_left f.settings.codec (number_in f p) p.payload f.ids ≡ next = ap (λ (o : Option ℕ). picture_closed (number_in f p) o f.ids) e in
             left_turn since high f gone later holds near (k ∷ since.pictures) t (record f { numbers = after_packet (number_in f p) false f.numbers; ids = next }) l refl refl refl refl
             (after ∙ ap (λ (m : Ids). record f { numbers = after_packet (number_in f p) false f.numbers; ids = m }) ids)
-            (λ moves. ids_closed since high f gone later holds near next up refl refl (omega (arith, few_gone moves)) (holds.ids moves))
+            (λ moves. ids_closed since f.ids f.numbers gone (number_in f p) k (n_is since high f gone later holds near) holds.top l (all_below_less (suc high) k since.pictures (omega (arith, up)) holds.pictures) (holds.ids moves) id)
             (omega arith, all_below_less (suc high) (suc k) since.pictures (omega (arith, up)) holds.pictures) (λ j within. below_higher j k since.pictures (omega (arith, within, up)))
 
     -- any datagram that is to be left out, and comes in time
-    pub leave_turn : (answer : Forwarded) (bytes : List ℕ) (st : Stage) (f t : Forward) (gone later : List ℕ) → fills answer ≡ false → (steady ≡ false → length (gone_by answer k gone) ≤ 4096)
-        → Holds ssrc low steady st f gone → Leaves p f answer bytes t
+    pub leave_turn : (answer : Forwarded) (bytes : List ℕ) (st : Stage) (f t : Forward) (gone later : List ℕ) → fills answer ≡ false → Holds ssrc low steady st f gone → Leaves p f answer bytes t
         → AreNear st (came_by answer k ++ later) → Turned k d st f gone later t (gone_by answer k gone) (filled_by answer bytes) []
-    leave_turn answers.Began bytes st f t gone later none room holds does near = absurd does
-    leave_turn answers.Written bytes st f t gone later none room holds does near = absurd does
-    leave_turn answers.NoKeyframe bytes st f t gone later none room holds does near = absurd does
-    leave_turn answers.Filled bytes st f t gone later none room holds does near = absurd (cc)
-    leave_turn answers.OtherSource bytes off f t gone later none room holds does near = quiet off f t gone later does.1.1 holds near
-    leave_turn answers.TooOld bytes off f t gone later none room holds does near = absurd (clash_off f does.0 holds.0)
-    leave_turn answers.LeftOut bytes off f t gone later none room holds does near = absurd (clash_off f does.0 holds.0)
-    leave_turn answers.OtherSource bytes (on since high) f t gone later none room holds does near = absurd (clash f does.0 holds.source)
-    leave_turn answers.TooOld bytes (on since high) f t gone later none room holds does near =
+    leave_turn answers.Began bytes st f t gone later none holds does near = absurd does
+    leave_turn answers.Written bytes st f t gone later none holds does near = absurd does
+    leave_turn answers.NoKeyframe bytes st f t gone later none holds does near = absurd does
+    leave_turn answers.Filled bytes st f t gone later none holds does near = absurd (cc)
+    leave_turn answers.OtherSource bytes off f t gone later none holds does near = quiet off f t gone later does.1.1 holds near
+    leave_turn answers.TooOld bytes off f t gone later none holds does near = absurd (clash_off f does.0 holds.0)
+    leave_turn answers.LeftOut bytes off f t gone later none holds does near = absurd (clash_off f does.0 holds.0)
+    leave_turn answers.OtherSource bytes (on since high) f t gone later none holds does near = absurd (clash f does.0 holds.source)
+    leave_turn answers.TooOld bytes (on since high) f t gone later none holds does near =
         stays_turn since high f gone later holds near t (old_low f.numbers (number_in f p) holds.top (placed_old f.numbers (number_in f p) does.1)) does.2.1
-    leave_turn answers.LeftOut bytes (on since high) f t gone later none room holds does near = by does.2
+    leave_turn answers.LeftOut bytes (on since high) f t gone later none holds does near = by does.2
       where
         by : ((placed f.numbers (number_in f p) true ≡ places.LeftOut) × (t ≡ f))
             ⊎ ((f.numbers.highest < number_in f p)
             × (t ≡ record f { numbers = after_packet (number_in f p) false f.numbers; ids = ids_left f.settings.codec (number_in f p) p.payload f.ids }))
             → Turned k d (on since high) f gone later t (gone_by answers.LeftOut k gone) [] []
         by (inl is) = again_turn since high f t gone later holds near is.0 is.1
-        by (inr is) = ahead_turn since high f t gone later holds near room is.0 is.1
+        by (inr is) = ahead_turn since high f t gone later holds near is.0 is.1

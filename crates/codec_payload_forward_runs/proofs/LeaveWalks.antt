@@ -26,7 +26,8 @@ use Rattle.codec_payload_datagram_runs.specs.declared.run.SentSample.{SentSample
 use Rattle.codec_payload_forward_runs.proofs.KeptPayloads.{IsKept}
 use Rattle.codec_payload_forward_runs.proofs.LeaveCourses.{Beside, Leads, deliver_leads, end_leads, places_append, pop_leads, same_leads, send_leads, seen_by, wrote_more}
 use Rattle.codec_payload_forward_runs.proofs.LeaveEvents.{DoesDeliver, DoesForward, DoesLeave, DoesSend, Happens}
-use Rattle.codec_payload_forward_runs.proofs.LeaveNumbers.{Agrees, AreNear, Holds, Stage, Turned, Wrote, forward_turn, is_moved, leave_turn}
+use Rattle.codec_payload_forward_runs.proofs.LeaveIds.{is_moved}
+use Rattle.codec_payload_forward_runs.proofs.LeaveNumbers.{Agrees, AreNear, Holds, Stage, Turned, Wrote, forward_turn, leave_turn}
 use Rattle.codec_payload_forward_runs.proofs.LeaveSenders.{IsBeside, own_stays}
 use Rattle.codec_payload_forward_runs.proofs.SourceLemmas.{IsDatagramOf, IsSource, of_at, source_after}
 use Rattle.codec_payload_forward_runs.specs.ForwardReleases.{forwarded_by}
@@ -89,29 +90,6 @@ stays_same codecs.Red o payload fixed kept = refl
 stays_same codecs.Unknown o payload fixed kept = refl
 
 -- Whole runs
-
-left_grows : (b : Bool) (k : ℕ) (gone : List ℕ) → length gone ≤ length (cond b gone (k ∷ gone))
-left_grows true k gone = omega arith
-left_grows false k gone = omega arith
-
-one_grows : (answer : Forwarded) (k : ℕ) (gone : List ℕ) → length gone ≤ length (gone_by answer k gone)
-one_grows answers.Began k gone = omega arith
-one_grows answers.Written k gone = omega arith
-one_grows answers.NoKeyframe k gone = omega arith
-one_grows answers.OtherSource k gone = omega arith
-one_grows answers.TooOld k gone = omega arith
-one_grows answers.LeftOut k gone = left_grows (is_in k gone) k gone
-one_grows answers.Filled k gone = omega arith
-
--- what was left out stays left out
-pub gone_grows : (all_events : List Event) (gone : List ℕ) → length gone ≤ length (gone_in gone all_events)
-gone_grows [] gone = omega arith
-gone_grows (sends i entry ∷ later) gone = gone_grows later gone
-gone_grows (forwards k answer ∷ later) gone = gone_grows later gone
-gone_grows (leaves k answer ∷ later) gone = omega (arith, one_grows answer k gone, gone_grows later (gone_by answer k gone))
-gone_grows (delivers j now ∷ later) gone = gone_grows later gone
-gone_grows (pops now ∷ later) gone = gone_grows later gone
-gone_grows (ends ∷ later) gone = gone_grows later gone
 
 module _ (ssrc rate low : ℕ) (codec : Codec) (fixed : is_moved codec ≡ false) (steady : Bool) (packetizer : PacketizerState) (no_ids : is_built_in packetizer ≡ true → sends_no_ids packetizer ≡ true)
     (samples : List Sample) where
@@ -425,19 +403,19 @@ module _ (ssrc rate low : ℕ) (codec : Codec) (fixed : is_moved codec ≡ false
       (subst (λ (x : Packet). x.header.timestamp < 4294967296) p c.time) does.now answer does.bytes st s.forwarder does.forwarder gone later
       (subst (λ (x : Packet). (s.forwarder.settings.codec ≡ codec) × (steady ≡ true → (o : IdOffsets) → payload_for s.forwarder.settings.codec o x.payload ≡ x.payload)) p c.kept) holds does.does near
 
-  leave_turned : (k : ℕ) (answer : Forwarded) (s mid : Hops) (st : Stage) (gone later : List ℕ) → IsBase s → (does : DoesLeave k answer s mid) → fills answer ≡ false → (steady ≡ false → length (gone_by answer k gone) ≤ 4096) → Holds ssrc low steady st s.forwarder gone
+  leave_turned : (k : ℕ) (answer : Forwarded) (s mid : Hops) (st : Stage) (gone later : List ℕ) → IsBase s → (does : DoesLeave k answer s mid) → fills answer ≡ false → Holds ssrc low steady st s.forwarder gone
       → AreNear st (came_by answer k ++ later) → Turned ssrc low steady codec fixed k does.datagram st s.forwarder gone later does.forwarder (gone_by answer k gone) (filled_by answer does.bytes) []
-  leave_turned k answer s mid st gone later base does none room holds near =
+  leave_turned k answer s mid st gone later base does none holds near =
       let c = comes k does.datagram s base does.there in
       let p : c.packet ≡ does.packet = same_packet c.packet does.packet (sym c.reads ∙ does.reads) in
       leave_turn ssrc low steady codec fixed k does.datagram c.few does.packet does.reads (subst (λ (x : Packet). x.header.ssrc ≡ ssrc) p c.source) (subst (λ (x : Packet). x.header.sequence_number ≡ (low + k) % 65536) p c.number)
-      (subst (λ (x : Packet). x.header.timestamp < 4294967296) p c.time) answer does.bytes st s.forwarder does.forwarder gone later none room holds does.does near
+      (subst (λ (x : Packet). x.header.timestamp < 4294967296) p c.time) answer does.bytes st s.forwarder does.forwarder gone later none holds does.does near
 
   -- All events
 
   pub walks : (all_events : List Event) (s t : Hops) (st : Stage) (gone ks : List ℕ) → IsBase s → Holds ssrc low steady st s.forwarder gone → Wrote st s.forwarder gone s.wire.datagrams s.written ks
-      → AreNear st (came all_events) → NoneFilled all_events → (steady ≡ false → length (gone_in gone all_events) ≤ 4096) → Happens samples all_events s t → Walks all_events s t st gone ks
-  walks [] s t st gone ks base holds wrote near none room run = record {
+      → AreNear st (came all_events) → NoneFilled all_events → Happens samples all_events s t → Walks all_events s t st gone ks
+  walks [] s t st gone ks base holds wrote near none run = record {
     end = st;
     holds = subst (λ (x : Hops). Holds ssrc low steady st x.forwarder gone) (sym run) holds;
     settings = ap (λ (x : Hops). x.forwarder.settings) run;
@@ -450,13 +428,13 @@ module _ (ssrc rate low : ℕ) (codec : Codec) (fixed : is_moved codec ≡ false
       },
     );
   }
-  walks (sends i entry ∷ later) s t st gone ks base holds wrote near none room run =
+  walks (sends i entry ∷ later) s t st gone ks base holds wrote near none run =
       let mid : Hops = run.0 in
       let stays = send_forwarder entry (slice_get samples i) s mid run.1 in
       first_walks (sends i entry) later s mid t st st gone gone ks ks refl (sends_walk i entry s mid st gone ks base run.1)
       (walks later mid t st gone ks (base_sent i (slice_get samples i) entry s mid refl base run.1) (subst (λ (x : Forward). Holds ssrc low steady st x gone) (sym stays.0) holds)
-      (send_wrote entry (slice_get samples i) s mid st gone ks run.1 wrote) near none room run.2)
-  walks (forwards k answer ∷ later) s t st gone ks base holds wrote near none room run =
+      (send_wrote entry (slice_get samples i) s mid st gone ks run.1 wrote) near none run.2)
+  walks (forwards k answer ∷ later) s t st gone ks base holds wrote near none run =
       let mid : Hops = run.0 in
       let does : DoesForward k answer s mid = run.1 in
       let turn = forward_turned k answer s mid st gone (came later) base does holds near in
@@ -467,11 +445,11 @@ module _ (ssrc rate low : ℕ) (codec : Codec) (fixed : is_moved codec ≡ false
       (forwards_walk k answer s mid st turn.next gone ks wire settings (λ o e all agrees. turn.agrees o e all (subst (λ (x : Forward). Agrees o e all turn.next x gone) forwarder agrees)))
       (walks later mid t turn.next gone (ks ++ forwarded_by answer k) (base_same s mid base (ap (λ (w : Wire). w.sending) wire) (ap (λ (w : Wire). w.datagrams) wire) settings)
       (subst (λ (x : Forward). Holds ssrc low steady turn.next x gone) (sym forwarder) turn.holds)
-      (subst (λ (x : Hops). Wrote turn.next x.forwarder gone x.wire.datagrams x.written (ks ++ forwarded_by answer k)) (sym does.is) (turn.out s.wire.datagrams s.written ks does.there wrote)) turn.near none room run.2)
-  walks (leaves k answer ∷ later) s t st gone ks base holds wrote near none room run =
+      (subst (λ (x : Hops). Wrote turn.next x.forwarder gone x.wire.datagrams x.written (ks ++ forwarded_by answer k)) (sym does.is) (turn.out s.wire.datagrams s.written ks does.there wrote)) turn.near none run.2)
+  walks (leaves k answer ∷ later) s t st gone ks base holds wrote near none run =
       let mid : Hops = run.0 in
       let does : DoesLeave k answer s mid = run.1 in
-      let turn = leave_turned k answer s mid st gone (came later) base does none.0 (λ moves. omega (arith, room moves, gone_grows later (gone_by answer k gone))) holds near in
+      let turn = leave_turned k answer s mid st gone (came later) base does none.0 holds near in
       let forwarder : mid.forwarder ≡ does.forwarder = ap (λ (x : Hops). x.forwarder) does.is in
       let wire : mid.wire ≡ s.wire = ap (λ (x : Hops). x.wire) does.is in
       let settings : mid.forwarder.settings ≡ s.forwarder.settings = ap (λ (x : Forward). x.settings) forwarder ∙ turn.settings in
@@ -480,19 +458,19 @@ module _ (ssrc rate low : ℕ) (codec : Codec) (fixed : is_moved codec ≡ false
       (walks later mid t turn.next (gone_by answer k gone) ks (base_same s mid base (ap (λ (w : Wire). w.sending) wire) (ap (λ (w : Wire). w.datagrams) wire) settings)
       (subst (λ (x : Forward). Holds ssrc low steady turn.next x (gone_by answer k gone)) (sym forwarder) turn.holds)
       (subst (λ (x : Hops). Wrote turn.next x.forwarder (gone_by answer k gone) x.wire.datagrams x.written ks) (sym does.is)
-      (subst (λ (js : List ℕ). Wrote turn.next does.forwarder (gone_by answer k gone) s.wire.datagrams (s.written ++ filled_by answer does.bytes) js) (append-nil ks) (turn.out s.wire.datagrams s.written ks does.there wrote))) turn.near none.1 room run.2)
-  walks (delivers j now ∷ later) s t st gone ks base holds wrote near none room run =
+      (subst (λ (js : List ℕ). Wrote turn.next does.forwarder (gone_by answer k gone) s.wire.datagrams (s.written ++ filled_by answer does.bytes) js) (append-nil ks) (turn.out s.wire.datagrams s.written ks does.there wrote))) turn.near none.1 run.2)
+  walks (delivers j now ∷ later) s t st gone ks base holds wrote near none run =
       let mid : Hops = run.0 in
       let is : IsQuiet s mid = deliver_quiet (slice_get s.written j) now s mid run.1 in
       first_walks (delivers j now) later s mid t st st gone gone ks ks refl (delivers_walk j now s mid st gone ks is wrote run.1)
-      (walks later mid t st gone ks (quiet_base s mid is base) (subst (λ (x : Forward). Holds ssrc low steady st x gone) (sym is.forwarder) holds) (quiet_wrote s mid st gone ks is wrote) near none room run.2)
-  walks (pops now ∷ later) s t st gone ks base holds wrote near none room run =
+      (walks later mid t st gone ks (quiet_base s mid is base) (subst (λ (x : Forward). Holds ssrc low steady st x gone) (sym is.forwarder) holds) (quiet_wrote s mid st gone ks is wrote) near none run.2)
+  walks (pops now ∷ later) s t st gone ks base holds wrote near none run =
       let mid : Hops = run.0 in
       let is : IsQuiet s mid = plain_quiet s mid run.1.0 run.1.2 (ap (λ (w : Wire). w.sending) run.1.1.4) (ap (λ (w : Wire). w.datagrams) run.1.1.4) in
       first_walks (pops now) later s mid t st st gone gone ks ks refl (pops_walk now s mid st gone ks is run.1)
-      (walks later mid t st gone ks (quiet_base s mid is base) (subst (λ (x : Forward). Holds ssrc low steady st x gone) (sym is.forwarder) holds) (quiet_wrote s mid st gone ks is wrote) near none room run.2)
-  walks (ends ∷ later) s t st gone ks base holds wrote near none room run =
+      (walks later mid t st gone ks (quiet_base s mid is base) (subst (λ (x : Forward). Holds ssrc low steady st x gone) (sym is.forwarder) holds) (quiet_wrote s mid st gone ks is wrote) near none run.2)
+  walks (ends ∷ later) s t st gone ks base holds wrote near none run =
       let mid : Hops = run.0 in
       let is : IsQuiet s mid = plain_quiet s mid run.1.0 run.1.2 (ap (λ (w : Wire). w.sending) run.1.1.2) (ap (λ (w : Wire). w.datagrams) run.1.1.2) in
       first_walks ends later s mid t st st gone gone ks ks refl (ends_walk s mid st gone ks is run.1)
-      (walks later mid t st gone ks (quiet_base s mid is base) (subst (λ (x : Forward). Holds ssrc low steady st x gone) (sym is.forwarder) holds) (quiet_wrote s mid st gone ks is wrote) near none room run.2)
+      (walks later mid t st gone ks (quiet_base s mid is base) (subst (λ (x : Forward). Holds ssrc low steady st x gone) (sym is.forwarder) holds) (quiet_wrote s mid st gone ks is wrote) near none run.2)

@@ -4,6 +4,7 @@ pub mod ForwardRunExamples
 pub mod KeptPayloads
 pub mod LeaveCourses
 pub mod LeaveEvents
+pub mod LeaveIds
 pub mod LeaveLemmas
 pub mod LeaveLists
 pub mod LeaveNumbers

@@ -3,7 +3,7 @@
 -- A packet that is left out ahead of all others takes no number, so the viewer's receiver sees the datagrams of a sender that sends only
 -- the other frames: with consecutive numbers, and at the viewer's times. Premises and guarantees are those of a run over one hop from
 -- that sender.
-use Rattle.std.specs.Prelude.{◌≡◌, ℕ, ◌+◌, ◌-◌, ◌*◌, ◌%◌, ◌<◌, ◌≤◌, ◌&&◌, nat_lt, if◌then◌else◌, Bool, true, false, List, [], ◌∷◌, ◌++◌, Option, Some, None, Ok, drop, length, map, slice_get}
+use Rattle.std.specs.Prelude.{◌≡◌, ℕ, ◌+◌, ◌-◌, ◌*◌, ◌%◌, ◌<◌, ◌&&◌, nat_lt, if◌then◌else◌, Bool, true, false, List, [], ◌∷◌, ◌++◌, Option, Some, None, Ok, drop, map, slice_get}
 use Rattle.codec_payload_base.specs.declared.wire.Codec.TheVariants as codecs
 use Rattle.codec_payload_base.specs.declared.wire.Ticks.{Ticks}
 use Rattle.codec_payload_buffer_runs.specs.SentStream.{AreReadable, SentUnit, units_of_run}
@@ -263,17 +263,16 @@ sends_no_ids (Vp8Packetizing (Some id)) = false
 sends_no_ids (Vp9Packetizing sender) = false
 sends_no_ids packetizer = true
 
--- If the packetizer sends ids of pictures, it and the forwarder are of VP8, payloads have room for ids of two bytes, and at most 4,096
--- packets are left out
-abbrev pub AllowsIds : Forward → Sending → (gone : List ℕ) → Type 0
-AllowsIds f s gone = sends_no_ids s.packetizer ≡ false → (f.settings.codec ≡ codecs.Vp8) × (4 < s.mtu) × (length gone ≤ 4096)
+-- if the packetizer sends ids of pictures, it and the forwarder are of VP8, and payloads have room for ids of two bytes
+abbrev pub AllowsIds : Forward → Sending → Type 0
+AllowsIds f s = sends_no_ids s.packetizer ≡ false → (f.settings.codec ≡ codecs.Vp8) × (4 < s.mtu)
 
 -- The forwarder has not begun with the sender's stream before the run. Of each frame all packets are left out ahead of all others, or
 -- none, and the datagrams that come to the forwarder are near each other. All other premises are those of a run in which nothing is left
 -- out
 pub record IsLeftOutWithinWindows (samples : List Sample) (all_steps : List LeaveStep) (s t : Hops) : Type 0 where
   pub other : is_source s.forwarder.source s.wire.sending.stream.ssrc ≡ false
-  pub ids : AllowsIds s.forwarder s.wire.sending (gone_of samples all_steps t)
+  pub ids : AllowsIds s.forwarder s.wire.sending
   pub of_codec : keeps_packetizer s.forwarder.settings.codec s.wire.sending.packetizer ≡ true
   pub widths : HaveWidths s.wire.sending s.forwarder
   pub whole : AreWhole (gone_of samples all_steps t) 0 (events_of samples all_steps t)
