@@ -30,7 +30,7 @@ use Rattle.codec_payload_forward_runs.proofs.LeaveSenders.{IsBeside, left_beside
 use Rattle.codec_payload_forward_runs.proofs.SenderLemmas.{map_append}
 use Rattle.codec_payload_forward_runs.specs.ForwardReleases.{forwarded_by, viewer_sample, viewer_samples}
 use Rattle.codec_payload_forward_runs.specs.ForwardRuns.{DoesPlain, Hops, packet_read}
-use Rattle.codec_payload_forward_runs.specs.LeaveReleases.{IsWhole, Offsets, closed, closed_bytes, closed_datagram, count_of, entry_unless, ids_at, leaves_sample, place_of, sends_no_ids, step_unless}
+use Rattle.codec_payload_forward_runs.specs.LeaveReleases.{AreAt, IsWhole, Offsets, closed, closed_bytes, closed_datagram, count_of, entry_unless, ids_at, leaves_sample, place_of, sends_no_ids, step_unless}
 
 -- Lists
 
@@ -144,6 +144,14 @@ module _ (e : Forward) (fits_type : e.settings.payload_type < 128) (fits_ssrc : 
       let moved : out_bytes e.settings o e.times.offset (place_of gone k) k p ≡ out_bytes f.settings (offsets_since since) f.times.offset (place_of own k) k p =
       same_out e.settings f.settings o (offsets_since since) e.times.offset f.times.offset (place_of gone k) (place_of own k) k p agrees.3 agrees.0 agrees.1 same.2 agrees.2 (ap (λ (n : ℕ). k - n) same.1) in
       here ∙ ap (λ (x : List ℕ). Some x) (bytes ∙ (moved ∙ sym out.is))
+
+  -- all of them are
+  pub all_at : (since : Since) (high : ℕ) (f : Forward) (own : List ℕ) (datagrams bs : List (List ℕ)) (ks : List ℕ) → Agrees o e gone (on since high) f own → AreOut since high f own datagrams bs ks
+      → AreAt (closed e o gone 0 o.number datagrams) bs (map (place_of gone) ks)
+  all_at since high f own datagrams [] [] agrees are = tt
+  all_at since high f own datagrams [] (k ∷ ks) agrees are = absurd are
+  all_at since high f own datagrams (b ∷ bs) [] agrees are = absurd are
+  all_at since high f own datagrams (b ∷ bs) (k ∷ ks) agrees are = (out_is since high f own datagrams b k agrees are.0, all_at since high f own datagrams bs ks agrees are.1)
 
   found : (st : Stage) (f : Forward) (own : List ℕ) (datagrams bs : List (List ℕ)) (ks : List ℕ) (j : ℕ) (b : List ℕ) → Agrees o e gone st f own → Wrote st f own datagrams bs ks → slice_get bs j ≡ Some b
       → (k : ℕ) × (slice_get ks j ≡ Some k) × (slice_get (closed e o gone 0 o.number datagrams) (place_of gone k) ≡ Some b)

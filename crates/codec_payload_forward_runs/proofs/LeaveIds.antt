@@ -1,6 +1,6 @@
 -- The picture ids of a viewer's stream: they close up behind pictures that are left out.
-use Rattle.std.proofs.Common.{◌||◌, eqb, ◌≡◌, ◌≢◌, ◌∙◌, refl, sym, ap, subst, ℕ, zero, suc, ◌+◌, ◌-◌, ◌*◌, ◌%◌, ◌<◌, ◌≤◌, List, [], ◌∷◌, get_or, length, take, Bool, true, false, cond, ltb, Option, Some, None, arith}
-use Rattle.std.proofs.lemmas.Bool.{eq-eqb, eqb-true, le-ltb, lt-ltb, ltb-false, ltb-true, ne_eqb}
+use Rattle.std.proofs.Common.{◌||◌, eqb, ◌≡◌, ◌≢◌, ◌∙◌, refl, sym, ap, subst, ℕ, zero, suc, ◌+◌, ◌-◌, ◌*◌, ◌%◌, ◌<◌, ◌≤◌, List, [], ◌∷◌, get_or, length, take, Bool, true, false, cond, ltb, Some, arith}
+use Rattle.std.proofs.lemmas.Bool.{eq-eqb, eqb-true, le-ltb, lt-ltb, ltb-false, ltb-true}
 use Rattle.std.proofs.lemmas.List.{length-take}
 use Rattle.codec_payload_base.specs.declared.wire.Codec.{Codec}
 use Rattle.codec_payload_base.specs.declared.wire.Codec.TheVariants as codecs
@@ -9,7 +9,7 @@ use Rattle.codec_payload_sending_forward.specs.Ids.{Ids, offsets_at, picture_clo
 use Rattle.codec_payload_sending_forward.specs.Numbers.{AllBelow, Falls, Numbers, above, below, closed, is_in, without_lowest}
 use Rattle.codec_payload_sending_forward.specs.Vp8Numbers.{payload_as}
 use Rattle.codec_payload_sending_forward.specs.declared.ids.IdOffsets.{IdOffsets}
-use Rattle.codec_payload_sending_forward.proofs.NumberLemmas.{Order, above_few, above_first, above_more, all_below_at, all_below_less, all_below_take, below_more, below_same, falls_take, in_more, less, more, not_in, order, same}
+use Rattle.codec_payload_sending_forward.proofs.NumberLemmas.{Order, above_few, above_more, all_below_at, all_below_less, all_below_take, below_more, below_same, falls_take, in_more, less, more, not_in, order, same}
 use Rattle.codec_payload_forward_runs.proofs.KeptPayloads.{same_moved}
 use Rattle.codec_payload_forward_runs.specs.LeaveReleases.{Offsets}
 
@@ -188,8 +188,16 @@ left_top m n top l = by (ltb (length m.left_out) 4096) refl
     by true e = rw e ((omega (arith, top.0, l), (omega arith, all), (under, top.2), omega (arith, ltb-true (length m.left_out) 4096 e), (omega (arith, top.0, l), top.4)), refl)
     by false e =
         let full : length m.left_out ≡ 4096 = omega (arith, top.3, ltb-false (length m.left_out) 4096 e) in
-        rw e ((omega (arith, low, l), (omega arith, all_below_take (suc n) 4095 m.left_out all), (all_below_take n 4095 m.left_out under, falls_take 4095 m.left_out top.2),
-        omega (arith, length-take 4095 m.left_out, full), (omega (arith, low, l), from_take 4095 m.left_out full top.2)), refl)
+        rw e (
+          (
+            omega (arith, low, l),
+            (omega arith, all_below_take (suc n) 4095 m.left_out all),
+            (all_below_take n 4095 m.left_out under, falls_take 4095 m.left_out top.2),
+            omega (arith, length-take 4095 m.left_out, full),
+            (omega (arith, low, l), from_take 4095 m.left_out full top.2),
+          ),
+          refl,
+        )
 
 -- the lowest number with a place rises
 first_rises : (m : Numbers) (n : ℕ) → IsTop m → m.first ≤ (closed n m).first
@@ -459,4 +467,3 @@ payload_at codecs.Tele ids n x payload fixed pictures tl0s = refl
 payload_at codecs.Rtx ids n x payload fixed pictures tl0s = refl
 payload_at codecs.Red ids n x payload fixed pictures tl0s = refl
 payload_at codecs.Unknown ids n x payload fixed pictures tl0s = refl
-

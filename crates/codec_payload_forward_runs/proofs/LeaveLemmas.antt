@@ -1,5 +1,5 @@
 -- The units that a viewer's receiver releases behind a forwarder that leaves whole frames out, from the theorem of runs over one hop.
-use Rattle.std.proofs.Common.{◌≡◌, ◌∙◌, refl, sym, ap, subst, ℕ, ◌^◌, ◌<◌, List, [], Bool, true, false, length, Option, Some, None, Ok, arith}
+use Rattle.std.proofs.Common.{◌≡◌, ◌∙◌, refl, sym, ap, subst, ℕ, ◌^◌, ◌<◌, map, List, [], Bool, true, false, length, Option, Some, None, Ok, arith}
 use Rattle.std.specs.Prelude.{slice_index_or}
 use Rattle.codec_payload_base.specs.declared.wire.Codec.{Codec}
 use Rattle.codec_payload_base.specs.declared.wire.Codec.TheVariants as codecs
@@ -34,17 +34,17 @@ use Rattle.codec_payload_datagram_runs.specs.declared.run.DatagramStep.{Datagram
 use Rattle.codec_payload_datagram_runs.specs.declared.run.SentSample.{SentSample}
 use Rattle.codec_payload_forward_runs.proofs.ForwardLemmas.{moved_within, same_units}
 use Rattle.codec_payload_forward_runs.proofs.KeptPayloads.{IsKept, is_vp8, is_vp9, kept_each}
-use Rattle.codec_payload_forward_runs.proofs.LeaveCourses.{Leads, seen_by}
+use Rattle.codec_payload_forward_runs.proofs.LeaveCourses.{Leads, all_at, seen_by}
 use Rattle.codec_payload_forward_runs.proofs.LeaveEvents.{Became, Happens, became}
 use Rattle.codec_payload_forward_runs.proofs.LeaveIds.{is_moved, offsets_since}
-use Rattle.codec_payload_forward_runs.proofs.LeaveNumbers.{Agrees, Holds, Stage, off, on}
+use Rattle.codec_payload_forward_runs.proofs.LeaveNumbers.{Agrees, Holds, Stage, Wrote, off, on}
 use Rattle.codec_payload_forward_runs.proofs.LeaveStreams.{Comes, comes}
 use Rattle.codec_payload_forward_runs.proofs.LeaveWalks.{IsBase, IsFinal, Walks, stays_same, walks}
 use Rattle.codec_payload_forward_runs.proofs.SenderLemmas.{without_ids}
 use Rattle.codec_payload_forward_runs.proofs.SourceLemmas.{IsSource}
 use Rattle.codec_payload_forward_runs.specs.ForwardReleases.{keeps_packetizer, keeps_payloads, viewer_samples, viewer_sender}
 use Rattle.codec_payload_forward_runs.specs.ForwardRuns.{Hops, begins_forwarding}
-use Rattle.codec_payload_forward_runs.specs.LeaveReleases.{Event, IsLeftOutWithinWindows, Offsets, ReleaseLeavingOut, ReleasesKept, closed_sender, closed_wire, events, events_of, gone_of, kept_sends_of, kept_steps_of, sends_no_ids}
+use Rattle.codec_payload_forward_runs.specs.LeaveReleases.{AreAt, Event, IsLeftOutWithinWindows, Offsets, ReleaseLeavingOut, ReleasesKept, closed, closed_sender, closed_wire, events, events_of, gone_of, kept_forwarded_of, kept_sends_of, kept_steps_of, place_of, sends_no_ids}
 use Rattle.codec_payload_forward_runs.specs.LeaveRuns.{LeaveRuns}
 use Rattle.codec_payload_forward_runs.specs.declared.leave_run.LeaveStep.{LeaveStep}
 
@@ -266,11 +266,23 @@ module _ (samples : List Sample) (all_steps : List LeaveStep) (sender : Sending)
     takes : Takes None (received_steps all_samples 0 steps entries) whole_run.datagrams receiver whole_run.pops whole_run.session
     takes = takes_of None all_samples steps unknown receiver saw course
 
+    -- what was written
+    written_by : (st : Stage) (outs : List ℕ) → Agrees end.offsets e gone st e gone → Wrote st e gone t.wire.datagrams t.written outs → AreAt (closed e end.offsets gone 0 end.offsets.number t.wire.datagrams) t.written (map (place_of gone) outs)
+    written_by off outs agrees wrote =
+        subst (λ (js : List ℕ). AreAt (closed e end.offsets gone 0 end.offsets.number t.wire.datagrams) t.written (map (place_of gone) js)) (sym wrote.1)
+        (subst (λ (bs : List (List ℕ)). AreAt (closed e end.offsets gone 0 end.offsets.number t.wire.datagrams) bs []) (sym wrote.0) tt)
+    written_by (on since high) outs agrees wrote =
+        all_at e final.fits_type final.fits_ssrc rate final.some end.offsets packetizer no_ids final.plain gone final.falls samples since high e gone t.wire.datagrams t.written outs agrees wrote
+
+    written : AreAt (closed e end.offsets gone 0 end.offsets.number t.wire.datagrams) t.written (kept_forwarded_of samples all_steps t)
+    written = subst (AreAt (closed e end.offsets gone 0 end.offsets.number t.wire.datagrams) t.written) (walk.outs_are gone) (written_by walk.end walk.outs end.agrees walk.wrote)
+
     kept_all : SendsFrom all_samples steps first receiver whole_run → ReleasesKept samples all_steps s t
     kept_all sends_from =
         let promises : KeepsPromises all_samples steps (begins first receiver) whole_run = keeps_all None all_samples steps first receiver whole_run takes sends_from tt is_within in
         record {
           offsets = end.offsets;
+          written = written;
           promises = promises;
           canonical = promises.released.canonical ∙ same_units (without_ids e) rate sender.packetizer samples (sending_steps sender.mtu steps);
         }

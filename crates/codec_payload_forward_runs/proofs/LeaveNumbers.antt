@@ -1,17 +1,14 @@
 -- What a forwarder that leaves packets out writes: each written datagram has a number by its place among the datagrams that were not left
 -- out.
-use Rattle.std.proofs.Common.{◌||◌, eqb, ◌≡◌, ◌∙◌, refl, sym, ap, subst, ℕ, zero, suc, ◌+◌, ◌-◌, ◌*◌, ◌%◌, ◌^◌, ◌<◌, ◌≤◌, ◌⊎◌, inl, inr, List, [], ◌∷◌, ◌++◌, append-nil, get_or, length, Bool, true, false, cond, ltb, Option, Some, None, Ok, arith}
+use Rattle.std.proofs.Common.{◌||◌, ◌≡◌, ◌∙◌, refl, sym, ap, subst, ℕ, suc, ◌+◌, ◌-◌, ◌*◌, ◌%◌, ◌^◌, ◌<◌, ◌≤◌, ◌⊎◌, inl, inr, List, [], ◌∷◌, ◌++◌, append-nil, length, Bool, true, false, cond, ltb, Option, Some, None, Ok, arith}
 use Rattle.std.specs.Prelude.{slice_get}
 use Rattle.std.proofs.lemmas.Bool.{eq-eqb, le-ltb, lt-ltb, lt-leb}
 use Rattle.codec_payload_rtp.specs.RtpPackets.{Packet, packet_bytes}
 use Rattle.codec_payload_rtp.specs.RtpReading.{rtp_at}
 use Rattle.codec_payload_sending_forward.specs.Forwarding.{Forward, Forwards, Leaves, after_begin, after_next, closing_id, first_packet, ids_in, ids_left, is_source, next_packet, number_in, offsets_for, packet_under, payload_for, sent_packet, ticks_between}
 use Rattle.codec_payload_base.specs.declared.wire.Codec.{Codec}
-use Rattle.codec_payload_base.specs.declared.wire.Codec.TheVariants as codecs
 use Rattle.codec_payload_sending_forward.specs.Ids.{Ids, id_to_leave, offsets_at, offsets_switched, picture_closed}
-use Rattle.codec_payload_sending_forward.specs.Vp8Numbers.{payload_as}
 use Rattle.codec_payload_sending_forward.specs.declared.ids.PayloadIds.{PayloadIds}
-use Rattle.codec_payload_forward_runs.proofs.KeptPayloads.{same_moved}
 use Rattle.codec_payload_forward_runs.proofs.ViewerLemmas.{ids_stay, left_stay, switched_none, switched_to}
 use Rattle.codec_payload_sending_forward.specs.NumberRuns.{Call, Stretch, after_call, map_after, number_of, packet, stretch_after}
 use Rattle.codec_payload_sending_forward.specs.Numbers.{AllBelow, Falls, Numbers, above, after_packet, begun, below, closed, is_in, is_too_old, next_number, placed, sent_as}
@@ -23,7 +20,7 @@ use Rattle.codec_payload_sending_forward.specs.declared.ids.IdOffsets.{IdOffsets
 use Rattle.codec_payload_sending_forward.specs.declared.times.Retiming.{Retiming}
 use Rattle.codec_payload_base.specs.Extended.{nearest}
 use Rattle.codec_payload_sending_forward.proofs.MapLemmas.{young_by}
-use Rattle.codec_payload_sending_forward.proofs.NumberLemmas.{Order, above_few, all_below_less, all_below_take, below_more, below_same, less, more, not_in, order, same}
+use Rattle.codec_payload_sending_forward.proofs.NumberLemmas.{Order, all_below_less, less, more, not_in, order, same}
 use Rattle.codec_payload_sending_forward.proofs.NumberRunLemmas.{renumbers, sends_given}
 use Rattle.codec_payload_datagram_runs.specs.Releases.{StayWithin}
 use Rattle.codec_payload_forward_runs.proofs.LeaveIds.{IdsHold, IsTop, Since, ids_closed, ids_open, ids_same, is_moved, left_top, offsets_since, payload_at, payload_same, sent_top}

@@ -1,5 +1,5 @@
 -- What happens in a run whose forwarder leaves whole frames out, from the first step to the last.
-use Rattle.std.proofs.Common.{◌≡◌, ◌∙◌, refl, sym, ap, subst, ℕ, zero, suc, cond, ◌+◌, ◌%◌, ◌^◌, ◌<◌, ◌≤◌, List, [], ◌∷◌, ◌++◌, append-nil, Bool, true, false, Option, Some, None, MatchOption, Result, Ok, length, map, arith, length-append}
+use Rattle.std.proofs.Common.{◌≡◌, ◌∙◌, refl, sym, ap, subst, ℕ, zero, suc, ◌+◌, ◌%◌, ◌^◌, ◌<◌, List, [], ◌∷◌, ◌++◌, append-nil, Bool, true, false, Option, Some, None, MatchOption, Result, Ok, length, map, arith, length-append}
 use Rattle.std.specs.Prelude.{slice_get, slice_index_or}
 use Rattle.std.proofs.lemmas.Option.{same_Some, slice_get_within}
 use Rattle.codec_payload_base.specs.declared.error.PacketError.{PacketError}
@@ -14,9 +14,8 @@ use Rattle.codec_payload_rtp.specs.RtpReading.{rtp_at}
 use Rattle.codec_payload_rtp.specs.declared.rtp.RtpError.{RtpError}
 use Rattle.codec_payload_sending.specs.Senders.{Sending, Sends}
 use Rattle.codec_payload_sending_forward.specs.Forwarding.{Forward, payload_for}
-use Rattle.codec_payload_sending_forward.specs.Numbers.{Falls, is_in}
+use Rattle.codec_payload_sending_forward.specs.Numbers.{Falls}
 use Rattle.codec_payload_sending_forward.specs.declared.forwarder.Forwarded.{Forwarded}
-use Rattle.codec_payload_sending_forward.specs.declared.forwarder.Forwarded.TheVariants as answers
 use Rattle.codec_payload_sending_forward.specs.declared.forwarder.ForwardSettings.{ForwardSettings}
 use Rattle.codec_payload_sending_forward.specs.declared.ids.IdOffsets.{IdOffsets}
 use Rattle.codec_payload_datagram_runs.specs.WireRuns.{Delivers, Receipt, SendsOrRefuses, Wire, sent_sample}
@@ -32,7 +31,7 @@ use Rattle.codec_payload_forward_runs.proofs.LeaveSenders.{IsBeside, own_stays}
 use Rattle.codec_payload_forward_runs.proofs.SourceLemmas.{IsDatagramOf, IsSource, of_at, source_after}
 use Rattle.codec_payload_forward_runs.specs.ForwardReleases.{forwarded_by}
 use Rattle.codec_payload_forward_runs.specs.ForwardRuns.{DoesPlain, Hops, written_by}
-use Rattle.codec_payload_forward_runs.specs.LeaveReleases.{AreWhole, Event, NoneFilled, Offsets, came, came_by, closed, count_of, delivers, ends, fills, forwards, gone_by, gone_in, kept_sends, kept_steps, leaves, leaves_sample, place_of, pops, sends, sends_no_ids}
+use Rattle.codec_payload_forward_runs.specs.LeaveReleases.{AreWhole, Event, NoneFilled, Offsets, came, came_by, closed, count_of, delivers, ends, fills, forwards, gone_by, gone_in, kept_forwarded, kept_sends, kept_steps, leaves, leaves_sample, place_of, pops, sends, sends_no_ids}
 use Rattle.codec_payload_forward_runs.specs.LeaveRuns.{filled_by}
 
 -- Numbers of datagrams
@@ -162,12 +161,16 @@ module _ (ssrc rate low : ℕ) (codec : Codec) (fixed : is_moved codec ≡ false
     pub end : Stage
     pub holds : Holds ssrc low steady end t.forwarder (gone_in gone later)
     pub settings : t.forwarder.settings ≡ s.forwarder.settings
+    pub outs : List ℕ
+    pub wrote : Wrote end t.forwarder (gone_in gone later) t.wire.datagrams t.written outs
+    pub outs_are : (all : List ℕ) → map (place_of all) outs ≡ kept_forwarded all (map (place_of all) ks) later
     pub course : (o : Offsets) (e : Forward) (all : List ℕ) (final : IsFinal o e all) → Agrees o e all end t.forwarder (gone_in gone later) → AreWhole all (length s.wire.datagrams) later
         → Agrees o e all st s.forwarder gone × LeadsTo o e all final later ks s t
 
   -- One event: what is known after it is known before it, and its steps lead to those after it
   pub record OneWalk (event : Event) (s mid : Hops) (st next : Stage) (gone further ks js : List ℕ) : Type 0 where
     pub settings : mid.forwarder.settings ≡ s.forwarder.settings
+    pub outs_are : (all : List ℕ) (later : List Event) → kept_forwarded all (map (place_of all) js) later ≡ kept_forwarded all (map (place_of all) ks) (event ∷ later)
     pub whole : (all : List ℕ) (later : List Event) → AreWhole all (length s.wire.datagrams) (event ∷ later) → AreWhole all (length mid.wire.datagrams) later
     pub known : (o : Offsets) (e : Forward) (all : List ℕ) → Agrees o e all next mid.forwarder further → Agrees o e all st s.forwarder gone
     pub leads : (o : Offsets) (e : Forward) (all : List ℕ) (final : IsFinal o e all) (later : List Event) (t : Hops) → Agrees o e all st s.forwarder gone
@@ -179,6 +182,9 @@ module _ (ssrc rate low : ℕ) (codec : Codec) (fixed : is_moved codec ≡ false
     end = rest.end;
     holds = subst (λ (xs : List ℕ). Holds ssrc low steady rest.end t.forwarder xs) (sym gone_is) rest.holds;
     settings = rest.settings ∙ one.settings;
+    outs = rest.outs;
+    wrote = subst (λ (xs : List ℕ). Wrote rest.end t.forwarder xs t.wire.datagrams t.written rest.outs) (sym gone_is) rest.wrote;
+    outs_are = λ all. rest.outs_are all ∙ one.outs_are all later;
     course = λ o e all final agrees whole.
         let at_end : Agrees o e all rest.end t.forwarder (gone_in further later) = subst (λ (xs : List ℕ). Agrees o e all rest.end t.forwarder xs) gone_is agrees in
         let c = rest.course o e all final at_end (one.whole all later whole) in
@@ -206,6 +212,7 @@ module _ (ssrc rate low : ℕ) (codec : Codec) (fixed : is_moved codec ≡ false
       let stays = send_forwarder entry (slice_get samples i) s mid does in
       record {
         settings = ap (λ (x : Forward). x.settings) stays.0;
+        outs_are = λ all later. refl;
         whole = λ all later whole. subst (λ (n : ℕ). AreWhole all n later) (sym count) whole.1;
         known = λ o e all agrees. subst (λ (x : Forward). Agrees o e all st x gone) stays.0 agrees;
         leads = λ o e all final later t agrees whole rest v entries beside.
@@ -237,6 +244,7 @@ module _ (ssrc rate low : ℕ) (codec : Codec) (fixed : is_moved codec ≡ false
       → OneWalk (forwards k answer) s mid st next gone gone ks (ks ++ forwarded_by answer k)
   forwards_walk k answer s mid st next gone ks wire settings known = record {
     settings = settings;
+    outs_are = λ all later. ap (λ (js : List ℕ). kept_forwarded all js later) (places_append all answer k ks);
     whole = λ all later whole. subst (λ (w : Wire). AreWhole all (length w.datagrams) later) (sym wire) whole;
     known = known;
     leads = λ o e all final later t agrees whole rest v entries beside.
@@ -256,6 +264,7 @@ module _ (ssrc rate low : ℕ) (codec : Codec) (fixed : is_moved codec ≡ false
       → OneWalk (leaves k answer) s mid st next gone (gone_by answer k gone) ks ks
   leaves_walk k answer s mid st next gone ks wire settings known = record {
     settings = settings;
+    outs_are = λ all later. refl;
     whole = λ all later whole. subst (λ (w : Wire). AreWhole all (length w.datagrams) later) (sym wire) whole;
     known = known;
     leads = λ o e all final later t agrees whole rest v entries beside.
@@ -298,6 +307,7 @@ module _ (ssrc rate low : ℕ) (codec : Codec) (fixed : is_moved codec ≡ false
   pops_walk : (now : Ticks) (s mid : Hops) (st : Stage) (gone ks : List ℕ) → IsQuiet s mid → DoesPlain samples (seen.Pop now) s mid → OneWalk (pops now) s mid st st gone gone ks ks
   pops_walk now s mid st gone ks is does = record {
     settings = ap (λ (x : Forward). x.settings) is.forwarder;
+    outs_are = λ all later. refl;
     whole = λ all later whole. subst (λ (ds : List (List ℕ)). AreWhole all (length ds) later) (sym is.datagrams) whole;
     known = λ o e all agrees. subst (λ (x : Forward). Agrees o e all st x gone) is.forwarder agrees;
     leads = λ o e all final later t agrees whole rest v entries beside.
@@ -308,6 +318,7 @@ module _ (ssrc rate low : ℕ) (codec : Codec) (fixed : is_moved codec ≡ false
   ends_walk : (s mid : Hops) (st : Stage) (gone ks : List ℕ) → IsQuiet s mid → DoesPlain samples seen.Finish s mid → OneWalk ends s mid st st gone gone ks ks
   ends_walk s mid st gone ks is does = record {
     settings = ap (λ (x : Forward). x.settings) is.forwarder;
+    outs_are = λ all later. refl;
     whole = λ all later whole. subst (λ (ds : List (List ℕ)). AreWhole all (length ds) later) (sym is.datagrams) whole;
     known = λ o e all agrees. subst (λ (x : Forward). Agrees o e all st x gone) is.forwarder agrees;
     leads = λ o e all final later t agrees whole rest v entries beside.
@@ -319,6 +330,7 @@ module _ (ssrc rate low : ℕ) (codec : Codec) (fixed : is_moved codec ≡ false
       → OneWalk (delivers j now) s mid st st gone gone ks ks
   delivers_walk j now s mid st gone ks is wrote does = record {
     settings = ap (λ (x : Forward). x.settings) is.forwarder;
+    outs_are = λ all later. refl;
     whole = λ all later whole. subst (λ (ds : List (List ℕ)). AreWhole all (length ds) later) (sym is.datagrams) whole;
     known = λ o e all agrees. subst (λ (x : Forward). Agrees o e all st x gone) is.forwarder agrees;
     leads = λ o e all final later t agrees whole rest v entries beside.
@@ -419,6 +431,9 @@ module _ (ssrc rate low : ℕ) (codec : Codec) (fixed : is_moved codec ≡ false
     end = st;
     holds = subst (λ (x : Hops). Holds ssrc low steady st x.forwarder gone) (sym run) holds;
     settings = ap (λ (x : Hops). x.forwarder.settings) run;
+    outs = ks;
+    wrote = subst (λ (x : Hops). Wrote st x.forwarder gone x.wire.datagrams x.written ks) (sym run) wrote;
+    outs_are = λ all. refl;
     course = λ o e all final agrees whole. (
       subst (λ (x : Hops). Agrees o e all st x.forwarder gone) run agrees,
       λ v entries beside. record {

@@ -202,6 +202,16 @@ kept_sends gone sent (delivers j now ∷ later) = kept_sends gone sent later
 kept_sends gone sent (pops now ∷ later) = kept_sends gone sent later
 kept_sends gone sent (ends ∷ later) = kept_sends gone sent later
 
+-- the places of the datagrams that were written, after these steps
+abbrev pub kept_forwarded : (gone : List ℕ) → (forwarded : List ℕ) → List Event → List ℕ
+kept_forwarded gone forwarded [] = forwarded
+kept_forwarded gone forwarded (sends i entry ∷ later) = kept_forwarded gone forwarded later
+kept_forwarded gone forwarded (forwards k answer ∷ later) = kept_forwarded gone (forwarded ++ forwarded_by answer (place_of gone k)) later
+kept_forwarded gone forwarded (leaves k answer ∷ later) = kept_forwarded gone forwarded later
+kept_forwarded gone forwarded (delivers j now ∷ later) = kept_forwarded gone forwarded later
+kept_forwarded gone forwarded (pops now ∷ later) = kept_forwarded gone forwarded later
+kept_forwarded gone forwarded (ends ∷ later) = kept_forwarded gone forwarded later
+
 -- the same for a whole run
 abbrev pub gone_of : List Sample → List LeaveStep → Hops → List ℕ
 gone_of samples all_steps t = gone_in [] (events_of samples all_steps t)
@@ -211,6 +221,9 @@ kept_steps_of samples all_steps t = kept_steps (gone_of samples all_steps t) 0 [
 
 abbrev pub kept_sends_of : List Sample → List LeaveStep → Hops → List SentSample
 kept_sends_of samples all_steps t = kept_sends (gone_of samples all_steps t) 0 (events_of samples all_steps t)
+
+abbrev pub kept_forwarded_of : List Sample → List LeaveStep → Hops → List ℕ
+kept_forwarded_of samples all_steps t = kept_forwarded (gone_of samples all_steps t) [] (events_of samples all_steps t)
 
 -- The viewer's stream
 
@@ -289,10 +302,19 @@ pub record IsLeftOutWithinWindows (samples : List Sample) (all_steps : List Leav
 
 -- Guarantees
 
--- What a viewer's receiver releases: what it releases in a run over one hop from the sender whose datagrams the viewer gets, with some
--- offsets. The units are those of the samples that were not left out
+-- these bytes are the datagrams with these places
+abbrev pub AreAt : (datagrams bytes : List (List ℕ)) → List ℕ → Type 0
+AreAt datagrams [] [] = Unit {0}
+AreAt datagrams [] (place ∷ places) = ⊥
+AreAt datagrams (bytes ∷ more) [] = ⊥
+AreAt datagrams (bytes ∷ more) (place ∷ places) = (slice_get datagrams place ≡ Some bytes) × AreAt datagrams more places
+
+-- What is written, and what a viewer's receiver releases: for some offsets, each written datagram is the one that was forwarded, as the
+-- viewer gets it; and the receiver releases what it releases in a run over one hop from the sender whose datagrams the viewer gets. The
+-- units are those of the samples that were not left out
 pub record ReleasesKept (samples : List Sample) (all_steps : List LeaveStep) (s t : Hops) : Type 0 where
   pub offsets : Offsets
+  pub written : AreAt (closed t.forwarder offsets (gone_of samples all_steps t) 0 offsets.number t.wire.datagrams) t.written (kept_forwarded_of samples all_steps t)
   pub promises : KeepsPromises (viewer_samples t.forwarder s.wire.sending.stream.clock_rate samples) (kept_steps_of samples all_steps t)
       (closed_begins t.forwarder offsets.number s.wire) (closed_wire t.forwarder offsets (gone_of samples all_steps t) (kept_sends_of samples all_steps t) t.wire)
   pub canonical : map (λ (u : SentUnit). u.parts) promises.released.units
