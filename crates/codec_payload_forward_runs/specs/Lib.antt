@@ -3,6 +3,7 @@ pub mod ForwardReleases
 pub mod ForwardRuns
 pub mod ForwardRunExample
 pub mod LeaveReleases
+pub mod LeaveRunExample
 pub mod LeaveRuns
 pub mod StoreReleases
 pub mod StoreRunExample
