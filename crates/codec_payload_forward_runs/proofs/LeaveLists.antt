@@ -63,7 +63,7 @@ below_higher k high gone l = below_same k high gone (omega (arith, l))
 
 -- The extended number of a datagram near the highest one
 
-nearest_by : (b : Bool) (begin base low highest high k : ℕ) → base ≡ 65536 + (low + begin) % 65536 → highest + begin ≡ high + base → begin ≤ high → high < 2 ^ 63 → k < high + 32769 → high ≤ k + 32767
+nearest_by : (b : Bool) (begin base low highest high k : ℕ) → base ≡ 65536 + (low + begin) % 65536 → highest + begin ≡ high + base → begin ≤ high → high < 2 ^ 63 → k < high + 32768 → high ≤ k + 32767
     → leb (ahead 65536 highest ((low + k) % 65536)) 32768 ≡ b → nearest 65536 highest ((low + k) % 65536) + begin ≡ k + base
 nearest_by true begin base low highest high k is top from small up down e =
     let few : ahead 65536 highest ((low + k) % 65536) ≤ 32768 = leb-true (ahead 65536 highest ((low + k) % 65536)) 32768 e in
@@ -72,7 +72,7 @@ nearest_by false begin base low highest high k is top from small up down e =
     let many : 32768 < ahead 65536 highest ((low + k) % 65536) = leb-false (ahead 65536 highest ((low + k) % 65536)) 32768 e in
     rw e (omega (arith, is, top, from, small, up, down, many))
 
-pub near_number : (begin base low highest high k : ℕ) → base ≡ 65536 + (low + begin) % 65536 → highest + begin ≡ high + base → begin ≤ high → high < 2 ^ 63 → k < high + 32769 → high ≤ k + 32767
+pub near_number : (begin base low highest high k : ℕ) → base ≡ 65536 + (low + begin) % 65536 → highest + begin ≡ high + base → begin ≤ high → high < 2 ^ 63 → k < high + 32768 → high ≤ k + 32767
     → nearest 65536 highest ((low + k) % 65536) + begin ≡ k + base
 near_number begin base low highest high k is top from small up down =
     nearest_by (leb (ahead 65536 highest ((low + k) % 65536)) 32768) begin base low highest high k is top from small up down refl

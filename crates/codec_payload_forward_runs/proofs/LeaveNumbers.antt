@@ -132,7 +132,7 @@ Holds ssrc low steady (on since high) f gone = IsOn ssrc low steady since high f
 -- the datagrams that come next are near the highest one
 abbrev pub AreNear : Stage → List ℕ → Type 0
 AreNear off ks = ComeNear ks
-AreNear (on since high) ks = StayWithin 32769 32767 high ks
+AreNear (on since high) ks = StayWithin 32768 32767 high ks
 
 -- a packet as it is written: in this place, with ids moved as for its index
 abbrev pub out_bytes : ForwardSettings → Offsets → (time place k : ℕ) → Packet → List ℕ
@@ -337,10 +337,10 @@ module _ (ssrc low : ℕ) (steady : Bool) (codec : Codec) (fixed : is_moved code
       index_high l = omega (arith, l, n_is, is_on.high_is, is_on.highest_is)
 
       near_low : k ≤ high → AreNear (on since high) later
-      near_low l = subst (λ (h : ℕ). StayWithin 32769 32767 h later) (omega (arith, l)) near.2
+      near_low l = subst (λ (h : ℕ). StayWithin 32768 32767 h later) (omega (arith, l)) near.2
 
       near_high : high < k → AreNear (on since k) later
-      near_high l = subst (λ (h : ℕ). StayWithin 32769 32767 h later) (omega (arith, l)) near.2
+      near_high l = subst (λ (h : ℕ). StayWithin 32768 32767 h later) (omega (arith, l)) near.2
 
       -- nothing changes for a packet that is not above all others
       stays_turn : (t : Forward) → n ≤ f.numbers.highest → t ≡ f → Turned k d (on since high) f gone later t gone [] []

@@ -96,10 +96,10 @@ came (delivers j now ∷ later) = came later
 came (pops now ∷ later) = came later
 came (ends ∷ later) = came later
 
--- each is at most 32,768 above the highest one before it, and at most 32,767 below
+-- each is less than 32,768 above the highest one before it, and less than 32,768 below
 abbrev pub ComeNear : List ℕ → Type 0
 ComeNear [] = Unit {0}
-ComeNear (k ∷ ks) = StayWithin 32769 32767 k ks
+ComeNear (k ∷ ks) = StayWithin 32768 32767 k ks
 
 -- The datagrams that were left out ahead of all others, the highest first
 
