@@ -1,14 +1,15 @@
 -- The picture ids of a viewer's stream: they close up behind pictures that are left out.
-use Rattle.std.proofs.Common.{◌||◌, eqb, ◌≡◌, ◌≢◌, ◌∙◌, refl, sym, ap, subst, ℕ, zero, suc, ◌+◌, ◌-◌, ◌*◌, ◌%◌, ◌<◌, ◌≤◌, List, [], ◌∷◌, get_or, length, take, Bool, true, false, cond, ltb, Some, arith}
+use Rattle.std.proofs.Common.{◌||◌, ◌&&◌, eqb, ◌≡◌, ◌≢◌, ◌∙◌, refl, sym, ap, subst, ℕ, zero, suc, ◌+◌, ◌-◌, ◌*◌, ◌%◌, ◌<◌, ◌≤◌, List, [], ◌∷◌, get_or, length, take, Bool, true, false, cond, ltb, Option, Some, None, arith}
 use Rattle.std.proofs.lemmas.Bool.{eq-eqb, eqb-true, le-ltb, lt-ltb, ltb-false, ltb-true}
 use Rattle.std.proofs.lemmas.List.{length-take}
 use Rattle.codec_payload_base.specs.declared.wire.Codec.{Codec}
 use Rattle.codec_payload_base.specs.declared.wire.Codec.TheVariants as codecs
 use Rattle.codec_payload_sending_forward.specs.Forwarding.{offsets_for, payload_for}
-use Rattle.codec_payload_sending_forward.specs.Ids.{Ids, offsets_at, picture_closed}
+use Rattle.codec_payload_sending_forward.specs.Ids.{Ids, after_picture, id_to_leave, is_ahead, is_that, offsets_at, picture_closed}
 use Rattle.codec_payload_sending_forward.specs.Numbers.{AllBelow, Falls, Numbers, above, below, closed, is_in, without_lowest}
 use Rattle.codec_payload_sending_forward.specs.Vp8Numbers.{payload_as}
 use Rattle.codec_payload_sending_forward.specs.declared.ids.IdOffsets.{IdOffsets}
+use Rattle.codec_payload_sending_forward.specs.declared.ids.PayloadIds.{PayloadIds}
 use Rattle.codec_payload_sending_forward.proofs.NumberLemmas.{Order, above_few, above_more, all_below_at, all_below_less, all_below_take, below_more, below_same, falls_take, in_more, less, more, not_in, order, same}
 use Rattle.codec_payload_forward_runs.proofs.KeptPayloads.{same_moved}
 use Rattle.codec_payload_forward_runs.specs.LeaveReleases.{Offsets}
@@ -277,13 +278,27 @@ forgotten_low m n xs top f full part = by_place (ltb (get_or xs 4095 0) m.first)
 -- The map of ids
 
 -- the datagram with which it began, the number of that packet, extended, and the number that it was sent under; what was added to its
--- ids, and the first datagrams of the pictures that were left out so far
+-- ids, the first datagrams of the pictures that were left out so far, and the highest index before each datagram that was left out
 pub record Since : Type 0 where
   pub begin : ℕ
   pub base : ℕ
   pub start : ℕ
   pub ids : IdOffsets
   pub pictures : List ℕ
+  pub highs : List ℕ
+
+-- which pictures closed: for each datagram that was left out, `highs` has the highest index before it
+abbrev pub Tracks : (ℕ → ℕ) → (gone highs pictures : List ℕ) → Type 0
+Tracks id_of [] [] pictures = pictures ≡ []
+Tracks id_of [] (high ∷ highs) pictures = ⊥
+Tracks id_of (k ∷ gone) [] pictures = ⊥
+Tracks id_of (k ∷ gone) (high ∷ highs) pictures =
+    (rest : List ℕ) × Tracks id_of gone highs rest × (high < k) × (k < high + 32768) × AllBelow (suc high) gone
+    × (pictures ≡ cond (is_in high gone && eqb (id_of high) (id_of k)) rest (k ∷ rest))
+
+-- the id of the last picture, if it was left out
+abbrev pub leaving_at : (ℕ → ℕ) → Bool → ℕ → Option ℕ
+leaving_at id_of left high = cond left (Some (id_of high)) None
 
 -- the offsets of the viewer's stream
 abbrev pub offsets_since : Since → Offsets
@@ -319,7 +334,7 @@ ids_same since m t x y gone offsets left first highest out is = record {
 }
 
 -- a packet with this number is left out, above all others
-module _ (since : Since) (m : Ids) (x : Numbers) (gone : List ℕ) (n k : ℕ) (n_is : n + since.begin ≡ k + since.base) (top : IsTop x) (ahead : x.highest < n) (higher : AllBelow k since.pictures) (is : IdsHold since m x gone) where
+module _ (since : Since) (m : Ids) (x : Numbers) (gone : List ℕ) (high n k : ℕ) (n_is : n + since.begin ≡ k + since.base) (top : IsTop x) (ahead : x.highest < n) (higher : AllBelow k since.pictures) (is : IdsHold since m x gone) where
   more_out : (j : ℕ) → is_in j gone ≡ true → is_in j (k ∷ gone) ≡ true
   more_out j there = ap (λ (b : Bool). eqb k j || b) there ∙ or_true (eqb k j)
     where
@@ -328,7 +343,7 @@ module _ (since : Since) (m : Ids) (x : Numbers) (gone : List ℕ) (n k : ℕ) (
       or_true false = refl
 
   -- no picture closes
-  pub ids_open : IdsHold since m (closed n x) (k ∷ gone)
+  pub ids_open : IdsHold (record since { highs = high ∷ since.highs }) m (closed n x) (k ∷ gone)
   ids_open = record {
     lost = is.lost;
     falls = is.falls;
@@ -343,7 +358,7 @@ module _ (since : Since) (m : Ids) (x : Numbers) (gone : List ℕ) (n k : ℕ) (
   }
 
   abbrev closing : Since
-  closing = record since { pictures = k ∷ since.pictures }
+  closing = record since { pictures = k ∷ since.pictures; highs = high ∷ since.highs }
 
   -- in a list with the new number, a number is the new one or is in the rest
   among_more : (j : ℕ) → is_in j (k ∷ since.pictures) ≡ true → is_in j (k ∷ gone) ≡ true
@@ -420,6 +435,64 @@ module _ (since : Since) (m : Ids) (x : Numbers) (gone : List ℕ) (n k : ℕ) (
       by : (b : Bool) → ltb (length m.left_out) 4096 ≡ b → IdsHold closing (picture_closed n (Some id) m) (closed n x) (k ∷ gone)
       by true e = rw e (ids_added id (ltb-true (length m.left_out) 4096 e))
       by false e = rw e (ids_replaced id (omega (arith, is.few, ltb-false (length m.left_out) 4096 e)))
+
+-- The id of the last picture
+
+-- a picture stays open if the last one was left out and has its id, and closes otherwise
+that_is : (id : ℕ) (o : Option ℕ) → is_that id o ≡ true → o ≡ Some id
+that_is id None is = absurd (cc)
+that_is id (Some x) is = ap (λ (n : ℕ). Some n) (eqb-true x id is)
+
+ahead_of : (n high : ℕ) (xs : List ℕ) → AllBelow (suc high) xs → high < n → is_ahead n xs ≡ true
+ahead_of n high [] all l = refl
+ahead_of n high (x ∷ xs) all l = lt-ltb x n (omega (arith, all.0, l))
+
+module _ (id_of : ℕ → ℕ) (m : Ids) (n top k high : ℕ) (gone : List ℕ) (low : AllBelow (suc top) m.left_out) (ahead : top < n) (leaving : m.leaving ≡ leaving_at id_of (is_in high gone) high) where
+  stays_by : (b : Bool) → is_that (id_of k) m.leaving ≡ b → id_to_leave m n (Some (id_of k)) ≡ cond b None (Some (id_of k))
+  stays_by true e = rw e refl
+  stays_by false e = rw (e, ahead_of n top m.left_out low ahead) refl
+
+  -- no picture closes: the last one was left out, and has the same id
+  pub open_is : id_to_leave m n (Some (id_of k)) ≡ None → (m.leaving ≡ Some (id_of k)) × ((is_in high gone && eqb (id_of high) (id_of k)) ≡ true)
+  open_is none = by (is_that (id_of k) m.leaving) refl
+    where
+      same_by : (left : Bool) → leaving_at id_of left high ≡ Some (id_of k) → (left && eqb (id_of high) (id_of k)) ≡ true
+      same_by true e = eq-eqb (id_of high) (id_of k) (some_same (id_of high) (id_of k) e)
+        where
+          some_same : (x y : ℕ) → ◌≡◌ {A = Option ℕ} (Some x) (Some y) → x ≡ y
+          some_same x y e = cc
+      same_by false e = absurd (cc)
+
+      by : (b : Bool) → is_that (id_of k) m.leaving ≡ b → (m.leaving ≡ Some (id_of k)) × ((is_in high gone && eqb (id_of high) (id_of k)) ≡ true)
+      by true e = (that_is (id_of k) m.leaving e, same_by (is_in high gone) (sym leaving ∙ that_is (id_of k) m.leaving e))
+      by false e = absurd (let closes : None ≡ Some (id_of k) = sym none ∙ stays_by false e in cc)
+
+  -- one closes
+  pub closed_is : (id : ℕ) → id_to_leave m n (Some (id_of k)) ≡ Some id → (id ≡ id_of k) × ((is_in high gone && eqb (id_of high) (id_of k)) ≡ false)
+  closed_is id closes = by (is_that (id_of k) m.leaving) refl
+    where
+      some_same : (x y : ℕ) → ◌≡◌ {A = Option ℕ} (Some x) (Some y) → x ≡ y
+      some_same x y e = cc
+
+      other_by : (left : Bool) → is_that (id_of k) (leaving_at id_of left high) ≡ false → (left && eqb (id_of high) (id_of k)) ≡ false
+      other_by true e = e
+      other_by false e = refl
+
+      by : (b : Bool) → is_that (id_of k) m.leaving ≡ b → (id ≡ id_of k) × ((is_in high gone && eqb (id_of high) (id_of k)) ≡ false)
+      by true e = absurd (let none : None ≡ Some id = sym (stays_by true e) ∙ closes in cc)
+      by false e = (some_same id (id_of k) (sym closes ∙ stays_by false e), other_by (is_in high gone) (sym (ap (is_that (id_of k)) leaving) ∙ e))
+
+pub closed_leaving : (n id : ℕ) (m : Ids) → (picture_closed n (Some id) m).leaving ≡ Some id
+closed_leaving n id m = by (ltb (length m.left_out) 4096) refl
+  where
+    by : (b : Bool) → ltb (length m.left_out) 4096 ≡ b → (picture_closed n (Some id) m).leaving ≡ Some id
+    by true e = rw e refl
+    by false e = rw e refl
+
+-- a picture that is sent ends this
+pub sent_leaving : (o : IdOffsets) (ids : Option PayloadIds) (m : Ids) → (after_picture o ids m).leaving ≡ None
+sent_leaving o None m = refl
+sent_leaving o (Some ids) m = refl
 
 -- Payloads
 

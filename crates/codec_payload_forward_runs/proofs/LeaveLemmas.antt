@@ -1,6 +1,6 @@
 -- The units that a viewer's receiver releases behind a forwarder that leaves whole frames out, from the theorem of runs over one hop.
 use Rattle.std.proofs.Common.{◌≡◌, ◌∙◌, refl, sym, ap, subst, ℕ, ◌^◌, ◌<◌, map, List, [], Bool, true, false, length, Option, Some, None, Ok, arith}
-use Rattle.std.specs.Prelude.{slice_index_or}
+use Rattle.std.specs.Prelude.{slice_get, slice_index_or}
 use Rattle.codec_payload_base.specs.declared.wire.Codec.{Codec}
 use Rattle.codec_payload_base.specs.declared.wire.Codec.TheVariants as codecs
 use Rattle.codec_payload_buffer.specs.Steps.{State}
@@ -16,9 +16,11 @@ use Rattle.codec_payload_payloader.specs.Sending.{Sample}
 use Rattle.codec_payload_receiver.specs.Sessions.{Session}
 use Rattle.codec_payload_receiver.specs.declared.receiver.Retransmission.{Retransmission}
 use Rattle.codec_payload_receiver.specs.declared.receiver.Settings.{Settings}
+use Rattle.codec_payload_rtp.specs.RtpPackets.{Packet}
+use Rattle.codec_payload_rtp.specs.RtpReading.{rtp_at}
 use Rattle.codec_payload_sending.specs.Senders.{Sending}
 use Rattle.codec_payload_sending.specs.declared.sender.Outgoing.{Outgoing}
-use Rattle.codec_payload_sending_forward.specs.Forwarding.{Forward, payload_for}
+use Rattle.codec_payload_sending_forward.specs.Forwarding.{Forward, closing_id, payload_for}
 use Rattle.codec_payload_sending_forward.specs.Numbers.{Falls, is_in}
 use Rattle.codec_payload_sending_forward.specs.declared.ids.IdOffsets.{IdOffsets}
 use Rattle.codec_payload_sending_forward.specs.declared.forwarder.Forwarded.{Forwarded}
@@ -36,15 +38,16 @@ use Rattle.codec_payload_forward_runs.proofs.ForwardLemmas.{moved_within, same_u
 use Rattle.codec_payload_forward_runs.proofs.KeptPayloads.{IsKept, is_vp8, is_vp9, kept_each}
 use Rattle.codec_payload_forward_runs.proofs.LeaveCourses.{Leads, all_at, seen_by}
 use Rattle.codec_payload_forward_runs.proofs.LeaveEvents.{Became, Happens, became}
-use Rattle.codec_payload_forward_runs.proofs.LeaveIds.{is_moved, offsets_since}
+use Rattle.codec_payload_forward_runs.proofs.LeaveIds.{Tracks, is_moved, offsets_since}
 use Rattle.codec_payload_forward_runs.proofs.LeaveNumbers.{Agrees, Holds, Stage, Wrote, off, on}
+use Rattle.codec_payload_forward_runs.proofs.LeavePictures.{Known, id_at, id_known, known, pictures_are, starts_in}
 use Rattle.codec_payload_forward_runs.proofs.LeaveStreams.{Comes, comes}
 use Rattle.codec_payload_forward_runs.proofs.LeaveWalks.{IsBase, IsFinal, Walks, stays_same, walks}
 use Rattle.codec_payload_forward_runs.proofs.SenderLemmas.{without_ids}
 use Rattle.codec_payload_forward_runs.proofs.SourceLemmas.{IsSource}
 use Rattle.codec_payload_forward_runs.specs.ForwardReleases.{keeps_packetizer, keeps_payloads, viewer_samples, viewer_sender}
 use Rattle.codec_payload_forward_runs.specs.ForwardRuns.{Hops, begins_forwarding}
-use Rattle.codec_payload_forward_runs.specs.LeaveReleases.{AreAt, Event, IsLeftOutWithinWindows, Offsets, ReleaseLeavingOut, ReleasesKept, closed, closed_sender, closed_wire, events, events_of, gone_of, kept_forwarded_of, kept_sends_of, kept_steps_of, place_of, sends_no_ids}
+use Rattle.codec_payload_forward_runs.specs.LeaveReleases.{AreAt, Event, IsLeftOutWithinWindows, Offsets, ReleaseLeavingOut, ReleasesKept, closed, closed_sender, closed_wire, events, events_of, firsts_of, gone_of, kept_forwarded_of, kept_sends_of, kept_steps_of, place_of, sends_no_ids}
 use Rattle.codec_payload_forward_runs.specs.LeaveRuns.{LeaveRuns}
 use Rattle.codec_payload_forward_runs.specs.declared.leave_run.LeaveStep.{LeaveStep}
 
@@ -86,27 +89,33 @@ again_same (Some r) stream n m = refl
 -- After the run
 
 -- the offsets of the viewer's stream
-pub record Ended (steady : Bool) (st : Stage) (f : Forward) (gone : List ℕ) : Type 0 where
+pub record Ended (steady : Bool) (id_of : ℕ → ℕ) (st : Stage) (f : Forward) (gone : List ℕ) : Type 0 where
   pub offsets : Offsets
   pub agrees : Agrees offsets f gone st f gone
   pub falls : Falls gone
   pub pictures : steady ≡ false → Falls offsets.pictures
   pub among : steady ≡ false → (k : ℕ) → is_in k offsets.pictures ≡ true → is_in k gone ≡ true
+  pub highs : List ℕ
+  pub tracks : steady ≡ false → Tracks id_of gone highs offsets.pictures
 
-ended : (ssrc low : ℕ) (steady : Bool) (st : Stage) (f : Forward) (gone : List ℕ) → Holds ssrc low steady st f gone → Ended steady st f gone
-ended ssrc low steady off f gone holds = record {
+ended : (ssrc low : ℕ) (steady : Bool) (id_of : ℕ → ℕ) (st : Stage) (f : Forward) (gone : List ℕ) → Holds ssrc low steady id_of st f gone → Ended steady id_of st f gone
+ended ssrc low steady id_of off f gone holds = record {
   offsets = record { number = 0; ids = record { picture = 0; tl0 = 0 }; pictures = [] };
   agrees = tt;
   falls = subst Falls (sym holds.1) tt;
   pictures = λ moves. tt;
   among = λ moves k there. absurd (cc);
+  highs = [];
+  tracks = λ moves. subst (λ (xs : List ℕ). Tracks id_of xs [] []) (sym holds.1) refl;
 }
-ended ssrc low steady (on since high) f gone holds = record {
+ended ssrc low steady id_of (on since high) f gone holds = record {
   offsets = offsets_since since;
   agrees = (refl, refl, refl, refl, λ k within. (refl, refl, refl));
   falls = holds.falls;
   pictures = λ moves. (holds.ids moves).falls;
   among = λ moves. (holds.ids moves).among;
+  highs = since.highs;
+  tracks = holds.tracks;
 }
 
 -- The theorem
@@ -182,17 +191,53 @@ module _ (samples : List Sample) (all_steps : List LeaveStep) (sender : Sending)
     drops_none = within.one_stream.drops_none;
   }
 
+  -- The ids of datagrams of VP8
+
+  -- the packetizer's first id, if it has one
+  own_first : (b : Bool) → sends_no_ids sender.packetizer ≡ b → (n : ℕ) × (b ≡ false → sender.packetizer ≡ Vp8Packetizing (Some n))
+  own_first true none = (0, λ moves. absurd (cc))
+  own_first false moves =
+      let of : keeps_packetizer codecs.Vp8 sender.packetizer ≡ true = subst (λ (c : Codec). keeps_packetizer c sender.packetizer ≡ true) (within.ids moves).0 within.of_codec in
+      let vp8 = is_vp8 sender.packetizer of in
+      let one = vp8_with sender.packetizer vp8.0 vp8.1 moves in
+      (one.0, λ again. one.1)
+
+  abbrev first_id : ℕ
+  first_id = (own_first (sends_no_ids sender.packetizer) refl).0
+
+  abbrev ids_of : ℕ → ℕ
+  ids_of = id_at first_id (starts_in 0 [] (events_of samples all_steps t))
+
+  all_known : sends_no_ids sender.packetizer ≡ false → Known first_id (events_of samples all_steps t) (begins_forwarding sender forwarder receiver) t [] []
+  all_known moves =
+      known samples first_id (events_of samples all_steps t) (begins_forwarding sender forwarder receiver) t [] []
+      (record {
+        falls = tt;
+        within = tt;
+        some = λ k l. absurd (omega (arith, l));
+        have = tt;
+        id = first_id;
+        own = (own_first (sends_no_ids sender.packetizer) refl).1 moves;
+        id_is = omega arith;
+      }) happens
+
+  ids_known : sends_no_ids sender.packetizer ≡ false → (k : ℕ) (d : List ℕ) (p : Packet) → slice_get t.wire.datagrams k ≡ Some d → rtp_at d ≡ Ok p → closing_id forwarder.settings.codec p.payload ≡ Some (ids_of k)
+  ids_known moves k d p there is =
+      let all = all_known moves in
+      ap (λ (c : Codec). closing_id c p.payload) (within.ids moves).0
+      ∙ (id_known first_id (starts_in 0 [] (events_of samples all_steps t)) 0 t.wire.datagrams k d p all.frames.have there is ∙ ap (λ (n : ℕ). Some (ids_of n)) (omega arith))
+
   -- With the packetizer of the run, or without what it does
 
   module _ (packetizer : PacketizerState) (own : is_built_in packetizer ≡ true → sender.packetizer ≡ packetizer) (no_ids : is_built_in packetizer ≡ true → sends_no_ids packetizer ≡ true) where
-    base : IsBase ssrc rate low codec fixed steady packetizer no_ids samples s
+    base : IsBase ssrc rate low codec fixed steady ids_of packetizer no_ids samples s
     base = record { source = source; own = own; next = omega arith; numbers = tt; few = omega arith; codec_is = refl }
 
-    walk : Walks ssrc rate low codec fixed steady packetizer no_ids samples happened s t off [] []
-    walk = walks ssrc rate low codec fixed steady packetizer no_ids samples happened s t off [] [] base (within.other, refl) (refl, refl) within.near within.none_filled happens
+    walk : Walks ssrc rate low codec fixed steady ids_of packetizer no_ids samples happened s t off [] []
+    walk = walks ssrc rate low codec fixed steady ids_of packetizer no_ids samples happened s t off [] [] base (within.other, refl) (refl, refl) within.near within.none_filled ids_known happens
 
-    end : Ended steady walk.end e gone
-    end = ended ssrc low steady walk.end e gone walk.holds
+    end : Ended steady ids_of walk.end e gone
+    end = ended ssrc low steady ids_of walk.end e gone walk.holds
 
     settings : e.settings ≡ forwarder.settings
     settings = walk.settings
@@ -204,7 +249,7 @@ module _ (samples : List Sample) (all_steps : List LeaveStep) (sender : Sending)
         let kept : IsKept codec (slice_index_or payloads i []) = kept_each codec packetizer packetizer mtu frame payloads (are_kept codec packetizer of (no_ids built)).0 (λ _. step) i l in
         subst (λ (c : ForwardSettings). payload_for c.codec x (slice_index_or payloads i []) ≡ slice_index_or payloads i []) (sym settings) (stays_same codec x (slice_index_or payloads i []) fixed kept)
 
-    final : IsFinal ssrc rate low codec fixed steady packetizer no_ids samples end.offsets e gone
+    final : IsFinal ssrc rate low codec fixed steady ids_of packetizer no_ids samples end.offsets e gone
     final = record {
       fits_type = subst (λ (x : ForwardSettings). x.payload_type < 128) (sym settings) within.widths.payload_type;
       fits_ssrc = subst (λ (x : ForwardSettings). x.ssrc < 2 ^ 32) (sym settings) within.widths.ssrc;
@@ -277,12 +322,18 @@ module _ (samples : List Sample) (all_steps : List LeaveStep) (sender : Sending)
     written : AreAt (closed e end.offsets gone 0 end.offsets.number t.wire.datagrams) t.written (kept_forwarded_of samples all_steps t)
     written = subst (AreAt (closed e end.offsets gone 0 end.offsets.number t.wire.datagrams) t.written) (walk.outs_are gone) (written_by walk.end walk.outs end.agrees walk.wrote)
 
+    pictures : sends_no_ids sender.packetizer ≡ false → end.offsets.pictures ≡ firsts_of samples all_steps t
+    pictures moves =
+        let all = all_known moves in
+        pictures_are first_id gone end.highs end.offsets.pictures happened t.wire.sending.packetizer t.wire.datagrams all.frames all.total within.whole end.falls (all.under tt) (end.tracks moves)
+
     kept_all : SendsFrom all_samples steps first receiver whole_run → ReleasesKept samples all_steps s t
     kept_all sends_from =
         let promises : KeepsPromises all_samples steps (begins first receiver) whole_run = keeps_all None all_samples steps first receiver whole_run takes sends_from tt is_within in
         record {
           offsets = end.offsets;
           written = written;
+          pictures = pictures;
           promises = promises;
           canonical = promises.released.canonical ∙ same_units (without_ids e) rate sender.packetizer samples (sending_steps sender.mtu steps);
         }

@@ -1,11 +1,11 @@
 -- What a forwarder that leaves packets out writes: each written datagram has a number by its place among the datagrams that were not left
 -- out.
-use Rattle.std.proofs.Common.{◌||◌, ◌≡◌, ◌∙◌, refl, sym, ap, subst, ℕ, suc, ◌+◌, ◌-◌, ◌*◌, ◌%◌, ◌^◌, ◌<◌, ◌≤◌, ◌⊎◌, inl, inr, List, [], ◌∷◌, ◌++◌, append-nil, length, Bool, true, false, cond, ltb, Option, Some, None, Ok, arith}
+use Rattle.std.proofs.Common.{◌||◌, ◌&&◌, eqb, ◌≡◌, ◌∙◌, refl, sym, ap, subst, ℕ, suc, ◌+◌, ◌-◌, ◌*◌, ◌%◌, ◌^◌, ◌<◌, ◌≤◌, ◌⊎◌, inl, inr, List, [], ◌∷◌, ◌++◌, append-nil, length, Bool, true, false, cond, ltb, Option, Some, None, Ok, arith}
 use Rattle.std.specs.Prelude.{slice_get}
 use Rattle.std.proofs.lemmas.Bool.{eq-eqb, le-ltb, lt-ltb, lt-leb}
 use Rattle.codec_payload_rtp.specs.RtpPackets.{Packet, packet_bytes}
 use Rattle.codec_payload_rtp.specs.RtpReading.{rtp_at}
-use Rattle.codec_payload_sending_forward.specs.Forwarding.{Forward, Forwards, Leaves, after_begin, after_next, closing_id, first_packet, ids_in, ids_left, is_source, next_packet, number_in, offsets_for, packet_under, payload_for, sent_packet, ticks_between}
+use Rattle.codec_payload_sending_forward.specs.Forwarding.{Forward, Forwards, Leaves, after_begin, after_next, closing_id, first_packet, ids_in, ids_left, ids_when, is_source, next_packet, number_in, offsets_for, packet_under, payload_for, sent_packet, ticks_between}
 use Rattle.codec_payload_base.specs.declared.wire.Codec.{Codec}
 use Rattle.codec_payload_sending_forward.specs.Ids.{Ids, id_to_leave, offsets_at, offsets_switched, picture_closed}
 use Rattle.codec_payload_sending_forward.specs.declared.ids.PayloadIds.{PayloadIds}
@@ -23,7 +23,7 @@ use Rattle.codec_payload_sending_forward.proofs.MapLemmas.{young_by}
 use Rattle.codec_payload_sending_forward.proofs.NumberLemmas.{Order, all_below_less, less, more, not_in, order, same}
 use Rattle.codec_payload_sending_forward.proofs.NumberRunLemmas.{renumbers, sends_given}
 use Rattle.codec_payload_datagram_runs.specs.Releases.{StayWithin}
-use Rattle.codec_payload_forward_runs.proofs.LeaveIds.{IdsHold, IsTop, Since, ids_closed, ids_open, ids_same, is_moved, left_top, offsets_since, payload_at, payload_same, sent_top}
+use Rattle.codec_payload_forward_runs.proofs.LeaveIds.{IdsHold, IsTop, Since, Tracks, closed_is, closed_leaving, ids_closed, ids_open, ids_same, is_moved, leaving_at, left_top, offsets_since, open_is, payload_at, payload_same, sent_leaving, sent_top}
 use Rattle.codec_payload_forward_runs.proofs.LeaveLists.{AllAbove, AreGone, below_gone, below_higher, below_next, few_above, in_gone, in_higher, near_number}
 use Rattle.codec_payload_forward_runs.specs.ForwardReleases.{forwarded_by}
 use Rattle.codec_payload_forward_runs.specs.ForwardRuns.{written_by}
@@ -99,8 +99,8 @@ top_left m n top l = rw (above_young m n top l, lt-ltb m.highest n l) refl
 -- ---- since the forwarder began
 
 -- A forwarder that has begun with the source. The datagrams come with numbers from `low` on; `gone` were left out, and `high` is the
--- highest index so far. `steady` says that there are no ids that close up
-pub record IsOn (ssrc low : ℕ) (steady : Bool) (since : Since) (high : ℕ) (f : Forward) (gone : List ℕ) : Type 0 where
+-- highest index so far. `steady` says that there are no ids that close up; else `id_of` has the id of each datagram
+pub record IsOn (ssrc low : ℕ) (steady : Bool) (id_of : ℕ → ℕ) (since : Since) (high : ℕ) (f : Forward) (gone : List ℕ) : Type 0 where
   pub source : is_source f.source ssrc ≡ true
   pub base_is : since.base ≡ 65536 + (low + since.begin) % 65536
   pub calls : List Call
@@ -119,15 +119,17 @@ pub record IsOn (ssrc low : ℕ) (steady : Bool) (since : Since) (high : ℕ) (f
   pub above : AllAbove since.begin gone
   pub ids : steady ≡ false → IdsHold since f.ids f.numbers gone
   pub pictures : AllBelow (suc high) since.pictures
+  pub tracks : steady ≡ false → Tracks id_of gone since.highs since.pictures
+  pub leaving : steady ≡ false → f.ids.leaving ≡ leaving_at id_of (is_in high gone) high
 
 -- the forwarder has not begun, or has
 pub data Stage : Type 0 where
   off : Stage
   on : (since : Since) (high : ℕ) → Stage
 
-abbrev pub Holds : ℕ → ℕ → Bool → Stage → Forward → List ℕ → Type 0
-Holds ssrc low steady off f gone = (is_source f.source ssrc ≡ false) × (gone ≡ [])
-Holds ssrc low steady (on since high) f gone = IsOn ssrc low steady since high f gone
+abbrev pub Holds : ℕ → ℕ → Bool → (ℕ → ℕ) → Stage → Forward → List ℕ → Type 0
+Holds ssrc low steady id_of off f gone = (is_source f.source ssrc ≡ false) × (gone ≡ [])
+Holds ssrc low steady id_of (on since high) f gone = IsOn ssrc low steady id_of since high f gone
 
 -- the datagrams that come next are near the highest one
 abbrev pub AreNear : Stage → List ℕ → Type 0
@@ -213,11 +215,11 @@ or_true false = refl
 
 -- ---- one datagram
 
-module _ (ssrc low : ℕ) (steady : Bool) (codec : Codec) (fixed : is_moved codec ≡ false) where
+module _ (ssrc low : ℕ) (steady : Bool) (id_of : ℕ → ℕ) (codec : Codec) (fixed : is_moved codec ≡ false) where
   -- The forwarder after a datagram, which is the one with the index `k`; `later` come after it. `wrote` was written, for these indices
   pub record Turned (k : ℕ) (d : List ℕ) (st : Stage) (f : Forward) (gone later : List ℕ) (t : Forward) (more : List ℕ) (wrote : List (List ℕ)) (outs : List ℕ) : Type 0 where
     pub next : Stage
-    pub holds : Holds ssrc low steady next t more
+    pub holds : Holds ssrc low steady id_of next t more
     pub near : AreNear next later
     pub settings : t.settings ≡ f.settings
     pub agrees : (o : Offsets) (e : Forward) (all : List ℕ) → Agrees o e all next t more → Agrees o e all st f gone
@@ -230,7 +232,7 @@ module _ (ssrc low : ℕ) (steady : Bool) (codec : Codec) (fixed : is_moved code
     wrote_same st f gone datagrams written ks out =
         subst (λ (xs : List ℕ). Wrote st f gone datagrams (written ++ []) xs) (sym (append-nil ks)) (subst (λ (xs : List (List ℕ)). Wrote st f gone datagrams xs ks) (sym (append-nil written)) out)
 
-    quiet : (st : Stage) (f t : Forward) (gone later : List ℕ) → t ≡ f → Holds ssrc low steady st f gone → AreNear st later → Turned k d st f gone later t gone [] []
+    quiet : (st : Stage) (f t : Forward) (gone later : List ℕ) → t ≡ f → Holds ssrc low steady id_of st f gone → AreNear st later → Turned k d st f gone later t gone [] []
     quiet st f t gone later is holds near =
         subst (λ (x : Forward). Turned k d st f gone later x gone [] []) (sym is)
         (record { next = st; holds = holds; near = near; settings = refl; agrees = λ o e all agrees. agrees; out = λ datagrams written ks there out. wrote_same st f gone datagrams written ks out })
@@ -259,7 +261,7 @@ module _ (ssrc low : ℕ) (steady : Bool) (codec : Codec) (fixed : is_moved code
         → AreNear off (k ∷ later) → Turned k d off f [] later t [] (bytes ∷ []) (k ∷ [])
     begins_turn now f t bytes later kept other written is near =
         let ids : Option PayloadIds = ids_in f.settings.codec p.payload in
-        let since : Since = record { begin = k; base = 65536 + p.header.sequence_number; start = next_number f.numbers; ids = offsets_switched f.ids ids; pictures = [] } in
+        let since : Since = record { begin = k; base = 65536 + p.header.sequence_number; start = next_number f.numbers; ids = offsets_switched f.ids ids; pictures = []; highs = [] } in
         let start : next_number f.numbers ≡ ((offsets_since since).number + (k - 0)) % 65536 = omega arith in
         let time : (f.times.highest + ticks_between f.written_at now) % 4294967296
         ≡ (p.header.timestamp + ((f.times.highest + ticks_between f.written_at now) % 4294967296 + (4294967296 - p.header.timestamp)) % 4294967296) % 4294967296 = omega (arith, time_fits) in
@@ -296,6 +298,8 @@ module _ (ssrc low : ℕ) (steady : Bool) (codec : Codec) (fixed : is_moved code
               part = λ n there from. absurd (let no : false ≡ true = sym (ap (is_in n) (switched_none ids f.ids)) ∙ there in cc);
             };
             pictures = tt;
+            tracks = λ moves. refl;
+            leaving = λ moves. sent_leaving (offsets_switched f.ids ids) ids (record f.ids { offsets = offsets_switched f.ids ids; left_out = [] });
           };
           near = near;
           settings = refl;
@@ -320,7 +324,7 @@ module _ (ssrc low : ℕ) (steady : Bool) (codec : Codec) (fixed : is_moved code
 
     -- a later packet
 
-    module _ (since : Since) (high : ℕ) (f : Forward) (gone later : List ℕ) (is_on : IsOn ssrc low steady since high f gone) (near : AreNear (on since high) (k ∷ later)) where
+    module _ (since : Since) (high : ℕ) (f : Forward) (gone later : List ℕ) (is_on : IsOn ssrc low steady id_of since high f gone) (near : AreNear (on since high) (k ∷ later)) where
       abbrev n : ℕ
       n = number_in f p
 
@@ -460,6 +464,8 @@ module _ (ssrc low : ℕ) (steady : Bool) (codec : Codec) (fixed : is_moved code
                   above = is_on.above;
                   ids = λ moves. ids_next (omega (arith, ap (λ (m : Numbers). m.highest) map_same)) (ap (λ (m : Numbers). m.first) map_same) (ap (λ (m : Numbers). m.left_out) map_same) (is_on.ids moves);
                   pictures = is_on.pictures;
+                  tracks = is_on.tracks;
+                  leaving = λ moves. ap (λ (b : Bool). (ids_when b f.settings.codec n p.payload f.ids).leaving) (le-ltb f.numbers.highest n l) ∙ is_on.leaving moves;
                 };
                 near = near_low (index_low l);
                 settings = refl;
@@ -493,6 +499,10 @@ module _ (ssrc low : ℕ) (steady : Bool) (codec : Codec) (fixed : is_moved code
                   above = is_on.above;
                   ids = λ moves. ids_next (omega (arith, l, ap (λ (m : Numbers). m.highest) map_is)) (ap (λ (m : Numbers). m.first) map_is) (ap (λ (m : Numbers). m.left_out) map_is) (is_on.ids moves);
                   pictures = all_below_less (suc high) (suc k) since.pictures (omega (arith, up)) is_on.pictures;
+                  tracks = is_on.tracks;
+                  leaving = λ moves. ap (λ (b : Bool). (ids_when b f.settings.codec n p.payload f.ids).leaving) (lt-ltb f.numbers.highest n l)
+                      ∙ (sent_leaving (offsets_for f.settings.codec f.ids n) (ids_in f.settings.codec p.payload) f.ids
+                      ∙ sym (ap (λ (b : Bool). leaving_at id_of b k) (not_in k gone (all_below_less (suc high) k gone (omega (arith, up)) is_on.within))));
                 };
                 near = near_high up;
                 settings = refl;
@@ -507,14 +517,15 @@ module _ (ssrc low : ℕ) (steady : Bool) (codec : Codec) (fixed : is_moved code
 
       -- a packet above all others is left out; these are the pictures after it
       left_turn : (ps : List ℕ) (t y : Forward) → f.numbers.highest < n → y.settings ≡ f.settings → y.source ≡ f.source → y.times ≡ f.times → y.numbers ≡ after_packet n false f.numbers → t ≡ y
-          → (steady ≡ false → IdsHold (record since { pictures = ps }) y.ids (closed n f.numbers) (k ∷ gone)) → AllBelow (suc k) ps → ((j : ℕ) → j ≤ high → below j ps ≡ below j since.pictures)
+          → (steady ≡ false → IdsHold (record since { pictures = ps; highs = high ∷ since.highs }) y.ids (closed n f.numbers) (k ∷ gone))
+          → (steady ≡ false → Tracks id_of (k ∷ gone) (high ∷ since.highs) ps) → (steady ≡ false → y.ids.leaving ≡ Some (id_of k)) → AllBelow (suc k) ps → ((j : ℕ) → j ≤ high → below j ps ≡ below j since.pictures)
           → Turned k d (on since high) f gone later t (k ∷ gone) [] []
-      left_turn ps t y l settings source times numbers is ids low_pictures pictures =
+      left_turn ps t y l settings source times numbers is ids tracks leaving low_pictures pictures =
           let up : high < k = index_high l in
           let map_is : y.numbers ≡ closed n f.numbers = numbers ∙ top_left f.numbers n is_on.top l in
           let over : is_on.highest < n = omega (arith, l, is_on.highest_is) in
           let top = left_top f.numbers n is_on.top l in
-          let moved_since : Since = record since { pictures = ps } in
+          let moved_since : Since = record since { pictures = ps; highs = high ∷ since.highs } in
           let higher : (j : ℕ) → j ≤ high → (is_in j (k ∷ gone) ≡ is_in j gone) × (below j (k ∷ gone) ≡ below j gone) × (below j ps ≡ below j since.pictures) =
           λ j within. (in_higher j k gone (omega (arith, within, up)), below_higher j k gone (omega (arith, within, up)), pictures j within) in
           subst (λ (x : Forward). Turned k d (on since high) f gone later x (k ∷ gone) [] []) (sym is)
@@ -539,6 +550,8 @@ module _ (ssrc low : ℕ) (steady : Bool) (codec : Codec) (fixed : is_moved code
               above = (omega (arith, is_on.from, up), is_on.above);
               ids = λ moves. subst (λ (m : Numbers). IdsHold moved_since y.ids m (k ∷ gone)) (sym map_is) (ids moves);
               pictures = low_pictures;
+              tracks = tracks;
+              leaving = λ moves. leaving moves ∙ sym (ap (λ (b : Bool). leaving_at id_of (b || is_in k gone) k) (eq-eqb k k refl));
             };
             near = near_high up;
             settings = settings;
@@ -558,7 +571,7 @@ module _ (ssrc low : ℕ) (steady : Bool) (codec : Codec) (fixed : is_moved code
           })
 
     -- any datagram that is to be forwarded
-    pub forward_turn : (now : ℕ) (answer : Forwarded) (bytes : List ℕ) (st : Stage) (f t : Forward) (gone later : List ℕ) → Kept f → Holds ssrc low steady st f gone → Forwards now p f answer bytes t
+    pub forward_turn : (now : ℕ) (answer : Forwarded) (bytes : List ℕ) (st : Stage) (f t : Forward) (gone later : List ℕ) → Kept f → Holds ssrc low steady id_of st f gone → Forwards now p f answer bytes t
         → AreNear st (came_by answer k ++ later) → Turned k d st f gone later t gone (written_by answer bytes) (forwarded_by answer k)
     forward_turn now answers.Began bytes off f t gone later kept holds does near =
         subst (λ (xs : List ℕ). Turned k d off f xs later t xs (bytes ∷ []) (k ∷ [])) (sym holds.1) (begins_turn now f t bytes later kept does.0 does.3.0 does.4 near)
@@ -580,7 +593,7 @@ module _ (ssrc low : ℕ) (steady : Bool) (codec : Codec) (fixed : is_moved code
     forward_turn now answers.Filled bytes (on since high) f t gone later kept holds does near = absurd does
 
     -- a datagram that was left out before
-    again_turn : (since : Since) (high : ℕ) (f t : Forward) (gone later : List ℕ) → (holds : IsOn ssrc low steady since high f gone) → AreNear (on since high) (k ∷ later)
+    again_turn : (since : Since) (high : ℕ) (f t : Forward) (gone later : List ℕ) → (holds : IsOn ssrc low steady id_of since high f gone) → AreNear (on since high) (k ∷ later)
         → placed f.numbers (number_in f p) true ≡ places.LeftOut → t ≡ f → Turned k d (on since high) f gone later t (gone_by answers.LeftOut k gone) [] []
     again_turn since high f t gone later holds near is stay =
         let left = left_young f.numbers (number_in f p) is in
@@ -588,47 +601,68 @@ module _ (ssrc low : ℕ) (steady : Bool) (codec : Codec) (fixed : is_moved code
         rw here (stays_turn since high f gone later holds near t (left_low f.numbers (number_in f p) holds.top left.1) stay)
 
     -- a datagram above all others
-    ahead_turn : (since : Since) (high : ℕ) (f t : Forward) (gone later : List ℕ) → (holds : IsOn ssrc low steady since high f gone) → AreNear (on since high) (k ∷ later) → f.numbers.highest < number_in f p
+    ahead_turn : (since : Since) (high : ℕ) (f t : Forward) (gone later : List ℕ) → (holds : IsOn ssrc low steady id_of since high f gone) → AreNear (on since high) (k ∷ later) → f.numbers.highest < number_in f p
+        → (steady ≡ false → closing_id f.settings.codec p.payload ≡ Some (id_of k))
         → t ≡ record f { numbers = after_packet (number_in f p) false f.numbers; ids = ids_left f.settings.codec (number_in f p) p.payload f.ids }
         → Turned k d (on since high) f gone later t (gone_by answers.LeftOut k gone) [] []
-    ahead_turn since high f t gone later holds near l after =
+    ahead_turn since high f t gone later holds near l id_is after =
         let up : high < k = index_high since high f gone later holds near l in
         let here : is_in k gone ≡ false = not_in k gone (all_below_less (suc high) k gone (omega (arith, up)) holds.within) in
         rw here (by (id_to_leave f.ids (number_in f p) (closing_id f.settings.codec p.payload)) refl up)
       where
+        at_k : (o : Option ℕ) → id_to_leave f.ids (number_in f p) (closing_id f.settings.codec p.payload) ≡ o → steady ≡ false → id_to_leave f.ids (number_in f p) (Some (id_of k)) ≡ o
+        at_k o e moves = sym (ap (id_to_leave f.ids (number_in f p)) (id_is moves)) ∙ e
+
+        lower : steady ≡ false → AllBelow (suc f.numbers.highest) f.ids.left_out
+        lower moves = (holds.ids moves).low
+
+        -- one more datagram that was left out
+        tracked : (ps : List ℕ) → high < k → steady ≡ false → ps ≡ cond (is_in high gone && eqb (id_of high) (id_of k)) since.pictures (k ∷ since.pictures) → Tracks id_of (k ∷ gone) (high ∷ since.highs) ps
+        tracked ps up moves is = (since.pictures, holds.tracks moves, up, near.0, holds.within, is)
+
         by : (o : Option ℕ) → id_to_leave f.ids (number_in f p) (closing_id f.settings.codec p.payload) ≡ o → high < k → Turned k d (on since high) f gone later t (k ∷ gone) [] []
         by None e up =
             let ids : ids_left f.settings.codec (number_in f p) p.payload f.ids ≡ f.ids = ap (λ (o : Option ℕ). picture_closed (number_in f p) o f.ids) e in
             left_turn since high f gone later holds near since.pictures t (record f { numbers = after_packet (number_in f p) false f.numbers; ids = f.ids }) l refl refl refl refl
             (after ∙ ap (λ (m : Ids). record f { numbers = after_packet (number_in f p) false f.numbers; ids = m }) ids)
-            (λ moves. ids_open since f.ids f.numbers gone (number_in f p) k (n_is since high f gone later holds near) holds.top l (all_below_less (suc high) k since.pictures (omega (arith, up)) holds.pictures) (holds.ids moves))
+            (λ moves. ids_open since f.ids f.numbers gone high (number_in f p) k (n_is since high f gone later holds near) holds.top l (all_below_less (suc high) k since.pictures (omega (arith, up)) holds.pictures) (holds.ids moves))
+            (λ moves.
+            let stays = open_is id_of f.ids (number_in f p) f.numbers.highest k high gone (lower moves) l (holds.leaving moves) (at_k None e moves) in
+            tracked since.pictures up moves (sym (ap (λ (b : Bool). cond b since.pictures (k ∷ since.pictures)) stays.1)))
+            (λ moves. (open_is id_of f.ids (number_in f p) f.numbers.highest k high gone (lower moves) l (holds.leaving moves) (at_k None e moves)).0)
             (all_below_less (suc high) (suc k) since.pictures (omega (arith, up)) holds.pictures) (λ j within. refl)
         by (Some id) e up =
             let next : Ids = picture_closed (number_in f p) (Some id) f.ids in
             let ids : ids_left f.settings.codec (number_in f p) p.payload f.ids ≡ next = ap (λ (o : Option ℕ). picture_closed (number_in f p) o f.ids) e in
             left_turn since high f gone later holds near (k ∷ since.pictures) t (record f { numbers = after_packet (number_in f p) false f.numbers; ids = next }) l refl refl refl refl
             (after ∙ ap (λ (m : Ids). record f { numbers = after_packet (number_in f p) false f.numbers; ids = m }) ids)
-            (λ moves. ids_closed since f.ids f.numbers gone (number_in f p) k (n_is since high f gone later holds near) holds.top l (all_below_less (suc high) k since.pictures (omega (arith, up)) holds.pictures) (holds.ids moves) id)
+            (λ moves. ids_closed since f.ids f.numbers gone high (number_in f p) k (n_is since high f gone later holds near) holds.top l (all_below_less (suc high) k since.pictures (omega (arith, up)) holds.pictures) (holds.ids moves) id)
+            (λ moves.
+            let closes = closed_is id_of f.ids (number_in f p) f.numbers.highest k high gone (lower moves) l (holds.leaving moves) id (at_k (Some id) e moves) in
+            tracked (k ∷ since.pictures) up moves (sym (ap (λ (b : Bool). cond b since.pictures (k ∷ since.pictures)) closes.1)))
+            (λ moves.
+            let closes = closed_is id_of f.ids (number_in f p) f.numbers.highest k high gone (lower moves) l (holds.leaving moves) id (at_k (Some id) e moves) in
+            closed_leaving (number_in f p) id f.ids ∙ ap (λ (x : ℕ). Some x) closes.0)
             (omega arith, all_below_less (suc high) (suc k) since.pictures (omega (arith, up)) holds.pictures) (λ j within. below_higher j k since.pictures (omega (arith, within, up)))
 
     -- any datagram that is to be left out, and comes in time
-    pub leave_turn : (answer : Forwarded) (bytes : List ℕ) (st : Stage) (f t : Forward) (gone later : List ℕ) → fills answer ≡ false → Holds ssrc low steady st f gone → Leaves p f answer bytes t
+    pub leave_turn : (answer : Forwarded) (bytes : List ℕ) (st : Stage) (f t : Forward) (gone later : List ℕ) → fills answer ≡ false → (steady ≡ false → closing_id f.settings.codec p.payload ≡ Some (id_of k)) → Holds ssrc low steady id_of st f gone → Leaves p f answer bytes t
         → AreNear st (came_by answer k ++ later) → Turned k d st f gone later t (gone_by answer k gone) (filled_by answer bytes) []
-    leave_turn answers.Began bytes st f t gone later none holds does near = absurd does
-    leave_turn answers.Written bytes st f t gone later none holds does near = absurd does
-    leave_turn answers.NoKeyframe bytes st f t gone later none holds does near = absurd does
-    leave_turn answers.Filled bytes st f t gone later none holds does near = absurd (cc)
-    leave_turn answers.OtherSource bytes off f t gone later none holds does near = quiet off f t gone later does.1.1 holds near
-    leave_turn answers.TooOld bytes off f t gone later none holds does near = absurd (clash_off f does.0 holds.0)
-    leave_turn answers.LeftOut bytes off f t gone later none holds does near = absurd (clash_off f does.0 holds.0)
-    leave_turn answers.OtherSource bytes (on since high) f t gone later none holds does near = absurd (clash f does.0 holds.source)
-    leave_turn answers.TooOld bytes (on since high) f t gone later none holds does near =
+    leave_turn answers.Began bytes st f t gone later none id_is holds does near = absurd does
+    leave_turn answers.Written bytes st f t gone later none id_is holds does near = absurd does
+    leave_turn answers.NoKeyframe bytes st f t gone later none id_is holds does near = absurd does
+    leave_turn answers.Filled bytes st f t gone later none id_is holds does near = absurd (cc)
+    leave_turn answers.OtherSource bytes off f t gone later none id_is holds does near = quiet off f t gone later does.1.1 holds near
+    leave_turn answers.TooOld bytes off f t gone later none id_is holds does near = absurd (clash_off f does.0 holds.0)
+    leave_turn answers.LeftOut bytes off f t gone later none id_is holds does near = absurd (clash_off f does.0 holds.0)
+    leave_turn answers.OtherSource bytes (on since high) f t gone later none id_is holds does near = absurd (clash f does.0 holds.source)
+    leave_turn answers.TooOld bytes (on since high) f t gone later none id_is holds does near =
         stays_turn since high f gone later holds near t (old_low f.numbers (number_in f p) holds.top (placed_old f.numbers (number_in f p) does.1)) does.2.1
-    leave_turn answers.LeftOut bytes (on since high) f t gone later none holds does near = by does.2
+    leave_turn answers.LeftOut bytes (on since high) f t gone later none id_is holds does near = by does.2
       where
         by : ((placed f.numbers (number_in f p) true ≡ places.LeftOut) × (t ≡ f))
             ⊎ ((f.numbers.highest < number_in f p)
             × (t ≡ record f { numbers = after_packet (number_in f p) false f.numbers; ids = ids_left f.settings.codec (number_in f p) p.payload f.ids }))
             → Turned k d (on since high) f gone later t (gone_by answers.LeftOut k gone) [] []
         by (inl is) = again_turn since high f t gone later holds near is.0 is.1
-        by (inr is) = ahead_turn since high f t gone later holds near is.0 is.1
+        by (inr is) = ahead_turn since high f t gone later holds near is.0 id_is is.1

@@ -176,12 +176,12 @@ next_is : (gave : Bool) (id : ℕ) → (next : ℕ) × (advanced gave (Some id) 
 next_is true id = ((id + 1) % 2 ^ 15, refl)
 next_is false id = (id, refl)
 
-refused_as : (answer : Result (List (List ℕ)) PacketError) (fault : PacketError) → fault ≢ faults.OutOfMemory → Lands answer (Err fault) [] → answer ≡ Err fault
+pub refused_as : (answer : Result (List (List ℕ)) PacketError) (fault : PacketError) → fault ≢ faults.OutOfMemory → Lands answer (Err fault) [] → answer ≡ Err fault
 refused_as (Ok packets) fault not_memory lands = absurd (not_memory lands)
 refused_as (Err other) fault not_memory lands = let same : fault ≡ other = cc in ap (λ (f : PacketError). Err f) (sym same)
 
 -- a packetizer of VP8 refuses no frame
-never_refuses : (id mtu : ℕ) (frame : List ℕ) (fault : PacketError) (after : PacketizerState) → fault ≢ faults.OutOfMemory → PacketizerStep (Vp8Packetizing (Some id)) mtu frame (Err fault) after → ⊥
+pub never_refuses : (id mtu : ℕ) (frame : List ℕ) (fault : PacketError) (after : PacketizerState) → fault ≢ faults.OutOfMemory → PacketizerStep (Vp8Packetizing (Some id)) mtu frame (Err fault) after → ⊥
 never_refuses id mtu frame fault after not_memory step = not_memory step.2.0.0
 
 all_readable : (id : Option ℕ) (samples : List Sample) → AreReadable (Vp8Packetizing id) samples

@@ -13,18 +13,19 @@ use Rattle.codec_payload_rtp.specs.RtpPackets.{Packet}
 use Rattle.codec_payload_rtp.specs.RtpReading.{rtp_at}
 use Rattle.codec_payload_rtp.specs.declared.rtp.RtpError.{RtpError}
 use Rattle.codec_payload_sending.specs.Senders.{Sending, Sends}
-use Rattle.codec_payload_sending_forward.specs.Forwarding.{Forward, payload_for}
+use Rattle.codec_payload_sending_forward.specs.Forwarding.{Forward, closing_id, payload_for}
 use Rattle.codec_payload_sending_forward.specs.Numbers.{Falls}
 use Rattle.codec_payload_sending_forward.specs.declared.forwarder.Forwarded.{Forwarded}
 use Rattle.codec_payload_sending_forward.specs.declared.forwarder.ForwardSettings.{ForwardSettings}
 use Rattle.codec_payload_sending_forward.specs.declared.ids.IdOffsets.{IdOffsets}
+use Rattle.codec_payload_datagram_runs.proofs.StepLemmas.{get_append}
 use Rattle.codec_payload_datagram_runs.specs.WireRuns.{Delivers, Receipt, SendsOrRefuses, Wire, sent_sample}
 use Rattle.codec_payload_datagram_runs.specs.declared.run.DatagramStep.{DatagramStep}
 use Rattle.codec_payload_datagram_runs.specs.declared.run.DatagramStep.TheVariants as seen
 use Rattle.codec_payload_datagram_runs.specs.declared.run.SentSample.{SentSample}
 use Rattle.codec_payload_forward_runs.proofs.KeptPayloads.{IsKept}
 use Rattle.codec_payload_forward_runs.proofs.LeaveCourses.{Beside, Leads, deliver_leads, end_leads, places_append, pop_leads, same_leads, send_leads, seen_by, wrote_more}
-use Rattle.codec_payload_forward_runs.proofs.LeaveEvents.{DoesDeliver, DoesForward, DoesLeave, DoesSend, Happens}
+use Rattle.codec_payload_forward_runs.proofs.LeaveEvents.{DoesDeliver, DoesEvent, DoesForward, DoesLeave, DoesSend, Happens}
 use Rattle.codec_payload_forward_runs.proofs.LeaveIds.{is_moved}
 use Rattle.codec_payload_forward_runs.proofs.LeaveNumbers.{Agrees, AreNear, Holds, Stage, Turned, Wrote, forward_turn, leave_turn}
 use Rattle.codec_payload_forward_runs.proofs.LeaveSenders.{IsBeside, own_stays}
@@ -90,7 +91,7 @@ stays_same codecs.Unknown o payload fixed kept = refl
 
 -- Whole runs
 
-module _ (ssrc rate low : ℕ) (codec : Codec) (fixed : is_moved codec ≡ false) (steady : Bool) (packetizer : PacketizerState) (no_ids : is_built_in packetizer ≡ true → sends_no_ids packetizer ≡ true)
+module _ (ssrc rate low : ℕ) (codec : Codec) (fixed : is_moved codec ≡ false) (steady : Bool) (id_of : ℕ → ℕ) (packetizer : PacketizerState) (no_ids : is_built_in packetizer ≡ true → sends_no_ids packetizer ≡ true)
     (samples : List Sample) where
   -- a state of the run
   pub record IsBase (s : Hops) : Type 0 where
@@ -159,7 +160,7 @@ module _ (ssrc rate low : ℕ) (codec : Codec) (fixed : is_moved codec ≡ false
 
   pub record Walks (later : List Event) (s t : Hops) (st : Stage) (gone ks : List ℕ) : Type 0 where
     pub end : Stage
-    pub holds : Holds ssrc low steady end t.forwarder (gone_in gone later)
+    pub holds : Holds ssrc low steady id_of end t.forwarder (gone_in gone later)
     pub settings : t.forwarder.settings ≡ s.forwarder.settings
     pub outs : List ℕ
     pub wrote : Wrote end t.forwarder (gone_in gone later) t.wire.datagrams t.written outs
@@ -180,7 +181,7 @@ module _ (ssrc rate low : ℕ) (codec : Codec) (fixed : is_moved codec ≡ false
       → OneWalk event s mid st next gone further ks js → Walks later mid t next further js → Walks (event ∷ later) s t st gone ks
   first_walks event later s mid t st next gone further ks js gone_is one rest = record {
     end = rest.end;
-    holds = subst (λ (xs : List ℕ). Holds ssrc low steady rest.end t.forwarder xs) (sym gone_is) rest.holds;
+    holds = subst (λ (xs : List ℕ). Holds ssrc low steady id_of rest.end t.forwarder xs) (sym gone_is) rest.holds;
     settings = rest.settings ∙ one.settings;
     outs = rest.outs;
     wrote = subst (λ (xs : List ℕ). Wrote rest.end t.forwarder xs t.wire.datagrams t.written rest.outs) (sym gone_is) rest.wrote;
@@ -406,30 +407,55 @@ module _ (ssrc rate low : ℕ) (codec : Codec) (fixed : is_moved codec ≡ false
         );
       }
 
-  forward_turned : (k : ℕ) (answer : Forwarded) (s mid : Hops) (st : Stage) (gone later : List ℕ) → IsBase s → (does : DoesForward k answer s mid) → Holds ssrc low steady st s.forwarder gone
-      → AreNear st (came_by answer k ++ later) → Turned ssrc low steady codec fixed k does.datagram st s.forwarder gone later does.forwarder gone (written_by answer does.bytes) (forwarded_by answer k)
+  forward_turned : (k : ℕ) (answer : Forwarded) (s mid : Hops) (st : Stage) (gone later : List ℕ) → IsBase s → (does : DoesForward k answer s mid) → Holds ssrc low steady id_of st s.forwarder gone
+      → AreNear st (came_by answer k ++ later) → Turned ssrc low steady id_of codec fixed k does.datagram st s.forwarder gone later does.forwarder gone (written_by answer does.bytes) (forwarded_by answer k)
   forward_turned k answer s mid st gone later base does holds near =
       let c = comes k does.datagram s base does.there in
       let p : c.packet ≡ does.packet = same_packet c.packet does.packet (sym c.reads ∙ does.reads) in
-      forward_turn ssrc low steady codec fixed k does.datagram c.few does.packet does.reads (subst (λ (x : Packet). x.header.ssrc ≡ ssrc) p c.source) (subst (λ (x : Packet). x.header.sequence_number ≡ (low + k) % 65536) p c.number)
+      forward_turn ssrc low steady id_of codec fixed k does.datagram c.few does.packet does.reads (subst (λ (x : Packet). x.header.ssrc ≡ ssrc) p c.source) (subst (λ (x : Packet). x.header.sequence_number ≡ (low + k) % 65536) p c.number)
       (subst (λ (x : Packet). x.header.timestamp < 4294967296) p c.time) does.now answer does.bytes st s.forwarder does.forwarder gone later
       (subst (λ (x : Packet). (s.forwarder.settings.codec ≡ codec) × (steady ≡ true → (o : IdOffsets) → payload_for s.forwarder.settings.codec o x.payload ≡ x.payload)) p c.kept) holds does.does near
 
-  leave_turned : (k : ℕ) (answer : Forwarded) (s mid : Hops) (st : Stage) (gone later : List ℕ) → IsBase s → (does : DoesLeave k answer s mid) → fills answer ≡ false → Holds ssrc low steady st s.forwarder gone
-      → AreNear st (came_by answer k ++ later) → Turned ssrc low steady codec fixed k does.datagram st s.forwarder gone later does.forwarder (gone_by answer k gone) (filled_by answer does.bytes) []
-  leave_turned k answer s mid st gone later base does none holds near =
+  leave_turned : (k : ℕ) (answer : Forwarded) (s mid : Hops) (st : Stage) (gone later : List ℕ) → IsBase s → (does : DoesLeave k answer s mid) → fills answer ≡ false
+      → (steady ≡ false → (d : List ℕ) (p : Packet) → slice_get s.wire.datagrams k ≡ Some d → rtp_at d ≡ Ok p → closing_id codec p.payload ≡ Some (id_of k)) → Holds ssrc low steady id_of st s.forwarder gone
+      → AreNear st (came_by answer k ++ later) → Turned ssrc low steady id_of codec fixed k does.datagram st s.forwarder gone later does.forwarder (gone_by answer k gone) (filled_by answer does.bytes) []
+  leave_turned k answer s mid st gone later base does none known holds near =
       let c = comes k does.datagram s base does.there in
       let p : c.packet ≡ does.packet = same_packet c.packet does.packet (sym c.reads ∙ does.reads) in
-      leave_turn ssrc low steady codec fixed k does.datagram c.few does.packet does.reads (subst (λ (x : Packet). x.header.ssrc ≡ ssrc) p c.source) (subst (λ (x : Packet). x.header.sequence_number ≡ (low + k) % 65536) p c.number)
-      (subst (λ (x : Packet). x.header.timestamp < 4294967296) p c.time) answer does.bytes st s.forwarder does.forwarder gone later none holds does.does near
+      leave_turn ssrc low steady id_of codec fixed k does.datagram c.few does.packet does.reads (subst (λ (x : Packet). x.header.ssrc ≡ ssrc) p c.source) (subst (λ (x : Packet). x.header.sequence_number ≡ (low + k) % 65536) p c.number)
+      (subst (λ (x : Packet). x.header.timestamp < 4294967296) p c.time) answer does.bytes st s.forwarder does.forwarder gone later none
+      (λ moves. subst (λ (c : Codec). closing_id c does.packet.payload ≡ Some (id_of k)) (sym base.codec_is) (known moves does.datagram does.packet does.there does.reads)) holds does.does near
+
+  -- what was sent stays
+  event_grows : (event : Event) (s mid : Hops) → DoesEvent samples event s mid → (k : ℕ) (b : List ℕ) → slice_get s.wire.datagrams k ≡ Some b → slice_get mid.wire.datagrams k ≡ Some b
+  event_grows (sends i entry) s mid does k b there = by entry (slice_get samples i) does
+    where
+      by : (entry : Option SentSample) (o : Option Sample) → DoesSend o entry s mid → slice_get mid.wire.datagrams k ≡ Some b
+      by None None is = subst (λ (x : Hops). slice_get x.wire.datagrams k ≡ Some b) (sym is) there
+      by (Some entry) None is = absurd is
+      by None (Some sample) is = absurd is
+      by (Some entry) (Some sample) is = subst (λ (ds : List (List ℕ)). slice_get ds k ≡ Some b) (sym is.0.gained) (get_append s.wire.datagrams mid.wire.sending.datagrams k b there)
+  event_grows (forwards j answer) s mid does k b there = subst (λ (x : Hops). slice_get x.wire.datagrams k ≡ Some b) (sym does.is) there
+  event_grows (leaves j answer) s mid does k b there = subst (λ (x : Hops). slice_get x.wire.datagrams k ≡ Some b) (sym does.is) there
+  event_grows (delivers j now) s mid does k b there =
+      subst (λ (ds : List (List ℕ)). slice_get ds k ≡ Some b) (sym (deliver_quiet (slice_get s.written j) now s mid does).datagrams) there
+  event_grows (pops now) s mid does k b there =
+      subst (λ (ds : List (List ℕ)). slice_get ds k ≡ Some b) (sym (ap (λ (x : Hops). x.wire.datagrams) does.2 ∙ ap (λ (w : Wire). w.datagrams) does.1.4)) there
+  event_grows ends s mid does k b there =
+      subst (λ (ds : List (List ℕ)). slice_get ds k ≡ Some b) (sym (ap (λ (x : Hops). x.wire.datagrams) does.2 ∙ ap (λ (w : Wire). w.datagrams) does.1.2)) there
+
+  all_grow : (all_events : List Event) (s t : Hops) → Happens samples all_events s t → (k : ℕ) (b : List ℕ) → slice_get s.wire.datagrams k ≡ Some b → slice_get t.wire.datagrams k ≡ Some b
+  all_grow [] s t run k b there = subst (λ (x : Hops). slice_get x.wire.datagrams k ≡ Some b) (sym run) there
+  all_grow (event ∷ later) s t run k b there = all_grow later run.0 t run.2 k b (event_grows event s run.0 run.1 k b there)
 
   -- All events
 
-  pub walks : (all_events : List Event) (s t : Hops) (st : Stage) (gone ks : List ℕ) → IsBase s → Holds ssrc low steady st s.forwarder gone → Wrote st s.forwarder gone s.wire.datagrams s.written ks
-      → AreNear st (came all_events) → NoneFilled all_events → Happens samples all_events s t → Walks all_events s t st gone ks
-  walks [] s t st gone ks base holds wrote near none run = record {
+  pub walks : (all_events : List Event) (s t : Hops) (st : Stage) (gone ks : List ℕ) → IsBase s → Holds ssrc low steady id_of st s.forwarder gone → Wrote st s.forwarder gone s.wire.datagrams s.written ks
+      → AreNear st (came all_events) → NoneFilled all_events
+      → (steady ≡ false → (k : ℕ) (d : List ℕ) (p : Packet) → slice_get t.wire.datagrams k ≡ Some d → rtp_at d ≡ Ok p → closing_id codec p.payload ≡ Some (id_of k)) → Happens samples all_events s t → Walks all_events s t st gone ks
+  walks [] s t st gone ks base holds wrote near none known run = record {
     end = st;
-    holds = subst (λ (x : Hops). Holds ssrc low steady st x.forwarder gone) (sym run) holds;
+    holds = subst (λ (x : Hops). Holds ssrc low steady id_of st x.forwarder gone) (sym run) holds;
     settings = ap (λ (x : Hops). x.forwarder.settings) run;
     outs = ks;
     wrote = subst (λ (x : Hops). Wrote st x.forwarder gone x.wire.datagrams x.written ks) (sym run) wrote;
@@ -443,13 +469,13 @@ module _ (ssrc rate low : ℕ) (codec : Codec) (fixed : is_moved codec ≡ false
       },
     );
   }
-  walks (sends i entry ∷ later) s t st gone ks base holds wrote near none run =
+  walks (sends i entry ∷ later) s t st gone ks base holds wrote near none known run =
       let mid : Hops = run.0 in
       let stays = send_forwarder entry (slice_get samples i) s mid run.1 in
       first_walks (sends i entry) later s mid t st st gone gone ks ks refl (sends_walk i entry s mid st gone ks base run.1)
-      (walks later mid t st gone ks (base_sent i (slice_get samples i) entry s mid refl base run.1) (subst (λ (x : Forward). Holds ssrc low steady st x gone) (sym stays.0) holds)
-      (send_wrote entry (slice_get samples i) s mid st gone ks run.1 wrote) near none run.2)
-  walks (forwards k answer ∷ later) s t st gone ks base holds wrote near none run =
+      (walks later mid t st gone ks (base_sent i (slice_get samples i) entry s mid refl base run.1) (subst (λ (x : Forward). Holds ssrc low steady id_of st x gone) (sym stays.0) holds)
+      (send_wrote entry (slice_get samples i) s mid st gone ks run.1 wrote) near none known run.2)
+  walks (forwards k answer ∷ later) s t st gone ks base holds wrote near none known run =
       let mid : Hops = run.0 in
       let does : DoesForward k answer s mid = run.1 in
       let turn = forward_turned k answer s mid st gone (came later) base does holds near in
@@ -459,33 +485,34 @@ module _ (ssrc rate low : ℕ) (codec : Codec) (fixed : is_moved codec ≡ false
       first_walks (forwards k answer) later s mid t st turn.next gone gone ks (ks ++ forwarded_by answer k) refl
       (forwards_walk k answer s mid st turn.next gone ks wire settings (λ o e all agrees. turn.agrees o e all (subst (λ (x : Forward). Agrees o e all turn.next x gone) forwarder agrees)))
       (walks later mid t turn.next gone (ks ++ forwarded_by answer k) (base_same s mid base (ap (λ (w : Wire). w.sending) wire) (ap (λ (w : Wire). w.datagrams) wire) settings)
-      (subst (λ (x : Forward). Holds ssrc low steady turn.next x gone) (sym forwarder) turn.holds)
-      (subst (λ (x : Hops). Wrote turn.next x.forwarder gone x.wire.datagrams x.written (ks ++ forwarded_by answer k)) (sym does.is) (turn.out s.wire.datagrams s.written ks does.there wrote)) turn.near none run.2)
-  walks (leaves k answer ∷ later) s t st gone ks base holds wrote near none run =
+      (subst (λ (x : Forward). Holds ssrc low steady id_of turn.next x gone) (sym forwarder) turn.holds)
+      (subst (λ (x : Hops). Wrote turn.next x.forwarder gone x.wire.datagrams x.written (ks ++ forwarded_by answer k)) (sym does.is) (turn.out s.wire.datagrams s.written ks does.there wrote)) turn.near none known run.2)
+  walks (leaves k answer ∷ later) s t st gone ks base holds wrote near none known run =
       let mid : Hops = run.0 in
       let does : DoesLeave k answer s mid = run.1 in
-      let turn = leave_turned k answer s mid st gone (came later) base does none.0 holds near in
+      let turn = leave_turned k answer s mid st gone (came later) base does none.0
+      (λ moves d p there reads. known moves k d p (all_grow (leaves k answer ∷ later) s t run k d there) reads) holds near in
       let forwarder : mid.forwarder ≡ does.forwarder = ap (λ (x : Hops). x.forwarder) does.is in
       let wire : mid.wire ≡ s.wire = ap (λ (x : Hops). x.wire) does.is in
       let settings : mid.forwarder.settings ≡ s.forwarder.settings = ap (λ (x : Forward). x.settings) forwarder ∙ turn.settings in
       first_walks (leaves k answer) later s mid t st turn.next gone (gone_by answer k gone) ks ks refl
       (leaves_walk k answer s mid st turn.next gone ks wire settings (λ o e all agrees. turn.agrees o e all (subst (λ (x : Forward). Agrees o e all turn.next x (gone_by answer k gone)) forwarder agrees)))
       (walks later mid t turn.next (gone_by answer k gone) ks (base_same s mid base (ap (λ (w : Wire). w.sending) wire) (ap (λ (w : Wire). w.datagrams) wire) settings)
-      (subst (λ (x : Forward). Holds ssrc low steady turn.next x (gone_by answer k gone)) (sym forwarder) turn.holds)
+      (subst (λ (x : Forward). Holds ssrc low steady id_of turn.next x (gone_by answer k gone)) (sym forwarder) turn.holds)
       (subst (λ (x : Hops). Wrote turn.next x.forwarder (gone_by answer k gone) x.wire.datagrams x.written ks) (sym does.is)
-      (subst (λ (js : List ℕ). Wrote turn.next does.forwarder (gone_by answer k gone) s.wire.datagrams (s.written ++ filled_by answer does.bytes) js) (append-nil ks) (turn.out s.wire.datagrams s.written ks does.there wrote))) turn.near none.1 run.2)
-  walks (delivers j now ∷ later) s t st gone ks base holds wrote near none run =
+      (subst (λ (js : List ℕ). Wrote turn.next does.forwarder (gone_by answer k gone) s.wire.datagrams (s.written ++ filled_by answer does.bytes) js) (append-nil ks) (turn.out s.wire.datagrams s.written ks does.there wrote))) turn.near none.1 known run.2)
+  walks (delivers j now ∷ later) s t st gone ks base holds wrote near none known run =
       let mid : Hops = run.0 in
       let is : IsQuiet s mid = deliver_quiet (slice_get s.written j) now s mid run.1 in
       first_walks (delivers j now) later s mid t st st gone gone ks ks refl (delivers_walk j now s mid st gone ks is wrote run.1)
-      (walks later mid t st gone ks (quiet_base s mid is base) (subst (λ (x : Forward). Holds ssrc low steady st x gone) (sym is.forwarder) holds) (quiet_wrote s mid st gone ks is wrote) near none run.2)
-  walks (pops now ∷ later) s t st gone ks base holds wrote near none run =
+      (walks later mid t st gone ks (quiet_base s mid is base) (subst (λ (x : Forward). Holds ssrc low steady id_of st x gone) (sym is.forwarder) holds) (quiet_wrote s mid st gone ks is wrote) near none known run.2)
+  walks (pops now ∷ later) s t st gone ks base holds wrote near none known run =
       let mid : Hops = run.0 in
       let is : IsQuiet s mid = plain_quiet s mid run.1.0 run.1.2 (ap (λ (w : Wire). w.sending) run.1.1.4) (ap (λ (w : Wire). w.datagrams) run.1.1.4) in
       first_walks (pops now) later s mid t st st gone gone ks ks refl (pops_walk now s mid st gone ks is run.1)
-      (walks later mid t st gone ks (quiet_base s mid is base) (subst (λ (x : Forward). Holds ssrc low steady st x gone) (sym is.forwarder) holds) (quiet_wrote s mid st gone ks is wrote) near none run.2)
-  walks (ends ∷ later) s t st gone ks base holds wrote near none run =
+      (walks later mid t st gone ks (quiet_base s mid is base) (subst (λ (x : Forward). Holds ssrc low steady id_of st x gone) (sym is.forwarder) holds) (quiet_wrote s mid st gone ks is wrote) near none known run.2)
+  walks (ends ∷ later) s t st gone ks base holds wrote near none known run =
       let mid : Hops = run.0 in
       let is : IsQuiet s mid = plain_quiet s mid run.1.0 run.1.2 (ap (λ (w : Wire). w.sending) run.1.1.2) (ap (λ (w : Wire). w.datagrams) run.1.1.2) in
       first_walks ends later s mid t st st gone gone ks ks refl (ends_walk s mid st gone ks is run.1)
-      (walks later mid t st gone ks (quiet_base s mid is base) (subst (λ (x : Forward). Holds ssrc low steady st x gone) (sym is.forwarder) holds) (quiet_wrote s mid st gone ks is wrote) near none run.2)
+      (walks later mid t st gone ks (quiet_base s mid is base) (subst (λ (x : Forward). Holds ssrc low steady id_of st x gone) (sym is.forwarder) holds) (quiet_wrote s mid st gone ks is wrote) near none known run.2)

@@ -8,6 +8,7 @@ pub mod LeaveIds
 pub mod LeaveLemmas
 pub mod LeaveLists
 pub mod LeaveNumbers
+pub mod LeavePictures
 pub mod LeaveRunExamples
 pub mod LeaveSenders
 pub mod LeaveStreams

@@ -212,9 +212,22 @@ kept_forwarded gone forwarded (delivers j now ∷ later) = kept_forwarded gone f
 kept_forwarded gone forwarded (pops now ∷ later) = kept_forwarded gone forwarded later
 kept_forwarded gone forwarded (ends ∷ later) = kept_forwarded gone forwarded later
 
+-- the first datagrams of the samples that were left out, the highest first; `ks` are those so far
+abbrev pub firsts_in : (gone : List ℕ) → (sent : ℕ) → (ks : List ℕ) → List Event → List ℕ
+firsts_in gone sent ks [] = ks
+firsts_in gone sent ks (sends i entry ∷ later) = firsts_in gone (sent + count_of entry) (if leaves_sample gone sent (count_of entry) then sent ∷ ks else ks) later
+firsts_in gone sent ks (forwards k answer ∷ later) = firsts_in gone sent ks later
+firsts_in gone sent ks (leaves k answer ∷ later) = firsts_in gone sent ks later
+firsts_in gone sent ks (delivers j now ∷ later) = firsts_in gone sent ks later
+firsts_in gone sent ks (pops now ∷ later) = firsts_in gone sent ks later
+firsts_in gone sent ks (ends ∷ later) = firsts_in gone sent ks later
+
 -- the same for a whole run
 abbrev pub gone_of : List Sample → List LeaveStep → Hops → List ℕ
 gone_of samples all_steps t = gone_in [] (events_of samples all_steps t)
+
+abbrev pub firsts_of : List Sample → List LeaveStep → Hops → List ℕ
+firsts_of samples all_steps t = firsts_in (gone_of samples all_steps t) 0 [] (events_of samples all_steps t)
 
 abbrev pub kept_steps_of : List Sample → List LeaveStep → Hops → List DatagramStep
 kept_steps_of samples all_steps t = kept_steps (gone_of samples all_steps t) 0 [] (events_of samples all_steps t)
@@ -310,11 +323,12 @@ AreAt datagrams (bytes ∷ more) [] = ⊥
 AreAt datagrams (bytes ∷ more) (place ∷ places) = (slice_get datagrams place ≡ Some bytes) × AreAt datagrams more places
 
 -- What is written, and what a viewer's receiver releases: for some offsets, each written datagram is the one that was forwarded, as the
--- viewer gets it; and the receiver releases what it releases in a run over one hop from the sender whose datagrams the viewer gets. The
+-- viewer gets it. Picture ids close up by one for each frame that was left out. The receiver releases what it releases in a run over one hop from the sender whose datagrams the viewer gets. The
 -- units are those of the samples that were not left out
 pub record ReleasesKept (samples : List Sample) (all_steps : List LeaveStep) (s t : Hops) : Type 0 where
   pub offsets : Offsets
   pub written : AreAt (closed t.forwarder offsets (gone_of samples all_steps t) 0 offsets.number t.wire.datagrams) t.written (kept_forwarded_of samples all_steps t)
+  pub pictures : sends_no_ids s.wire.sending.packetizer ≡ false → offsets.pictures ≡ firsts_of samples all_steps t
   pub promises : KeepsPromises (viewer_samples t.forwarder s.wire.sending.stream.clock_rate samples) (kept_steps_of samples all_steps t)
       (closed_begins t.forwarder offsets.number s.wire) (closed_wire t.forwarder offsets (gone_of samples all_steps t) (kept_sends_of samples all_steps t) t.wire)
   pub canonical : map (λ (u : SentUnit). u.parts) promises.released.units
