@@ -47,7 +47,7 @@ use Rattle.codec_payload_forward_runs.proofs.SenderLemmas.{without_ids}
 use Rattle.codec_payload_forward_runs.proofs.SourceLemmas.{IsSource}
 use Rattle.codec_payload_forward_runs.specs.ForwardReleases.{keeps_packetizer, keeps_payloads, viewer_samples, viewer_sender}
 use Rattle.codec_payload_forward_runs.specs.ForwardRuns.{Hops, begins_forwarding}
-use Rattle.codec_payload_forward_runs.specs.LeaveReleases.{AreAt, Event, IsLeftOutWithinWindows, Offsets, ReleaseLeavingOut, ReleasesKept, closed, closed_sender, closed_wire, events, events_of, firsts_of, gone_of, kept_forwarded_of, kept_sends_of, kept_steps_of, place_of, sends_no_ids}
+use Rattle.codec_payload_forward_runs.specs.LeaveReleases.{AreAt, Event, ForwardLeavingOut, IsLeftOutWithinWindows, LeavesWhole, Offsets, ReleaseLeavingOut, ReleasesKept, WritesKept, closed, closed_sender, closed_wire, events, events_of, firsts_of, gone_of, kept_forwarded_of, kept_sends_of, kept_steps_of, place_of, sends_no_ids}
 use Rattle.codec_payload_forward_runs.specs.LeaveRuns.{LeaveRuns}
 use Rattle.codec_payload_forward_runs.specs.declared.leave_run.LeaveStep.{LeaveStep}
 
@@ -121,7 +121,7 @@ ended ssrc low steady id_of (on since high) f gone holds = record {
 -- The theorem
 
 module _ (samples : List Sample) (all_steps : List LeaveStep) (sender : Sending) (forwarder : Forward) (receiver : Session) (t : Hops)
-    (run : LeaveRuns samples all_steps (begins_forwarding sender forwarder receiver) t) (within : IsLeftOutWithinWindows samples all_steps (begins_forwarding sender forwarder receiver) t) where
+    (run : LeaveRuns samples all_steps (begins_forwarding sender forwarder receiver) t) (whole : LeavesWhole samples all_steps (begins_forwarding sender forwarder receiver) t) where
   abbrev s : Hops
   s = begins_forwarding sender forwarder receiver
 
@@ -157,8 +157,8 @@ module _ (samples : List Sample) (all_steps : List LeaveStep) (sender : Sending)
   entries = kept_sends_of samples all_steps t
 
   fixed_by : (b : Bool) → sends_no_ids sender.packetizer ≡ b → is_moved forwarder.settings.codec ≡ false
-  fixed_by true none = (are_kept forwarder.settings.codec sender.packetizer within.of_codec none).1
-  fixed_by false moves = ap is_moved (within.ids moves).0
+  fixed_by true none = (are_kept forwarder.settings.codec sender.packetizer whole.of_codec none).1
+  fixed_by false moves = ap is_moved (whole.ids moves).0
 
   fixed : is_moved forwarder.settings.codec ≡ false
   fixed = fixed_by (sends_no_ids sender.packetizer) refl
@@ -167,8 +167,8 @@ module _ (samples : List Sample) (all_steps : List LeaveStep) (sender : Sending)
   source = record {
     source = refl;
     clock = refl;
-    keeps = λ none. (are_kept forwarder.settings.codec sender.packetizer within.of_codec none).0;
-    of_codec = λ _. within.of_codec;
+    keeps = λ none. (are_kept forwarder.settings.codec sender.packetizer whole.of_codec none).0;
+    of_codec = λ _. whole.of_codec;
     all = tt;
   }
 
@@ -178,26 +178,13 @@ module _ (samples : List Sample) (all_steps : List LeaveStep) (sender : Sending)
       subst (λ (rs : List Forwarded). Happens samples (events samples 0 all_steps t.wire.sends rs) s t) (sym b.answers_are)
       (subst (λ (es : List SentSample). Happens samples (events samples 0 all_steps es b.more) s t) (sym b.sends_are) b.happens)
 
-  viewer_one_stream : AreOfOneStream (viewer_sender (without_ids t.forwarder) sender) within.settings within.depacketizer
-  viewer_one_stream = record {
-    built_in = within.one_stream.built_in;
-    alike = within.one_stream.alike;
-    nothing_read = within.one_stream.nothing_read;
-    clock_rate = within.one_stream.clock_rate;
-    payload_type = within.one_stream.payload_type;
-    not_rtcp = within.one_stream.not_rtcp;
-    ssrc = within.one_stream.ssrc;
-    not_again = again_same within.settings.retransmission (viewer_sender (without_ids e) sender).stream (viewer_sender (without_ids e) sender).stream.number 0 ∙ within.one_stream.not_again;
-    drops_none = within.one_stream.drops_none;
-  }
-
   -- The ids of datagrams of VP8
 
   -- the packetizer's first id, if it has one
   own_first : (b : Bool) → sends_no_ids sender.packetizer ≡ b → (n : ℕ) × (b ≡ false → sender.packetizer ≡ Vp8Packetizing (Some n))
   own_first true none = (0, λ moves. absurd (cc))
   own_first false moves =
-      let of : keeps_packetizer codecs.Vp8 sender.packetizer ≡ true = subst (λ (c : Codec). keeps_packetizer c sender.packetizer ≡ true) (within.ids moves).0 within.of_codec in
+      let of : keeps_packetizer codecs.Vp8 sender.packetizer ≡ true = subst (λ (c : Codec). keeps_packetizer c sender.packetizer ≡ true) (whole.ids moves).0 whole.of_codec in
       let vp8 = is_vp8 sender.packetizer of in
       let one = vp8_with sender.packetizer vp8.0 vp8.1 moves in
       (one.0, λ again. one.1)
@@ -224,7 +211,7 @@ module _ (samples : List Sample) (all_steps : List LeaveStep) (sender : Sending)
   ids_known : sends_no_ids sender.packetizer ≡ false → (k : ℕ) (d : List ℕ) (p : Packet) → slice_get t.wire.datagrams k ≡ Some d → rtp_at d ≡ Ok p → closing_id forwarder.settings.codec p.payload ≡ Some (ids_of k)
   ids_known moves k d p there is =
       let all = all_known moves in
-      ap (λ (c : Codec). closing_id c p.payload) (within.ids moves).0
+      ap (λ (c : Codec). closing_id c p.payload) (whole.ids moves).0
       ∙ (id_known first_id (starts_in 0 [] (events_of samples all_steps t)) 0 t.wire.datagrams k d p all.frames.have there is ∙ ap (λ (n : ℕ). Some (ids_of n)) (omega arith))
 
   -- With the packetizer of the run, or without what it does
@@ -234,7 +221,7 @@ module _ (samples : List Sample) (all_steps : List LeaveStep) (sender : Sending)
     base = record { source = source; own = own; next = omega arith; numbers = tt; few = omega arith; codec_is = refl }
 
     walk : Walks ssrc rate low codec fixed steady ids_of packetizer no_ids samples happened s t off [] []
-    walk = walks ssrc rate low codec fixed steady ids_of packetizer no_ids samples happened s t off [] [] base (within.other, refl) (refl, refl) within.near within.none_filled ids_known happens
+    walk = walks ssrc rate low codec fixed steady ids_of packetizer no_ids samples happened s t off [] [] base (whole.other, refl) (refl, refl) whole.near whole.none_filled ids_known happens
 
     end : Ended steady ids_of walk.end e gone
     end = ended ssrc low steady ids_of walk.end e gone walk.holds
@@ -245,15 +232,15 @@ module _ (samples : List Sample) (all_steps : List LeaveStep) (sender : Sending)
     plain : is_built_in packetizer ≡ true → (mtu : ℕ) (frame : List ℕ) (payloads : List (List ℕ)) → PacketizerStep packetizer mtu frame (Ok payloads) packetizer
         → (i : ℕ) → i < length payloads → (x : IdOffsets) → payload_for e.settings.codec x (slice_index_or payloads i []) ≡ slice_index_or payloads i []
     plain built mtu frame payloads step i l x =
-        let of : keeps_packetizer codec packetizer ≡ true = sym (ap (keeps_packetizer codec) (own built)) ∙ within.of_codec in
+        let of : keeps_packetizer codec packetizer ≡ true = sym (ap (keeps_packetizer codec) (own built)) ∙ whole.of_codec in
         let kept : IsKept codec (slice_index_or payloads i []) = kept_each codec packetizer packetizer mtu frame payloads (are_kept codec packetizer of (no_ids built)).0 (λ _. step) i l in
         subst (λ (c : ForwardSettings). payload_for c.codec x (slice_index_or payloads i []) ≡ slice_index_or payloads i []) (sym settings) (stays_same codec x (slice_index_or payloads i []) fixed kept)
 
     final : IsFinal ssrc rate low codec fixed steady ids_of packetizer no_ids samples end.offsets e gone
     final = record {
-      fits_type = subst (λ (x : ForwardSettings). x.payload_type < 128) (sym settings) within.widths.payload_type;
-      fits_ssrc = subst (λ (x : ForwardSettings). x.ssrc < 2 ^ 32) (sym settings) within.widths.ssrc;
-      some = within.widths.clock_rate;
+      fits_type = subst (λ (x : ForwardSettings). x.payload_type < 128) (sym settings) whole.widths.payload_type;
+      fits_ssrc = subst (λ (x : ForwardSettings). x.ssrc < 2 ^ 32) (sym settings) whole.widths.ssrc;
+      some = whole.widths.clock_rate;
       falls = end.falls;
       plain = plain;
     }
@@ -269,7 +256,7 @@ module _ (samples : List Sample) (all_steps : List LeaveStep) (sender : Sending)
     all_samples = viewer_samples e rate samples
 
     led : Leads e final.fits_type final.fits_ssrc rate final.some end.offsets packetizer no_ids final.plain gone final.falls samples steps entries s t unknown []
-    led = (walk.course end.offsets e gone final end.agrees within.whole).1 unknown [] (record { packetizer_is = refl; mtu = refl; stream = refl; next = omega arith })
+    led = (walk.course end.offsets e gone final end.agrees whole.whole).1 unknown [] (record { packetizer_is = refl; mtu = refl; stream = refl; next = omega arith })
 
     -- what the viewer's receiver sees
     abbrev saw : Wire
@@ -281,35 +268,6 @@ module _ (samples : List Sample) (all_steps : List LeaveStep) (sender : Sending)
     -- the run over one hop
     abbrev whole_run : Wire
     whole_run = closed_wire e end.offsets gone entries t.wire
-
-    first_one_stream : (settings : Settings) (depacketizer : DepacketizerState) → AreOfOneStream (viewer_sender (without_ids e) sender) settings depacketizer → AreOfOneStream first settings depacketizer
-    first_one_stream settings depacketizer is = record {
-      built_in = is.built_in;
-      alike = is.alike;
-      nothing_read = is.nothing_read;
-      clock_rate = is.clock_rate;
-      payload_type = is.payload_type;
-      not_rtcp = is.not_rtcp;
-      ssrc = is.ssrc;
-      not_again = again_same settings.retransmission first.stream first.stream.number (viewer_sender (without_ids e) sender).stream.number ∙ is.not_again;
-      drops_none = is.drops_none;
-    }
-
-    is_within : IsWithinWindows all_samples steps first receiver entries
-    is_within =
-        let w = moved_within (without_ids e) samples steps sender receiver entries within.settings within.depacketizer within.widths.clock_rate within.new viewer_one_stream within.readable within.within within.timely in
-        record {
-          settings = w.settings;
-          depacketizer = w.depacketizer;
-          new = w.new;
-          one_stream = first_one_stream w.settings w.depacketizer w.one_stream;
-          readable = w.readable;
-          within = w.within;
-          timely = w.timely;
-        }
-
-    takes : Takes None (received_steps all_samples 0 steps entries) whole_run.datagrams receiver whole_run.pops whole_run.session
-    takes = takes_of None all_samples steps unknown receiver saw course
 
     -- what was written
     written_by : (st : Stage) (outs : List ℕ) → Agrees end.offsets e gone st e gone → Wrote st e gone t.wire.datagrams t.written outs → AreAt (closed e end.offsets gone 0 end.offsets.number t.wire.datagrams) t.written (map (place_of gone) outs)
@@ -325,72 +283,130 @@ module _ (samples : List Sample) (all_steps : List LeaveStep) (sender : Sending)
     pictures : sends_no_ids sender.packetizer ≡ false → end.offsets.pictures ≡ firsts_of samples all_steps t
     pictures moves =
         let all = all_known moves in
-        pictures_are first_id gone end.highs end.offsets.pictures happened t.wire.sending.packetizer t.wire.datagrams all.frames all.total within.whole end.falls (all.under tt) (end.tracks moves)
+        pictures_are first_id gone end.highs end.offsets.pictures happened t.wire.sending.packetizer t.wire.datagrams all.frames all.total whole.whole end.falls (all.under tt) (end.tracks moves)
 
-    kept_all : SendsFrom all_samples steps first receiver whole_run → ReleasesKept samples all_steps s t
-    kept_all sends_from =
-        let promises : KeepsPromises all_samples steps (begins first receiver) whole_run = keeps_all None all_samples steps first receiver whole_run takes sends_from tt is_within in
-        record {
-          offsets = end.offsets;
-          written = written;
-          pictures = pictures;
-          promises = promises;
-          canonical = promises.released.canonical ∙ same_units (without_ids e) rate sender.packetizer samples (sending_steps sender.mtu steps);
-        }
+    writes : WritesKept samples all_steps s t end.offsets
+    writes = record { written = written; pictures = pictures }
 
-    -- A packetizer without ids
+    -- The receiver is within its windows
 
-    plain_sends : packetizer ≡ sender.packetizer → SendsFrom all_samples steps first receiver whole_run
-    plain_sends is start small same =
-        let buffer : State = receiver.packets.buffer in
-        let built : is_built_in packetizer ≡ true = ap is_built_in is ∙ within.one_stream.built_in in
-        let runs : SendsRun buffer first.stream first.mtu start 0 all_samples steps (begins unknown receiver) saw [] =
-        sends_run buffer first.stream first.mtu start small all_samples None 0 steps (begins unknown receiver) saw []
-        (record { mtu = refl; built_in = built; kept = refl; number = same; reads = tt; numbered = tt; few = omega arith }) course in
-        let before : RunState = running buffer start rate first [] in
-        let after : RunState = running buffer start rate led.end runs.all in
-        let sends : List Step = sending_steps first.mtu steps in
-        let unused : IsUnused before = starts_unused is_within.settings is_within.depacketizer first receiver start is_within.new is_within.one_stream in
-        let exact : PlainRuns all_samples 0 sends before runs.entries [] after =
-        subst (λ (p : PacketizerState). PlainRuns all_samples 0 sends (running buffer start rate (record first { packetizer = p }) []) runs.entries [] after) is runs.runs in
-        record {
-          all = runs.all;
-          reads = runs.at.reads;
-          numbered = runs.at.numbered;
-          few = runs.at.few;
-          times = runs.times ∙ ap (times_sent rate all_samples steps) (sym runs.sends_are);
-          end = led.end;
-          stream = streams plainly all_samples 0 sends before after runs.entries [] (unused_exactly all_samples sends before runs.entries [] after unused exact);
-        }
+    module _ (within : IsLeftOutWithinWindows samples all_steps (begins_forwarding sender forwarder receiver) t) where
+      viewer_one_stream : AreOfOneStream (viewer_sender (without_ids t.forwarder) sender) within.settings within.depacketizer
+      viewer_one_stream = record {
+        built_in = within.one_stream.built_in;
+        alike = within.one_stream.alike;
+        nothing_read = within.one_stream.nothing_read;
+        clock_rate = within.one_stream.clock_rate;
+        payload_type = within.one_stream.payload_type;
+        not_rtcp = within.one_stream.not_rtcp;
+        ssrc = within.one_stream.ssrc;
+        not_again = again_same within.settings.retransmission (viewer_sender (without_ids e) sender).stream (viewer_sender (without_ids e) sender).stream.number 0 ∙ within.one_stream.not_again;
+        drops_none = within.one_stream.drops_none;
+      }
 
-    -- One that sends ids of VP8
+      first_one_stream : (settings : Settings) (depacketizer : DepacketizerState) → AreOfOneStream (viewer_sender (without_ids e) sender) settings depacketizer → AreOfOneStream first settings depacketizer
+      first_one_stream settings depacketizer is = record {
+        built_in = is.built_in;
+        alike = is.alike;
+        nothing_read = is.nothing_read;
+        clock_rate = is.clock_rate;
+        payload_type = is.payload_type;
+        not_rtcp = is.not_rtcp;
+        ssrc = is.ssrc;
+        not_again = again_same settings.retransmission first.stream first.stream.number (viewer_sender (without_ids e) sender).stream.number ∙ is.not_again;
+        drops_none = is.drops_none;
+      }
 
-    ids_sends : sends_no_ids sender.packetizer ≡ false → SendsFrom all_samples steps first receiver whole_run
-    ids_sends moves start small same =
-        let allowed = within.ids moves in
-        let buffer : State = receiver.packets.buffer in
-        let of : keeps_packetizer codecs.Vp8 sender.packetizer ≡ true = subst (λ (c : Codec). keeps_packetizer c sender.packetizer ≡ true) allowed.0 within.of_codec in
-        let vp8 = is_vp8 sender.packetizer of in
-        let ids = vp8_with sender.packetizer vp8.0 vp8.1 moves in
-        let codec_is : e.settings.codec ≡ codecs.Vp8 = ap (λ (x : ForwardSettings). x.codec) settings ∙ allowed.0 in
-        let o : Offsets = end.offsets in
-        let c : Comes e final.fits_type final.fits_ssrc rate final.some o codec_is gone (end.pictures moves) (end.among moves) samples sender.mtu allowed.1 buffer start small (omega (arith, same)) steps entries t ids.0 [] =
-        comes e final.fits_type final.fits_ssrc rate final.some o codec_is gone (end.pictures moves) (end.among moves) samples sender.mtu allowed.1 buffer start small (omega (arith, same)) happened s t [] ids.0 []
-        (record { id = ids.0; own = ids.1; mtu_is = refl; clock = refl; reads = tt; numbers = tt; few = omega arith }) within.whole happens in
-        record {
-          all = c.all;
-          reads = c.reads;
-          numbered = c.numbers;
-          few = c.few;
-          times = c.times;
-          end = record first { packetizer = Vp8Packetizing (Some c.last) };
-          stream = subst (λ (p : PacketizerState). Streams all_samples (sending_steps sender.mtu steps) (running buffer start rate (record first { packetizer = p }) []) (running buffer start rate (record first { packetizer = Vp8Packetizing (Some c.last) }) c.all))
-              (sym ids.1) c.streams;
-        }
+      is_within : IsWithinWindows all_samples steps first receiver entries
+      is_within =
+          let w = moved_within (without_ids e) samples steps sender receiver entries within.settings within.depacketizer whole.widths.clock_rate within.new viewer_one_stream within.readable within.within within.timely in
+          record {
+            settings = w.settings;
+            depacketizer = w.depacketizer;
+            new = w.new;
+            one_stream = first_one_stream w.settings w.depacketizer w.one_stream;
+            readable = w.readable;
+            within = w.within;
+            timely = w.timely;
+          }
 
-  by_ids : (b : Bool) → sends_no_ids sender.packetizer ≡ b → ReleasesKept samples all_steps (begins_forwarding sender forwarder receiver) t
-  by_ids true none = kept_all sender.packetizer (λ _. refl) (λ _. none) (plain_sends sender.packetizer (λ _. refl) (λ _. none) refl)
-  by_ids false moves = kept_all BoxedPacketizing (λ built. absurd (cc)) (λ built. absurd (cc)) (ids_sends BoxedPacketizing (λ built. absurd (cc)) (λ built. absurd (cc)) moves)
+      takes : Takes None (received_steps all_samples 0 steps entries) whole_run.datagrams receiver whole_run.pops whole_run.session
+      takes = takes_of None all_samples steps unknown receiver saw course
+
+      kept_all : SendsFrom all_samples steps first receiver whole_run → ReleasesKept samples all_steps s t
+      kept_all sends_from =
+          let promises : KeepsPromises all_samples steps (begins first receiver) whole_run = keeps_all None all_samples steps first receiver whole_run takes sends_from tt is_within in
+          record {
+            offsets = end.offsets;
+            writes = writes;
+            promises = promises;
+            canonical = promises.released.canonical ∙ same_units (without_ids e) rate sender.packetizer samples (sending_steps sender.mtu steps);
+          }
+
+      -- A packetizer without ids
+
+      plain_sends : packetizer ≡ sender.packetizer → SendsFrom all_samples steps first receiver whole_run
+      plain_sends is start small same =
+          let buffer : State = receiver.packets.buffer in
+          let built : is_built_in packetizer ≡ true = ap is_built_in is ∙ within.one_stream.built_in in
+          let runs : SendsRun buffer first.stream first.mtu start 0 all_samples steps (begins unknown receiver) saw [] =
+          sends_run buffer first.stream first.mtu start small all_samples None 0 steps (begins unknown receiver) saw []
+          (record { mtu = refl; built_in = built; kept = refl; number = same; reads = tt; numbered = tt; few = omega arith }) course in
+          let before : RunState = running buffer start rate first [] in
+          let after : RunState = running buffer start rate led.end runs.all in
+          let sends : List Step = sending_steps first.mtu steps in
+          let unused : IsUnused before = starts_unused is_within.settings is_within.depacketizer first receiver start is_within.new is_within.one_stream in
+          let exact : PlainRuns all_samples 0 sends before runs.entries [] after =
+          subst (λ (p : PacketizerState). PlainRuns all_samples 0 sends (running buffer start rate (record first { packetizer = p }) []) runs.entries [] after) is runs.runs in
+          record {
+            all = runs.all;
+            reads = runs.at.reads;
+            numbered = runs.at.numbered;
+            few = runs.at.few;
+            times = runs.times ∙ ap (times_sent rate all_samples steps) (sym runs.sends_are);
+            end = led.end;
+            stream = streams plainly all_samples 0 sends before after runs.entries [] (unused_exactly all_samples sends before runs.entries [] after unused exact);
+          }
+
+      -- One that sends ids of VP8
+
+      ids_sends : sends_no_ids sender.packetizer ≡ false → SendsFrom all_samples steps first receiver whole_run
+      ids_sends moves start small same =
+          let allowed = whole.ids moves in
+          let buffer : State = receiver.packets.buffer in
+          let of : keeps_packetizer codecs.Vp8 sender.packetizer ≡ true = subst (λ (c : Codec). keeps_packetizer c sender.packetizer ≡ true) allowed.0 whole.of_codec in
+          let vp8 = is_vp8 sender.packetizer of in
+          let ids = vp8_with sender.packetizer vp8.0 vp8.1 moves in
+          let codec_is : e.settings.codec ≡ codecs.Vp8 = ap (λ (x : ForwardSettings). x.codec) settings ∙ allowed.0 in
+          let o : Offsets = end.offsets in
+          let c : Comes e final.fits_type final.fits_ssrc rate final.some o codec_is gone (end.pictures moves) (end.among moves) samples sender.mtu allowed.1 buffer start small (omega (arith, same)) steps entries t ids.0 [] =
+          comes e final.fits_type final.fits_ssrc rate final.some o codec_is gone (end.pictures moves) (end.among moves) samples sender.mtu allowed.1 buffer start small (omega (arith, same)) happened s t [] ids.0 []
+          (record { id = ids.0; own = ids.1; mtu_is = refl; clock = refl; reads = tt; numbers = tt; few = omega arith }) whole.whole happens in
+          record {
+            all = c.all;
+            reads = c.reads;
+            numbered = c.numbers;
+            few = c.few;
+            times = c.times;
+            end = record first { packetizer = Vp8Packetizing (Some c.last) };
+            stream = subst (λ (p : PacketizerState). Streams all_samples (sending_steps sender.mtu steps) (running buffer start rate (record first { packetizer = p }) []) (running buffer start rate (record first { packetizer = Vp8Packetizing (Some c.last) }) c.all))
+                (sym ids.1) c.streams;
+          }
+
+  writes_by : (b : Bool) → sends_no_ids sender.packetizer ≡ b → (offsets : Offsets) × WritesKept samples all_steps (begins_forwarding sender forwarder receiver) t offsets
+  writes_by true none = (_, writes sender.packetizer (λ _. refl) (λ _. none))
+  writes_by false moves = (_, writes BoxedPacketizing (λ built. absurd (cc)) (λ built. absurd (cc)))
+
+  by_ids : (within : IsLeftOutWithinWindows samples all_steps (begins_forwarding sender forwarder receiver) t) (b : Bool) → sends_no_ids sender.packetizer ≡ b
+      → ReleasesKept samples all_steps (begins_forwarding sender forwarder receiver) t
+  by_ids within true none =
+      kept_all sender.packetizer (λ _. refl) (λ _. none) within (plain_sends sender.packetizer (λ _. refl) (λ _. none) within refl)
+  by_ids within false moves =
+      kept_all BoxedPacketizing (λ built. absurd (cc)) (λ built. absurd (cc)) within (ids_sends BoxedPacketizing (λ built. absurd (cc)) (λ built. absurd (cc)) within moves)
+
+pub forward_leaving_out : ForwardLeavingOut
+forward_leaving_out samples all_steps sender forwarder receiver t run whole = writes_by samples all_steps sender forwarder receiver t run whole (sends_no_ids sender.packetizer) refl
 
 pub release_leaving_out : ReleaseLeavingOut
-release_leaving_out samples all_steps sender forwarder receiver t run within = by_ids samples all_steps sender forwarder receiver t run within (sends_no_ids sender.packetizer) refl
+release_leaving_out samples all_steps sender forwarder receiver t run within =
+    by_ids samples all_steps sender forwarder receiver t run within.leaves within (sends_no_ids sender.packetizer) refl

@@ -19,13 +19,15 @@ one_whole gone first place l = ap (λ (n : ℕ). is_in n gone) (omega (arith, l)
 
 is_within : (no_media : Vec ℕ) → IsLeftOutWithinWindows frames_sent leave_steps (leave_before no_media) (leave_after no_media)
 is_within no_media = record {
-  other = refl;
-  ids = λ moves. absurd (cc);
-  of_codec = refl;
-  widths = record { clock_rate = lit< tt; payload_type = lit< tt; ssrc = lit< tt };
-  whole = (one_whole (1 ∷ []) 0, (one_whole (1 ∷ []) 1, (one_whole (1 ∷ []) 2, tt)));
-  none_filled = (refl, tt);
-  near = (lit< tt, lit≤ tt, (lit< tt, lit≤ tt, tt));
+  leaves = record {
+    other = refl;
+    ids = λ moves. absurd (cc);
+    of_codec = refl;
+    widths = record { clock_rate = lit< tt; payload_type = lit< tt; ssrc = lit< tt };
+    whole = (one_whole (1 ∷ []) 0, (one_whole (1 ∷ []) 1, (one_whole (1 ∷ []) 2, tt)));
+    none_filled = (refl, tt);
+    near = (lit< tt, lit≤ tt, (lit< tt, lit≤ tt, tt));
+  };
   settings = viewer_settings no_media;
   depacketizer = OpusDepacketizing;
   new = refl;
@@ -47,13 +49,15 @@ is_within no_media = record {
 
 ids_are_within : (d : Vp8Depacketizer) (no_media : Vec ℕ) → IsLeftOutWithinWindows leave_frames leave_steps (leave_ids_before d no_media) (leave_ids_after d no_media)
 ids_are_within d no_media = record {
-  other = refl;
-  ids = λ moves. (refl, lit< tt);
-  of_codec = refl;
-  widths = record { clock_rate = lit< tt; payload_type = lit< tt; ssrc = lit< tt };
-  whole = (one_whole (1 ∷ []) 0, (one_whole (1 ∷ []) 1, (one_whole (1 ∷ []) 2, tt)));
-  none_filled = (refl, tt);
-  near = (lit< tt, lit≤ tt, (lit< tt, lit≤ tt, tt));
+  leaves = record {
+    other = refl;
+    ids = λ moves. (refl, lit< tt);
+    of_codec = refl;
+    widths = record { clock_rate = lit< tt; payload_type = lit< tt; ssrc = lit< tt };
+    whole = (one_whole (1 ∷ []) 0, (one_whole (1 ∷ []) 1, (one_whole (1 ∷ []) 2, tt)));
+    none_filled = (refl, tt);
+    near = (lit< tt, lit≤ tt, (lit< tt, lit≤ tt, tt));
+  };
   settings = viewer_settings no_media;
   depacketizer = Vp8Depacketizing d;
   new = refl;

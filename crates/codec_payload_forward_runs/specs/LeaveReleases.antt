@@ -294,9 +294,8 @@ abbrev pub AllowsIds : Forward → Sending → Type 0
 AllowsIds f s = sends_no_ids s.packetizer ≡ false → (f.settings.codec ≡ codecs.Vp8) × (4 < s.mtu)
 
 -- The forwarder has not begun with the sender's stream before the run. Of each frame all packets are left out ahead of all others, or
--- none, and the datagrams that come to the forwarder are near each other. All other premises are those of a run in which nothing is left
--- out
-pub record IsLeftOutWithinWindows (samples : List Sample) (all_steps : List LeaveStep) (s t : Hops) : Type 0 where
+-- none, and the datagrams that come to the forwarder are near each other
+pub record LeavesWhole (samples : List Sample) (all_steps : List LeaveStep) (s t : Hops) : Type 0 where
   pub other : is_source s.forwarder.source s.wire.sending.stream.ssrc ≡ false
   pub ids : AllowsIds s.forwarder s.wire.sending
   pub of_codec : keeps_packetizer s.forwarder.settings.codec s.wire.sending.packetizer ≡ true
@@ -304,6 +303,10 @@ pub record IsLeftOutWithinWindows (samples : List Sample) (all_steps : List Leav
   pub whole : AreWhole (gone_of samples all_steps t) 0 (events_of samples all_steps t)
   pub none_filled : NoneFilled (events_of samples all_steps t)
   pub near : ComeNear (came (events_of samples all_steps t))
+
+-- all other premises are those of a run in which nothing is left out
+pub record IsLeftOutWithinWindows (samples : List Sample) (all_steps : List LeaveStep) (s t : Hops) : Type 0 where
+  pub leaves : LeavesWhole samples all_steps s t
   pub settings : Settings
   pub depacketizer : DepacketizerState
   pub new : session_by settings depacketizer ≡ Ok s.wire.session
@@ -322,13 +325,21 @@ AreAt datagrams [] (place ∷ places) = ⊥
 AreAt datagrams (bytes ∷ more) [] = ⊥
 AreAt datagrams (bytes ∷ more) (place ∷ places) = (slice_get datagrams place ≡ Some bytes) × AreAt datagrams more places
 
--- What is written, and what a viewer's receiver releases: for some offsets, each written datagram is the one that was forwarded, as the
--- viewer gets it. Picture ids close up by one for each frame that was left out. The receiver releases what it releases in a run over one hop from the sender whose datagrams the viewer gets. The
--- units are those of the samples that were not left out
-pub record ReleasesKept (samples : List Sample) (all_steps : List LeaveStep) (s t : Hops) : Type 0 where
-  pub offsets : Offsets
+-- What is written: each written datagram is the one that was forwarded, as the viewer gets it. Numbers are consecutive, and picture ids
+-- close up by one for each frame that was left out
+pub record WritesKept (samples : List Sample) (all_steps : List LeaveStep) (s t : Hops) (offsets : Offsets) : Type 0 where
   pub written : AreAt (closed t.forwarder offsets (gone_of samples all_steps t) 0 offsets.number t.wire.datagrams) t.written (kept_forwarded_of samples all_steps t)
   pub pictures : sends_no_ids s.wire.sending.packetizer ≡ false → offsets.pictures ≡ firsts_of samples all_steps t
+
+-- this applies to a run in which whole frames are left out
+abbrev pub ForwardsKept : List Sample → List LeaveStep → Hops → Hops → Type 0
+ForwardsKept samples all_steps s t = LeavesWhole samples all_steps s t → (offsets : Offsets) × WritesKept samples all_steps s t offsets
+
+-- What a viewer's receiver releases: what it releases in a run over one hop from the sender whose datagrams the viewer gets. The units are
+-- those of the samples that were not left out
+pub record ReleasesKept (samples : List Sample) (all_steps : List LeaveStep) (s t : Hops) : Type 0 where
+  pub offsets : Offsets
+  pub writes : WritesKept samples all_steps s t offsets
   pub promises : KeepsPromises (viewer_samples t.forwarder s.wire.sending.stream.clock_rate samples) (kept_steps_of samples all_steps t)
       (closed_begins t.forwarder offsets.number s.wire) (closed_wire t.forwarder offsets (gone_of samples all_steps t) (kept_sends_of samples all_steps t) t.wire)
   pub canonical : map (λ (u : SentUnit). u.parts) promises.released.units
@@ -342,3 +353,8 @@ abbrev pub ReleaseLeavingOut : Type 0
 ReleaseLeavingOut =
     (samples : List Sample) (all_steps : List LeaveStep) (sender : Sending) (forwarder : Forward) (receiver : Session) (t : Hops)
     → LeaveRuns samples all_steps (begins_forwarding sender forwarder receiver) t → ReleasesLeavingOut samples all_steps (begins_forwarding sender forwarder receiver) t
+
+abbrev pub ForwardLeavingOut : Type 0
+ForwardLeavingOut =
+    (samples : List Sample) (all_steps : List LeaveStep) (sender : Sending) (forwarder : Forward) (receiver : Session) (t : Hops)
+    → LeaveRuns samples all_steps (begins_forwarding sender forwarder receiver) t → ForwardsKept samples all_steps (begins_forwarding sender forwarder receiver) t

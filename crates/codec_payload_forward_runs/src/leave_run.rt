@@ -7,7 +7,7 @@ ghost use Rattle.codec_payload_rtp.specs.RtpValues.{packet_of};
 ghost use Rattle.codec_payload_sending_forward.specs.Forwarding.{Leaves};
 ghost use Rattle.codec_payload_datagram_runs.specs.WireRuns.{bytes_in};
 ghost use Rattle.codec_payload_forward_runs.specs.ForwardRuns.{begins_forwarding, hops_of};
-ghost use Rattle.codec_payload_forward_runs.specs.LeaveReleases.{ReleasesLeavingOut};
+ghost use Rattle.codec_payload_forward_runs.specs.LeaveReleases.{ForwardsKept, ReleasesLeavingOut};
 ghost use Rattle.codec_payload_forward_runs.specs.LeaveRuns.{DoesLeaveStep, LeaveRuns, LeaveStops, LeaveStopsAt, filled_by};
 
 use crate::run::{ForwardLink, ForwardStep, ForwardedRun, do_forward_step, no_results};
@@ -45,6 +45,8 @@ pub fn run_forwarded_leaving_out<P: Packetizer, D: Depacketizer>(
     steps: &[LeaveStep],
 ) -> Result<ForwardedRun, PacketError>
     ensures runs { IfOk result (λ run. LeaveRuns (map sample_of samples.now) steps.now (begins_forwarding link.old.sender link.old.forwarder link.old.receiver) (hops_of link.new.sender link.new.forwarder link.new.receiver run)) }
+    // What the forwarder writes, if whole frames are left out: numbers and picture ids close up.
+    ensures forwards { IfOk result (λ run. ForwardsKept (map sample_of samples.now) steps.now (begins_forwarding link.old.sender link.old.forwarder link.old.receiver) (hops_of link.new.sender link.new.forwarder link.new.receiver run)) }
     // The units that the viewer's receiver releases, if whole frames are left out, and what is delivered arrives within its windows.
     ensures units { IfOk result (λ run. ReleasesLeavingOut (map sample_of samples.now) steps.now (begins_forwarding link.old.sender link.old.forwarder link.old.receiver) (hops_of link.new.sender link.new.forwarder link.new.receiver run)) }
     ensures stops { OnErr result (LeaveStops (map sample_of samples.now) steps.now (begins_forwarding link.old.sender link.old.forwarder link.old.receiver) link.new.sender link.new.forwarder link.new.receiver) }

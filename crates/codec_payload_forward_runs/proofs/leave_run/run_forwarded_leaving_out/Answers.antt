@@ -2,7 +2,7 @@ use Rattle.std.proofs.Common.{inl, inr, refl, sym, subst, map, List}
 use Rattle.std.proofs.lemmas.List.{drop_all, drop_more}
 use Rattle.codec_payload_codec.proofs.AnswerLemmas.{on_err}
 use Rattle.codec_payload_payloader.specs.Sending.{sample_of}
-use Rattle.codec_payload_forward_runs.proofs.LeaveLemmas.{release_leaving_out}
+use Rattle.codec_payload_forward_runs.proofs.LeaveLemmas.{forward_leaving_out, release_leaving_out}
 use Rattle.codec_payload_forward_runs.specs.ForwardRuns.{Hops, hops_of}
 use Rattle.codec_payload_forward_runs.specs.LeaveRuns.{LeaveRuns, LeaveStops}
 use Rattle.codec_payload_forward_runs.specs.declared.leave_run.LeaveStep.{LeaveStep}
@@ -36,6 +36,13 @@ returns-in_err-do_leave_step-clause-stops g c =
     (inl c.in_err-do_leave_step.ensures.err)))
 
 -- at the end no step is left
+pub returns-clause-forwards : goal.returns-clause-forwards
+returns-clause-forwards g c =
+    let end : Hops = hops_of c.loop-step.link.sender c.loop-step.link.forwarder c.loop-step.link.receiver c.loop-step.run in
+    forward_leaving_out (map sample_of c.args.samples.now) c.args.steps.now c.args.link.now.sender c.args.link.now.forwarder c.args.link.now.receiver end
+    (c.loop-step.invariant.runs end
+    (subst (λ (xs : List LeaveStep). LeaveRuns (map sample_of c.args.samples.now) xs end end) (sym (drop_all c.loop-step.step-index c.args.steps.now c.loop-step-test.false)) refl))
+
 pub returns-clause-units : goal.returns-clause-units
 returns-clause-units g c =
     let end : Hops = hops_of c.loop-step.link.sender c.loop-step.link.forwarder c.loop-step.link.receiver c.loop-step.run in
