@@ -391,7 +391,7 @@ module _ (e : Forward) (fits_type : e.settings.payload_type < 128) (fits_ssrc : 
       let whole : units_of_run p all_samples (run_steps.Send i mtu ∷ later) ≡ canonical_units p mtu one.bytes ++ units_of_run q all_samples later =
       ap (λ (x : Option Sample). units_of_sample p mtu x ++ units_of_run (packetizer_after_sample p mtu x) all_samples later) there
       ∙ ap (λ (x : PacketizerState). canonical_units p mtu one.bytes ++ units_of_run x all_samples later) k.after in
-      let told : values_of_run p all_samples (run_steps.Send i mtu ∷ later) ≡ values_of_sample p mtu (Some one) ++ values_of_run q all_samples later =
+      let values_are : values_of_run p all_samples (run_steps.Send i mtu ∷ later) ≡ values_of_sample p mtu (Some one) ++ values_of_run q all_samples later =
       ap (λ (x : Option Sample). values_of_sample p mtu x ++ values_of_run (packetizer_after_sample p mtu x) all_samples later) there
       ∙ ap (λ (x : PacketizerState). values_of_sample p mtu (Some one) ++ values_of_run x all_samples later) k.after in
       let next : start + length (packets ++ k.more) ≡ start + length packets + length k.more = omega (arith, length-append packets k.more) in
@@ -422,7 +422,7 @@ module _ (e : Forward) (fits_type : e.settings.payload_type < 128) (fits_ssrc : 
           ids = carry_on None None here.units rest.streams.units here.ids (λ m. refl) rest.streams.ids;
           few = λ _. rest.few;
           first = rest.streams.first;
-          values = λ video. subst (λ (vs : List ExtensionValues). AllCarry vs units) (sym told)
+          values = λ video. subst (λ (vs : List ExtensionValues). AllCarry vs units) (sym values_are)
               (carry_append (values_of_sample p mtu (Some one)) (values_of_run q all_samples later) here.units rest.streams.units
               (carried_by_sample p q mtu one (time_of sample) (start + length packets) k.payloads here.units video here.canonical here.packets) (rest.streams.values video));
         };
