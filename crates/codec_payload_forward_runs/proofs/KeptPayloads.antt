@@ -275,6 +275,10 @@ same_patch p q tl0 (Ok d) same =
     ap (λ (id : Option PictureId). patch_with d (record { picture_id = id; tl0_pic_idx = option_map (moved_tl0 tl0) d.tl0_pic_idx })) (same_picture p q d.picture_id same)
 same_patch p q tl0 (Err error) same = refl
 
+-- a payload depends on the low bits of the offset alone
+pub same_moved : (p q tl0 : ℕ) (payload : List ℕ) → p % 65536 ≡ q % 65536 → payload_as (record { picture = p; tl0 = tl0 }) payload ≡ payload_as (record { picture = q; tl0 = tl0 }) payload
+same_moved p q tl0 payload same = ap (λ (patch : Option Patch). patched_by patch payload) (same_patch p q tl0 (parsed payload) same)
+
 -- no picture was left out, so none of the ids close up
 unclosed : (ids : Ids) (n : ℕ) (payload : List ℕ) → ids.left_out ≡ [] → payload_as (offsets_at ids n) payload ≡ payload_as ids.offsets payload
 unclosed ids n payload none =

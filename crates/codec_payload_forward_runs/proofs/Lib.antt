@@ -2,6 +2,17 @@ pub mod FirstHopLemmas
 pub mod ForwardLemmas
 pub mod ForwardRunExamples
 pub mod KeptPayloads
+pub mod LeaveCourses
+pub mod LeaveEvents
+pub mod LeaveIds
+pub mod LeaveLemmas
+pub mod LeaveLists
+pub mod LeaveNumbers
+pub mod LeavePictures
+pub mod LeaveRunExamples
+pub mod LeaveSenders
+pub mod LeaveStreams
+pub mod LeaveWalks
 pub mod MovedPayloads
 pub mod MovedStreams
 pub mod MovedVp8

@@ -32,21 +32,21 @@ use Rattle.codec_payload_vp8.specs.declared.vp8.descriptor.Vp8DescriptorError.{V
 -- A payload with an id of either width
 
 -- the first byte of a header
-abbrev start_byte : Bool → ℕ
+abbrev pub start_byte : Bool → ℕ
 start_byte first = if first then 144 else 128
 
 -- the header of a piece with this id: X, S on the first of a frame, and then I alone
 abbrev pub header_with : PictureId → Bool → Bool → List ℕ
 header_with id first last = start_byte first ∷ 128 ∷ id_bytes id
 
-abbrev descriptor_with : Bool → PictureId → Descriptor
+abbrev pub descriptor_with : Bool → PictureId → Descriptor
 descriptor_with first id = record { first = start_byte first; flags = Some 128; picture_id = Some id; tl0_pic_idx = None; tid_octet = None }
 
 is_descriptor : (first : Bool) (id : PictureId) → FitsWidth id → IsDescriptor (descriptor_with first id)
 is_descriptor true id fits = record { extended = refl; fields = (refl, refl, refl, refl); width = fits }
 is_descriptor false id fits = record { extended = refl; fields = (refl, refl, refl, refl); width = fits }
 
-parsed_with : (first last : Bool) (id : PictureId) (piece : List ℕ) → FitsWidth id → 0 < length piece → parsed (header_with id first last ++ piece) ≡ Ok (descriptor_with first id)
+pub parsed_with : (first last : Bool) (id : PictureId) (piece : List ℕ) → FitsWidth id → 0 < length piece → parsed (header_with id first last ++ piece) ≡ Ok (descriptor_with first id)
 parsed_with first last (Short n) piece fits some = parses (descriptor_with first (Short n)) piece (is_descriptor first (Short n) fits) some
 parsed_with first last (Long n) piece fits some = parses (descriptor_with first (Long n)) piece (is_descriptor first (Long n) fits) some
 
@@ -72,7 +72,7 @@ fits_moved : (offset : ℕ) (id : PictureId) → FitsWidth (moved_picture offset
 fits_moved offset (Short n) = omega arith
 fits_moved offset (Long n) = omega arith
 
-fits_by : (below : Bool) (id : ℕ) → nat_lt id 128 ≡ below → id < 2 ^ 15 → FitsWidth (shortest_id id)
+pub fits_by : (below : Bool) (id : ℕ) → nat_lt id 128 ≡ below → id < 2 ^ 15 → FitsWidth (shortest_id id)
 fits_by true id is small = rw is (ltb-true id 128 is)
 fits_by false id is small = rw is small
 

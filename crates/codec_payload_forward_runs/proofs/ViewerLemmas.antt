@@ -79,7 +79,7 @@ sent_leaves : (o : IdOffsets) (ids : Option PayloadIds) (m : Ids) → (after_pic
 sent_leaves o None m = refl
 sent_leaves o (Some ids) m = refl
 
-switched_to : (ids : Option PayloadIds) (m : Ids) → (switched_ids ids m).offsets ≡ offsets_switched m ids
+pub switched_to : (ids : Option PayloadIds) (m : Ids) → (switched_ids ids m).offsets ≡ offsets_switched m ids
 switched_to ids m = sent_leaves (offsets_switched m ids) ids (record m { offsets = offsets_switched m ids; left_out = [] })
 
 -- and the pictures that were left out; a switch forgets them
@@ -87,14 +87,14 @@ sent_left : (o : IdOffsets) (ids : Option PayloadIds) (m : Ids) → (after_pictu
 sent_left o None m = refl
 sent_left o (Some ids) m = refl
 
-left_stay : (ahead : Bool) (codec : Codec) (n : ℕ) (payload : List ℕ) (m : Ids) → (ids_when ahead codec n payload m).left_out ≡ m.left_out
+pub left_stay : (ahead : Bool) (codec : Codec) (n : ℕ) (payload : List ℕ) (m : Ids) → (ids_when ahead codec n payload m).left_out ≡ m.left_out
 left_stay true codec n payload m = sent_left (offsets_for codec m n) (ids_in codec payload) m
 left_stay false codec n payload m = refl
 
-switched_none : (ids : Option PayloadIds) (m : Ids) → (switched_ids ids m).left_out ≡ []
+pub switched_none : (ids : Option PayloadIds) (m : Ids) → (switched_ids ids m).left_out ≡ []
 switched_none ids m = sent_left (offsets_switched m ids) ids (record m { offsets = offsets_switched m ids; left_out = [] })
 
-ids_stay : (ahead : Bool) (codec : Codec) (n : ℕ) (payload : List ℕ) (m : Ids) → (ids_when ahead codec n payload m).offsets ≡ m.offsets
+pub ids_stay : (ahead : Bool) (codec : Codec) (n : ℕ) (payload : List ℕ) (m : Ids) → (ids_when ahead codec n payload m).offsets ≡ m.offsets
 ids_stay true codec n payload m = sent_leaves (offsets_for codec m n) (ids_in codec payload) m
 ids_stay false codec n payload m = refl
 

@@ -2,6 +2,9 @@ pub mod FirstHop
 pub mod ForwardReleases
 pub mod ForwardRuns
 pub mod ForwardRunExample
+pub mod LeaveReleases
+pub mod LeaveRunExample
+pub mod LeaveRuns
 pub mod StoreReleases
 pub mod StoreRunExample
 pub mod StoreRuns

@@ -2,6 +2,7 @@
 //! datagrams are lost, repeated and reordered.
 #![tactic(auto)]
 
+pub mod leave_run;
 pub mod run;
 pub mod store_run;
 pub mod theorems;

@@ -2,6 +2,7 @@
 
 ghost use Rattle.codec_payload_forward_runs.specs.FirstHop.{ReadsAsSent};
 ghost use Rattle.codec_payload_forward_runs.specs.ForwardRunExample.{ForwardingCanBeMet};
+ghost use Rattle.codec_payload_forward_runs.specs.LeaveRunExample.{LeavingCanBeMet};
 ghost use Rattle.codec_payload_forward_runs.specs.StoreRunExample.{StoreCanBeMet};
 
 /// The premises of a run with a forwarder can be met: datagrams of Opus come to the forwarder in another order, and to the viewer in
@@ -9,6 +10,12 @@ ghost use Rattle.codec_payload_forward_runs.specs.StoreRunExample.{StoreCanBeMet
 /// without picture ids and with them.
 pub fn forwarding_premises_can_be_met()
     ensures { ForwardingCanBeMet }
+{}
+
+/// The premises of a run whose forwarder leaves a frame out can be met: of three frames the second is left out, and the other two come
+/// to the viewer in another order. The frames are of Opus, and of VP8 with picture ids.
+pub fn leaving_premises_can_be_met()
+    ensures { LeavingCanBeMet }
 {}
 
 /// The premises of a run with a forwarder and a store can be met: of three frames of Opus the second is lost on the second hop. The

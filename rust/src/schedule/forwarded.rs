@@ -4,9 +4,14 @@
 //! datagrams are lost, repeated and reordered.
 
 #[doc(hidden)]
+pub mod leave_run;
+#[doc(hidden)]
 pub mod run;
 #[doc(hidden)]
 pub mod store_run;
+
+#[doc(inline)]
+pub use leave_run::{LeaveStep, run_forwarded_leaving_out};
 
 #[doc(inline)]
 pub use run::{ForwardLink, ForwardStep, ForwardedRun, run_forwarded};

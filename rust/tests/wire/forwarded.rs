@@ -65,13 +65,13 @@ fn samples() -> Vec<ToPayload> {
 }
 
 /// The next of a sequence of numbers that look random (the generator of Numerical Recipes).
-fn following(seed: &mut u32) -> u32 {
+pub fn following(seed: &mut u32) -> u32 {
     *seed = seed.wrapping_mul(1_664_525).wrapping_add(1_013_904_223);
     *seed >> 16
 }
 
 /// How often a network with these losses delivers a datagram: once, twice, or never.
-fn copies(seed: &mut u32, loses: bool) -> usize {
+pub fn copies(seed: &mut u32, loses: bool) -> usize {
     match following(seed) % 10 {
         0 if loses => 0,
         1 => 2,

@@ -3,6 +3,7 @@
 mod forwarded;
 mod forwarded_again;
 mod forwarded_ids;
+mod forwarded_left_out;
 mod losses;
 mod own_codec;
 mod red;
