@@ -652,7 +652,7 @@ static int too_large(void) {
     TAKES(1200, "sender", cpay_sender_new(&it.sender, &sends));
     TAKES(200, "history", cpay_history_new(&it.history, &keeps));
     TAKES(400, "forwarder", cpay_forwarder_new(&it.forwarder, &forwards));
-    TAKES(1530, "receiver", cpay_receiver_new(&it.receiver, &receives, NULL, 0));
+    TAKES(1610, "receiver", cpay_receiver_new(&it.receiver, &receives, NULL, 0));
     TAKES(1900, "adaptive wait", cpay_adaptive_wait_new(&it.adaptive_wait, &waits));
     TAKES(250, "transport reporter", cpay_transport_reporter_new(&it.transport_reporter, &reports, NULL, 0));
     TAKES(100, "list of sent packets", cpay_sent_packets_new(&it.sent_packets, 2048));
