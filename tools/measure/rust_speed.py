@@ -54,6 +54,7 @@ CHOSEN = {
     ("requests", 350): ("RTCP: a NACK with 350 pairs", 1_000),
     ("reports", 1): ("RTCP: a receiver report of 31 blocks", 1_000),
     ("goodbyes", 11): ("RTCP: BYE of 341 SSRCs", 8_300),
+    ("numbered", 4_000): ("a packet with a transport-wide number, behind 4,000 of them", 4_300),
     ("strays", 1_000): ("a packet of a new SSRC, all 64 places taken by senders of one packet", 41_500),
 }
 HOSTILE = {"goodbyes": "300 BYEs of nobody, 1,200 bytes", "strays": "a packet of a new SSRC, all places taken"}

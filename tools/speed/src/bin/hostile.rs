@@ -17,6 +17,7 @@
 //! - `requests`: each further datagram is RTCP: a NACK with SIZE pairs.
 //! - `blocks`: each further packet of Opus is RED with SIZE redundant blocks, whose numbers are lost.
 //! - `strays`: SIZE packets of as many SSRCs came before, and all places are taken.
+//! - `numbered`: SIZE packets with transport-wide numbers came before, and each further packet has the next one.
 //!
 //! With `-plain` after the kind the sender answers no requests for missing packets.
 //!
@@ -24,6 +25,7 @@
 //! runs under callgrind, divided by the difference of their datagrams, is what such a datagram takes; what makes the datagrams does
 //! not count (`--toggle-collect=hostile::Load::receive`).
 
+use codec_payload::feedback::TransportSettings;
 use codec_payload::session::{FeedbackSettings, Format, Session, SessionSettings};
 use codec_payload::stream::RedSettings;
 use codec_payload::{Codec, CodecSpec, Frequency, Ticks};
@@ -33,6 +35,8 @@ const PADDING: u8 = 97;
 
 const OPUS: u8 = 111;
 const RED: u8 = 63;
+/// The id of the header extension with transport-wide numbers.
+const NUMBERED: u8 = 7;
 
 fn session(nack: bool) -> Session {
     let spec = CodecSpec {
@@ -64,6 +68,7 @@ fn session(nack: bool) -> Session {
     settings.limit = 65_536;
     settings.max_streams = 64;
     settings.feedback = Some(FeedbackSettings::live(1, b"me@host".to_vec()));
+    settings.transport = Some(TransportSettings::live(NUMBERED));
     Session::new(settings).expect("settings that can be met")
 }
 
@@ -75,6 +80,16 @@ fn packet(ssrc: u32, number: u32, frame: u32, first: bool, last: bool) -> Vec<u8
     out.extend(ssrc.to_be_bytes());
     out.extend(if first { [0x10, 0x11] } else { [0, 7] });
     out.resize(20, 7);
+    out
+}
+
+/// A packet with this transport-wide number (RFC 8285, section 4.2).
+fn numbered(number: u32) -> Vec<u8> {
+    let [high, low] = (number as u16).to_be_bytes();
+    let mut out = packet(5, number, number, true, true);
+    out[0] |= 0x10;
+    let extension = [0xBE, 0xDE, 0, 1, NUMBERED << 4 | 1, high, low, 0];
+    out.splice(12..12, extension);
     out
 }
 
@@ -160,6 +175,7 @@ fn prepare(load: &mut Load, kind: &str, size: u32) {
             (1..=size).for_each(|place| load.receive(&padding(1 + 2 * place)))
         }
         "strays" => (0..size).for_each(|place| load.receive(&packet(place << 8, 0, 0, true, true))),
+        "numbered" => (2..2 + size).for_each(|number| load.receive(&numbered(number))),
         other => panic!("{other}: none of the kinds"),
     }
 }
@@ -184,6 +200,7 @@ fn datagram(kind: &str, size: u32, place: u32) -> Vec<u8> {
         "goodbyes" => compound(203, 1, size),
         "requests" => rtcp(1, 205, &vec![9; 2 + size as usize]),
         "blocks" => red(1 + 40 * place, size),
+        "numbered" => numbered(2 + size + place),
         _ => packet((1 << 28) + (place << 8), 0, 0, true, true),
     }
 }
