@@ -2,7 +2,7 @@
 
 //! The depacketizing buffer: it restores the order of packets and reassembles units, with a bounded number of packets.
 
-use crate::memory::One;
+use crate::memory::{AllocError, One};
 use alloc::vec::Vec;
 
 mod ends;
@@ -36,8 +36,8 @@ use known::are_plain;
 pub use leaving::Left;
 pub use packed_header::PackedHeader;
 use packets::{
-    copy_metas, drop_front, find_place, find_place_near, frame_range, hold, is_at, is_too_late,
-    make_room, received_at, row_from, starts_next, unpack,
+    copy_metas, copy_of, drop_front, find_place, find_place_near, frame_range, hold, is_at,
+    is_too_late, make_room, received_at, row_from, starts_next, unpack,
 };
 pub use pair::Incoming;
 pub use placed::Placed;
@@ -170,6 +170,14 @@ impl<B: Depacketizer> DepacketizingBuffer<B> {
             self.evicted = true;
         }
         Ok(placed)
+    }
+
+    /// Copies a payload for [`DepacketizingBuffer::store_packed`]: into the memory of a payload that left the buffer, if there is
+    /// some with room for it, else into new memory. The buffer keeps the memory of at most 16 payloads, each of at most 2,048
+    /// bytes.
+    #[inline(always)]
+    pub fn copy_of(&mut self, payload: &[u8]) -> Result<Vec<u8>, AllocError> {
+        copy_of(&mut self.spare, payload)
     }
 
     /// Returns the next unit, if one is due: there is no cutoff, or the first complete frame starts right after the cutoff, or

@@ -1,6 +1,6 @@
 -- Entries in rising order of SSRCs.
 use Rattle.std.proofs.Common.{◌≡◌, ◌≢◌, ◌<◌, ◌≤◌, ℕ, suc, zero, ◌+◌, ◌-◌, ◌^◌, List, [], ◌∷◌, ◌++◌, length, get_or, set, map, take, drop, Some, None, Bool, refl, ap, ◌∙◌, sym, subst, add-one, arith, inl, inr}
-use Rattle.std.specs.List.{insert, remove}
+use Rattle.std.specs.List.{AllWithin, insert, remove}
 use Rattle.std.specs.List.Sorted.{IsNonDecreasingBy, IsPartitionPoint}
 use Rattle.std.proofs.lemmas.Bool.{cases_lt}
 use Rattle.std.specs.Prelude.{nat_lt}
@@ -109,6 +109,22 @@ preserved f xs ys i d r within is made = rw (made, is, get_mapped f xs i d withi
 -- the clause of a search
 pub point_of : (ssrc from at : ℕ) (es : List Entry) → IsPartitionPoint (λ (e : Entry). key_of e < key ssrc from) (λ (e : Entry). key ssrc from ≤ key_of e) es at → IsPoint ssrc from at es
 point_of ssrc from at es point = record { lower = λ k d l. point.0 k d (omega arith) l; behind = λ k d le l. point.1 k d le l }
+
+-- one entry decides for all in front of it
+pub before_of : (t at : ℕ) (es : List Entry) (e : Entry) → Rises es → at ≢ 0 → at ≤ length es → key_of (get_or es (at - 1) e) < t → AllWithin (λ (x : Entry). key_of x < t) es 0 at
+before_of t at es e rise some within low = λ k d from l.
+    let positive : 0 < at = elim (cases_lt 0 at) [ inl low_at ↦ low_at | inr most ↦ absurd (some (omega (arith, most))) ] in
+    let le = never_falls es rise k (at - 1) d (omega (arith, l)) (omega (arith, positive, within)) in
+    let same : key_of (get_or es (at - 1) d) ≡ key_of (get_or es (at - 1) e) = ap key_of (same_there es (at - 1) d e (omega (arith, positive, within))) in
+    omega (arith, le, same, low)
+
+-- and for all behind it
+pub from_of : (t at : ℕ) (es : List Entry) (e : Entry) → Rises es → at ≢ length es → at ≤ length es → t ≤ key_of (get_or es at e) → AllWithin (λ (x : Entry). t ≤ key_of x) es at (length es)
+from_of t at es e rise some within high = λ k d from l.
+    let inside : at < length es = elim (cases_lt at (length es)) [ inl low_at ↦ low_at | inr most ↦ absurd (some (omega (arith, most, within))) ] in
+    let le = never_falls es rise at k d from l in
+    let same : key_of (get_or es at d) ≡ key_of (get_or es at e) = ap key_of (same_there es at d e inside) in
+    omega (arith, le, same, high)
 
 -- ---- one more entry
 

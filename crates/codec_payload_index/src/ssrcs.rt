@@ -1,7 +1,7 @@
 //! A list of SSRCs, which finds the places of an SSRC by a search.
 
-ghost use Rattle.std.specs.Prelude.{◌≡◌, ◌<◌, ◌≤◌, IfOk, OnErr, OnOk, ℕ, List, [], ◌∷◌, ◌++◌, length, map, nat_lt};
-ghost use Rattle.std.specs.List.{remove};
+ghost use Rattle.std.specs.Prelude.{◌≡◌, ◌<◌, ◌≤◌, IfOk, OnErr, OnOk, ℕ, List, [], ◌∷◌, ◌++◌, length, map, nat_lt, true};
+ghost use Rattle.std.specs.List.{AllWithin, remove};
 ghost use Rattle.std.specs.List.Sorted.{IsPartitionPoint};
 ghost use Rattle.codec_payload_index.specs.Ssrcs.{IsFirstFrom, Rises, key, key_of, lowered};
 
@@ -17,6 +17,8 @@ pub struct Ssrcs {
     list: Vec<u32>,
     /// An entry for each place, in rising order of SSRCs, and of places if the SSRC is the same.
     entries: Vec<Entry>,
+    /// The entry that searches inspect first.
+    near: usize,
 }
 
 /// An SSRC, and a place of the list that has it.
@@ -45,6 +47,7 @@ impl Ssrcs {
         Ssrcs {
             list: Vec::new(alloc),
             entries: Vec::new(alloc),
+            near: 0,
         }
     }
 
@@ -60,11 +63,21 @@ impl Ssrcs {
         }
     }
 
-    /// Finds the same place by a search.
+    /// Remembers where the entries of this SSRC are. Until the next call, [`Ssrcs::find`] needs no search for it.
+    #[inline(always)]
+    pub fn approach(&mut self, ssrc: u32)
+        ensures { self.new ≡ self.old }
+    {
+        if self.list.len() > FEW {
+            self.near = search(&self.entries, ssrc, 0);
+        }
+    }
+
+    /// Finds the same place by a search. The entry that is near, and the one behind it, are inspected first.
     fn look_up(&self, ssrc: u32, from: usize) -> Option<usize>
         ensures { IsFirstFrom from ssrc self.now result }
     {
-        let at = search(&self.entries, ssrc, from);
+        let at = search_near(&self.entries, self.near, ssrc, from);
         if at >= self.entries.len() {
             return None;
         }
@@ -124,6 +137,52 @@ fn search(entries: &[Entry], ssrc: u32, from: usize) -> usize
     ensures point { IsPartitionPoint (λ e. key_of e < key ssrc from) (λ e. key ssrc from ≤ key_of e) entries.now result }
 {
     entries.partition_point(|entry| comes_before(*entry, ssrc, from))
+}
+
+/// Returns the same. `near` and the number above it are tried first.
+#[inline(always)]
+fn search_near(entries: &[Entry], near: usize, ssrc: u32, from: usize) -> usize
+    requires { Rises entries.now }
+    ensures bound { result ≤ length entries.now }
+    ensures point { IsPartitionPoint (λ e. key_of e < key ssrc from) (λ e. key ssrc from ≤ key_of e) entries.now result }
+{
+    if parts(entries, near, ssrc, from) {
+        return near;
+    }
+    if near < entries.len() && parts(entries, near + 1, ssrc, from) {
+        return near + 1;
+    }
+    search(entries, ssrc, from)
+}
+
+/// Returns whether exactly the first `at` entries come before this SSRC and place.
+#[inline(always)]
+fn parts(entries: &[Entry], at: usize, ssrc: u32, from: usize) -> bool
+    requires { Rises entries.now }
+    ensures bound { result ≡ true → at ≤ length entries.now }
+    ensures point { result ≡ true → IsPartitionPoint (λ e. key_of e < key ssrc from) (λ e. key ssrc from ≤ key_of e) entries.now at }
+{
+    at <= entries.len() && are_before(entries, at, ssrc, from) && are_from(entries, at, ssrc, from)
+}
+
+/// Returns whether the first `at` entries come before this SSRC and place.
+#[inline(always)]
+fn are_before(entries: &[Entry], at: usize, ssrc: u32, from: usize) -> bool
+    requires rises { Rises entries.now }
+    requires within { at ≤ length entries.now }
+    ensures { result ≡ true → AllWithin (λ e. key_of e < key ssrc from) entries.now 0 at }
+{
+    at == 0 || comes_before(entries[at - 1], ssrc, from)
+}
+
+/// Returns whether no entry behind the first `at` ones comes before this SSRC and place.
+#[inline(always)]
+fn are_from(entries: &[Entry], at: usize, ssrc: u32, from: usize) -> bool
+    requires rises { Rises entries.now }
+    requires within { at ≤ length entries.now }
+    ensures { result ≡ true → AllWithin (λ e. key ssrc from ≤ key_of e) entries.now at (length entries.now) }
+{
+    at == entries.len() || !comes_before(entries[at], ssrc, from)
 }
 
 /// Returns whether the entry comes before this SSRC and place.

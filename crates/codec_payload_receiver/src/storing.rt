@@ -76,7 +76,7 @@ impl StreamKinds {
         ensures err { OnErr result (packets.new ≡ packets.old) }
         ensures own { is_built_in_depacketizer packets.old.buffer.depacketizer ≡ false → OwnStores B.is_head B.is_tail packets.old.buffer packets.new.buffer }
     {
-        let payload = Vec::from_slice(self.alloc, payload)?;
+        let payload = packets.copy_of(payload)?;
         if is_again {
             return match packets.push_retransmitted(now, self.header_for(header), payload) {
                 Ok(outcome) => Ok(outcome),

@@ -1,15 +1,16 @@
 //! The names of streams, as header extensions carry them: MID, RID and repaired RID.
 
-ghost use Rattle.std.specs.Prelude.{◌≡◌, ◌<◌, ◌≤◌, ◌∷◌, [], Some, length};
+ghost use Rattle.std.specs.Prelude.{◌≡◌, ◌<◌, ◌≤◌, length};
 ghost use Rattle.std.specs.Option.{option_map};
-ghost use Rattle.codec_payload_rtp.specs.Elements.{element_of, elements_left};
-ghost use Rattle.codec_payload_rtp.specs.ExtensionFormats.{and_then, bytes_for, elements_of, first_of};
+ghost use Rattle.codec_payload_rtp.specs.Elements.{elements_left};
+ghost use Rattle.codec_payload_rtp.specs.ExtensionFormats.{and_then, elements_of};
 ghost use Rattle.codec_payload_rtp.specs.RtpValues.{extension_of};
 ghost use Rattle.codec_payload_session.specs.Names.{are_of_one, is_any, is_same, name_of, names_after, names_by, newer};
 
 use codec_payload_receiver::parsed::ParsedDatagram;
-use codec_payload_rtp::elements::{Element, Elements};
+use codec_payload_rtp::elements::Elements;
 use codec_payload_rtp::rtp::HeaderExtension;
+use codec_payload_rtp::values::keep_first;
 use std::fmt;
 use std::marker::Model;
 
@@ -189,28 +190,6 @@ fn is_same(one: &Option<StreamName>, other: &Option<StreamName>) -> bool
         (Some(one), Some(other)) => one == other,
         (None, None) => true,
         _ => false,
-    }
-}
-
-/// Keeps the bytes of an element, if it has this id and nothing was kept so far.
-#[inline(always)]
-fn keep_first<'a>(kept: &mut Option<&'a [u8]>, id: Option<u8>, element: &Element<'a>)
-    ensures { option_map (λ bytes. bytes.now) kept.new ≡ first_of (option_map (λ bytes. bytes.now) kept.old) (bytes_for id (element_of element.now ∷ [])) }
-{
-    match id {
-        Some(id) if id == element.id => keep(kept, element.bytes),
-        _ => {}
-    }
-}
-
-/// Keeps these bytes, if nothing was kept so far. Senders stop sending names once they know that they arrived.
-#[cold]
-#[inline(never)]
-fn keep<'a>(kept: &mut Option<&'a [u8]>, bytes: &'a [u8])
-    ensures { option_map (λ bytes. bytes.now) kept.new ≡ first_of (option_map (λ bytes. bytes.now) kept.old) (Some bytes.now) }
-{
-    if kept.is_none() {
-        *kept = Some(bytes);
     }
 }
 

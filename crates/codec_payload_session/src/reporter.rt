@@ -144,7 +144,7 @@ pub(crate) fn report_deadline(streams: &[StreamState], due: Option<u64>) -> Opti
 fn is_report_due(streams: &[StreamState], now: Ticks, due: Option<u64>) -> bool
     ensures { result ≡ is_report_due now.0 due streams.now }
 {
-    any_announced(streams) && is_time(now, due)
+    is_time(now, due) && any_announced(streams)
 }
 
 /// Returns whether the time has come.

@@ -189,6 +189,7 @@ impl Streams {
         requires { can_begin settings.now of.1 ≡ true }
         ensures { TakesMedia settings.now of.0 of.1 now datagram.now self.old result self.new }
     {
+        self.ssrcs.approach(of.0);
         let answer = self.feed_or_begin(settings, of, now, datagram);
         if answer.is_ok() {
             self.leave_behind(now.0, settings.bye_wait, of.0, &of.1);

@@ -13,9 +13,13 @@ use crate::memory::{AllocError, One, TryVec};
 use crate::queue::tiers::TieredQueue;
 use crate::wire::Ticks;
 use alloc::vec::Vec;
+use core::mem;
 
 /// The largest number of memory blocks that are kept for later packets.
 const KEPT_BLOCKS: usize = 16;
+
+/// The most bytes that the payload of a kept memory block may have room for. No datagram of a usual network is larger.
+const KEPT_PAYLOAD: usize = 2_048;
 
 /// Puts a packet in a memory block, a kept one if there is one.
 #[inline(always)]
@@ -43,15 +47,31 @@ fn in_block(spare: &mut Vec<One<Packet>>, packet: Packet) -> Result<One<Packet>,
     Ok(One::try_new(packet)?)
 }
 
-/// Keeps the memory block of a packet that has left, and frees the payload and rare values of the packet. Allocates nothing.
+/// Keeps the memory block of a packet that has left, with the memory of its payload, and frees its rare values. Allocates nothing.
 #[inline(always)]
 fn keep(spare: &mut Vec<One<Packet>>, block: One<Packet>) {
     if spare.len() < KEPT_BLOCKS && spare.len() < spare.capacity() {
         let mut block = block;
-        block.bytes = Vec::new();
+        if block.bytes.capacity() > KEPT_PAYLOAD {
+            block.bytes = Vec::new();
+        }
         block.known.drop_rare();
         let _ = spare.try_push(block);
     }
+}
+
+/// Copies a payload: into the memory of a payload that left, if there is some with room for it, else into new memory.
+#[inline(always)]
+pub(super) fn copy_of(spare: &mut Vec<One<Packet>>, payload: &[u8]) -> Result<Vec<u8>, AllocError> {
+    if let Some(block) = spare.last_mut() {
+        if block.bytes.capacity() >= payload.len() {
+            let mut copy: Vec<u8> = mem::replace(&mut block.bytes, Vec::new());
+            copy.clear();
+            copy.try_extend(payload)?;
+            return Ok(copy);
+        }
+    }
+    Vec::try_from_slice(payload)
 }
 
 /// Makes a packet for the queue. Allocates for its memory block and metadata.

@@ -14,6 +14,8 @@ pub struct Ssrcs {
     list: Vec<u32>,
     /// An entry for each place, in rising order of SSRCs, and of places if the SSRC is the same.
     entries: Vec<Entry>,
+    /// The entry that searches inspect first.
+    near: usize,
 }
 
 /// An SSRC, and a place of the list that has it.
@@ -29,6 +31,7 @@ impl Ssrcs {
         Ssrcs {
             list: Vec::new(),
             entries: Vec::new(),
+            near: 0,
         }
     }
 
@@ -42,9 +45,17 @@ impl Ssrcs {
         }
     }
 
-    /// Finds the same place by a search.
+    /// Remembers where the entries of this SSRC are. Until the next call, [`Ssrcs::find`] needs no search for it.
+    #[inline(always)]
+    pub fn approach(&mut self, ssrc: u32) {
+        if self.list.len() > FEW {
+            self.near = search(&self.entries, ssrc, 0);
+        }
+    }
+
+    /// Finds the same place by a search. The entry that is near, and the one behind it, are inspected first.
     fn look_up(&self, ssrc: u32, from: usize) -> Option<usize> {
-        let at = search(&self.entries, ssrc, from);
+        let at = search_near(&self.entries, self.near, ssrc, from);
         if at >= self.entries.len() {
             return None;
         }
@@ -92,6 +103,36 @@ fn walk(ssrcs: &[u32], ssrc: u32, from: usize) -> Option<usize> {
 /// Returns how many entries come before this SSRC and place.
 fn search(entries: &[Entry], ssrc: u32, from: usize) -> usize {
     entries.partition_point(|entry| comes_before(*entry, ssrc, from))
+}
+
+/// Returns the same. `near` and the number above it are tried first.
+#[inline(always)]
+fn search_near(entries: &[Entry], near: usize, ssrc: u32, from: usize) -> usize {
+    if parts(entries, near, ssrc, from) {
+        return near;
+    }
+    if near < entries.len() && parts(entries, near + 1, ssrc, from) {
+        return near + 1;
+    }
+    search(entries, ssrc, from)
+}
+
+/// Returns whether exactly the first `at` entries come before this SSRC and place.
+#[inline(always)]
+fn parts(entries: &[Entry], at: usize, ssrc: u32, from: usize) -> bool {
+    at <= entries.len() && are_before(entries, at, ssrc, from) && are_from(entries, at, ssrc, from)
+}
+
+/// Returns whether the first `at` entries come before this SSRC and place.
+#[inline(always)]
+fn are_before(entries: &[Entry], at: usize, ssrc: u32, from: usize) -> bool {
+    at == 0 || comes_before(entries[at - 1], ssrc, from)
+}
+
+/// Returns whether no entry behind the first `at` ones comes before this SSRC and place.
+#[inline(always)]
+fn are_from(entries: &[Entry], at: usize, ssrc: u32, from: usize) -> bool {
+    at == entries.len() || !comes_before(entries[at], ssrc, from)
 }
 
 /// Returns whether the entry comes before this SSRC and place.

@@ -3,6 +3,7 @@
 //! A jitter buffer for the packets of one sender: it restores their order and limits how long a frame waits for missing
 //! packets.
 
+use crate::memory::AllocError;
 use alloc::vec::Vec;
 
 mod answers;
@@ -160,6 +161,13 @@ impl<B: Depacketizer> JitterBuffer<B> {
         self.set_numbers(numbers, lowest);
         self.note_first(answer, time);
         Ok(outcome)
+    }
+
+    /// Copies a payload for [`JitterBuffer::push_packed`]: into the memory of a payload that left, if there is some with room for it,
+    /// else into new memory. See [`DepacketizingBuffer::copy_of`].
+    #[inline(always)]
+    pub fn copy_of(&mut self, payload: &[u8]) -> Result<Vec<u8>, AllocError> {
+        self.buffer.copy_of(payload)
     }
 
     /// Records a sequence number without media: a packet with padding only, or with a payload type that carries none of this

@@ -133,24 +133,38 @@ impl ExtensionIds {
             keep_first(&mut level, self.audio_level, &element);
         }
         let level = byte_of(level);
-        ExtensionValues {
+        let mut values = ExtensionValues {
             abs_capture_time: capture_time_of(capture_time),
             video_orientation: byte_of(orientation),
             video_content_type: byte_of(content_type),
             video_timing: timing_of(timing),
-            layers_allocation: allocation_of(allocation),
+            layers_allocation: None,
             audio_level: level_in(level),
             voice_activity: voice_in(level),
+        };
+        // Few packets have it, and it has room for 255 bytes.
+        if let Some(bytes) = allocation {
+            values.layers_allocation = VideoLayersAllocation::new(bytes);
         }
+        values
     }
 }
 
-/// Keeps the bytes of an element, if it has this id and nothing was kept so far.
+/// Keeps the bytes of an element, if it has this id and nothing was kept so far. `None`: no element has the id. So a loop over the
+/// elements of a packet finds the first element of each id that it searches, in one pass.
 #[inline(always)]
-fn keep_first<'a>(kept: &mut Option<&'a [u8]>, id: Option<u8>, element: &Element<'a>) {
+pub fn keep_first<'a>(kept: &mut Option<&'a [u8]>, id: Option<u8>, element: &Element<'a>) {
+    if wanted(id) == u16::from(element.id) {
+        keep(kept, element.bytes);
+    }
+}
+
+/// Returns the id, or else a number that no element has: then one comparison does.
+#[inline(always)]
+fn wanted(id: Option<u8>) -> u16 {
     match id {
-        Some(id) if id == element.id => keep(kept, element.bytes),
-        _ => {}
+        Some(id) => u16::from(id),
+        None => 256,
     }
 }
 
@@ -214,14 +228,6 @@ fn capture_time_of(bytes: Option<&[u8]>) -> Option<AbsCaptureTime> {
 fn timing_of(bytes: Option<&[u8]>) -> Option<VideoTiming> {
     match bytes {
         Some(bytes) => video_timing_of(bytes),
-        None => None,
-    }
-}
-
-/// The layers that are sent.
-fn allocation_of(bytes: Option<&[u8]>) -> Option<VideoLayersAllocation> {
-    match bytes {
-        Some(bytes) => VideoLayersAllocation::new(bytes),
         None => None,
     }
 }

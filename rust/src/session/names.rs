@@ -2,8 +2,9 @@
 
 //! The names of streams, as header extensions carry them: MID, RID and repaired RID.
 
-use crate::rtp::elements::{Element, Elements};
+use crate::rtp::elements::Elements;
 use crate::rtp::packet::HeaderExtension;
+use crate::rtp::values::keep_first;
 use crate::stream::parsed::ParsedDatagram;
 use core::fmt;
 
@@ -139,24 +140,6 @@ fn is_same(one: &Option<StreamName>, other: &Option<StreamName>) -> bool {
         (Some(one), Some(other)) => one == other,
         (None, None) => true,
         _ => false,
-    }
-}
-
-/// Keeps the bytes of an element, if it has this id and nothing was kept so far.
-#[inline(always)]
-fn keep_first<'a>(kept: &mut Option<&'a [u8]>, id: Option<u8>, element: &Element<'a>) {
-    match id {
-        Some(id) if id == element.id => keep(kept, element.bytes),
-        _ => {}
-    }
-}
-
-/// Keeps these bytes, if nothing was kept so far. Senders stop sending names once they know that they arrived.
-#[cold]
-#[inline(never)]
-fn keep<'a>(kept: &mut Option<&'a [u8]>, bytes: &'a [u8]) {
-    if kept.is_none() {
-        *kept = Some(bytes);
     }
 }
 

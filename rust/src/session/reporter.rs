@@ -122,7 +122,7 @@ pub(crate) fn report_deadline(streams: &[StreamState], due: Option<u64>) -> Opti
 
 /// Returns whether a report is due: its time has come, and a stream is announced.
 fn is_report_due(streams: &[StreamState], now: Ticks, due: Option<u64>) -> bool {
-    any_announced(streams) && is_time(now, due)
+    is_time(now, due) && any_announced(streams)
 }
 
 /// Returns whether the time has come.

@@ -142,6 +142,7 @@ impl Streams {
         now: Ticks,
         datagram: &ParsedDatagram<'_>,
     ) -> Result<Arrival, AllocError> {
+        self.ssrcs.approach(of.0);
         let answer = self.feed_or_begin(settings, of, now, datagram);
         if answer.is_ok() {
             self.leave_behind(now.0, settings.bye_wait, of.0, &of.1);

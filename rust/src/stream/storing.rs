@@ -5,7 +5,7 @@
 use crate::buffer::PackedHeader;
 use crate::codec::Depacketizer;
 use crate::jitter::jitter_buffer::{JitterBuffer, Outcome};
-use crate::memory::{AllocError, TryVec};
+use crate::memory::AllocError;
 use crate::rtp::packet::{PacketHeader, RtpPacket};
 use crate::stream::blocks::{BlockCopy, copy_blocks, recover_all};
 use crate::stream::brought::Brought;
@@ -13,7 +13,6 @@ use crate::stream::datagram::{Datagram, StreamKinds};
 use crate::stream::seen_times::{LazySeenTimes, SeenTime, SeenTimes};
 use crate::wire::{Pt, RtpHeader, Ticks};
 use alloc::collections::VecDeque;
-use alloc::vec::Vec;
 
 /// The result of receiving a datagram.
 #[derive(Clone, Copy, Debug)]
@@ -62,7 +61,7 @@ impl StreamKinds {
         payload: &[u8],
         is_again: bool,
     ) -> Result<Outcome, AllocError> {
-        let payload = Vec::try_from_slice(payload)?;
+        let payload = packets.copy_of(payload)?;
         if is_again {
             return match packets.push_retransmitted(now, self.header_for(header), payload) {
                 Ok(outcome) => Ok(outcome),
