@@ -20,7 +20,7 @@ FLAT = {"rtp", "rtcp", "feedback_congestion", "sending_history", "sending_forwar
 UNDOCUMENTED_MODULES = {"session::runs"}
 # Public functions that are left out of it too, since only other modules and ports of `str0m` call them.
 UNDOCUMENTED_FUNCTIONS = {"abs_capture_time_of", "all_fit", "append_report", "audio_level_byte", "audio_level_of", "encode_leb_u63", "extend_u7",
-                          "extend_u8", "extend_u15", "extend_u32", "extension_value", "form_for", "is_video", "most_reported",
+                          "extend_u8", "extend_u15", "extend_u32", "extension_value", "form_for", "is_video", "keep_first", "most_reported",
                           "video_timing_bytes", "video_timing_of"}
 # Modules of such crates that stay.
 KEPT_MODULES = {("media", "amr_wb"), ("media", "av1"), ("media", "opus"), ("vpx", "vp8"), ("vpx", "vp9")}

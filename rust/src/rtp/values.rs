@@ -153,6 +153,7 @@ impl ExtensionIds {
 /// Keeps the bytes of an element, if it has this id and nothing was kept so far. `None`: no element has the id. So a loop over the
 /// elements of a packet finds the first element of each id that it searches, in one pass.
 #[inline(always)]
+#[doc(hidden)]
 pub fn keep_first<'a>(kept: &mut Option<&'a [u8]>, id: Option<u8>, element: &Element<'a>) {
     if wanted(id) == u16::from(element.id) {
         keep(kept, element.bytes);
