@@ -173,8 +173,8 @@ impl<B: Depacketizer> DepacketizingBuffer<B> {
     }
 
     /// Copies a payload for [`DepacketizingBuffer::store_packed`]: into the memory of a payload that left the buffer, if there is
-    /// some with room for it, else into new memory. The buffer keeps the memory of at most 16 payloads, each of at most 2,048
-    /// bytes.
+    /// some with room for it, else into new memory. The buffer keeps the memory of at most 16 payloads: of 4 with at most 2,048
+    /// bytes each, and of 12 with at most 256.
     #[inline(always)]
     pub fn copy_of(&mut self, payload: &[u8]) -> Result<Vec<u8>, AllocError> {
         copy_of(&mut self.spare, payload)

@@ -118,6 +118,53 @@ fn pops() {
     assert_eq!((again, unit.bytes.len()), (0, 100));
 }
 
+/// A datagram of an RTP packet of Opus with a payload of this size.
+fn opus(number: u8, payload: usize) -> Vec<u8> {
+    let header = [0x80, 111, 0, number, 0, 0, 0, number, 0, 0, 0, 7];
+    [&header[..], &vec![number; payload]].concat()
+}
+
+/// How many allocations the packets of a receiver make after the first twenty. `held` of them wait for the one before them, and all
+/// are then released.
+fn allocations_in_turn(held: u8, payload: usize) -> Result<usize, SettingsError> {
+    let mut settings = ReceiverSettings::live_audio(111, Frequency::FORTY_EIGHT_KHZ);
+    settings.ssrc = Some(7);
+    let mut receiver: Receiver =
+        Receiver::new(CodecDepacketizer::Opus(OpusDepacketizer {}), settings)?;
+    let (mut unit, mut made) = (PoppedUnit::new(), 0);
+    for first in (0..60).step_by(usize::from(held) + 1) {
+        let mut here = 0;
+        for number in (first..=first + held).rev() {
+            let datagram = opus(number, payload);
+            here += allocations(|| {
+                receiver.receive(Ticks(0), &datagram).unwrap();
+            });
+        }
+        for number in first..=first + held {
+            here += allocations(|| {
+                assert!(receiver.pop_unit(Ticks(1_000), &mut unit).unwrap().is_ok());
+            });
+            assert_eq!(unit.bytes, vec![number; payload]);
+        }
+        made += if first < 20 { 0 } else { here };
+    }
+    Ok(made)
+}
+
+/// A packet of audio takes the memory of one that left: in order, and if up to 16 of them wait together. Of larger payloads the
+/// memory of 4 is kept, and of those above 2,048 bytes none.
+#[test]
+fn payloads_of_packets_that_left() -> Result<(), SettingsError> {
+    for held in [0, 3, 9] {
+        assert_eq!(allocations_in_turn(held, 256)?, 0, "{held}");
+    }
+    assert_eq!(allocations_in_turn(3, 2_048)?, 0);
+    // 4 rounds of 10 packets, each with the memory of 4.
+    assert_eq!(allocations_in_turn(9, 2_048)?, 4 * 6);
+    assert_eq!(allocations_in_turn(0, 2_049)?, 40);
+    Ok(())
+}
+
 /// How many allocations each of four packets of Opus makes: its payload, its metadata, and what grows.
 fn allocations_of_packets(red: Option<RedSettings>) -> Result<Vec<usize>, SettingsError> {
     let mut settings = ReceiverSettings::live_audio(111, Frequency::FORTY_EIGHT_KHZ);

@@ -18,8 +18,14 @@ use core::mem;
 /// The largest number of memory blocks that are kept for later packets.
 const KEPT_BLOCKS: usize = 16;
 
-/// The most bytes that the payload of a kept memory block may have room for. No datagram of a usual network is larger.
-const KEPT_PAYLOAD: usize = 2_048;
+/// Up to how many bytes the memory of a payload is kept with its memory block, as that of most audio.
+const SMALL_PAYLOAD: usize = 256;
+
+/// How many of the kept memory blocks may have larger payloads, so that an idle stream of video stays small.
+const LARGE_PAYLOADS: usize = 4;
+
+/// Up to how many bytes such a larger one may have. No datagram of a usual network is larger.
+const LARGE_PAYLOAD: usize = 2_048;
 
 /// Puts a packet in a memory block, a kept one if there is one.
 #[inline(always)]
@@ -52,12 +58,18 @@ fn in_block(spare: &mut Vec<One<Packet>>, packet: Packet) -> Result<One<Packet>,
 fn keep(spare: &mut Vec<One<Packet>>, block: One<Packet>) {
     if spare.len() < KEPT_BLOCKS && spare.len() < spare.capacity() {
         let mut block = block;
-        if block.bytes.capacity() > KEPT_PAYLOAD {
+        if !is_kept(spare.len(), block.bytes.capacity()) {
             block.bytes = Vec::new();
         }
         block.known.drop_rare();
         let _ = spare.try_push(block);
     }
+}
+
+/// Returns whether a payload with this room is kept beside so many memory blocks.
+#[inline(always)]
+fn is_kept(blocks: usize, room: usize) -> bool {
+    room <= SMALL_PAYLOAD || (blocks < LARGE_PAYLOADS && room <= LARGE_PAYLOAD)
 }
 
 /// Copies a payload: into the memory of a payload that left, if there is some with room for it, else into new memory.

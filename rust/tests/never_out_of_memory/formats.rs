@@ -61,6 +61,7 @@ pub const CALLS: [Call; 18] = [
     ),
     Call(
         &[
+            "DepacketizingBuffer::copy_of",
             "DepacketizingBuffer::store_packed",
             "DepacketizingBuffer::store_two",
             "DepacketizingBuffer::pop_unit",
@@ -72,7 +73,11 @@ pub const CALLS: [Call; 18] = [
     ),
     Call(&["JitterBuffer::push", "JitterBuffer::pop"], jitter),
     Call(
-        &["JitterBuffer::push_packed", "JitterBuffer::pop_into"],
+        &[
+            "JitterBuffer::copy_of",
+            "JitterBuffer::push_packed",
+            "JitterBuffer::pop_into",
+        ],
         jitter_packed,
     ),
     Call(
@@ -406,7 +411,8 @@ fn buffer_counted(size: usize) {
     for number in 0..packets(size) / 2 {
         made(buffer.store_two(incoming(4 * number), incoming(4 * number + 1)));
         let packed = made(PackedMeta::of(&meta(4 * number + 2, true)));
-        made(buffer.store_packed(packed, vec![1; size]));
+        let payload = made(buffer.copy_of(&vec![1; size]));
+        made(buffer.store_packed(packed, payload));
     }
     buffer.set_hold_back(0);
     for _ in 0..3 {
@@ -470,7 +476,8 @@ fn jitter_packed(size: usize) {
     let (mut buffer, mut bytes, mut metas) = (jitters(size), Vec::new(), Vec::new());
     for number in numbers(size) {
         let packed = made(PackedHeader::new(&header(number)));
-        made(buffer.push_packed(Ticks(0), packed, vec![1; size.min(1_500)]));
+        let payload = made(buffer.copy_of(&vec![1; size.min(1_500)]));
+        made(buffer.push_packed(Ticks(0), packed, payload));
     }
     buffer.finish();
     while let Some(unit) = buffer.pop_into(Ticks(9), &mut bytes, &mut metas) {
