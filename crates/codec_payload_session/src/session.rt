@@ -168,7 +168,7 @@ pub enum Event<U = PoppedUnit> {
     TransportFeedback {
         packet: Result<Vec<u8>, AllocError>,
     },
-    /// A stream was removed. This is the last event of the stream.
+    /// A stream was removed. This is the last event of the stream. [`Session::last_stream`] then has its last counts.
     Ended {
         ssrc: u32,
         payload_type: u8,

@@ -149,7 +149,7 @@ pub enum Event<U = PoppedUnit> {
     /// [`TransportSettings::interval`]: crate::feedback::transport::TransportSettings::interval
     /// [`TransportSettings::size`]: crate::feedback::transport::TransportSettings::size
     TransportFeedback { packet: Result<Vec<u8>, AllocError> },
-    /// A stream was removed. This is the last event of the stream.
+    /// A stream was removed. This is the last event of the stream. [`Session::last_stream`] then has its last counts.
     Ended {
         ssrc: u32,
         payload_type: u8,
