@@ -57,8 +57,6 @@ typedef struct {
     track tracks[STREAMS];
     size_t count;
     const char *folder;
-    uint8_t *bytes; /* memory for the bytes of an event, which grows if an event asks for more */
-    size_t room;
 } recorder;
 
 static void require(bool holds, const char *what) {
@@ -107,25 +105,15 @@ static void end(recorder *it, track *track, cpay_ending why) {
     *track = it->tracks[--it->count];
 }
 
-/* The next event. Its bytes are at the front of the memory. */
-static cpay_status next_event(recorder *it, cpay_event *event) {
-    cpay_status status;
-    while ((status = cpay_session_poll(&it->session, now(), event, it->bytes, it->room)) == CPAY_TOO_SMALL) {
-        require((it->bytes = (uint8_t *)realloc(it->bytes, event->bytes)) != NULL, "realloc");
-        it->room = event->bytes;
-    }
-    return status;
-}
-
-/* Handles all events that are due. */
+/* Handles all events that are due. The session lends the bytes of an event until the next poll. */
 static void drain(recorder *it) {
-    cpay_event event;
+    cpay_event event = {0};
     cpay_status status;
-    while ((status = next_event(it, &event)) == CPAY_OK) {
+    while ((status = cpay_session_poll(&it->session, now(), &event)) == CPAY_OK) {
         track *track = track_of(it, &event);
         if (event.kind == CPAY_EVENT_BEGUN) begin(it, &event);
         else if (!track) continue;
-        else if (event.kind == CPAY_EVENT_UNIT) keep(track, it->bytes, event.unit.bytes);
+        else if (event.kind == CPAY_EVENT_UNIT) keep(track, event.data, event.bytes);
         else if (event.kind == CPAY_EVENT_FAULT) fprintf(stderr, "a frame is lost: %s\n", cpay_status_text(event.status));
         else if (event.kind == CPAY_EVENT_ENDED) end(it, track, event.why);
     }
@@ -198,7 +186,6 @@ int main(int argc, char **argv) {
            counts.malformed + counts.unknown + counts.refused + counts.unassociated);
     for (int i = 0; i < 2; i++) cpay_sender_free(&senders[i]);
     cpay_session_free(&it.session);
-    free(it.bytes);
     close(port);
     close(from);
     return counts.streams != 0 || counts.received < counts.ended + counts.rtcp;

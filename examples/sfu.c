@@ -135,14 +135,14 @@ static void answer(sfu *it, uint64_t now, const uint8_t *rtcp, size_t rtcp_size)
 
 /* What is due by the clock. Units of the session are for those who record or mix. */
 static void poll(sfu *it, uint64_t now) {
-    static uint8_t bytes[1 << 20];
-    static cpay_event event;
+    cpay_event event = {0};
     uint32_t source = 0, wanted = 0;
     bool gets = cpay_forwarder_source(&it->viewer, &source) == CPAY_OK;
     bool wants = cpay_forwarder_wanted(&it->viewer, &wanted) == CPAY_OK;
     if (wants && !(gets && source == wanted)) request_keyframe(it, wanted);
-    while (cpay_session_poll(&it->session, now, &event, bytes, sizeof bytes) == CPAY_OK)
-        if (event.kind == CPAY_EVENT_FEEDBACK || event.kind == CPAY_EVENT_REPORT) send(&to_publisher, now, bytes, event.bytes);
+    while (cpay_session_poll(&it->session, now, &event) == CPAY_OK)
+        if (event.kind == CPAY_EVENT_FEEDBACK || event.kind == CPAY_EVENT_REPORT)
+            send(&to_publisher, now, event.data, event.bytes);
 }
 
 /* ---- The simulated publisher ---- */
@@ -214,11 +214,11 @@ static void show(picture *it, uint64_t now, const uint8_t *end) {
 }
 
 static void watch(cpay_session *viewer, picture *it, uint64_t now) {
-    static uint8_t bytes[1 << 20];
-    static cpay_event event;
-    while (cpay_session_poll(viewer, now, &event, bytes, sizeof bytes) == CPAY_OK) {
-        if (event.kind == CPAY_EVENT_FEEDBACK || event.kind == CPAY_EVENT_REPORT) send(&from_viewer, now, bytes, event.bytes);
-        if (event.kind == CPAY_EVENT_UNIT && event.bytes == FRAME) show(it, now, bytes + FRAME - 5);
+    cpay_event event = {0};
+    while (cpay_session_poll(viewer, now, &event) == CPAY_OK) {
+        if (event.kind == CPAY_EVENT_FEEDBACK || event.kind == CPAY_EVENT_REPORT)
+            send(&from_viewer, now, event.data, event.bytes);
+        if (event.kind == CPAY_EVENT_UNIT && event.bytes == FRAME) show(it, now, event.data + FRAME - 5);
     }
 }
 

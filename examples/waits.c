@@ -13,7 +13,7 @@
 #include <stdio.h>
 #include <stdlib.h>
 
-enum { RTX = 97, UNIT = 64 };
+enum { RTX = 97 };
 
 static void check(cpay_status status, const char *what) {
     if (status == CPAY_OK) return;
@@ -23,10 +23,9 @@ static void check(cpay_status status, const char *what) {
 
 /* Polls until there is no event. Returns the number of units. */
 static unsigned poll(cpay_session *session, uint64_t now) {
-    cpay_event event;
-    uint8_t bytes[UNIT];
+    cpay_event event = {0};
     unsigned units = 0;
-    while (cpay_session_poll(session, now, &event, bytes, sizeof bytes) == CPAY_OK) units += event.kind == CPAY_EVENT_UNIT;
+    while (cpay_session_poll(session, now, &event) == CPAY_OK) units += event.kind == CPAY_EVENT_UNIT;
     return units;
 }
 

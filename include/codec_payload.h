@@ -44,7 +44,10 @@
  * OUTPUT BUFFERS. A call that returns bytes writes them to the front of your buffer, and their number to a `bytes` field or to
  * *size. If the buffer is too small, the call returns CPAY_TOO_SMALL, reports the required size, and nothing is lost: the packet or
  * unit waits for the next call of the same name. So a first call may pass a length of 0. (cpay_history_resend and the
- * calls of a forwarder spend nothing, and keep nothing waiting.) One call lends its bytes instead: cpay_depacketizer_unit.
+ * calls of a forwarder spend nothing, and keep nothing waiting.)
+ *
+ * LENT BYTES. Two calls need no output buffer and copy nothing: cpay_session_poll and cpay_depacketizer_unit return a pointer to bytes
+ * in the library's memory. Read them until the call that their comments name, and never write them.
  *
  * POINTERS. NULL is allowed with a length of 0; with another length the call returns CPAY_INVALID (false, if it returns a bool).
  * All other pointers must be valid, except the argument of *_free. An argument that a call writes must not overlap any other
@@ -1386,21 +1389,21 @@ CPAY_CHECKED cpay_status cpay_session_receive_at(cpay_session *session, uint64_t
 /** The kinds of events. New ones may be added: ignore those that you do not know. */
 typedef enum {
     CPAY_EVENT_BEGUN = 0, /**< a stream is announced: the first event of the stream */
-    CPAY_EVENT_UNIT = 1,  /**< a unit: see `unit`; its bytes are in the output buffer */
+    CPAY_EVENT_UNIT = 1,  /**< a unit: see `unit`; its bytes are at `data` */
     CPAY_EVENT_FAULT = 2, /**< the depacketizer refused a frame, or a unit is above `max_unit`: see `status`. It is discarded. Any
                                peer can send such a frame: count it, and go on polling */
     CPAY_EVENT_ENDED = 3, /**< a stream was removed: the last event of the stream; see `why` */
-    CPAY_EVENT_FEEDBACK = 4, /**< a compound packet of RTCP for the sender of the stream is in the output buffer: send it. It has a
+    CPAY_EVENT_FEEDBACK = 4, /**< a compound packet of RTCP for the sender of the stream is at `data`: send it. It has a
                                  NACK of missing packets, and a PLI if a keyframe is needed (RFC 4585, sections 6.2.1, 6.3.1) */
-    CPAY_EVENT_REPORT = 5,   /**< a compound packet of RTCP for all senders is in the output buffer: send it. It has a block about each
+    CPAY_EVENT_REPORT = 5,   /**< a compound packet of RTCP for all senders is at `data`: send it. It has a block about each
                                  announced stream that has one, of two streams with one SSRC only about the later (RFC 3550, section
                                  6.4.2). `ssrc` and `payload_type` are 0 */
-    CPAY_EVENT_TELEPHONE = 6, /**< a packet of telephone events beside audio (RFC 4733): its payload is in the output buffer, with 4
+    CPAY_EVENT_TELEPHONE = 6, /**< a packet of telephone events beside audio (RFC 4733): its payload is at `data`, with 4
                                  bytes for each event (cpay_tele_read). All packets of an event have the same `unit.rtp_time`,
                                  its last one comes three times, and a network can repeat any of them, so go by that time. An
                                  event of more than 65535 ticks has segments with a time each (section 2.5.1.3). It is also
                                  reported for a stream that is not announced yet */
-    CPAY_EVENT_TRANSPORT_FEEDBACK = 7 /**< a packet of RTCP for the peer is in the output buffer: send it. It says when each packet of
+    CPAY_EVENT_TRANSPORT_FEEDBACK = 7 /**< a packet of RTCP for the peer is at `data`: send it. It says when each packet of
                                  the transport arrived since the last one, or that it is missing. It comes each `interval` of
                                  cpay_session_transport while packets arrive. `ssrc` and `payload_type` are 0 */
 } cpay_event_kind;
@@ -1419,7 +1422,8 @@ typedef struct {
     uint32_t ssrc;        /**< SSRC of the stream */
     cpay_status status;   /**< of CPAY_EVENT_FAULT: the error, 1 to 16 or CPAY_UNIT_TOO_LARGE; of other events CPAY_OK */
     cpay_ending why;      /**< of CPAY_EVENT_ENDED: CPAY_ENDED_BY_BYE and so on; of other events 0 */
-    size_t bytes;         /**< bytes in the output buffer: of the unit, the RTCP packet, or the payload of telephone events */
+    const uint8_t *data;  /**< its bytes: of the unit, the RTCP packet, or the payload of telephone events. Read none if `bytes` is 0 */
+    size_t bytes;         /**< how many bytes are at `data`; 0 for other events */
     uint8_t payload_type; /**< payload type of the stream's format, also if the unit came in RED or was retransmitted; of
                                CPAY_EVENT_TELEPHONE the payload type of the packet */
     cpay_unit unit;       /**< of CPAY_EVENT_UNIT: the unit, as cpay_receiver_pop reports it. Of CPAY_EVENT_TELEPHONE: `rtp_time`,
@@ -1428,17 +1432,18 @@ typedef struct {
 
 /** Reports the next event at time `now`. Call it until CPAY_NONE after each datagram and at each deadline. Telephone events that wait
  * come first, at most 32 of them. Then the streams are asked in the order in which they began; each stream has CPAY_EVENT_BEGUN first, then its units in order, and CPAY_EVENT_ENDED last.
- * CPAY_NONE: there is no event. CPAY_TOO_SMALL: *event is written, and the event waits for the next call: it needs a buffer of
- * `bytes` bytes. CPAY_OUT_OF_MEMORY: the frame, the request or the report stays, and the next call tries it again. [m] */
-CPAY_CHECKED cpay_status cpay_session_poll(cpay_session *session, uint64_t now, cpay_event *event, uint8_t *bytes,
-                                           size_t bytes_len);
+ * `event->data` lends `event->bytes` bytes in the session's memory. They stay there until the next cpay_session_poll with this session,
+ * which may move or free them, or until cpay_session_free. No other call changes them. Never write them.
+ * CPAY_NONE: there is no event. CPAY_OUT_OF_MEMORY: the frame, the request or the report stays, and the next call tries it again. Both
+ * leave *event unchanged; bytes that it still points to are lent no longer. [m] */
+CPAY_CHECKED cpay_status cpay_session_poll(cpay_session *session, uint64_t now, cpay_event *event);
 
 /** Reports the header extension values of the unit that cpay_session_poll returned last: see cpay_receiver_values.
  * CPAY_NONE: no unit was returned yet. Does not allocate. */
 CPAY_CHECKED cpay_status cpay_session_values(cpay_session *session, cpay_extension_values *values);
 
-/** Reports the time at which a poll may have an event although no datagram arrives: 0 while telephone events wait, or an event that
- * did not fit (CPAY_TOO_SMALL). CPAY_NONE: only a datagram can help. If a poll had no event and no packet left a stream in it, no earlier poll has one: docs/use/SESSION.md. */
+/** Reports the time at which a poll may have an event although no datagram arrives: 0 while telephone events wait.
+ * CPAY_NONE: only a datagram can help. If a poll had no event and no packet left a stream in it, no earlier poll has one: docs/use/SESSION.md. */
 CPAY_CHECKED cpay_status cpay_session_next_deadline(cpay_session *session, uint64_t *at);
 
 /** Ends the streams of this SSRC at time `now`: polls report their complete units, and then CPAY_EVENT_ENDED. Without such a stream
@@ -1466,7 +1471,6 @@ typedef struct {
     uint64_t telephone_dropped; /**< packets of telephone events that a stream received and no poll reports, since 32 others waited;
                                      not part of the sum */
     size_t streams;        /**< streams now, announced or not */
-    bool waiting;          /**< an event waits for a larger output buffer */
 } cpay_session_counts_info;
 
 CPAY_CHECKED cpay_status cpay_session_counts(cpay_session *session, cpay_session_counts_info *counts);
@@ -1489,7 +1493,7 @@ typedef struct {
     cpay_ending why;      /**< of CPAY_STREAM_LEAVING and CPAY_STREAM_DRAINING: CPAY_ENDED_BY_BYE and so on; in other stages 0 */
     uint8_t payload_type; /**< payload type of the stream's format */
     bool has_round_trip;  /**< a request of the session was answered */
-    cpay_receiver_counts_info counts; /**< `waiting` is false: see cpay_session_counts_info */
+    cpay_receiver_counts_info counts; /**< `waiting` is false: no unit of a session waits */
 } cpay_session_stream;
 
 /** Describes the stream at a place, from 0, in the order in which the streams began. CPAY_NONE: there is no such stream. */

@@ -331,12 +331,9 @@ public:
     [[nodiscard]] cpay_status receive(std::uint64_t now, bytes datagram, cpay_arrival &arrival) noexcept {
         return cpay_session_receive(get(), now, datagram.data(), datagram.size(), &arrival);
     }
-    [[nodiscard]] cpay_status poll(std::uint64_t now, cpay_event &event, room to) noexcept {
-        return cpay_session_poll(get(), now, &event, to.data(), to.size());
-    }
-    /** The same into memory that grows as needed. It has the bytes of the unit or RTCP packet, and is empty otherwise. */
-    [[nodiscard]] cpay_status poll(std::uint64_t now, cpay_event &event, storage &to) {
-        return to.fill(event.bytes, [&](room it) { return poll(now, event, it); });
+    /** `event.data` lends the bytes of the event until the next poll: see cpay_session_poll. */
+    [[nodiscard]] cpay_status poll(std::uint64_t now, cpay_event &event) noexcept {
+        return cpay_session_poll(get(), now, &event);
     }
     [[nodiscard]] cpay_status values(cpay_extension_values &values) noexcept { return cpay_session_values(get(), &values); }
     [[nodiscard]] cpay_status next_deadline(std::uint64_t &at) noexcept { return cpay_session_next_deadline(get(), &at); }

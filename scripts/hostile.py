@@ -173,7 +173,7 @@ void __real_cpay_receiver_free(cpay_receiver *);
 cpay_status __real_cpay_session_new(cpay_session *, const cpay_session_settings *, const cpay_session_format *, size_t,
                                     const uint8_t *, size_t, const cpay_ssrc_pair *, size_t);
 cpay_status __real_cpay_session_receive(cpay_session *, uint64_t, const uint8_t *, size_t, cpay_arrival *);
-cpay_status __real_cpay_session_poll(cpay_session *, uint64_t, cpay_event *, uint8_t *, size_t);
+cpay_status __real_cpay_session_poll(cpay_session *, uint64_t, cpay_event *);
 void __real_cpay_session_free(cpay_session *);
 
 /* The types of VP8 and RED; 255: none. */
@@ -280,8 +280,8 @@ cpay_status __wrap_cpay_session_receive(cpay_session *it, uint64_t now, const ui
     return more ? __real_cpay_session_receive(it, now, bytes, more, arrival) : status;
 }
 
-cpay_status __wrap_cpay_session_poll(cpay_session *it, uint64_t now, cpay_event *event, uint8_t *bytes, size_t size) {
-    cpay_status status = __real_cpay_session_poll(it, now, event, bytes, size);
+cpay_status __wrap_cpay_session_poll(cpay_session *it, uint64_t now, cpay_event *event) {
+    cpay_status status = __real_cpay_session_poll(it, now, event);
     if (status == CPAY_OK && event->kind == CPAY_EVENT_FAULT) note("receiver", 0, 0, 0, 1);
     return status;
 }

@@ -576,10 +576,9 @@ cpay_status cpay_session_receive_at(cpay_session *session, uint64_t now, uint64_
                                           datagram_len, arrival);
 }
 
-cpay_status proved_cpay_session_poll(cpay_handle *session, uint64_t now, cpay_event *event, uint8_t *bytes, size_t bytes_len);
-cpay_status cpay_session_poll(cpay_session *session, uint64_t now, cpay_event *event, uint8_t *bytes, size_t bytes_len) {
-    if (!bytes && bytes_len) return CPAY_INVALID;
-    return proved_cpay_session_poll(&session->handle, now, event, bytes ? bytes : (uint8_t *)nothing, bytes_len);
+cpay_status proved_cpay_session_poll(cpay_handle *session, uint64_t now, cpay_event *event);
+cpay_status cpay_session_poll(cpay_session *session, uint64_t now, cpay_event *event) {
+    return proved_cpay_session_poll(&session->handle, now, event);
 }
 
 cpay_status proved_cpay_session_values(cpay_handle *session, cpay_extension_values *values);

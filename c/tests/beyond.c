@@ -304,7 +304,7 @@ static void sessions(size_t size) {
     MADE(cpay_session_receive(&it, 0, room, bytes, &arrival));
     MADE(cpay_session_receive(&it, 0, frame, size, &arrival));
     for (size_t i = 0; i < 5; i++)
-        while (TOLD(cpay_session_poll(&it, times[i], &event, room, sizeof room)) == CPAY_OK) {
+        while (TOLD(cpay_session_poll(&it, times[i], &event)) == CPAY_OK) {
         }
     for (uint8_t i = 0; i < 40; i++)
         formats[i] = (cpay_session_format){.spec = {.codec = CPAY_OPUS, .rate = 48000}, .payload_type = i};

@@ -448,18 +448,18 @@ static int port(int *met) {
     ARRIVES(CPAY_HELD, 111, 8, 21, "\x15", 1);
     ARRIVES(CPAY_HELD, 112, 9, 12, "\0\x0c\x0c", 3);
     ARRIVES(CPAY_NO_MEDIA, 101, 7, 14, "\5\x0a\0\xa0", 4);
-    if (cpay_session_poll(&session, 0, &event, bytes, 4) || event.kind != CPAY_EVENT_TELEPHONE || bytes[0] != 5) return 10;
+    if (cpay_session_poll(&session, 0, &event) || event.kind != CPAY_EVENT_TELEPHONE || event.data[0] != 5) return 10;
     AGAIN(status, cpay_session_receive(&session, 0, (const uint8_t *)"\x81\xcb\0\1\0\0\0\x08", 8, &arrival));
     if (status || arrival.kind != CPAY_ARRIVAL_RTCP) return 3;
     for (uint8_t units = 0; units < 6;) {
-        AGAIN(status, cpay_session_poll(&session, 0, &event, bytes, 0));
+        AGAIN(status, cpay_session_poll(&session, 0, &event));
         if (status == CPAY_OK && event.kind == CPAY_EVENT_BEGUN) continue;
-        if (status != CPAY_TOO_SMALL || event.unit.bytes != 1) return 4;
-        if (cpay_session_poll(&session, 0, &event, bytes, 1) || bytes[0] != (units < 4 ? 10 + units : 16 + units)) return 5;
+        if (status || event.kind != CPAY_EVENT_UNIT || event.bytes != 1) return 4;
+        if (event.data[0] != (units < 4 ? 10 + units : 16 + units)) return 5;
         units++;
     }
-    if (cpay_session_poll(&session, 0, &event, bytes, 1) != CPAY_NONE) return 6;
-    if (cpay_session_poll(&session, 200, &event, bytes, 0) || event.kind != CPAY_EVENT_ENDED || event.ssrc != 8) return 7;
+    if (cpay_session_poll(&session, 0, &event) != CPAY_NONE) return 6;
+    if (cpay_session_poll(&session, 200, &event) || event.kind != CPAY_EVENT_ENDED || event.ssrc != 8) return 7;
     if (cpay_session_counts(&session, &counts) || counts.received != 8 || counts.ended != 2) return 8;
     cpay_session_free(&session);
     return kept == before ? 0 : 9;
@@ -529,7 +529,7 @@ static int left_in_red(void) {
     return 0;
 }
 
-/* A session is freed with packets that are held, and then with a unit that waits and one that was returned. */
+/* A session is freed with packets that are held, and then with a unit that is lent and one that was. */
 static int left_in_session(void) {
     long before = kept;
     any it = ANY_INIT;
@@ -545,9 +545,9 @@ static int left_in_session(void) {
             size_t size = packet(bytes, 111, 7, number, "x", 1);
             if (cpay_session_receive(&it.session, 0, bytes, size, &arrival) || arrival.outcome != CPAY_HELD) return 2;
         }
-        if (units && (cpay_session_poll(&it.session, 0, &event, bytes, 0) || event.kind != CPAY_EVENT_BEGUN)) return 3;
-        if (units && (cpay_session_poll(&it.session, 0, &event, bytes, 1) || event.kind != CPAY_EVENT_UNIT)) return 4;
-        if (units && cpay_session_poll(&it.session, 0, &event, bytes, 0) != CPAY_TOO_SMALL) return 5;
+        if (units && (cpay_session_poll(&it.session, 0, &event) || event.kind != CPAY_EVENT_BEGUN)) return 3;
+        if (units && (cpay_session_poll(&it.session, 0, &event) || event.kind != CPAY_EVENT_UNIT)) return 4;
+        if (units && (cpay_session_poll(&it.session, 0, &event) || event.kind != CPAY_EVENT_UNIT)) return 5;
         if (!gives_back(&it, before)) return 6;
     }
     return 0;

@@ -74,14 +74,14 @@ static void bye(cpay_session *session, uint64_t now, uint8_t ssrc) {
 /* The next event as text: B, U, F, E or a dot for none, the SSRC, and the unit's number, the error or the reason. */
 static const char *next(cpay_session *session, uint64_t now) {
     static char text[32];
-    uint8_t bytes[64] = {0};
     cpay_event event = {.kind = 99};
-    cpay_status status = cpay_session_poll(session, now, &event, bytes, sizeof bytes);
-    CHECK(status == CPAY_OK || (status == CPAY_NONE && event.kind == 99));
+    cpay_status status = cpay_session_poll(session, now, &event);
+    CHECK(status == CPAY_OK || (status == CPAY_NONE && event.kind == 99 && !event.data));
     if (status) return ".";
+    CHECK(event.data);
     if (event.kind == CPAY_EVENT_UNIT) {
         CHECK(event.status == CPAY_OK && event.why == 0 && event.unit.bytes >= 1);
-        CHECK(event.payload_type != AUDIO || bytes[0] == (uint8_t)event.unit.first);
+        CHECK(event.payload_type != AUDIO || event.data[0] == (uint8_t)event.unit.first);
         sprintf(text, "U%u:%u%s", (unsigned)event.ssrc, (unsigned)(event.unit.first % 65536),
                 event.unit.decodable ? "" : "?");
         return text;
@@ -317,7 +317,6 @@ static void requests(void) {
     cpay_session_format formats[2];
     cpay_session session = CPAY_INIT;
     cpay_event event = {.kind = 99};
-    uint8_t bytes[64];
     memcpy(formats, FORMATS, sizeof formats);
     formats[0].nack = formats[1].pli = true;
     CHECK(cpay_session_settings_feedback(&settings, 77, NAME, sizeof NAME) == CPAY_OK);
@@ -329,17 +328,15 @@ static void requests(void) {
     opus(&session, 0, 1, 5);
     CHECK(happens(&session, 0, ".") && deadline(&session) == 10);
     for (uint64_t now = 10; now < 300; now += 100) {
-        CHECK(cpay_session_poll(&session, now, &event, bytes, 15) == CPAY_TOO_SMALL && event.kind == CPAY_EVENT_FEEDBACK);
-        CHECK(deadline(&session) == 0); /* the next poll has it at once */
-        CHECK(cpay_session_poll(&session, now, &event, bytes, 16) == CPAY_OK && event.bytes == 16 && event.unit.bytes == 0);
-        CHECK(event.ssrc == 1 && event.payload_type == AUDIO && same(bytes, (const char *)nack, 16));
+        CHECK(cpay_session_poll(&session, now, &event) == CPAY_OK && event.kind == CPAY_EVENT_FEEDBACK && event.bytes == 16);
+        CHECK(event.unit.bytes == 0 && event.ssrc == 1 && event.payload_type == AUDIO && same(event.data, (const char *)nack, 16));
         CHECK(happens(&session, now, ".") && deadline(&session) == now + 100);
     }
     sent(&session, 310, VIDEO | 0x80, 1, 1, delta, sizeof delta);
     sent(&session, 310, VIDEO | 0x80, 1, 2, delta, sizeof delta);
-    while (cpay_session_poll(&session, 510, &event, bytes, 64) == CPAY_OK)
+    while (cpay_session_poll(&session, 510, &event) == CPAY_OK)
         if (event.kind == CPAY_EVENT_FEEDBACK && event.payload_type == VIDEO) break;
-    CHECK(event.payload_type == VIDEO && event.bytes == 12 && same(bytes, (const char *)pli, 12));
+    CHECK(event.payload_type == VIDEO && event.bytes == 12 && same(event.data, (const char *)pli, 12));
     cpay_session_free(&session);
 }
 
@@ -354,7 +351,7 @@ static void keyframes_for_others(void) {
     cpay_session session = CPAY_INIT;
     cpay_event event = {.kind = 99};
     cpay_keyframe_answer answer = (cpay_keyframe_answer)99;
-    uint8_t bytes[64], marked = VIDEO | 0x80;
+    uint8_t marked = VIDEO | 0x80;
     memcpy(formats, FORMATS, sizeof formats);
     formats[1].pli = true;
     CHECK(cpay_session_settings_feedback(&settings, 77, NAME, sizeof NAME) == CPAY_OK);
@@ -371,8 +368,8 @@ static void keyframes_for_others(void) {
     CHECK(happens(&session, 0, "."));
     CHECK(cpay_session_request_keyframe(&session, 1, &answer) == CPAY_OK && answer == CPAY_KEYFRAME_REQUESTED);
     CHECK(deadline(&session) == 0);
-    CHECK(cpay_session_poll(&session, 5, &event, bytes, 64) == CPAY_OK && event.kind == CPAY_EVENT_FEEDBACK && event.ssrc == 1);
-    CHECK(event.bytes == 12 && same(bytes, (const char *)pli, 12) && happens(&session, 5, "."));
+    CHECK(cpay_session_poll(&session, 5, &event) == CPAY_OK && event.kind == CPAY_EVENT_FEEDBACK && event.ssrc == 1);
+    CHECK(event.bytes == 12 && same(event.data, (const char *)pli, 12) && happens(&session, 5, "."));
     CHECK(cpay_session_request_keyframe(&session, 1, &answer) == CPAY_OK && answer == CPAY_KEYFRAME_REQUESTED);
     CHECK(happens(&session, 100, ".") && deadline(&session) == 505);
     sent(&session, 200, marked, 1, 3, key, sizeof key);
@@ -391,31 +388,30 @@ static void sent_reports(void) {
     cpay_session_settings_init(&settings, CPAY_FOR_LIVE);
     cpay_session session = CPAY_INIT;
     cpay_event event = {.kind = 99};
-    uint8_t bytes[64];
     CHECK(cpay_session_settings_feedback(&settings, 77, NAME, sizeof NAME) == CPAY_OK);
     CHECK(cpay_session_new(&session, &settings, FORMATS, 2, NULL, 0, NULL, 0) == CPAY_OK);
     opus(&session, 0, 1, 1);
     opus(&session, 0, 1, 2);
     opus(&session, 0, 1, 4);
     opus(&session, 0, 2, 9);
-    while (cpay_session_poll(&session, 999, &event, bytes, 64) == CPAY_OK) CHECK(event.kind != CPAY_EVENT_REPORT);
+    while (cpay_session_poll(&session, 999, &event) == CPAY_OK) CHECK(event.kind != CPAY_EVENT_REPORT);
     CHECK(deadline(&session) == 1999);
     /* 4 are expected, and 1 is lost: 256 / 4 */
-    CHECK(cpay_session_poll(&session, 1999, &event, bytes, 51) == CPAY_TOO_SMALL && event.kind == CPAY_EVENT_REPORT);
-    CHECK(cpay_session_poll(&session, 1999, &event, bytes, 52) == CPAY_OK && event.bytes == 52 && event.unit.bytes == 0);
-    CHECK(event.ssrc == 0 && event.payload_type == 0 && same(bytes, (const char *)first, sizeof first));
-    CHECK(same(bytes + 32, (const char *)name, sizeof name));
+    CHECK(cpay_session_poll(&session, 1999, &event) == CPAY_OK && event.kind == CPAY_EVENT_REPORT);
+    CHECK(event.bytes == 52 && event.unit.bytes == 0);
+    CHECK(event.ssrc == 0 && event.payload_type == 0 && same(event.data, (const char *)first, sizeof first));
+    CHECK(same(event.data + 32, (const char *)name, sizeof name));
     CHECK(happens(&session, 1999, ".") && deadline(&session) == 2999);
     opus(&session, 2000, 1, 5);
-    while (cpay_session_poll(&session, 2998, &event, bytes, 64) == CPAY_OK) CHECK(event.kind != CPAY_EVENT_REPORT);
-    CHECK(cpay_session_poll(&session, 2999, &event, bytes, 64) == CPAY_OK && same(bytes, (const char *)second, sizeof second));
+    while (cpay_session_poll(&session, 2998, &event) == CPAY_OK) CHECK(event.kind != CPAY_EVENT_REPORT);
+    CHECK(cpay_session_poll(&session, 2999, &event) == CPAY_OK && same(event.data, (const char *)second, sizeof second));
     cpay_session_free(&session);
     settings.feedback.has_report_interval = false;
     CHECK(cpay_session_new(&session, &settings, FORMATS, 2, NULL, 0, NULL, 0) == CPAY_OK);
     opus(&session, 0, 1, 1);
     opus(&session, 0, 1, 2);
-    while (cpay_session_poll(&session, 9, &event, bytes, 64) == CPAY_OK) {}
-    CHECK(cpay_session_poll(&session, 5000, &event, bytes, 64) == CPAY_NONE);
+    while (cpay_session_poll(&session, 9, &event) == CPAY_OK) {}
+    CHECK(cpay_session_poll(&session, 5000, &event) == CPAY_NONE);
     cpay_session_free(&session);
 }
 
@@ -424,7 +420,6 @@ static void turns(void) {
     cpay_session_settings settings;
     cpay_session session = CPAY_INIT;
     cpay_event event;
-    uint8_t bytes[64];
     cpay_session_settings_init(&settings, CPAY_FOR_LIVE);
     CHECK(cpay_session_settings_feedback(&settings, 9, (const uint8_t *)"me", 2) == CPAY_OK);
     CHECK(settings.feedback.max_report == 1200);
@@ -434,12 +429,12 @@ static void turns(void) {
         opus(&session, 0, ssrc, 1);
         opus(&session, 0, ssrc, 2);
     }
-    while (cpay_session_poll(&session, 0, &event, bytes, 64) == CPAY_OK) {}
+    while (cpay_session_poll(&session, 0, &event) == CPAY_OK) {}
     for (uint64_t now = 1000; now <= 4000; now += 1000) {
-        CHECK(cpay_session_poll(&session, now, &event, bytes, 64) == CPAY_OK && event.kind == CPAY_EVENT_REPORT);
+        CHECK(cpay_session_poll(&session, now, &event) == CPAY_OK && event.kind == CPAY_EVENT_REPORT);
         /* a header, our SSRC, a block whose first word is the SSRC of its sender, and the name */
-        CHECK(event.bytes == 48 && bytes[0] == 0x81 && bytes[11] == (now / 1000 + 1) % 2 + 1);
-        CHECK(cpay_session_poll(&session, now, &event, bytes, 64) == CPAY_NONE);
+        CHECK(event.bytes == 48 && event.data[0] == 0x81 && event.data[11] == (now / 1000 + 1) % 2 + 1);
+        CHECK(cpay_session_poll(&session, now, &event) == CPAY_NONE);
     }
     cpay_session_free(&session);
 }
@@ -455,7 +450,6 @@ static void transports(void) {
     cpay_session session = CPAY_INIT;
     cpay_arrival arrival;
     cpay_event event;
-    uint8_t bytes[64];
     uint64_t at = 77;
     cpay_session_settings_init(&settings, CPAY_FOR_LIVE);
     CHECK(!settings.has_transport && settings.transport.interval == 100 && settings.transport.window == 2048);
@@ -467,16 +461,15 @@ static void transports(void) {
     CHECK(cpay_session_receive_at(&session, 10, 64500, datagram, sizeof datagram, &arrival) == CPAY_OK);
     CHECK(arrival.kind == CPAY_ARRIVAL_STREAM && arrival.ssrc == 7);
     CHECK(cpay_session_next_deadline(&session, &at) == CPAY_OK && at == 0);
-    CHECK(cpay_session_poll(&session, 10, &event, bytes, 23) == CPAY_TOO_SMALL && event.bytes == 24);
-    CHECK(cpay_session_poll(&session, 10, &event, bytes, 64) == CPAY_OK && event.kind == CPAY_EVENT_TRANSPORT_FEEDBACK);
-    CHECK(event.ssrc == 0 && event.bytes == sizeof first && memcmp(bytes, first, sizeof first) == 0);
-    CHECK(cpay_session_poll(&session, 10, &event, bytes, 64) == CPAY_NONE);
+    CHECK(cpay_session_poll(&session, 10, &event) == CPAY_OK && event.kind == CPAY_EVENT_TRANSPORT_FEEDBACK);
+    CHECK(event.ssrc == 0 && event.bytes == sizeof first && memcmp(event.data, first, sizeof first) == 0);
+    CHECK(cpay_session_poll(&session, 10, &event) == CPAY_NONE);
     /* by the ticks: 110 ms are 440 quarters; the number is behind the first one, so it waits for the restart */
     datagram[17] = 0x90;
     CHECK(cpay_session_restart_transport(&session) == CPAY_OK);
     CHECK(cpay_session_receive(&session, 110, datagram, sizeof datagram, &arrival) == CPAY_OK);
-    CHECK(cpay_session_poll(&session, 110, &event, bytes, 64) == CPAY_OK && event.kind == CPAY_EVENT_TRANSPORT_FEEDBACK);
-    CHECK(bytes[12] == 0x90 && bytes[13] == 1 && bytes[18] == 1 && bytes[19] == 1 && bytes[22] == 440 - 256);
+    CHECK(cpay_session_poll(&session, 110, &event) == CPAY_OK && event.kind == CPAY_EVENT_TRANSPORT_FEEDBACK);
+    CHECK(event.data[12] == 0x90 && event.data[13] == 1 && event.data[18] == 1 && event.data[19] == 1 && event.data[22] == 440 - 256);
     cpay_session_free(&session);
 }
 
@@ -511,7 +504,6 @@ static void telephone(void) {
     static const uint8_t digit[4] = {5, 0x80 | 10, 1, 0xe0}; /* the digit 5, its end, -10 dBm0, 480 ticks (section 2.3) */
     cpay_session session = live();
     cpay_event event = {.kind = 99};
-    uint8_t bytes[8] = {0};
     uint64_t at = 99;
     opus(&session, 0, 1, 1);
     opus(&session, 0, 1, 2);
@@ -522,19 +514,18 @@ static void telephone(void) {
     opus(&session, 0, 1, 5);
     CHECK(cpay_session_next_deadline(&session, &at) == CPAY_OK && at == 0);
     for (int place = 0; place < 2; place++) {
-        CHECK(cpay_session_poll(&session, 0, &event, bytes, 3) == CPAY_TOO_SMALL && event.bytes == 4);
         memset(&event, 99, sizeof event);
-        CHECK(cpay_session_poll(&session, 0, &event, bytes, sizeof bytes) == CPAY_OK && event.kind == CPAY_EVENT_TELEPHONE);
+        CHECK(cpay_session_poll(&session, 0, &event) == CPAY_OK && event.kind == CPAY_EVENT_TELEPHONE);
         CHECK(event.ssrc == 1 && event.payload_type == EVENTS && event.status == CPAY_OK && event.why == 0 && event.bytes == 4);
         CHECK(event.unit.rtp_time == 960u * (3u + (unsigned)place) && event.unit.bytes == 4);
         CHECK(event.unit.starts_talk_spurt == (place == 0) && event.unit.first == 0 && !event.unit.decodable);
-        CHECK(!memcmp(bytes, digit, 4));
+        CHECK(!memcmp(event.data, digit, 4));
     }
     CHECK(happens(&session, 0, "B1:111 U1:1 U1:2 U1:5 ."));
     for (uint16_t number = 6; number < 39; number++) sent(&session, 0, EVENTS, 1, number, digit, 4);
     CHECK(counts_of(&session).telephone_dropped == 1);
     for (int place = 0; place < 32; place++)
-        CHECK(cpay_session_poll(&session, 0, &event, bytes, 8) == CPAY_OK && event.kind == CPAY_EVENT_TELEPHONE);
+        CHECK(cpay_session_poll(&session, 0, &event) == CPAY_OK && event.kind == CPAY_EVENT_TELEPHONE);
     CHECK(happens(&session, 0, "."));
     cpay_session_free(&session);
 }
@@ -605,9 +596,9 @@ static bool is_shown(cpay_session *session, uint16_t number) {
     const uint8_t structure[6] = {0x80, 0x00, 0x1f, 0xf4, 0x50, 0x00};
     const uint8_t key[11] = {0x10, 0x10, 0, 0, 0x9d, 0x01, 0x2a, 16, 0, 16, 0};
     uint8_t payload[27] = {0xbe, 0xde, 0, 3, 0x60 | 2, 0xc0 | template, (uint8_t)(number >> 8), (uint8_t)number};
-    uint8_t bytes[64], out[64];
+    uint8_t bytes[64];
     cpay_arrival arrival;
-    cpay_event event;
+    cpay_event event = {0};
     bool shown = false;
     if (number == 1) payload[4] = 0x60 | 8, memcpy(payload + 8, structure, sizeof structure);
     memcpy(payload + 16, key, sizeof key);
@@ -615,7 +606,7 @@ static bool is_shown(cpay_session *session, uint16_t number) {
     size_t size = packet(bytes, 0x80 | VIDEO, 3, number, payload, sizeof payload);
     bytes[0] |= 0x10;
     CHECK(cpay_session_receive(session, 1000u * number, bytes, size, &arrival) == CPAY_OK);
-    while (cpay_session_poll(session, 1000u * number + 500, &event, out, sizeof out) == CPAY_OK)
+    while (cpay_session_poll(session, 1000u * number + 500, &event) == CPAY_OK)
         if (event.kind == CPAY_EVENT_UNIT) shown = event.unit.decodable;
     return shown;
 }
@@ -669,30 +660,31 @@ static void reports(void) {
     cpay_session_free(&session);
 }
 
-/* An output buffer that is too small: the event waits, and comes again unchanged, also after other datagrams. */
-static void small_buffers(void) {
+/* The bytes of an event are lent: they stay where they are through every call but the next poll. */
+static void lent(void) {
     cpay_session session = live();
-    cpay_event event = {.kind = 99};
+    cpay_event event = {.kind = 99}, other = {.kind = 99};
     cpay_extension_values values = {.audio_level = 5};
-    uint8_t bytes[4] = {7, 7, 7, 7};
+    uint64_t at = 99;
     CHECK(sent(&session, 0, AUDIO, 1, 1, "abc", 3).outcome == CPAY_HELD);
     CHECK(sent(&session, 0, AUDIO, 1, 2, "d", 1).outcome == CPAY_HELD);
-    CHECK(cpay_session_poll(&session, 0, &event, NULL, 0) == CPAY_OK && event.kind == CPAY_EVENT_BEGUN);
-    CHECK(cpay_session_poll(&session, 0, &event, NULL, 1) == CPAY_INVALID);
-    CHECK(cpay_session_poll(&session, 0, &event, NULL, 0) == CPAY_TOO_SMALL && event.kind == CPAY_EVENT_UNIT);
-    CHECK(event.unit.bytes == 3 && event.unit.first == 65537 && event.ssrc == 1 && counts_of(&session).waiting);
+    CHECK(cpay_session_poll(&session, 0, &event) == CPAY_OK && event.kind == CPAY_EVENT_BEGUN && event.bytes == 0 && event.data);
     CHECK(cpay_session_values(&session, &values) == CPAY_NONE && values.audio_level == 5);
+    CHECK(cpay_session_poll(&session, 0, &event) == CPAY_OK && event.kind == CPAY_EVENT_UNIT && event.bytes == 3);
+    CHECK(event.unit.bytes == 3 && event.unit.first == 65537 && event.ssrc == 1 && same(event.data, "abc", 3));
+    CHECK(sent(&session, 0, AUDIO, 1, 3, "efgh", 4).outcome == CPAY_HELD);
     bye(&session, 0, 1);
-    CHECK(cpay_session_poll(&session, 500, &event, bytes, 2) == CPAY_TOO_SMALL && event.unit.first == 65537);
-    CHECK(same(bytes, "\7\7\7\7", 4));
-    CHECK(cpay_session_poll(&session, 500, &event, bytes, 3) == CPAY_OK && same(bytes, "abc\7", 4) && event.unit.last == 65537);
-    CHECK(event.unit.rtp_time == ((uint64_t)1 << 32) + 960 && event.unit.decodable && !event.unit.keyframe);
+    CHECK(counts_of(&session).received == 4 && cpay_session_next_deadline(&session, &at) == CPAY_OK);
     CHECK(cpay_session_values(&session, &values) == CPAY_OK && !values.has_audio_level && values.audio_level == 0);
-    CHECK(!counts_of(&session).waiting);
-    CHECK(cpay_session_poll(&session, 500, &event, bytes, 4) == CPAY_OK && event.unit.first == 65538);
-    CHECK(same(bytes, "dbc\7", 4));
-    CHECK(cpay_session_poll(&session, 500, &event, bytes, 4) == CPAY_OK && event.kind == CPAY_EVENT_ENDED && event.why == 0);
-    CHECK(cpay_session_poll(&session, 500, &event, bytes, 4) == CPAY_NONE && event.kind == CPAY_EVENT_ENDED);
+    CHECK(same(event.data, "abc", 3) && event.unit.last == 65537);
+    CHECK(event.unit.rtp_time == ((uint64_t)1 << 32) + 960 && event.unit.decodable && !event.unit.keyframe);
+    CHECK(cpay_session_poll(&session, 500, &event) == CPAY_OK && event.unit.first == 65538 && same(event.data, "d", 1));
+    CHECK(cpay_session_poll(&session, 500, &event) == CPAY_OK && event.unit.first == 65539 && same(event.data, "efgh", 4));
+    CHECK(cpay_session_poll(&session, 500, &event) == CPAY_OK && event.kind == CPAY_EVENT_ENDED && event.why == 0);
+    CHECK(event.bytes == 0 && event.data);
+    /* the values of the latest unit stay, and no event leaves the struct unchanged */
+    CHECK(cpay_session_values(&session, &values) == CPAY_OK && !values.has_audio_level);
+    CHECK(cpay_session_poll(&session, 500, &other) == CPAY_NONE && other.kind == 99 && !other.data);
     cpay_session_free(&session);
 }
 
@@ -719,8 +711,8 @@ static void values_and_places(void) {
         CHECK(cpay_session_receive(&session, 0, bytes, size, &arrival) == CPAY_OK && arrival.outcome == CPAY_HELD);
     }
     cpay_event event = {0};
-    CHECK(cpay_session_poll(&session, 0, &event, bytes, sizeof bytes) == CPAY_OK && event.kind == CPAY_EVENT_BEGUN);
-    CHECK(cpay_session_poll(&session, 0, &event, bytes, sizeof bytes) == CPAY_OK && event.kind == CPAY_EVENT_UNIT);
+    CHECK(cpay_session_poll(&session, 0, &event) == CPAY_OK && event.kind == CPAY_EVENT_BEGUN);
+    CHECK(cpay_session_poll(&session, 0, &event) == CPAY_OK && event.kind == CPAY_EVENT_UNIT);
     CHECK(cpay_session_values(&session, &values) == CPAY_OK && values.audio_level == -9 && values.voice_activity);
     opus(&session, 0, 2, 1);
     opus(&session, 0, 3, 1); /* it takes the place of the stream in probation */
@@ -732,9 +724,8 @@ static void values_and_places(void) {
     cpay_session_free(&session);
 }
 
-/* A frame of 1.2 MB against a buffer of 1 MiB: it is a fault, and both streams go on. */
+/* A frame of 1.2 MB, above max_unit of 1 MiB: it is a fault, and both streams go on. */
 static void large_unit(void) {
-    static uint8_t room[1048576];
     static const uint8_t key[] = {0x10, 0x10, 0, 0, 0x9d, 0x01, 0x2a, 0x10, 0, 0x10, 0};
     cpay_session session = live();
     cpay_event event = {0};
@@ -758,7 +749,7 @@ static void large_unit(void) {
             }
         }
         cpay_status status;
-        while ((status = cpay_session_poll(&session, time, &event, room, sizeof room)) == CPAY_OK) {
+        while ((status = cpay_session_poll(&session, time, &event)) == CPAY_OK) {
             if (event.kind == CPAY_EVENT_UNIT) units[event.ssrc - 1]++;
             if (event.kind != CPAY_EVENT_FAULT) continue;
             CHECK(event.ssrc == 1 && event.status == CPAY_UNIT_TOO_LARGE && event.bytes == 0 && event.unit.bytes == 0);
@@ -986,7 +977,7 @@ static void handles(void) {
         cpay_status status = kind == 0 ? CPAY_EMPTY : CPAY_OTHER_KIND;
         if (kind == 1) CHECK(cpay_receiver_new(&it.receiver, &receives, NULL, 0) == CPAY_OK);
         CHECK(cpay_session_receive(&it.session, 0, bytes, 4, &arrival) == status);
-        CHECK(cpay_session_poll(&it.session, 0, &event, bytes, 4) == status);
+        CHECK(cpay_session_poll(&it.session, 0, &event) == status);
         CHECK(cpay_session_values(&it.session, &values) == status);
         CHECK(cpay_session_next_deadline(&it.session, &at) == status);
         CHECK(cpay_session_end(&it.session, 0, 1) == status);
@@ -1036,7 +1027,7 @@ int main(void) {
     names();
     descriptors();
     reports();
-    small_buffers();
+    lent();
     values_and_places();
     large_unit();
     settings();

@@ -15,7 +15,7 @@
 enum { HEADER = 12, PAYLOAD = 120, WARM = 8, ROUNDS = 4096, MOST = 1 << 22 };
 
 static cpay_session session = CPAY_INIT;
-static uint8_t bytes[1 << 21], file[MOST];
+static uint8_t file[MOST];
 
 static void check(cpay_status status) {
     if (status == CPAY_OK) return;
@@ -31,7 +31,7 @@ static void take(uint64_t now, const uint8_t *datagram, size_t len) {
     cpay_event event;
     check(cpay_session_receive(&session, now, datagram, len, &arrival));
     for (;;) {
-        cpay_status status = cpay_session_poll(&session, now, &event, bytes, sizeof bytes);
+        cpay_status status = cpay_session_poll(&session, now, &event);
         if (status == CPAY_NONE) return;
         check(status);
         units += event.kind == CPAY_EVENT_UNIT;

@@ -162,20 +162,20 @@ static void count_unit(track *to, const cpay_event *event) {
     if (waited > to->longest_wait) to->longest_wait = waited;
 }
 
-static void count_requests(track *to, const cpay_event *event, const uint8_t *bytes) {
+static void count_requests(track *to, const cpay_event *event) {
     uint16_t numbers[1];
     size_t count = 0;
     bool keyframe = false;
-    if (cpay_read_requests(bytes, event->bytes, event->ssrc, false, numbers, 1, &count, &keyframe)) return;
+    if (cpay_read_requests(event->data, event->bytes, event->ssrc, false, numbers, 1, &count, &keyframe)) return;
     to->requested += count;
     to->keyframes_requested += keyframe;
 }
 
 static bool is_recorded(const peer *it, int number) { return number == AUDIO || number == last_track(it); }
 
-static void handle(peer *it, const cpay_event *event, const uint8_t *bytes) {
+static void handle(peer *it, const cpay_event *event) {
     if (event->kind == CPAY_EVENT_REPORT || event->kind == CPAY_EVENT_FEEDBACK || event->kind == CPAY_EVENT_TRANSPORT_FEEDBACK)
-        send_rtcp(it, bytes, event->bytes);
+        send_rtcp(it, event->data, event->bytes);
     track *to = track_of(it, event->payload_type, event->ssrc);
     if (!to) return;
     int number = number_of(it, to);
@@ -186,20 +186,17 @@ static void handle(peer *it, const cpay_event *event, const uint8_t *bytes) {
         break;
     case CPAY_EVENT_UNIT:
         count_unit(to, event);
-        if (is_recorded(it, number)) record_unit(it->publisher->record, kind_of(number), &event->unit, bytes);
+        if (is_recorded(it, number)) record_unit(it->publisher->record, kind_of(number), &event->unit, event->data);
         break;
-    case CPAY_EVENT_FEEDBACK: count_requests(to, event, bytes); break;
+    case CPAY_EVENT_FEEDBACK: count_requests(to, event); break;
     case CPAY_EVENT_FAULT: to->faults++; break;
     default: break;
     }
 }
 
-/* No event has more bytes than the largest unit, so the memory always suffices. */
 void publisher_poll(peer *it) {
-    static uint8_t bytes[MOST_UNIT];
     cpay_event event = {0};
-    while (cpay_session_poll(&it->publisher->session, now_ms(), &event, bytes, sizeof bytes) == CPAY_OK)
-        handle(it, &event, bytes);
+    while (cpay_session_poll(&it->publisher->session, now_ms(), &event) == CPAY_OK) handle(it, &event);
 }
 
 uint64_t publisher_deadline(peer *it) {

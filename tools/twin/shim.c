@@ -206,7 +206,9 @@ uint32_t twin_session_receive(void *session, uint64_t now, const uint8_t *datagr
  * contiguous, decodable and a keyframe; the number of its bytes, and whether it starts a talk spurt. */
 uint32_t twin_session_poll(void *session, uint64_t now, uint8_t *bytes, size_t bytes_len, uint64_t event[13]) {
     cpay_event it = { 0 };
-    cpay_status status = cpay_session_poll(session, now, &it, bytes, bytes_len);
+    cpay_status status = cpay_session_poll(session, now, &it);
+    if (status == CPAY_OK && it.bytes > bytes_len) return CPAY_TOO_SMALL;
+    if (status == CPAY_OK && it.bytes > 0) memcpy(bytes, it.data, it.bytes);
     uint64_t told[13] = { it.kind, it.ssrc, it.payload_type, it.status, it.why, it.unit.first, it.unit.last, it.unit.rtp_time,
                           it.unit.contiguous, it.unit.decodable, it.unit.keyframe, it.bytes, it.unit.starts_talk_spurt };
     for (int place = 0; place < 13; place++) event[place] = told[place];

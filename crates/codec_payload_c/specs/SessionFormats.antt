@@ -1,5 +1,5 @@
 -- New sessions: their settings, payload formats and pairs of SSRCs, from C.
-use Rattle.std.specs.Prelude.{◌≡◌, ◌⊎◌, ℕ, ◌-◌, ◌&&◌, not, nat_le, nat_lt, if◌then◌else◌, Bool, true, false, Option, Some, None, List, is_some, map, filter_map, take, length}
+use Rattle.std.specs.Prelude.{◌≡◌, ◌⊎◌, ℕ, ◌-◌, ◌&&◌, not, nat_le, nat_lt, if◌then◌else◌, Bool, true, false, Option, Some, None, List, [], is_some, map, filter_map, take, length}
 use Rattle.std.specs.List.{list_all}
 use Rattle.codec_payload_handle.specs.Settings.{codec_numbered}
 use Rattle.codec_payload_handle.specs.declared.object.Object.{Object}
@@ -154,7 +154,7 @@ pub record IsNewSession (s : SessionSettings) (formats : List SessionFormat) (no
   pub settings : Settings
   pub are : AreSessionSettings s formats no_media pairs settings
   pub made : r.session ≡ new_session settings
-  pub waiting : r.waiting ≡ None
+  pub lent : r.lent.items ≡ []
   pub taken : r.taken ≡ None
 
 abbrev pub IsPortSessionOf : SessionSettings → List SessionFormat → List ℕ → List SsrcPair → Object → Type 0

@@ -30,7 +30,6 @@ pub record TellsSessionCounts (r : PortSession) (c : SessionCountsInfo) : Type 0
   pub ended : c.ended ≡ r.session.port.ended
   pub telephone_dropped : c.telephone_dropped ≡ r.session.telephone.dropped
   pub streams : c.streams ≡ length r.session.port.streams
-  pub waiting : c.waiting ≡ is_some r.waiting
   pub accounted : c.received % 2 ^ 64 ≡ (c.rtcp + c.malformed + c.unknown + c.refused + c.unassociated + c.ended + taken_in r.session.port.streams) % 2 ^ 64
 
 -- ---- streams

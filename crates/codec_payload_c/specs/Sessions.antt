@@ -1,12 +1,12 @@
 -- The calls on a session: datagrams in, events out.
-use Rattle.std.specs.Prelude.{◌≡◌, ℕ, Bool, true, false, List, [], Option, Some, None, Result, Ok, Err, length, nat_le}
+use denote.RawPtr.{Ptr}
+use Rattle.std.specs.Prelude.{◌≡◌, ℕ, Bool, true, false, List, [], Option, Some, None, Result, Ok, Err, length}
 use Rattle.std.specs.Global.{Vec}
 use Rattle.std.specs.declared.alloc.AllocError.{AllocError}
 use Rattle.codec_payload_base.specs.declared.wire.Ticks.{Ticks}
 use Rattle.codec_payload_core.specs.Faults.{fault_number}
 use Rattle.codec_payload_core.specs.Release.{Release}
 use Rattle.codec_payload_core.specs.declared.buffer.RtpMeta.{RtpMeta}
-use Rattle.codec_payload_handle.specs.Bytes.{filled}
 use Rattle.codec_payload_handle.specs.Slots.{latest_packets}
 use Rattle.codec_payload_handle.specs.Units.{TellsUnit, TellsValues, no_unit}
 use Rattle.codec_payload_handle.specs.declared.extension_values.ExtensionValues.{ExtensionValues as CValues}
@@ -26,6 +26,7 @@ use Rattle.codec_payload_receiver.specs.declared.receiver.ReceiveError.{ReceiveE
 use Rattle.codec_payload_c.specs.StreamReceivers.{Tells, time_or}
 use Rattle.codec_payload_c.specs.declared.session.Arrival.{Arrival as CArrival}
 use Rattle.codec_payload_c.specs.declared.session.Event.{Event as CEvent}
+use Rattle.std_alloc.specs.Vec.{vec_ptr}
 
 -- ---- datagrams
 
@@ -57,7 +58,7 @@ pub record TakesDatagram (micros : Option ℕ) (r : PortSession) (now : ℕ) (by
   pub at : Ticks
   pub at_is : at.0 ≡ now
   pub receives : Accepts (time_for micros at r.session) at bytes r.session answer s.session
-  pub waiting : s.waiting ≡ r.waiting
+  pub lent : s.lent ≡ r.lent
   pub taken : s.taken ≡ r.taken
 
 -- a datagram is received; for the transport it arrived at its own time in microseconds, if that is given
@@ -81,13 +82,14 @@ TellsJudgedBy time decodable keyframe u unit =
     TellsUnit u (record unit { rtp_time = u.time.numer; decodable = true; keyframe = false })
     × (unit.rtp_time ≡ time_or u.time.numer time) × (unit.decodable ≡ decodable) × (unit.keyframe ≡ keyframe)
 
--- an event of a stream without an error or a reason to end
-abbrev pub event_with : (kind ssrc payload_type : ℕ) → CUnit → CEvent
-event_with kind ssrc payload_type unit = record { kind = kind; ssrc = ssrc; status = 0; why = 0; bytes = unit.bytes; payload_type = payload_type; unit = unit }
+-- an event of a stream without an error or a reason to end; its bytes are at `data`
+abbrev pub event_with : (kind ssrc payload_type : ℕ) → (data : Ptr) → CUnit → CEvent
+event_with kind ssrc payload_type data unit =
+    record { kind = kind; ssrc = ssrc; status = 0; why = 0; data = data; bytes = unit.bytes; payload_type = payload_type; unit = unit }
 
 -- the event of a unit
-abbrev pub TellsUnitOf : (ssrc payload_type : ℕ) → (CUnit → Type 0) → CEvent → Type 0
-TellsUnitOf ssrc payload_type Told e = (e ≡ event_with 1 ssrc payload_type e.unit) × Told e.unit
+abbrev pub TellsUnitOf : (ssrc payload_type : ℕ) → (data : Ptr) → (CUnit → Type 0) → CEvent → Type 0
+TellsUnitOf ssrc payload_type data Told e = (e ≡ event_with 1 ssrc payload_type data e.unit) × Told e.unit
 
 -- the bytes of an RTCP packet; none if memory ran out for it
 abbrev pub bytes_sent : Result (Vec ℕ) AllocError → List ℕ
@@ -98,22 +100,23 @@ bytes_sent (Err e) = []
 abbrev pub telephone_unit : ℕ → Bool → ℕ → CUnit
 telephone_unit rtp_time marker bytes = record no_unit { rtp_time = rtp_time; bytes = bytes; starts_talk_spurt = marker }
 
--- the description of an event
-abbrev pub TellsEvent : Event → CEvent → Type 0
-TellsEvent (events.Begun ssrc payload_type) e = e ≡ event_with 0 ssrc payload_type no_unit
-TellsEvent (events.Unit ssrc payload_type time decodable keyframe (Ok u)) e = TellsUnitOf ssrc payload_type (TellsJudgedBy time decodable keyframe u) e
-TellsEvent (events.Unit ssrc payload_type time decodable keyframe (Err fault)) e = e ≡ event_with 1 ssrc payload_type no_unit
-TellsEvent (events.TooLarge ssrc payload_type unit) e =
-    e ≡ record { kind = 2; ssrc = ssrc; status = 76; why = 0; bytes = 0; payload_type = payload_type; unit = no_unit }
-TellsEvent (events.Refused ssrc payload_type fault) e =
-    e ≡ record { kind = 2; ssrc = ssrc; status = fault_number fault; why = 0; bytes = 0; payload_type = payload_type; unit = no_unit }
-TellsEvent (events.Feedback ssrc payload_type packet) e =
-    e ≡ record { kind = 4; ssrc = ssrc; status = 0; why = 0; bytes = length (bytes_sent packet); payload_type = payload_type; unit = no_unit }
-TellsEvent (events.Telephone ssrc payload_type time marker payload) e = e ≡ event_with 6 ssrc payload_type (telephone_unit time marker (length payload.items))
-TellsEvent (events.Report packet) e = e ≡ record { kind = 5; ssrc = 0; status = 0; why = 0; bytes = length (bytes_sent packet); payload_type = 0; unit = no_unit }
-TellsEvent (events.TransportFeedback packet) e = e ≡ record { kind = 7; ssrc = 0; status = 0; why = 0; bytes = length (bytes_sent packet); payload_type = 0; unit = no_unit }
-TellsEvent (events.Ended ssrc payload_type why) e =
-    e ≡ record { kind = 3; ssrc = ssrc; status = 0; why = ending_number why; bytes = 0; payload_type = payload_type; unit = no_unit }
+-- the event of an RTCP packet of this many bytes
+abbrev pub packet_event : (kind ssrc payload_type : ℕ) → (data : Ptr) → ℕ → CEvent
+packet_event kind ssrc payload_type data bytes = record (event_with kind ssrc payload_type data no_unit) { bytes = bytes }
+
+-- the description of an event whose bytes are at `data`
+abbrev pub TellsEvent : (data : Ptr) → Event → CEvent → Type 0
+TellsEvent data (events.Begun ssrc payload_type) e = e ≡ event_with 0 ssrc payload_type data no_unit
+TellsEvent data (events.Unit ssrc payload_type time decodable keyframe (Ok u)) e = TellsUnitOf ssrc payload_type data (TellsJudgedBy time decodable keyframe u) e
+TellsEvent data (events.Unit ssrc payload_type time decodable keyframe (Err fault)) e = e ≡ event_with 1 ssrc payload_type data no_unit
+TellsEvent data (events.TooLarge ssrc payload_type unit) e = e ≡ record (event_with 2 ssrc payload_type data no_unit) { status = 76 }
+TellsEvent data (events.Refused ssrc payload_type fault) e = e ≡ record (event_with 2 ssrc payload_type data no_unit) { status = fault_number fault }
+TellsEvent data (events.Feedback ssrc payload_type packet) e = e ≡ packet_event 4 ssrc payload_type data (length (bytes_sent packet))
+TellsEvent data (events.Telephone ssrc payload_type time marker payload) e =
+    e ≡ event_with 6 ssrc payload_type data (telephone_unit time marker (length payload.items))
+TellsEvent data (events.Report packet) e = e ≡ packet_event 5 0 0 data (length (bytes_sent packet))
+TellsEvent data (events.TransportFeedback packet) e = e ≡ packet_event 7 0 0 data (length (bytes_sent packet))
+TellsEvent data (events.Ended ssrc payload_type why) e = e ≡ record (event_with 3 ssrc payload_type data no_unit) { why = ending_number why }
 
 -- memory ran out for the unit or the RTCP packet of the event
 abbrev pub is_no_memory : Event → Bool
@@ -148,40 +151,24 @@ bytes_in (events.Ended ssrc payload_type why) = []
 abbrev pub PollsAt : ℕ → Session → Option Event → Session → Type 0
 PollsAt now s answer t = (at : Ticks) × (at.0 ≡ now) × Polls at s answer t
 
--- the event that waits for a larger output buffer, or else the answer of a poll
-abbrev pub ComesFrom : Option Event → ℕ → PortSession → Option Event → PortSession → Type 0
-ComesFrom (Some event) now r next s = (next ≡ Some event) × (s ≡ record r { waiting = None })
-ComesFrom None now r next s = PollsAt now r.session next s.session × (s ≡ record r { session = s.session })
+-- `taken`: the packets of the latest unit so far. Status 17: memory ran out for the unit or the request, and the session keeps it.
+-- Status 0: the event is described, and its bytes are where the description says: they are the bytes that the session lends, in its
+-- own memory.
+abbrev pub Hands : (no_memory : Bool) → Event → (status : ℕ) → (before after : CEvent) → (taken : Option (List RtpMeta)) → PortSession → Type 0
+Hands true next status before after taken s = (status ≡ 17) × (after ≡ before) × (s.taken ≡ taken)
+Hands false next status before after taken s =
+    (status ≡ 0) × TellsEvent (vec_ptr s.lent) next after × (s.lent.items ≡ bytes_in next) × (s.taken ≡ latest_packets (Some next) taken)
 
-abbrev pub Comes : ℕ → PortSession → Option Event → PortSession → Type 0
-Comes now r next s = ComesFrom r.waiting now r next s
+-- Status 32: there is no event, and its description is unchanged.
+abbrev pub HandsOver : Option Event → (status : ℕ) → (before after : CEvent) → (taken : Option (List RtpMeta)) → PortSession → Type 0
+HandsOver None status before after taken s = (status ≡ 32) × (after ≡ before) × (s.taken ≡ taken)
+HandsOver (Some next) status before after taken s = Hands (is_no_memory next) next status before after taken s
 
--- the description of an event and the output buffer, before and after a call
-pub record Handing : Type 0 where
-  pub event_before : CEvent
-  pub event : CEvent
-  pub before : List ℕ
-  pub bytes : List ℕ
-
--- Status 17: memory ran out for the unit or the request, and nothing changes. Status 33: the event is described, and waits, since its
--- bytes do not fit. Status 0: the event is described, and its bytes are at the front of the output buffer.
-abbrev pub Hands : (no_memory fits : Bool) → Event → ℕ → Handing → PortSession → PortSession → Type 0
-Hands true fits next status h r s = (status ≡ 17) × (h.event ≡ h.event_before) × (h.bytes ≡ h.before) × (s ≡ r)
-Hands false false next status h r s = (status ≡ 33) × TellsEvent next h.event × (h.bytes ≡ h.before) × (s ≡ record r { waiting = Some next })
-Hands false true next status h r s =
-    (status ≡ 0) × TellsEvent next h.event × (h.bytes ≡ filled (bytes_in next) h.before) × (s ≡ record r { taken = latest_packets (Some next) r.taken })
-
--- Status 32: there is no event, and the outputs are unchanged.
-abbrev pub HandsOver : Option Event → ℕ → Handing → PortSession → PortSession → Type 0
-HandsOver None status h r s = (status ≡ 32) × (h.event ≡ h.event_before) × (h.bytes ≡ h.before) × (s ≡ r)
-HandsOver (Some next) status h r s = Hands (is_no_memory next) (nat_le (length (bytes_in next)) (length h.before)) next status h r s
-
--- the next event comes, and is handed over
-pub record PollsEvent (now : ℕ) (r : PortSession) (status : ℕ) (h : Handing) (s : PortSession) : Type 0 where
+-- the session is polled, and its event is handed over
+pub record PollsEvent (now : ℕ) (r : PortSession) (status : ℕ) (before after : CEvent) (s : PortSession) : Type 0 where
   pub next : Option Event
-  pub mid : PortSession
-  pub comes : Comes now r next mid
-  pub hands : HandsOver next status h mid s
+  pub polls : PollsAt now r.session next s.session
+  pub hands : HandsOver next status before after r.taken s
 
 -- the values of the latest popped unit, which has these packets
 abbrev pub TellsTaken : Option (List RtpMeta) → ℕ → (before after : CValues) → Type 0

@@ -1,23 +1,21 @@
 //! Sessions: the datagrams of a port in, the events of its streams out.
 
 ghost use Rattle.std.specs.Prelude.{◌≡◌, ◌≢◌, ◌<◌, length, Option};
+ghost use Rattle.std_alloc.specs.Vec.{vec_ptr};
 ghost use Rattle.codec_payload_core.specs.Faults.{fault_number};
-ghost use Rattle.codec_payload_core.specs.Release.{Release};
 ghost use Rattle.codec_payload_session.specs.Idle.{next_of};
 ghost use Rattle.codec_payload_session.specs.Ports.{ends_all, ends_of, restarts_transport};
 ghost use Rattle.codec_payload_session.specs.Units.{HasUnit, with_unit};
 ghost use Rattle.codec_payload_c.specs.SessionFormats.{IsPortSessionOf, MakesSession, is_in_range};
-ghost use Rattle.codec_payload_c.specs.Sessions.{HandsOver, PollsEvent, ReceivesDatagram, TakesDatagram, TellsArrival, TellsEvent, TellsJudgedBy, TellsOfStream, TellsTaken, arrived_as, bytes_in, ending_number, event_with, is_no_memory, telephone_unit};
-ghost use Rattle.codec_payload_c.specs.StreamReceivers.{TellsNumber, at_once_if};
+ghost use Rattle.codec_payload_c.specs.Sessions.{HandsOver, PollsEvent, ReceivesDatagram, TakesDatagram, TellsArrival, TellsJudgedBy, TellsOfStream, TellsTaken, arrived_as, ending_number, event_with, packet_event, telephone_unit};
+ghost use Rattle.codec_payload_c.specs.StreamReceivers.{TellsNumber};
 ghost use Rattle.codec_payload_handle.specs.Kinds.{OnPortSession, Refuses, is_port_session};
 ghost use Rattle.codec_payload_handle.specs.Units.{no_unit};
 
 use crate::receiver::report_answer;
 use crate::session_settings::{SessionFormat, SessionSettings, SsrcPair, session_by};
 use codec_payload_core::buffer::PoppedUnit;
-use codec_payload_core::error::PacketError;
 use codec_payload_core::wire::Ticks;
-use codec_payload_handle::bytes::fill;
 use codec_payload_handle::extension_values::ExtensionValues;
 use codec_payload_handle::handle::Handle;
 use codec_payload_handle::object::{Object, PortSession};
@@ -57,7 +55,9 @@ pub struct Event {
     pub status: u32,
     /// For the end of a stream. 0: a BYE; 1: the idle timeout; 2: a call; 3: a change of format.
     pub why: u32,
-    /// The number of bytes in the output buffer: of the unit, the RTCP packet, or the payload of telephone events.
+    /// Where its bytes are, in the memory of the session, until the next poll.
+    pub data: *const u8,
+    /// The number of its bytes: of the unit, the RTCP packet, or the payload of telephone events.
     pub bytes: usize,
     pub payload_type: u8,
     /// For a unit: its description. For telephone events: `rtp_time`, `bytes`, and the marker as `starts_talk_spurt`.
@@ -177,26 +177,28 @@ fn tell_unit(told: &mut Unit, unit: &PoppedUnit, time: Option<u64>, decodable: b
 
 /// Describes the event of a unit, in place of what `told` has.
 #[inline(always)]
-fn tell_event_of(told: &mut Event, ssrc: u32, payload_type: u8)
-    ensures { told.new ≡ event_with 1 ssrc payload_type told.old.unit }
+fn tell_event_of(told: &mut Event, ssrc: u32, payload_type: u8, data: *const u8)
+    ensures { told.new ≡ event_with 1 ssrc payload_type data told.old.unit }
 {
     told.kind = 1;
     told.ssrc = ssrc;
     told.status = status::OK;
     told.why = 0;
+    told.data = data;
     told.bytes = told.unit.bytes;
     told.payload_type = payload_type;
 }
 
 /// Returns an event of a stream without an error or a reason to end.
-fn event_with(kind: u32, ssrc: u32, payload_type: u8, unit: Unit) -> Event
-    ensures { result ≡ event_with kind ssrc payload_type unit }
+fn event_with(kind: u32, ssrc: u32, payload_type: u8, data: *const u8, unit: Unit) -> Event
+    ensures { result ≡ event_with kind ssrc payload_type data unit }
 {
     Event {
         kind,
         ssrc,
         status: status::OK,
         why: 0,
+        data,
         bytes: unit.bytes,
         payload_type,
         unit,
@@ -215,51 +217,83 @@ fn telephone_unit(rtp_time: u32, marker: bool, payload: &[u8]) -> Unit
     }
 }
 
-/// Returns an event of a stream without a unit, an error or a reason to end.
-fn event_without_unit(kind: u32, ssrc: u32, payload_type: u8) -> Event
-    ensures { result ≡ event_with kind ssrc payload_type no_unit }
+/// Describes an event without bytes and without a unit, with this status and this reason to end. `of` is the kind of the event, the
+/// SSRC and the payload type of its stream.
+#[cold]
+#[inline(never)]
+fn lend_nothing(
+    port: &mut PortSession,
+    told: &mut Event,
+    of: (u32, u32, u8),
+    status: u32,
+    why: u32,
+) -> u32
+    ensures done { result ≡ 0 }
+    ensures told { told.new ≡ record (event_with of.0 of.1 of.2 (vec_ptr port.new.lent) no_unit) { status = status; why = why } }
+    ensures lent { port.new.lent.items ≡ [] }
+    ensures rest { port.new ≡ record port.old { lent = port.new.lent } }
 {
-    event_with(kind, ssrc, payload_type, no_unit())
+    port.lend_nothing();
+    *told = Event {
+        status,
+        why,
+        ..event_with(of.0, of.1, of.2, port.lent.as_ptr(), no_unit())
+    };
+    status::OK
 }
 
-/// Returns the event of a refused frame.
-fn refused_event(ssrc: u32, payload_type: u8, fault: &PacketError) -> Event
-    ensures { result ≡ record (event_with 2 ssrc payload_type no_unit) { status = fault_number fault.now } }
+/// Lends an RTCP packet to send, and describes its event. `of` is the kind of the event, the SSRC and the payload type of its
+/// stream.
+#[cold]
+#[inline(never)]
+fn lend_packet(
+    port: &mut PortSession,
+    told: &mut Event,
+    of: (u32, u32, u8),
+    packet: Vec<u8>,
+) -> u32
+    ensures done { result ≡ 0 }
+    ensures told { told.new ≡ packet_event of.0 of.1 of.2 (vec_ptr port.new.lent) (length packet.items) }
+    ensures lent { port.new ≡ record port.old { lent = packet } }
 {
-    Event {
-        status: u32::from(fault.number()),
-        ..event_without_unit(2, ssrc, payload_type)
-    }
+    port.lend(packet);
+    *told = Event {
+        bytes: port.lent.len(),
+        ..event_with(of.0, of.1, of.2, port.lent.as_ptr(), no_unit())
+    };
+    status::OK
 }
 
-/// Returns the event of a unit that is too large.
-fn too_large_event(ssrc: u32, payload_type: u8) -> Event
-    ensures { result ≡ record (event_with 2 ssrc payload_type no_unit) { status = 76 } }
+/// Lends the payload of telephone events, and describes their event. `of` is the kind of the event, the SSRC and the payload type of
+/// its stream, and `unit` describes the payload.
+#[cold]
+#[inline(never)]
+fn lend_telephone(
+    port: &mut PortSession,
+    told: &mut Event,
+    of: (u32, u32, u8),
+    unit: Unit,
+    payload: Vec<u8>,
+) -> u32
+    ensures done { result ≡ 0 }
+    ensures told { told.new ≡ event_with of.0 of.1 of.2 (vec_ptr port.new.lent) unit }
+    ensures lent { port.new ≡ record port.old { lent = payload } }
 {
-    Event {
-        status: status::UNIT_TOO_LARGE,
-        ..event_without_unit(2, ssrc, payload_type)
-    }
+    port.lend(payload);
+    *told = event_with(of.0, of.1, of.2, port.lent.as_ptr(), unit);
+    status::OK
 }
 
-/// Returns the event of an RTCP packet to send, which has these bytes.
-fn packet_event(kind: u32, ssrc: u32, payload_type: u8, packet: &[u8]) -> Event
-    ensures { result ≡ record (event_with kind ssrc payload_type no_unit) { bytes = length packet.now } }
-{
-    Event {
-        bytes: packet.len(),
-        ..event_without_unit(kind, ssrc, payload_type)
-    }
-}
-
-/// Describes an event with this unit for C, if it has one, in place of what `told` has. A unit is described field by field, since
-/// most events are units.
+/// Hands over an event of the session: describes it, and lends its bytes. If memory ran out for its unit or its packet, nothing
+/// changes. A unit is described field by field, since most events are units.
 #[inline(always)]
-fn tell_event(told: &mut Event, event: &SessionEvent<()>, popped: &PoppedUnit)
-    requires { HasUnit (Option.Some (with_unit event.now popped.now)) }
-    ensures { TellsEvent (with_unit event.now popped.now) told.new }
+fn hand_over(port: &mut PortSession, next: SessionEvent<()>, told: &mut Event) -> u32
+    requires { HasUnit (Option.Some (with_unit next port.old.unit)) }
+    ensures hands { HandsOver (Option.Some (with_unit next port.old.unit)) result told.old told.new port.old.taken port.new }
+    ensures session { port.new.session ≡ port.old.session }
+    ensures unchanged { result ≢ 0 → told.new ≡ told.old }
 {
-    match event {
+    match next {
         SessionEvent::Unit {
             ssrc,
             payload_type,
@@ -268,52 +302,33 @@ fn tell_event(told: &mut Event, event: &SessionEvent<()>, popped: &PoppedUnit)
             keyframe,
             unit: Ok(()),
         } => {
-            tell_unit(&mut told.unit, popped, *rtp_time, *decodable, *keyframe);
-            tell_event_of(told, *ssrc, *payload_type);
+            tell_unit(&mut told.unit, &port.unit, rtp_time, decodable, keyframe);
+            port.lend_unit();
+            tell_event_of(told, ssrc, payload_type, port.lent.as_ptr());
+            status::OK
         }
-        _ => *told = event_of(event, popped),
-    }
-}
-
-/// Returns the description of an event with this unit for C, if it has one.
-#[cold]
-#[inline(never)]
-fn event_of(event: &SessionEvent<()>, popped: &PoppedUnit) -> Event
-    requires { HasUnit (Option.Some (with_unit event.now popped.now)) }
-    ensures { TellsEvent (with_unit event.now popped.now) result }
-{
-    match event {
-        SessionEvent::Begun { ssrc, payload_type } => event_without_unit(0, *ssrc, *payload_type),
-        SessionEvent::Unit {
-            ssrc,
-            payload_type,
-            rtp_time,
-            decodable,
-            keyframe,
-            unit,
-        } => match unit {
-            Ok(()) => {
-                let mut unit = no_unit();
-                tell_unit(&mut unit, popped, *rtp_time, *decodable, *keyframe);
-                event_with(1, *ssrc, *payload_type, unit)
-            }
-            Err(_) => event_without_unit(1, *ssrc, *payload_type),
-        },
+        SessionEvent::Unit { unit: Err(_), .. } => status::OUT_OF_MEMORY,
+        SessionEvent::Begun { ssrc, payload_type } => {
+            lend_nothing(port, told, (0, ssrc, payload_type), status::OK, 0)
+        }
         SessionEvent::TooLarge {
             ssrc,
             payload_type,
             ..
-        } => too_large_event(*ssrc, *payload_type),
+        } => lend_nothing(port, told, (2, ssrc, payload_type), status::UNIT_TOO_LARGE, 0),
         SessionEvent::Refused {
             ssrc,
             payload_type,
             fault,
-        } => refused_event(*ssrc, *payload_type, fault),
-        SessionEvent::Feedback {
+        } => {
+            let status = u32::from(fault.number());
+            lend_nothing(port, told, (2, ssrc, payload_type), status, 0)
+        }
+        SessionEvent::Ended {
             ssrc,
             payload_type,
-            ..
-        } => packet_event(4, *ssrc, *payload_type, bytes_of(event, popped)),
+            why,
+        } => lend_nothing(port, told, (3, ssrc, payload_type), status::OK, number_of(why)),
         SessionEvent::Telephone {
             ssrc,
             payload_type,
@@ -321,85 +336,33 @@ fn event_of(event: &SessionEvent<()>, popped: &PoppedUnit) -> Event
             marker,
             payload,
         } => {
-            let unit = telephone_unit(*rtp_time, *marker, payload);
-            event_with(6, *ssrc, *payload_type, unit)
+            let unit = telephone_unit(rtp_time, marker, &payload);
+            lend_telephone(port, told, (6, ssrc, payload_type), unit, payload)
         }
-        SessionEvent::Report { .. } => packet_event(5, 0, 0, bytes_of(event, popped)),
-        SessionEvent::TransportFeedback { .. } => packet_event(7, 0, 0, bytes_of(event, popped)),
-        SessionEvent::Ended {
+        SessionEvent::Feedback {
             ssrc,
             payload_type,
-            why,
-        } => Event {
-            why: number_of(*why),
-            ..event_without_unit(3, *ssrc, *payload_type)
-        },
-    }
-}
-
-/// Returns whether memory ran out for the unit or the packet of an event.
-fn is_no_memory(event: &SessionEvent<()>) -> bool
-    ensures { (unit : Release) → result ≡ is_no_memory (with_unit event.now unit) }
-{
-    match event {
-        SessionEvent::Unit { unit: Err(_), .. } => true,
-        SessionEvent::Feedback { packet: Err(_), .. } => true,
-        SessionEvent::Report { packet: Err(_) } => true,
-        SessionEvent::TransportFeedback { packet: Err(_) } => true,
-        _ => false,
-    }
-}
-
-/// Returns the bytes of an event with this unit: those of its unit, of its RTCP packet, or of its telephone events.
-fn bytes_of<'a>(event: &'a SessionEvent<()>, popped: &'a PoppedUnit) -> &'a [u8]
-    ensures { result.now ≡ bytes_in (with_unit event.now popped.now) }
-{
-    match event {
-        SessionEvent::Unit { unit: Ok(()), .. } => &popped.bytes,
-        SessionEvent::Feedback {
             packet: Ok(packet),
-            ..
-        } => packet,
-        SessionEvent::Telephone { payload, .. } => payload,
-        SessionEvent::Report { packet: Ok(packet) } => packet,
-        SessionEvent::TransportFeedback { packet: Ok(packet) } => packet,
-        _ => &[],
+        } => lend_packet(port, told, (4, ssrc, payload_type), packet),
+        SessionEvent::Report { packet: Ok(packet) } => lend_packet(port, told, (5, 0, 0), packet),
+        SessionEvent::TransportFeedback { packet: Ok(packet) } => {
+            lend_packet(port, told, (7, 0, 0), packet)
+        }
+        SessionEvent::Feedback { packet: Err(_), .. } => status::OUT_OF_MEMORY,
+        SessionEvent::Report { packet: Err(_) } => status::OUT_OF_MEMORY,
+        SessionEvent::TransportFeedback { packet: Err(_) } => status::OUT_OF_MEMORY,
     }
 }
 
-/// Hands over the event that waits, if one does: it is described, and its bytes go to the output buffer. If that is too small, the
-/// event still waits.
-fn hand_over(port: &mut PortSession, alloc: Global, event: &mut Event, bytes: &mut [u8]) -> u32
-    ensures hands { HandsOver port.old.waiting result (record { event_before = event.old; event = event.new; before = bytes.old; bytes = bytes.new }) (record port.old { waiting = Option.None }) port.new }
-    ensures untouched { result ≢ 0 → bytes.new ≡ bytes.old }
-    ensures unchanged { result ≢ 0 → result ≢ 33 → event.new ≡ event.old }
+/// Reports the next event of the session, and lends its bytes until the next poll.
+fn poll(port: &mut PortSession, alloc: Global, now: u64, event: &mut Event) -> u32
+    ensures polls { PollsEvent now port.old result event.old event.new port.new }
+    ensures unchanged { result ≢ 0 → event.new ≡ event.old }
 {
-    let Some((next, popped)) = port.waiting.parts() else {
-        return status::NONE;
-    };
-    if is_no_memory(next) {
-        port.waiting.clear(alloc);
-        return status::OUT_OF_MEMORY;
+    match port.poll(alloc, Ticks(now)) {
+        Some(next) => hand_over(port, next, event),
+        None => status::NONE,
     }
-    tell_event(event, next, popped);
-    if !fill(bytes, bytes_of(next, popped)) {
-        return status::TOO_SMALL;
-    }
-    port.waiting.move_to(&mut port.taken, alloc);
-    status::OK
-}
-
-/// Reports the next event, and writes its bytes to the output buffer: the event that waits for a larger output buffer, or the next
-/// one from the session.
-fn poll(port: &mut PortSession, alloc: Global, now: u64, event: &mut Event, bytes: &mut [u8]) -> u32
-    ensures polls { PollsEvent now port.old result (record { event_before = event.old; event = event.new; before = bytes.old; bytes = bytes.new }) port.new }
-    ensures untouched { result ≢ 0 → bytes.new ≡ bytes.old }
-    ensures unchanged { result ≢ 0 → result ≢ 33 → event.new ≡ event.old }
-{
-    if !port.waiting.is_some() {
-        port.waiting.poll(&mut port.session, Ticks(now));
-    }
-    hand_over(port, alloc, event, bytes)
 }
 
 /// Creates a session with these settings, formats, payload types without media and pairs of SSRCs, in an empty handle. A payload
@@ -504,25 +467,23 @@ pub extern "C" fn cpay_session_restart_transport(alloc: Global, handle: &mut Han
     answer
 }
 
-/// Reports the next event at that time, and writes the bytes of its unit to the output buffer.
+/// Reports the next event at that time, and where its bytes are: in the session's memory, until the next poll.
 #[unsafe(no_mangle)]
 pub extern "C" fn cpay_session_poll(
     alloc: Global,
     handle: &mut Handle,
     now: u64,
     event: &mut Event,
-    bytes: &mut [u8],
 ) -> u32
-    ensures polls { OnPortSession handle.old.place.value (λ r s. PollsEvent now r result (record { event_before = event.old; event = event.new; before = bytes.old; bytes = bytes.new }) s) handle.new.place.value }
+    ensures polls { OnPortSession handle.old.place.value (λ r s. PollsEvent now r result event.old event.new s) handle.new.place.value }
     ensures refused { Refuses is_port_session handle.old.place.value result handle.new.place.value }
-    ensures untouched { result ≢ 0 → bytes.new ≡ bytes.old }
-    ensures unchanged { result ≢ 0 → result ≢ 33 → event.new ≡ event.old }
+    ensures unchanged { result ≢ 0 → event.new ≡ event.old }
 {
     let Some(mut object) = handle.take(alloc) else {
         return status::EMPTY;
     };
     let answer = match &mut *object {
-        Object::PortSession(port) => poll(port, alloc, now, event, bytes),
+        Object::PortSession(port) => poll(port, alloc, now, event),
         _ => status::OTHER_KIND,
     };
     handle.put(object);
@@ -557,19 +518,6 @@ pub extern "C" fn cpay_session_values(
     answer
 }
 
-/// Returns when a poll may have an event even if no datagram arrives: at once if one waits for a larger output buffer.
-fn next_poll(port: &PortSession) -> Option<u64>
-    ensures { result ≡ at_once_if port.now.waiting (next_of port.now.session) }
-{
-    if port.waiting.is_some() {
-        return Some(0);
-    }
-    match port.session.next_deadline() {
-        Some(at) => Some(at.0),
-        None => None,
-    }
-}
-
 /// Reports when a poll may have an event even if no datagram arrives.
 #[unsafe(no_mangle)]
 pub extern "C" fn cpay_session_next_deadline(
@@ -577,7 +525,7 @@ pub extern "C" fn cpay_session_next_deadline(
     handle: &mut Handle,
     at: &mut u64,
 ) -> u32
-    ensures tells { OnPortSession handle.old.place.value (λ r s. (s ≡ r) × TellsNumber (at_once_if r.waiting (next_of r.session)) result at.old at.new) handle.new.place.value }
+    ensures tells { OnPortSession handle.old.place.value (λ r s. (s ≡ r) × TellsNumber (next_of r.session) result at.old at.new) handle.new.place.value }
     ensures refused { Refuses is_port_session handle.old.place.value result handle.new.place.value }
     ensures unchanged { result ≢ 0 → at.new ≡ at.old }
 {
@@ -585,9 +533,9 @@ pub extern "C" fn cpay_session_next_deadline(
         return status::EMPTY;
     };
     let answer = match &mut *object {
-        Object::PortSession(port) => match next_poll(port) {
+        Object::PortSession(port) => match port.session.next_deadline() {
             Some(deadline) => {
-                *at = deadline;
+                *at = deadline.0;
                 status::OK
             }
             None => status::NONE,

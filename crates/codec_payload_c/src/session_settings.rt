@@ -11,10 +11,8 @@ use crate::session_names::{StreamNameIds, name_ids_of};
 use codec_payload_core::wire::{CodecSpec, Frequency};
 use codec_payload_feedback::transport::TransportSettings;
 use codec_payload_feedback_requests::nack::NackSettings;
-use codec_payload_handle::event_slot::EventSlot;
 use codec_payload_handle::object::PortSession;
 use codec_payload_handle::settings::{Spec, codec_of};
-use codec_payload_handle::slot::TakenPackets;
 use codec_payload_handle::status;
 use codec_payload_receiver::receiver::RedSettings;
 use codec_payload_session::formats::{
@@ -447,15 +445,7 @@ pub(crate) fn session_by(
         Err(status) => return Err(status),
     };
     match Session::new(alloc, settings) {
-        Ok(session) => {
-            let waiting = EventSlot::new(alloc);
-            let taken = TakenPackets::new(alloc);
-            Ok(PortSession {
-                session,
-                waiting,
-                taken,
-            })
-        }
+        Ok(session) => Ok(PortSession::new(alloc, session)),
         Err(_) => Err(status::INVALID),
     }
 }

@@ -29,8 +29,6 @@ pub struct SessionCountsInfo {
     pub telephone_dropped: u64,
     /// The number of streams, announced or not.
     pub streams: usize,
-    /// Whether an event waits for a larger output buffer.
-    pub waiting: bool,
 }
 
 /// A stream of a session.
@@ -102,7 +100,6 @@ fn counts_of(port: &PortSession) -> SessionCountsInfo
         ended: counts.ended,
         telephone_dropped: counts.telephone_dropped,
         streams: port.session.stream_count(),
-        waiting: port.waiting.is_some(),
     }
 }
 

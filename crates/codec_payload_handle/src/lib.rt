@@ -3,12 +3,12 @@
 #![tactic(auto)]
 
 pub mod bytes;
-pub mod event_slot;
 pub mod extension_values;
 pub mod extra;
 pub mod handle;
 pub mod loose;
 pub mod object;
+pub mod port;
 pub mod settings;
 pub mod slot;
 pub mod status;

@@ -1,8 +1,7 @@
 //! The contents of a handle.
 
-use crate::event_slot::EventSlot;
 use crate::slot::{TakenPackets, UnitSlot};
-use codec_payload_core::buffer::DepacketizingBuffer;
+use codec_payload_core::buffer::{DepacketizingBuffer, PoppedUnit};
 use codec_payload_core::codec::{CodecDepacketizer, CodecExtra, CodecPacketizer};
 use codec_payload_core::payloads::Payloads;
 use codec_payload_core::red::RedSender;
@@ -62,11 +61,15 @@ pub struct StreamReceiver {
     pub taken: TakenPackets,
 }
 
-/// A session, the event whose bytes wait for a larger output buffer, and the packets of the latest unit.
+/// A session, the bytes of its latest event, and the packets of the latest unit.
 #[derive(Drop)]
 pub struct PortSession {
     pub session: Session,
-    pub waiting: EventSlot,
+    /// Memory for the next unit. What is in it is unspecified.
+    pub unit: PoppedUnit,
+    /// The bytes that are lent: of the unit, the RTCP packet or the telephone events of the latest event. No call but the next
+    /// poll changes them.
+    pub lent: Vec<u8>,
     pub taken: TakenPackets,
 }
 

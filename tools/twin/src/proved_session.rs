@@ -46,8 +46,6 @@ unsafe extern "C" {
 
 /// Room for the bytes of an event.
 const ROOM: usize = 1 << 16;
-/// `CPAY_TOO_SMALL`.
-const TOO_SMALL: u32 = 33;
 
 pub struct Session(*mut c_void);
 
@@ -66,17 +64,12 @@ impl Session {
         arrival
     }
 
-    /// The fields of the event and of its unit, and its bytes. The first call has no room for bytes, so the event of a unit that has
-    /// bytes waits.
+    /// The fields of the event and of its unit, and its bytes.
     pub fn poll(&mut self, now: u64) -> Option<([u64; 12], Vec<u8>)> {
         let (mut bytes, mut event) = (vec![0; ROOM], [0; 13]);
-        let mut poll = |room| unsafe {
-            twin_session_poll(self.0, now, bytes.as_mut_ptr(), room, event.as_mut_ptr())
+        let status = unsafe {
+            twin_session_poll(self.0, now, bytes.as_mut_ptr(), ROOM, event.as_mut_ptr())
         };
-        let mut status = poll(0);
-        if status == TOO_SMALL {
-            status = poll(ROOM);
-        }
         if status == NONE {
             return None;
         }

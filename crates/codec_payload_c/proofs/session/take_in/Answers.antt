@@ -13,7 +13,7 @@ returns-in-Some c =
       receives =
           subst (λ (micros : Option ℕ). Accepts (time_for micros at r) at c.args.datagram.now r c.receive_at.result c.receive_at.new.self) (sym c.in-Some.is)
           c.receive_at.ensures;
-      waiting = refl;
+      lent = refl;
       taken = refl;
     }
 
@@ -27,6 +27,6 @@ returns-in-None c =
       receives =
           subst (λ (micros : Option ℕ). Accepts (time_for micros at r) at c.args.datagram.now r c.receive.result c.receive.new.self) (sym c.in-None.is)
           c.receive.ensures;
-      waiting = refl;
+      lent = refl;
       taken = refl;
     }

@@ -11,7 +11,7 @@ returns-in-Err-clause-err c =
 
 pub returns-in-Ok-new-clause-ok : goal.returns-in-Ok-new-clause-ok
 returns-in-Ok-new-clause-ok c = (
-  record { settings = c.in-Ok.settings; are = c.in-Ok.ensures.ok; made = made_new (fault_of c.in-Ok.settings) c.in-Ok.settings c.in-Ok-new.session c.in-Ok-new.ensures; waiting = c.new-waiting.ensures; taken = c.new-taken.ensures },
+  record { settings = c.in-Ok.settings; are = c.in-Ok.ensures.ok; made = made_new (fault_of c.in-Ok.settings) c.in-Ok.settings c.in-Ok-new.session c.in-Ok-new.ensures; lent = c.new.ensures.lent; taken = c.new.ensures.taken },
   range_of_made (session_in_range c.args.given.now) (list_all format_in_range c.args.formats.now) c.args.given.now c.args.formats.now c.args.no_media.now c.args.pairs.now c.in-Ok.settings
       c.in-Ok-new.session c.in-Ok.ensures.ok c.in-Ok.ensures.in_range c.in-Ok-new.ensures,
 )
