@@ -7,6 +7,7 @@ mod DeadlineLemmas
 mod DueLemmas
 mod GoodbyeLemmas
 mod IdleLemmas
+mod InfoLemmas
 mod KeyframeLemmas
 mod NameLemmas
 mod NamedLemmas
