@@ -12,13 +12,15 @@
 #include <stdlib.h>
 #include <string.h>
 
-enum { MOST_TEXT = 1 << 16, MOST_MEDIA = 32, CHANGES = 3000 };
+enum { MOST_TEXT = 1 << 16, MOST_MEDIA = 32, MOST_GROUPS = 1000, CHANGES = 3000 };
 
 static char given[MOST_TEXT], changed[MOST_TEXT];
 static cpay_sdp_media media[MOST_MEDIA];
 
 static const char *const roles[] = {"ignored", "media", "RED", "retransmission", "events", "comfort noise", "FEC"};
 static const char *const kinds[] = {"other", "audio", "video"};
+static const char *const directions[] = {"sendrecv", "sendonly", "recvonly", "inactive"};
+static const char *const setups[] = {"none", "active", "passive", "actpass", "holdconn"};
 
 static void fail(const char *what) {
     fprintf(stderr, "descriptions: %s\n", what);
@@ -27,6 +29,13 @@ static void fail(const char *what) {
 
 /* ---- Printing ---- */
 
+/* ` NAME TEXT`, if there is a text. A 0 in it is printed as `?`. */
+static void print_text(const char *name, cpay_sdp_text it) {
+    if (it.len == 0) return;
+    printf("%s", name);
+    for (size_t i = 0; i < it.len; i++) putchar(it.at[i] ? it.at[i] : '?');
+}
+
 static void print_format(const cpay_sdp_format *it) {
     printf("%u %s/%u/%u: %s", it->payload_type, it->name, it->clock_rate, it->channels, roles[it->role]);
     if (it->role == CPAY_SDP_MEDIA) printf(" %u", it->codec);
@@ -34,6 +43,8 @@ static void print_format(const cpay_sdp_format *it) {
     if (it->profile) printf(" profile %u", it->profile);
     printf("%s%s%s%s%s%s\n", it->octet_align ? " octet-align" : "", it->nack ? " nack" : "", it->pli ? " pli" : "",
            it->fir ? " fir" : "", it->transport_cc ? " transport-cc" : "", it->remb ? " remb" : "");
+    print_text("fmtp ", it->fmtp);
+    if (it->fmtp.len) printf("\n");
 }
 
 static void print_ids(const cpay_sdp_media *it) {
@@ -72,11 +83,62 @@ static void print_receiver(const cpay_sdp_media *it, uint8_t payload_type) {
     printf("\n");
 }
 
+static void print_transport(const cpay_sdp_transport *it) {
+    printf("ICE:");
+    print_text(" user ", it->ice_ufrag);
+    print_text(" password ", it->ice_pwd);
+    print_text(" options ", it->ice_options);
+    printf("%s%s\n", it->ice_lite ? " lite" : "", it->end_of_candidates ? " end" : "");
+    for (size_t i = 0; i < it->candidate_count; i++) print_text(i ? "\ncandidate " : "candidate ", it->candidates[i]);
+    if (it->candidate_count) printf("\n");
+    if (it->more_candidates) printf("%zu more candidates\n", it->more_candidates);
+    if (it->setup) printf("setup %s\n", setups[it->setup]);
+    for (size_t i = 0; i < it->fingerprint_count; i++) {
+        print_text("fingerprint ", it->fingerprints[i].hash);
+        print_text(" ", it->fingerprints[i].value);
+        printf("\n");
+    }
+}
+
+static void print_layers(const cpay_sdp_media *it) {
+    for (size_t i = 0; i < it->rid_count; i++) {
+        print_text("rid ", it->rids[i].id);
+        printf(" %s", it->rids[i].sent ? "send" : "recv");
+        print_text(" ", it->rids[i].restrictions);
+        printf("\n");
+    }
+    if (it->more_rids) printf("%zu more rids\n", it->more_rids);
+    for (size_t i = 0; i < it->layer_count; i++) {
+        const cpay_sdp_layer *layer = &it->layers[i];
+        printf("simulcast %s %u", layer->sent ? "send" : "recv", layer->stream);
+        print_text(" ", layer->rid);
+        printf("%s\n", layer->paused ? " paused" : "");
+    }
+    if (it->more_layers) printf("%zu more layers\n", it->more_layers);
+}
+
+/* What a section says beside formats. */
+static void print_beside_formats(const cpay_sdp_media *it) {
+    print_text("type ", it->type);
+    print_text(" ", it->protocol);
+    print_text(" mid ", it->mid);
+    printf(" %s\n", directions[it->direction]);
+    for (size_t i = 0; i < it->msid_count; i++) {
+        print_text("msid ", it->msids[i].stream);
+        print_text(" ", it->msids[i].track);
+        printf("\n");
+    }
+    if (it->more_msids) printf("%zu more msids\n", it->more_msids);
+    print_layers(it);
+    print_transport(&it->transport);
+}
+
 static void print_media(const cpay_sdp_media *it) {
     printf("line %zu: %s, port %u%s%s%s", it->line, kinds[it->kind], it->port, it->is_rtp ? "" : ", not RTP",
            it->encrypted ? ", encrypted" : "", it->rtcp_mux ? ", rtcp-mux" : "");
     if (it->packet_time) printf(", ptime %u", it->packet_time);
     printf("\n");
+    print_beside_formats(it);
     for (size_t i = 0; i < it->format_count; i++) print_format(&it->formats[i]);
     print_ids(it);
     for (size_t i = 0; i < it->source_count; i++) {
@@ -147,9 +209,25 @@ static void print_session(size_t count) {
     for (size_t i = 0; i < session.pairs_len; i++) printf("pair %u %u\n", session.pairs[i].ssrc, session.pairs[i].rtx_ssrc);
 }
 
+/* The groups, or the fault of one. */
+static void print_groups(const char *text, size_t size) {
+    static cpay_sdp_group groups[MOST_GROUPS];
+    cpay_sdp_fault fault = {0, CPAY_SDP_NO_ERROR};
+    size_t count = 0;
+    cpay_status status = cpay_sdp_groups(text, size, groups, MOST_GROUPS, &count, &fault);
+    if (status == CPAY_INVALID) printf("groups: line %zu: %s\n", fault.line, cpay_sdp_error_text(fault.error));
+    else if (status) fail(cpay_status_text(status));
+    for (size_t i = 0; !status && i < count; i++) {
+        print_text("group ", groups[i].semantics);
+        for (cpay_sdp_text mid = cpay_sdp_word(&groups[i].mids); mid.len > 0; mid = cpay_sdp_word(&groups[i].mids)) print_text(" ", mid);
+        printf("\n");
+    }
+}
+
 static void print_description(const char *text, size_t size) {
     cpay_sdp_fault fault = {0, CPAY_SDP_NO_ERROR};
     size_t count = 0;
+    print_groups(text, size);
     cpay_status status = cpay_sdp_read(text, size, media, MOST_MEDIA, &count, &fault);
     if (status == CPAY_INVALID) printf("line %zu: %s\n", fault.line, cpay_sdp_error_text(fault.error));
     else if (status) fail(cpay_status_text(status));
@@ -291,6 +369,27 @@ static size_t change(uint32_t seed, size_t size) {
     return size;
 }
 
+/* A piece of the description must lie within it. */
+static void check_text(cpay_sdp_text it, const char *text, size_t size) {
+    if (it.len > 0 && (it.at < text || it.len > size || (size_t)(it.at - text) > size - it.len)) fail("a text is out of bounds");
+}
+
+static void check_beside_formats(const cpay_sdp_media *it, const char *text, size_t size) {
+    const cpay_sdp_transport *transport = &it->transport;
+    const cpay_sdp_text texts[] = {it->type, it->protocol, it->mid, transport->ice_ufrag, transport->ice_pwd, transport->ice_options};
+    if (transport->fingerprint_count > CPAY_SDP_MAX_FINGERPRINTS || transport->candidate_count > CPAY_SDP_MAX_CANDIDATES ||
+        it->msid_count > CPAY_SDP_MAX_MSIDS || it->rid_count > CPAY_SDP_MAX_RIDS || it->layer_count > CPAY_SDP_MAX_LAYERS ||
+        it->direction > CPAY_SDP_INACTIVE || transport->setup > CPAY_SDP_HOLDCONN)
+        fail("a list is out of bounds");
+    for (size_t i = 0; i < sizeof texts / sizeof *texts; i++) check_text(texts[i], text, size);
+    for (size_t i = 0; i < transport->fingerprint_count; i++) check_text(transport->fingerprints[i].value, text, size);
+    for (size_t i = 0; i < transport->candidate_count; i++) check_text(transport->candidates[i], text, size);
+    for (size_t i = 0; i < it->msid_count; i++) check_text(it->msids[i].track, text, size);
+    for (size_t i = 0; i < it->rid_count; i++) check_text(it->rids[i].restrictions, text, size);
+    for (size_t i = 0; i < it->layer_count; i++) check_text(it->layers[i].rid, text, size);
+    for (size_t i = 0; i < it->format_count; i++) check_text(it->formats[i].fmtp, text, size);
+}
+
 static void check_media(const cpay_sdp_media *it) {
     if (it->format_count > CPAY_SDP_MAX_FORMATS || it->source_count > CPAY_SDP_MAX_SOURCES || it->kind > CPAY_SDP_VIDEO)
         fail("a section is out of bounds");
@@ -331,7 +430,10 @@ static void fuzz(size_t size) {
         memcpy(copy, changed, left);
         cpay_status status = cpay_sdp_read(copy, left, media, MOST_MEDIA, &count, &fault);
         if (status == CPAY_INVALID && (fault.line == 0 || fault.error == CPAY_SDP_NO_ERROR)) fail("a fault without line or error");
-        for (size_t k = 0; status == CPAY_OK && k < count; k++) check_media(&media[k]);
+        for (size_t k = 0; status == CPAY_OK && k < count; k++) {
+            check_beside_formats(&media[k], copy, left);
+            check_media(&media[k]);
+        }
         if (status == CPAY_OK) made += makes_session(count);
         read += status == CPAY_OK;
         free(copy);
