@@ -311,6 +311,79 @@ static void check_pairs(void) {
     if (session.pairs_len != 7) fail("a failing call changed the settings");
 }
 
+/* Appends a line `count` times. */
+static size_t add(char *text, size_t size, const char *line, unsigned count) {
+    for (unsigned i = 0; i < count; i++) size += (size_t)sprintf(text + size, "%s", line);
+    return size;
+}
+
+/* More of a section than there is room for is counted; more fingerprints are refused. */
+static void check_lists(void) {
+    static char many[1 << 14];
+    cpay_sdp_fault fault = {0, CPAY_SDP_NO_ERROR};
+    const cpay_sdp_media *it = &media[0];
+    size_t count = 0, size = add(many, 0, "m=video 9 RTP/AVP 34\n", 1);
+    size = add(many, size, "a=candidate:1 1 udp 1 192.0.2.1 9 typ host\n", CPAY_SDP_MAX_CANDIDATES + 2);
+    size = add(many, size, "a=rid:1 send\n", CPAY_SDP_MAX_RIDS + 2);
+    size = add(many, size, "a=msid:a b\n", CPAY_SDP_MAX_MSIDS + 2);
+    size = add(many, size, "a=simulcast:send 1", 1);
+    size = add(many, size, ";1", CPAY_SDP_MAX_LAYERS + 1);
+    size = add(many, size, "\na=fingerprint:sha-256 AB\n", CPAY_SDP_MAX_FINGERPRINTS);
+    if (cpay_sdp_read(many, size, media, 1, &count, &fault)) fail("long lists");
+    if (it->transport.candidate_count != CPAY_SDP_MAX_CANDIDATES || it->transport.more_candidates != 2) fail("66 candidates");
+    if (it->rid_count != CPAY_SDP_MAX_RIDS || it->more_rids != 2) fail("18 rids");
+    if (it->msid_count != CPAY_SDP_MAX_MSIDS || it->more_msids != 2) fail("10 msids");
+    if (it->layer_count != CPAY_SDP_MAX_LAYERS || it->more_layers != 2 || it->layers[31].stream != 31) fail("34 layers");
+    if (it->transport.fingerprint_count != CPAY_SDP_MAX_FINGERPRINTS) fail("8 fingerprints");
+    size = add(many, size, "a=fingerprint:sha-256 AB\n", 1);
+    if (cpay_sdp_read(many, size, media, 1, &count, &fault) != CPAY_INVALID || fault.error != CPAY_SDP_TOO_MANY_FINGERPRINTS)
+        fail("9 fingerprints");
+}
+
+/* Groups: their bounds, and words of a text. */
+static void check_groups(void) {
+    static const char text[] = "v=0\r\na=group:BUNDLE a  b\r\na=group:LS\r\nm=audio 9 RTP/AVP 0\r\na=group:FID 1\r\n";
+    cpay_sdp_group groups[3];
+    cpay_sdp_fault fault = {99, CPAY_SDP_NO_ERROR};
+    size_t count = 77;
+    memset(groups, 0, sizeof groups);
+    if (cpay_sdp_groups(text, sizeof text - 1, groups, 1, &count, &fault) != CPAY_TOO_SMALL || count != 2 || groups[0].mids.len > 0)
+        fail("two groups in place of one");
+    if (cpay_sdp_groups(text, sizeof text - 1, groups, 3, &count, &fault) || count != 2 || fault.line != 99) fail("two groups");
+    if (groups[1].mids.len || !cpay_sdp_text_is(groups[1].semantics, "LS") || groups[2].semantics.at) fail("the second group");
+    if (!cpay_sdp_text_is(cpay_sdp_word(&groups[0].mids), "a") || !cpay_sdp_text_is(cpay_sdp_word(&groups[0].mids), "b") ||
+        cpay_sdp_word(&groups[0].mids).len || cpay_sdp_text_is(groups[0].semantics, "bundle"))
+        fail("the first group");
+    if (!cpay_sdp_text_is(groups[2].mids, "") || cpay_sdp_word(&groups[2].mids).len) fail("no text");
+    if (cpay_sdp_groups(NULL, 1, groups, 3, &count, &fault) != CPAY_INVALID || fault.line != 99) fail("a length without a text");
+    if (cpay_sdp_groups(NULL, 0, NULL, 0, &count, &fault) || count) fail("no description");
+    if (cpay_sdp_groups("a=x\na=group:", 12, groups, 3, &count, &fault) != CPAY_INVALID || fault.error != CPAY_SDP_BAD_GROUP ||
+        fault.line != 2)
+        fail("a group without semantics");
+}
+
+/* A megabyte of each of these lines, in time that grows with the lines alone: else this takes minutes. */
+static void check_long(void) {
+    static const char *const lines[] = {"a=mid:0\n", "a=msid:a\n", "a=candidate:1 1 udp 1 a 9 typ host\n", "a=rid:1 send\n",
+                                        "a=simulcast:send 1;2 recv 3,~4\n", "a=rtcp-fb:* nack\n", "a=fmtp:0 x;y\n", "a=group:LS\n"};
+    static const char *const parts[][2] = {
+        {"a=simulcast:send 1", ";1"}, {"a=simulcast:send 1", ",~1"}, {"a=fingerprint:x AB", ":AB"}, {"a=fmtp:0 ", "x;"}, {"a=group:x", " a"}};
+    static char many[(1 << 20) + 100];
+    cpay_sdp_fault fault = {0, CPAY_SDP_NO_ERROR};
+    size_t count = 0;
+    for (size_t i = 0; i < sizeof lines / sizeof *lines; i++) {
+        size_t size = add(many, 0, "m=audio 9 RTP/AVP 0\n", 1);
+        size = add(many, size, lines[i], (unsigned)((1 << 20) / strlen(lines[i])));
+        if (cpay_sdp_read(many, size, media, 1, &count, &fault)) fail("many lines");
+    }
+    for (size_t i = 0; i < sizeof parts / sizeof *parts; i++) {
+        size_t size = add(many, 0, "m=audio 9 RTP/AVP 0\n", 1);
+        size = add(many, size, parts[i][0], 1);
+        size = add(many, size, parts[i][1], (unsigned)((1 << 20) / strlen(parts[i][1])));
+        if (cpay_sdp_read(many, size, media, 1, &count, &fault)) fail("a long line");
+    }
+}
+
 /* Many sections, and little room: what no table shows. */
 static void check_bounds(void) {
     static char many[40 * (CPAY_SDP_MAX_MEDIA + 1)];
@@ -444,6 +517,9 @@ static void fuzz(size_t size) {
 int main(int count, char **words) {
     if (count > 1 && strcmp(words[1], "faults") == 0) {
         check_bounds();
+        check_lists();
+        check_groups();
+        check_long();
         compare(compare_fault);
         return EXIT_SUCCESS;
     }
