@@ -146,12 +146,13 @@ typedef struct {
 /** An `m=` section. About 15 kB. If a line that may occur once occurs again, the last one counts. */
 typedef struct {
     size_t line;                      /**< the number of its `m=` line, from 1 */
-    uint16_t port;                    /**< of RTP; 0: the section is refused, or bundled with another */
+    uint16_t port;                    /**< of RTP; 0: the section is refused, or, with `bundle_only`, bundled with another */
     uint8_t kind;                     /**< CPAY_SDP_AUDIO and so on */
     uint8_t direction;                /**< CPAY_SDP_SENDRECV and so on; that of the session if the section has none */
     bool is_rtp;                      /**< its protocol is RTP; else it has no formats */
     bool encrypted;                   /**< SRTP, by protocol (RFC 3711, RFC 5764), `a=crypto` or `a=fingerprint` */
     bool rtcp_mux;                    /**< RTCP comes on the port of RTP (RFC 5761) */
+    bool bundle_only;                 /**< `a=bundle-only`: port 0 refuses nothing (RFC 9143, section 6) */
     uint32_t packet_time;             /**< `a=ptime`, in microseconds; 0 if absent */
     cpay_extension_ids extension_ids; /**< ids of header extensions that the library reads and writes (RFC 8285); 0 if absent */
     uint8_t mid_id;                   /**< the same for `sdes:mid` (RFC 9143) */

@@ -163,11 +163,13 @@ static cpay_sdp_error read_group_of_sections(cpay_sdp_group *it, text value) {
     return it->semantics.len > 0 ? CPAY_SDP_NO_ERROR : CPAY_SDP_BAD_GROUP;
 }
 
-/* `sendonly` and so on (RFC 8866, section 6.7), `ice-lite` (RFC 8839, section 5.3), `end-of-candidates` (RFC 8840) */
+/* `sendonly` and so on (RFC 8866, section 6.7), `bundle-only` (RFC 9143, section 6), `ice-lite` (RFC 8839, section 5.3),
+ * `end-of-candidates` (RFC 8840) */
 static void read_flag(cpay_sdp_media *media, text name) {
     static const char *const directions[] = {"sendrecv", "sendonly", "recvonly", "inactive"}; /* CPAY_SDP_SENDRECV and so on */
     for (uint8_t i = 0; i < sizeof directions / sizeof *directions; i++)
         if (equals(name, directions[i])) media->direction = i;
+    if (equals(name, "bundle-only")) media->bundle_only = true;
     if (equals(name, "ice-lite")) media->transport.ice_lite = true;
     if (equals(name, "end-of-candidates")) media->transport.end_of_candidates = true;
 }

@@ -134,8 +134,8 @@ static void print_beside_formats(const cpay_sdp_media *it) {
 }
 
 static void print_media(const cpay_sdp_media *it) {
-    printf("line %zu: %s, port %u%s%s%s", it->line, kinds[it->kind], it->port, it->is_rtp ? "" : ", not RTP",
-           it->encrypted ? ", encrypted" : "", it->rtcp_mux ? ", rtcp-mux" : "");
+    printf("line %zu: %s, port %u%s%s%s%s", it->line, kinds[it->kind], it->port, it->is_rtp ? "" : ", not RTP",
+           it->encrypted ? ", encrypted" : "", it->rtcp_mux ? ", rtcp-mux" : "", it->bundle_only ? ", bundle-only" : "");
     if (it->packet_time) printf(", ptime %u", it->packet_time);
     printf("\n");
     print_beside_formats(it);

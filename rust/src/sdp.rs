@@ -146,7 +146,7 @@ pub struct Media<'a> {
     pub media_type: &'a str,
     /// The third word of the `m=` line, such as `UDP/TLS/RTP/SAVPF`.
     pub protocol: &'a str,
-    /// The port of RTP. 0: the section is refused, or bundled with another.
+    /// The port of RTP. 0: the section is refused, or, with `is_bundle_only`, bundled with another.
     pub port: u16,
     /// Whether its protocol is RTP; else it has no formats.
     pub is_rtp: bool,
@@ -154,6 +154,8 @@ pub struct Media<'a> {
     pub is_encrypted: bool,
     /// Whether RTCP comes on the port of RTP (RFC 5761).
     pub has_rtcp_mux: bool,
+    /// `a=bundle-only`: port 0 refuses nothing (RFC 9143, section 6).
+    pub is_bundle_only: bool,
     /// `a=ptime`, in microseconds.
     pub packet_time: Option<u32>,
     /// Ids of header extensions (RFC 8285).

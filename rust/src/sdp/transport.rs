@@ -222,6 +222,7 @@ pub(super) fn read_flag(media: &mut Media<'_>, name: &str) {
         "sendonly" => media.direction = Direction::SendOnly,
         "recvonly" => media.direction = Direction::RecvOnly,
         "inactive" => media.direction = Direction::Inactive,
+        "bundle-only" => media.is_bundle_only = true,
         "ice-lite" => media.transport.is_ice_lite = true,
         "end-of-candidates" => media.transport.has_end_of_candidates = true,
         _ => {}
