@@ -106,7 +106,7 @@ typedef struct {
     cpay_sdp_text ice_ufrag;   /**< `a=ice-ufrag` (section 5.4), 4 to 256 characters */
     cpay_sdp_text ice_pwd;     /**< `a=ice-pwd`, 22 to 256 characters */
     cpay_sdp_text ice_options; /**< `a=ice-options` (section 5.6): words */
-    bool ice_lite;             /**< `a=ice-lite` (section 5.3) */
+    bool ice_lite;             /**< `a=ice-lite` of the session (section 5.3) */
     bool end_of_candidates;    /**< `a=end-of-candidates` (RFC 8840) */
     uint8_t setup;             /**< CPAY_SDP_ACTIVE and so on, or CPAY_SDP_NO_SETUP */
     size_t fingerprint_count;

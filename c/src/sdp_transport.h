@@ -165,12 +165,12 @@ static cpay_sdp_error read_group_of_sections(cpay_sdp_group *it, text value) {
 
 /* `sendonly` and so on (RFC 8866, section 6.7), `bundle-only` (RFC 9143, section 6), `ice-lite` (RFC 8839, section 5.3),
  * `end-of-candidates` (RFC 8840) */
-static void read_flag(cpay_sdp_media *media, text name) {
+static void read_flag(cpay_sdp_media *media, text name, bool in_section) {
     static const char *const directions[] = {"sendrecv", "sendonly", "recvonly", "inactive"}; /* CPAY_SDP_SENDRECV and so on */
     for (uint8_t i = 0; i < sizeof directions / sizeof *directions; i++)
         if (equals(name, directions[i])) media->direction = i;
     if (equals(name, "bundle-only")) media->bundle_only = true;
-    if (equals(name, "ice-lite")) media->transport.ice_lite = true;
+    if (!in_section && equals(name, "ice-lite")) media->transport.ice_lite = true;
     if (equals(name, "end-of-candidates")) media->transport.end_of_candidates = true;
 }
 
@@ -194,7 +194,7 @@ static cpay_sdp_error read_beside_formats(cpay_sdp_media *media, text attribute,
     int where = media->is_rtp ? IN_RTP : in_section ? IN_SECTIONS : IN_ALL;
     for (size_t i = 0; i < sizeof attributes / sizeof *attributes; i++)
         if (attributes[i].where <= where && skips(&attribute, attributes[i].name)) return attributes[i].read(media, attribute);
-    read_flag(media, attribute);
+    read_flag(media, attribute, in_section);
     return CPAY_SDP_NO_ERROR;
 }
 

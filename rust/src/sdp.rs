@@ -1,5 +1,7 @@
 //! From a session description (SDP, RFC 8866) to the settings of receivers and of sessions.
 //!
+//! What a section says beside formats is lent from the text: names, direction, layers, ICE and DTLS.
+//!
 //! Written by hand and not proved. Any text may be given: [`read`] does not panic, and reads the text twice.
 //!
 //! ```
@@ -9,6 +11,14 @@
 //! let media = sdp::read("v=0\r\nm=audio 9 RTP/AVP 111 0\r\na=rtpmap:111 opus/48000/2\r\na=ptime:60\r\n")?;
 //! assert!(matches!(media[0].formats[0].role, Role::Media(spec) if spec.clock_rate.get() == 48_000));
 //! assert!(media[0].receiver_settings(111)?.is_some());
+//!
+//! let text = "v=0\r\na=setup:actpass\r\nm=video 9 UDP/TLS/RTP/SAVPF 96\r\na=mid:1\r\na=rid:h send\r\na=rid:l send\r\n\
+//!     a=simulcast:send h;~l\r\na=ice-ufrag:5NkD\r\na=fmtp:96 max-fr=30\r\n";
+//! let video = &sdp::read(text)?[0];
+//! assert_eq!((video.mid, video.transport.ice_ufrag), (Some("1"), Some("5NkD")));
+//! assert_eq!(video.transport.setup, Some(sdp::Setup::ActPass));
+//! assert!(video.layers[1].rid == "l" && video.layers[1].is_paused);
+//! assert_eq!(video.formats[0].fmtp, "max-fr=30");
 //!
 //! let fault = sdp::read("v=0\r\nm=audio 9 RTP/AVP 128\r\n").unwrap_err();
 //! assert_eq!(fault.to_string(), "line 2: payload type is not 0 to 127");

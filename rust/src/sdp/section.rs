@@ -243,7 +243,7 @@ impl<'a> Section<'a> {
         };
         let Some((name, value)) = attribute.split_once(':') else {
             self.media.has_rtcp_mux |= self.media.is_rtp && attribute == "rtcp-mux";
-            read_flag(&mut self.media, attribute);
+            read_flag(&mut self.media, attribute, self.is_session);
             return Ok(());
         };
         self.media.is_encrypted |= name == "crypto" || name == "fingerprint";

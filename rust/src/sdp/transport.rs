@@ -45,7 +45,7 @@ pub struct Transport<'a> {
     pub ice_pwd: Option<&'a str>,
     /// `a=ice-options` (section 5.6): words. Empty if there are none.
     pub ice_options: &'a str,
-    /// `a=ice-lite` (section 5.3).
+    /// `a=ice-lite` of the session (section 5.3).
     pub is_ice_lite: bool,
     /// `a=end-of-candidates` (RFC 8840).
     pub has_end_of_candidates: bool,
@@ -216,14 +216,14 @@ pub(super) fn read_value<'a>(
 }
 
 /// Reads an attribute without a value, if it is one of these.
-pub(super) fn read_flag(media: &mut Media<'_>, name: &str) {
+pub(super) fn read_flag(media: &mut Media<'_>, name: &str, is_session: bool) {
     match name {
         "sendrecv" => media.direction = Direction::SendRecv,
         "sendonly" => media.direction = Direction::SendOnly,
         "recvonly" => media.direction = Direction::RecvOnly,
         "inactive" => media.direction = Direction::Inactive,
         "bundle-only" => media.is_bundle_only = true,
-        "ice-lite" => media.transport.is_ice_lite = true,
+        "ice-lite" if is_session => media.transport.is_ice_lite = true,
         "end-of-candidates" => media.transport.has_end_of_candidates = true,
         _ => {}
     }

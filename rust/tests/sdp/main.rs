@@ -166,6 +166,11 @@ fn changed_descriptions() {
         "a=ü",
         "m=ü 9 RTP/AVP 0",
         "m=audio 9 RTP/AVP 96\na=rtpmap:96 ü/8000\n",
+        "a=group:ü ü\nm=ü 9 RTP/AVP 0\na=mid:ü\na=msid:ü ü\na=fmtp:0 ü",
+        "m=audio 9 RTP/AVP 0\na=candidate:ü 1 ü 1 ü 9 typ ü\na=rid:1 send ü\na=rid:ü send",
+        "a=fingerprint:ü AB\na=ice-options:ü\na=fingerprint:x ü:AB",
+        "m=audio 9 RTP/AVP 0\na=simulcast:send ~ü",
+        "a=ice-ufrag:üüüü",
     ] {
         dump(text);
     }
