@@ -198,18 +198,16 @@ static cpay_sdp_error read_beside_formats(cpay_sdp_media *media, text attribute,
     return CPAY_SDP_NO_ERROR;
 }
 
-/* A section begins with what the session says. */
+/* A section begins with what the session says. The first fingerprint of its own replaces all of the session's. */
 static void begin_with(cpay_sdp_media *media, const cpay_sdp_media *session) {
     media->direction = session->direction;
     media->transport = session->transport;
     media->transport.fingerprint_count = 0;
 }
 
-/* A section without fingerprints has those of the session (RFC 8122, section 5). */
+/* A section without fingerprints has those of the session (RFC 8122, section 5), with which it began. */
 static void inherit_fingerprints(cpay_sdp_transport *it, const cpay_sdp_transport *session) {
     if (it->fingerprint_count == 0) it->fingerprint_count = session->fingerprint_count;
-    else return;
-    memcpy(it->fingerprints, session->fingerprints, sizeof it->fingerprints);
 }
 
 #endif
