@@ -2,8 +2,8 @@
 //!
 //! What a section says beside formats is lent from the text: names, direction, layers, ICE and DTLS.
 //!
-//! Written by hand and not proved. Any text may be given: [`read`] does not panic, and reads the text twice: time and memory are in proportion
-//! to its length.
+//! Written by hand and not proved. Any text may be given: [`read`] does not panic. It reads the text twice; time and memory are in
+//! proportion to its length.
 //!
 //! ```
 //! use codec_payload::sdp::{Role, self};
