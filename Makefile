@@ -50,7 +50,7 @@ pictures = $(wildcard docs/pictures/*.svg docs/pictures/*.webp)
 manual = $(out)/man/man3
 recorder = tools/rtp_record
 vectors = crates/payload_vectors
-shipped = Makefile include packaging $(documents) $(pages) $(pictures) $(wildcard c/src/*.c c/generated/*.S) \
+shipped = Makefile include packaging $(documents) $(pages) $(pictures) $(wildcard c/src/*.c c/src/*.h c/generated/*.S) \
     $(wildcard examples/*.c c/tests/*.c c/tests/*.cpp c/tests/*.h c/tests/*.sh c/tests/*.txt c/tests/sdp/*) \
     $(vectors)/stdin $(vectors)/stdout \
     $(addprefix $(recorder)/,Makefile README.md rtp_record.1 completion.bash) $(wildcard $(recorder)/*.c $(recorder)/*.h)
@@ -86,7 +86,7 @@ $(assembly):
 $(out)/proved.o: $(assembly) | $(out)
 	$(CC) $(CPPFLAGS) -c -Wa,--noexecstack $< -o $@
 
-$(out)/%.o: c/src/%.c $(headers) | $(out)
+$(out)/%.o: c/src/%.c $(wildcard c/src/*.h) $(headers) | $(out)
 	$(compile) -c $< -o $@
 
 # One object, whose names for others are the calls of the header alone.

@@ -2,10 +2,10 @@
  * codec_payload_sdp: from a session description (SDP, RFC 8866) to the settings of receivers and of sessions, for C and C++.
  *
  * cpay_sdp_read reads the `m=` sections of a description: payload types and what each is for, ids of header extensions, SSRCs,
- * feedback. cpay_sdp_receiver turns a section into settings of a receiver, and cpay_sdp_session turns all sections of a port into
- * settings of a session. None of them allocates. Any bytes may be given. This part is
- * ordinary C, tested with sanitizers and by fuzzing; unlike the rest of the library it is not proved. codec_payload.h does not
- * include this file. The rules of codec_payload.h for pointers and for failing calls apply. */
+ * feedback, names of sections and layers, direction, ICE, DTLS. cpay_sdp_receiver turns a section into settings of a receiver, and
+ * cpay_sdp_session turns all sections of a port into settings of a session. None of them allocates. Any bytes may be given. This
+ * part is ordinary C, tested with sanitizers and by fuzzing; unlike the rest of the library it is not proved. codec_payload.h does
+ * not include this file. The rules of codec_payload.h for pointers and for failing calls apply. */
 #ifndef CODEC_PAYLOAD_SDP_H
 #define CODEC_PAYLOAD_SDP_H
 
@@ -17,12 +17,35 @@ extern "C" {
 
 /** Bounds. A description above one of them is refused. */
 enum {
-    CPAY_SDP_MAX_MEDIA = 1024,  /**< `m=` sections of a description */
-    CPAY_SDP_MAX_FORMATS = 128, /**< payload types of a section: all that exist */
-    CPAY_SDP_MAX_SOURCES = 128, /**< SSRCs of a section, and apart from them SSRCs of repair */
-    CPAY_SDP_MAX_PAIRS = 1024,  /**< pairs of SSRCs in the settings of a session */
-    CPAY_SDP_NAME = 32          /**< bytes of an encoding name with the 0 at its end; a longer name is cut */
+    CPAY_SDP_MAX_MEDIA = 1024,     /**< `m=` sections of a description */
+    CPAY_SDP_MAX_FORMATS = 128,    /**< payload types of a section: all that exist */
+    CPAY_SDP_MAX_SOURCES = 128,    /**< SSRCs of a section, and apart from them SSRCs of repair */
+    CPAY_SDP_MAX_PAIRS = 1024,     /**< pairs of SSRCs in the settings of a session */
+    CPAY_SDP_MAX_FINGERPRINTS = 8, /**< fingerprints of a section */
+    CPAY_SDP_NAME = 32             /**< bytes of an encoding name with the 0 at its end; a longer name is cut */
 };
+
+/** Room in a section. Further ones are counted. */
+enum {
+    CPAY_SDP_MAX_CANDIDATES = 64,
+    CPAY_SDP_MAX_RIDS = 16,
+    CPAY_SDP_MAX_LAYERS = 32,
+    CPAY_SDP_MAX_MSIDS = 8
+};
+
+/** A piece of the description, as it was written. It points into the text that you passed: keep that text as long. `len` is 0 if
+ * the description has none. There is no 0 at its end: print it by `printf("%.*s", (int)it.len, it.at)`. */
+typedef struct {
+    const char *at;
+    size_t len;
+} cpay_sdp_text;
+
+/** Returns the next word of `*rest`, and moves `*rest` behind it. Words are separated by spaces or tabs. `len` is 0 at the end.
+ * For `mids` of a group, `ice_options`, and candidates. */
+cpay_sdp_text cpay_sdp_word(cpay_sdp_text *rest);
+
+/** Whether a text is `other`, case included. */
+bool cpay_sdp_text_is(cpay_sdp_text it, const char *other);
 
 /** What a payload type is for: the field `role` of a cpay_sdp_format. */
 enum {
@@ -52,6 +75,7 @@ typedef struct {
     bool transport_cc;        /**< `transport-cc` */
     bool remb;                /**< `goog-remb` */
     char name[CPAY_SDP_NAME]; /**< the encoding name, as it was written; empty if there is none */
+    cpay_sdp_text fmtp;       /**< what follows the payload type in its last `a=fmtp` (RFC 8866, section 6.15) */
 } cpay_sdp_format;
 
 /** An SSRC of media, by `a=ssrc` or `a=ssrc-group` (RFC 5576). SSRCs of repair alone are left out. */
@@ -64,14 +88,71 @@ typedef struct {
 /** The kind of media of a section. */
 enum { CPAY_SDP_OTHER = 0, CPAY_SDP_AUDIO = 1, CPAY_SDP_VIDEO = 2 };
 
-/** An `m=` section. About 10 kB. */
+/** Which way media of a section goes, as its author sees it (RFC 8866, section 6.7). */
+enum { CPAY_SDP_SENDRECV = 0, CPAY_SDP_SENDONLY = 1, CPAY_SDP_RECVONLY = 2, CPAY_SDP_INACTIVE = 3 };
+
+/** `a=setup`: who begins DTLS (RFC 4145, section 4; RFC 5763, section 5). */
+enum { CPAY_SDP_NO_SETUP = 0, CPAY_SDP_ACTIVE = 1, CPAY_SDP_PASSIVE = 2, CPAY_SDP_ACTPASS = 3, CPAY_SDP_HOLDCONN = 4 };
+
+/** `a=fingerprint`: of a certificate for DTLS (RFC 8122, section 5). */
+typedef struct {
+    cpay_sdp_text hash;  /**< the hash function, such as `sha-256`; compare it without case */
+    cpay_sdp_text value; /**< pairs of hexadecimal digits, with `:` between them */
+} cpay_sdp_fingerprint;
+
+/** ICE (RFC 8839) and DTLS of a section. What a section lacks is that of the session, except candidates. In a bundle only the first
+ * section of the group needs these lines (RFC 9143, section 7.1.3). */
+typedef struct {
+    cpay_sdp_text ice_ufrag;   /**< `a=ice-ufrag` (section 5.4), 4 to 256 characters */
+    cpay_sdp_text ice_pwd;     /**< `a=ice-pwd`, 22 to 256 characters */
+    cpay_sdp_text ice_options; /**< `a=ice-options` (section 5.6): words */
+    bool ice_lite;             /**< `a=ice-lite` of the session (section 5.3) */
+    bool end_of_candidates;    /**< `a=end-of-candidates` (RFC 8840) */
+    uint8_t setup;             /**< CPAY_SDP_ACTIVE and so on, or CPAY_SDP_NO_SETUP */
+    size_t fingerprint_count;
+    size_t candidate_count;
+    size_t more_candidates; /**< candidates of the section that had no room */
+    cpay_sdp_fingerprint fingerprints[CPAY_SDP_MAX_FINGERPRINTS];
+    cpay_sdp_text candidates[CPAY_SDP_MAX_CANDIDATES]; /**< what follows `a=candidate:` (section 5.1): at least eight words */
+} cpay_sdp_transport;
+
+/** `a=msid`: the stream and the track of a section (RFC 8830, section 2). */
+typedef struct {
+    cpay_sdp_text stream; /**< `-`: a track without stream */
+    cpay_sdp_text track;
+} cpay_sdp_msid;
+
+/** `a=rid`: a layer, or another stream that packets name by its id (RFC 8851, section 4). */
+typedef struct {
+    cpay_sdp_text id;
+    cpay_sdp_text restrictions; /**< such as `pt=97;max-width=1280` */
+    bool sent;                  /**< `send`; else `recv`, as the author of the description sees it */
+} cpay_sdp_rid;
+
+/** A layer of `a=simulcast` (RFC 8853, section 5.1). */
+typedef struct {
+    cpay_sdp_text rid; /**< its id, of an `a=rid` line */
+    uint32_t stream;   /**< the number of its simulcast stream, from 0 in each direction; alternatives have the same number */
+    bool sent;         /**< `send`; else `recv` */
+    bool paused;       /**< `~`: not sent at first */
+} cpay_sdp_layer;
+
+/** `a=group`: sections that belong together (RFC 5888, section 5). */
+typedef struct {
+    cpay_sdp_text semantics; /**< such as `BUNDLE` (RFC 9143) */
+    cpay_sdp_text mids;      /**< `mid` of each section: words */
+} cpay_sdp_group;
+
+/** An `m=` section. About 15 kB. If a line that may occur once occurs again, the last one counts. */
 typedef struct {
     size_t line;                      /**< the number of its `m=` line, from 1 */
-    uint16_t port;                    /**< of RTP; 0: the section is refused, or bundled with another */
+    uint16_t port;                    /**< of RTP; 0: the section is refused, or, with `bundle_only`, bundled with another */
     uint8_t kind;                     /**< CPAY_SDP_AUDIO and so on */
+    uint8_t direction;                /**< CPAY_SDP_SENDRECV and so on; that of the session if the section has none */
     bool is_rtp;                      /**< its protocol is RTP; else it has no formats */
     bool encrypted;                   /**< SRTP, by protocol (RFC 3711, RFC 5764), `a=crypto` or `a=fingerprint` */
     bool rtcp_mux;                    /**< RTCP comes on the port of RTP (RFC 5761) */
+    bool bundle_only;                 /**< `a=bundle-only`: port 0 refuses nothing (RFC 9143, section 6) */
     uint32_t packet_time;             /**< `a=ptime`, in microseconds; 0 if absent */
     cpay_extension_ids extension_ids; /**< ids of header extensions that the library reads and writes (RFC 8285); 0 if absent */
     uint8_t mid_id;                   /**< the same for `sdes:mid` (RFC 9143) */
@@ -81,8 +162,18 @@ typedef struct {
     uint8_t send_time_id;             /**< abs-send-time */
     uint8_t offset_id;                /**< transmission time offset (RFC 5450) */
     uint8_t dependency_descriptor_id; /**< dependency descriptor (AV1 RTP specification, appendix A) */
+    cpay_sdp_text type;               /**< of media, such as `audio`: the first word of the `m=` line, which an answer repeats */
+    cpay_sdp_text protocol;           /**< the third word of the `m=` line, such as `UDP/TLS/RTP/SAVPF` */
+    cpay_sdp_text mid;                /**< `a=mid`: the name of the section (RFC 5888, section 4) */
+    cpay_sdp_transport transport;     /**< ICE and DTLS */
+    size_t msid_count, more_msids;    /**< `a=msid` lines, and those that had no room; 0 if not RTP */
+    size_t rid_count, more_rids;      /**< `a=rid` lines, the same */
+    size_t layer_count, more_layers;  /**< layers of `a=simulcast`, the same */
     size_t format_count;
     size_t source_count;
+    cpay_sdp_msid msids[CPAY_SDP_MAX_MSIDS];
+    cpay_sdp_rid rids[CPAY_SDP_MAX_RIDS];
+    cpay_sdp_layer layers[CPAY_SDP_MAX_LAYERS]; /**< in the order of the line */
     cpay_sdp_format formats[CPAY_SDP_MAX_FORMATS]; /**< in the order of the `m=` line */
     cpay_sdp_source sources[CPAY_SDP_MAX_SOURCES]; /**< in the order of their first lines */
 } cpay_sdp_media;
@@ -100,7 +191,19 @@ typedef enum {
     CPAY_SDP_BAD_PTIME = 8,        /**< not a number of milliseconds above 0, at most 100000 */
     CPAY_SDP_BAD_RTCP_FB = 9,      /**< `a=rtcp-fb` without a type */
     CPAY_SDP_TOO_MANY_MEDIA = 10,  /**< more than CPAY_SDP_MAX_MEDIA sections */
-    CPAY_SDP_TOO_MANY_SOURCES = 11 /**< more than CPAY_SDP_MAX_SOURCES SSRCs in a section */
+    CPAY_SDP_TOO_MANY_SOURCES = 11, /**< more than CPAY_SDP_MAX_SOURCES SSRCs in a section */
+    CPAY_SDP_BAD_MID = 12,          /**< `a=mid` is not one word */
+    CPAY_SDP_BAD_MSID = 13,         /**< `a=msid` is not one or two words */
+    CPAY_SDP_BAD_RID = 14,          /**< `a=rid` without an id of letters, digits, `-`, `_`, or without `send` or `recv` */
+    CPAY_SDP_BAD_SIMULCAST = 15,    /**< `a=simulcast` is not `send` or `recv` with ids, each at most once */
+    CPAY_SDP_BAD_ICE_UFRAG = 16,    /**< not 4 to 256 letters, digits, `+`, `/`, or, of older peers, `-`, `_`, `=`, `#` */
+    CPAY_SDP_BAD_ICE_PWD = 17,      /**< not 22 to 256 of the same characters */
+    CPAY_SDP_BAD_ICE_OPTIONS = 18,  /**< `a=ice-options` without an option */
+    CPAY_SDP_BAD_CANDIDATE = 19,    /**< not at least eight words, the seventh `typ` */
+    CPAY_SDP_BAD_FINGERPRINT = 20,  /**< not a hash function, and pairs of hexadecimal digits with `:` between them */
+    CPAY_SDP_BAD_SETUP = 21,        /**< none of `active`, `passive`, `actpass` and `holdconn` */
+    CPAY_SDP_BAD_GROUP = 22,        /**< `a=group` without semantics */
+    CPAY_SDP_TOO_MANY_FINGERPRINTS = 23 /**< more than CPAY_SDP_MAX_FINGERPRINTS of a section */
 } cpay_sdp_error;
 
 typedef struct {
@@ -110,12 +213,20 @@ typedef struct {
 
 /** Reads all `m=` sections of a description of `text_len` bytes into `media`, in order, and writes their number to *count. Lines end
  * with LF or CRLF. Attributes that the library does not need are ignored, as are attributes of a payload type that the `m=` line does
- * not have. Cost: reads the text four times.
+ * not have. `media` points into the text. Cost: reads the text four times.
  *
  * CPAY_INVALID: a line is malformed; *fault has its number and the reason. CPAY_TOO_SMALL: `media_len` is too small; *count is the
  * number of sections. If the call fails, all else is unchanged. */
 CPAY_CHECKED cpay_status cpay_sdp_read(const char *text, size_t text_len, cpay_sdp_media *media, size_t media_len, size_t *count,
                                        cpay_sdp_fault *fault);
+
+/** Reads the groups in front of the first `m=` section into `groups`, in order, and writes their number to *count. Other lines are
+ * ignored: cpay_sdp_read finds what is wrong with them. `groups` points into the text.
+ *
+ * CPAY_INVALID: a group is malformed; *fault has its line. CPAY_TOO_SMALL: `groups_len` is too small; *count is the number of groups.
+ * If the call fails, all else is unchanged. */
+CPAY_CHECKED cpay_status cpay_sdp_groups(const char *text, size_t text_len, cpay_sdp_group *groups, size_t groups_len, size_t *count,
+                                         cpay_sdp_fault *fault);
 
 /** Returns the format of a payload type, or NULL if the section has none. */
 const cpay_sdp_format *cpay_sdp_format_of(const cpay_sdp_media *media, uint8_t payload_type);
@@ -210,6 +321,18 @@ static inline const char *cpay_sdp_error_text(cpay_sdp_error error) {
     case CPAY_SDP_BAD_RTCP_FB: return "rtcp-fb without a type";
     case CPAY_SDP_TOO_MANY_MEDIA: return "more than 1024 media sections";
     case CPAY_SDP_TOO_MANY_SOURCES: return "more than 128 SSRCs in a section";
+    case CPAY_SDP_BAD_MID: return "mid is not one word";
+    case CPAY_SDP_BAD_MSID: return "msid is not one or two words";
+    case CPAY_SDP_BAD_RID: return "rid without id, or without send or recv";
+    case CPAY_SDP_BAD_SIMULCAST: return "simulcast is not send or recv with ids";
+    case CPAY_SDP_BAD_ICE_UFRAG: return "ice-ufrag is not 4 to 256 characters of ICE";
+    case CPAY_SDP_BAD_ICE_PWD: return "ice-pwd is not 22 to 256 characters of ICE";
+    case CPAY_SDP_BAD_ICE_OPTIONS: return "ice-options without an option";
+    case CPAY_SDP_BAD_CANDIDATE: return "candidate lacks a field";
+    case CPAY_SDP_BAD_FINGERPRINT: return "fingerprint is not a hash function and pairs of hexadecimal digits";
+    case CPAY_SDP_BAD_SETUP: return "setup is not active, passive, actpass or holdconn";
+    case CPAY_SDP_BAD_GROUP: return "group without semantics";
+    case CPAY_SDP_TOO_MANY_FINGERPRINTS: return "more than 8 fingerprints in a section";
     default: return "unknown error";
     }
 }

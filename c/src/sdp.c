@@ -2,100 +2,9 @@
  *
  * A section is read twice: first its `m=` and `a=rtpmap` lines, which say what each payload type is, then all others. So the order of
  * the lines does not matter. */
-#include "codec_payload_sdp.h"
-
-#include <string.h>
+#include "sdp_transport.h"
 
 enum { PAYLOAD_TYPES = 128, DEFAULT_PACKET_TIME = 20000, MOST_PACKET_TIME = 100000000, MOST_RED_STEP = 16383 };
-
-typedef struct {
-    const char *at;
-    size_t left;
-} text;
-
-/* ---- Text ---- */
-
-static bool is_space(char it) { return it == ' ' || it == '\t'; }
-
-static char lower(char it) { return it >= 'A' && it <= 'Z' ? (char)(it - 'A' + 'a') : it; }
-
-static text front(text it, size_t size) {
-    it.left = size;
-    return it;
-}
-
-static void skip(text *it, size_t size) {
-    it->at += size;
-    it->left -= size;
-}
-
-/* The text up to the first `separator`, which is skipped too. */
-static text part(text *it, char separator) {
-    size_t size = 0;
-    while (size < it->left && it->at[size] != separator) size++;
-    text found = front(*it, size);
-    skip(it, size < it->left ? size + 1 : size);
-    return found;
-}
-
-/* The next line, without its end. */
-static text line_of(text *it) {
-    text found = part(it, '\n');
-    if (found.left > 0 && found.at[found.left - 1] == '\r') found.left--;
-    return found;
-}
-
-/* The next word; empty at the end. */
-static text word(text *it) {
-    size_t size = 0;
-    while (it->left > 0 && is_space(*it->at)) skip(it, 1);
-    while (size < it->left && !is_space(it->at[size])) size++;
-    text found = front(*it, size);
-    skip(it, size);
-    return found;
-}
-
-static text trimmed(text it) {
-    while (it.left > 0 && is_space(*it.at)) skip(&it, 1);
-    while (it.left > 0 && is_space(it.at[it.left - 1])) it.left--;
-    return it;
-}
-
-/* Whether two texts are equal if case is ignored. */
-static bool same(text it, const char *other) {
-    size_t size = strlen(other);
-    if (it.left != size) return false;
-    for (size_t i = 0; i < size; i++)
-        if (lower(it.at[i]) != lower(other[i])) return false;
-    return true;
-}
-
-/* Whether two texts are the same, case too. */
-static bool equals(text it, const char *other) { return it.left == strlen(other) && memcmp(it.at, other, it.left) == 0; }
-
-static bool begins(text it, const char *other) {
-    size_t size = strlen(other);
-    return it.left >= size && memcmp(it.at, other, size) == 0;
-}
-
-static bool skips(text *it, const char *prefix) {
-    bool found = begins(*it, prefix);
-    if (found) skip(it, strlen(prefix));
-    return found;
-}
-
-/* A number of digits alone, at most `most`. */
-static bool number(text it, uint32_t most, uint32_t *value) {
-    uint64_t found = 0;
-    if (it.left == 0) return false;
-    for (size_t i = 0; i < it.left; i++) {
-        if (it.at[i] < '0' || it.at[i] > '9') return false;
-        found = 10 * found + (uint64_t)(it.at[i] - '0');
-        if (found > most) return false;
-    }
-    *value = (uint32_t)found;
-    return true;
-}
 
 /* ---- Formats ---- */
 
@@ -136,7 +45,7 @@ static const struct {
 };
 
 static void describe(cpay_sdp_format *it, text name, uint32_t clock_rate, uint32_t channels) {
-    size_t size = name.left < CPAY_SDP_NAME ? name.left : CPAY_SDP_NAME - 1;
+    size_t size = name.len < CPAY_SDP_NAME ? name.len : CPAY_SDP_NAME - 1;
     it->codec = CPAY_NULL;
     it->role = CPAY_SDP_IGNORED;
     for (size_t i = 0; i < sizeof encodings / sizeof *encodings; i++) {
@@ -177,6 +86,7 @@ const cpay_sdp_format *cpay_sdp_format_of(const cpay_sdp_media *media, uint8_t p
 /* A section that is read, or what precedes the first one. */
 typedef struct {
     cpay_sdp_media *media;
+    bool is_section;
     uint32_t repair[CPAY_SDP_MAX_SOURCES]; /* SSRCs of repair alone */
     size_t repair_count;
 } section;
@@ -186,16 +96,18 @@ static cpay_sdp_error read_media(section *it, text line) {
     cpay_sdp_media *media = it->media;
     text kind = word(&line), ports = word(&line), protocol = word(&line);
     uint32_t port = 0;
-    if (kind.left == 0 || protocol.left == 0 || !number(part(&ports, '/'), UINT16_MAX, &port)) return CPAY_SDP_BAD_MEDIA;
+    if (kind.len == 0 || protocol.len == 0 || !number(part(&ports, '/'), UINT16_MAX, &port)) return CPAY_SDP_BAD_MEDIA;
     media->port = (uint16_t)port;
+    media->type = kind;
+    media->protocol = protocol;
     media->kind = same(kind, "audio") ? CPAY_SDP_AUDIO : same(kind, "video") ? CPAY_SDP_VIDEO : CPAY_SDP_OTHER;
-    while (protocol.left > 0) {
+    while (protocol.len > 0) {
         text layer = part(&protocol, '/');
         media->is_rtp |= same(layer, "RTP");
         media->encrypted |= begins(layer, "SAVP");
     }
     if (!media->is_rtp) return CPAY_SDP_NO_ERROR;
-    for (text type = word(&line); type.left > 0; type = word(&line)) {
+    for (text type = word(&line); type.len > 0; type = word(&line)) {
         uint32_t payload_type = 0;
         if (!number(type, PAYLOAD_TYPES - 1, &payload_type)) return CPAY_SDP_BAD_PAYLOAD_TYPE;
         if (format_of(media, payload_type)) continue;
@@ -212,8 +124,8 @@ static cpay_sdp_error read_rtpmap(section *it, text value) {
     if (!number(word(&value), PAYLOAD_TYPES - 1, &payload_type)) return CPAY_SDP_BAD_PAYLOAD_TYPE;
     text encoding = word(&value);
     text name = part(&encoding, '/'), rate = part(&encoding, '/');
-    if (name.left == 0 || !number(rate, UINT32_MAX, &clock_rate) || clock_rate == 0) return CPAY_SDP_BAD_RTPMAP;
-    if (encoding.left > 0 && (!number(encoding, UINT8_MAX, &channels) || channels == 0)) return CPAY_SDP_BAD_RTPMAP;
+    if (name.len == 0 || !number(rate, UINT32_MAX, &clock_rate) || clock_rate == 0) return CPAY_SDP_BAD_RTPMAP;
+    if (encoding.len > 0 && (!number(encoding, UINT8_MAX, &channels) || channels == 0)) return CPAY_SDP_BAD_RTPMAP;
     cpay_sdp_format *format = format_of(it->media, payload_type);
     if (format) describe(format, name, clock_rate, channels);
     return CPAY_SDP_NO_ERROR;
@@ -223,7 +135,7 @@ static cpay_sdp_error read_rtpmap(section *it, text value) {
 static cpay_sdp_error read_red(cpay_sdp_format *format, text list) {
     uint32_t primary = 0, other = 0;
     if (!number(part(&list, '/'), PAYLOAD_TYPES - 1, &primary)) return CPAY_SDP_BAD_FMTP;
-    while (list.left > 0)
+    while (list.len > 0)
         if (!number(part(&list, '/'), PAYLOAD_TYPES - 1, &other)) return CPAY_SDP_BAD_FMTP;
     format->of = (uint8_t)primary;
     format->has_of = true;
@@ -262,8 +174,9 @@ static cpay_sdp_error read_fmtp(section *it, text value) {
     if (!number(word(&value), PAYLOAD_TYPES - 1, &payload_type)) return CPAY_SDP_BAD_PAYLOAD_TYPE;
     cpay_sdp_format *format = format_of(it->media, payload_type);
     if (!format) return CPAY_SDP_NO_ERROR;
+    format->fmtp = trimmed(value);
     if (format->role == CPAY_SDP_RED) return read_red(format, word(&value));
-    while (value.left > 0) {
+    while (value.len > 0) {
         text parameter = part(&value, ';');
         text key = trimmed(part(&parameter, '='));
         cpay_sdp_error error = read_parameter(format, key, trimmed(parameter));
@@ -273,7 +186,7 @@ static cpay_sdp_error read_fmtp(section *it, text value) {
 }
 
 static void add_feedback(cpay_sdp_format *format, text type, text parameter) {
-    if (same(type, "nack") && parameter.left == 0) format->nack = true;
+    if (same(type, "nack") && parameter.len == 0) format->nack = true;
     if (same(type, "nack") && same(parameter, "pli")) format->pli = true;
     if (same(type, "ccm") && same(parameter, "fir")) format->fir = true;
     if (same(type, "transport-cc")) format->transport_cc = true;
@@ -286,7 +199,7 @@ static cpay_sdp_error read_feedback(section *it, text value) {
     uint32_t payload_type = 0;
     bool all = same(types, "*");
     if (!all && !number(types, PAYLOAD_TYPES - 1, &payload_type)) return CPAY_SDP_BAD_PAYLOAD_TYPE;
-    if (type.left == 0) return CPAY_SDP_BAD_RTCP_FB;
+    if (type.len == 0) return CPAY_SDP_BAD_RTCP_FB;
     for (size_t i = 0; i < it->media->format_count; i++) {
         cpay_sdp_format *format = &it->media->formats[i];
         if (all || format->payload_type == payload_type) add_feedback(format, type, parameter);
@@ -337,7 +250,7 @@ static cpay_sdp_error read_extmap(section *it, text value) {
     text mapped = word(&value), uri = word(&value);
     uint32_t id = 0;
     uint8_t *ids[EXTENSIONS];
-    if (uri.left == 0 || !number(part(&mapped, '/'), LAST_UNASSIGNED_ID, &id) || id == 0) return CPAY_SDP_BAD_EXTMAP;
+    if (uri.len == 0 || !number(part(&mapped, '/'), LAST_UNASSIGNED_ID, &id) || id == 0) return CPAY_SDP_BAD_EXTMAP;
     if (id > MOST_ID) return id >= FIRST_UNASSIGNED_ID ? CPAY_SDP_NO_ERROR : CPAY_SDP_BAD_EXTMAP;
     ids_of(it->media, ids);
     for (size_t i = 0; i < EXTENSIONS; i++) {
@@ -382,7 +295,7 @@ static cpay_sdp_error read_group(section *it, text value) {
     bool is_fid = same(semantics, "FID");
     bool repairs = is_fid || same(semantics, "FEC") || same(semantics, "FEC-FR");
     cpay_sdp_source *first = NULL;
-    for (text one = word(&value); one.left > 0; one = word(&value)) {
+    for (text one = word(&value); one.len > 0; one = word(&value)) {
         uint32_t ssrc = 0;
         if (!number(one, UINT32_MAX, &ssrc)) return CPAY_SDP_BAD_SSRC;
         if (!first || !repairs) {
@@ -421,7 +334,7 @@ static cpay_sdp_error read_packet_time(section *it, text value) {
     uint32_t whole = 0, found = 0, digit = 0;
     if (!number(part(&time, '.'), MOST_PACKET_TIME / 1000, &whole)) return CPAY_SDP_BAD_PTIME;
     found = 1000 * whole;
-    for (uint32_t unit = 100; time.left > 0; skip(&time, 1), unit /= 10) {
+    for (uint32_t unit = 100; time.len > 0; skip(&time, 1), unit /= 10) {
         if (!number(front(time, 1), 9, &digit)) return CPAY_SDP_BAD_PTIME;
         found += digit * unit;
     }
@@ -436,30 +349,38 @@ static cpay_sdp_error read_formats(section *it, text line) {
     return it->media->is_rtp && skips(&line, "a=rtpmap:") ? read_rtpmap(it, line) : CPAY_SDP_NO_ERROR;
 }
 
+/* What formats, SSRCs and feedback are read from, in a section of RTP. */
+static cpay_sdp_error read_rtp(section *it, text attribute) {
+    if (equals(attribute, "rtcp-mux")) it->media->rtcp_mux = true;
+    if (skips(&attribute, "fmtp:")) return read_fmtp(it, attribute);
+    if (skips(&attribute, "rtcp-fb:")) return read_feedback(it, attribute);
+    if (skips(&attribute, "ssrc:")) return read_ssrc(it, attribute);
+    if (skips(&attribute, "ssrc-group:")) return read_group(it, attribute);
+    if (skips(&attribute, "ptime:")) return read_packet_time(it, attribute);
+    return read_beside_formats(it->media, attribute, true);
+}
+
 /* All else: the second pass. */
 static cpay_sdp_error read_attribute(section *it, text line) {
-    if (line.left == 0) return CPAY_SDP_NO_ERROR;
-    if (line.left < 2 || line.at[1] != '=' || !memchr("vosiuepcbtrzkam", line.at[0], 15)) return CPAY_SDP_BAD_LINE;
-    if (begins(line, "a=crypto:") || begins(line, "a=fingerprint:")) it->media->encrypted = true;
-    if (skips(&line, "a=extmap:")) return read_extmap(it, line);
-    if (!it->media->is_rtp) return CPAY_SDP_NO_ERROR;
-    if (equals(line, "a=rtcp-mux")) it->media->rtcp_mux = true;
-    if (skips(&line, "a=fmtp:")) return read_fmtp(it, line);
-    if (skips(&line, "a=rtcp-fb:")) return read_feedback(it, line);
-    if (skips(&line, "a=ssrc:")) return read_ssrc(it, line);
-    if (skips(&line, "a=ssrc-group:")) return read_group(it, line);
-    return skips(&line, "a=ptime:") ? read_packet_time(it, line) : CPAY_SDP_NO_ERROR;
+    cpay_sdp_group group;
+    if (line.len == 0) return CPAY_SDP_NO_ERROR;
+    if (line.len < 2 || line.at[1] != '=' || !memchr("vosiuepcbtrzkam", line.at[0], 15)) return CPAY_SDP_BAD_LINE;
+    if (!skips(&line, "a=")) return CPAY_SDP_NO_ERROR;
+    if (begins(line, "crypto:") || begins(line, "fingerprint:")) it->media->encrypted = true;
+    if (skips(&line, "extmap:")) return read_extmap(it, line);
+    if (!it->is_section && skips(&line, "group:")) return read_group_of_sections(&group, line);
+    return it->media->is_rtp ? read_rtp(it, line) : read_beside_formats(it->media, line, it->is_section);
 }
 
 /* The lines up to the next `m=` line, and how many they are. The first line belongs to the section whatever it is. */
 static text section_of(text *it, size_t *lines) {
     text rest = *it;
     *lines = 0;
-    while (rest.left > 0 && (*lines == 0 || !begins(rest, "m="))) {
+    while (rest.len > 0 && (*lines == 0 || !begins(rest, "m="))) {
         line_of(&rest);
         ++*lines;
     }
-    text found = front(*it, it->left - rest.left);
+    text found = front(*it, it->len - rest.len);
     *it = rest;
     return found;
 }
@@ -467,7 +388,7 @@ static text section_of(text *it, size_t *lines) {
 /* Calls `read` with each line. On an error *line is the number of the line at fault. */
 static cpay_sdp_error read_lines(section *it, text lines, size_t *line, cpay_sdp_error (*read)(section *, text)) {
     size_t first = *line;
-    while (lines.left > 0) {
+    while (lines.len > 0) {
         cpay_sdp_error error = read(it, line_of(&lines));
         if (error) return error;
         ++*line;
@@ -477,14 +398,16 @@ static cpay_sdp_error read_lines(section *it, text lines, size_t *line, cpay_sdp
 }
 
 static cpay_sdp_error read_section(cpay_sdp_media *media, cpay_sdp_media *session, text lines, size_t *line) {
-    section it = {.media = media, .repair_count = 0};
+    section it = {.media = media, .is_section = session != NULL, .repair_count = 0};
     memset(media, 0, sizeof *media);
     media->line = *line;
+    if (session) begin_with(media, session);
     cpay_sdp_error error = read_lines(&it, lines, line, read_formats);
     if (!error) error = read_lines(&it, lines, line, read_attribute);
     drop_repair(&it);
     if (session) {
         inherit_ids(media, session);
+        inherit_fingerprints(&media->transport, &session->transport);
         media->encrypted |= session->encrypted;
     }
     return error;
@@ -503,7 +426,7 @@ static cpay_sdp_error read_all(text it, cpay_sdp_media *media, size_t media_len,
         /* an `m=` line cannot be first here, so this part has no formats */
         if (!error) *line += lines;
     }
-    while (!error && it.left > 0) {
+    while (!error && it.len > 0) {
         if (*count == CPAY_SDP_MAX_MEDIA) return CPAY_SDP_TOO_MANY_MEDIA;
         error = read_section(*count < media_len ? &media[*count] : &spare, &session, section_of(&it, &lines), line);
         if (!error) *line += lines;
@@ -527,6 +450,41 @@ cpay_status cpay_sdp_read(const char *text_at, size_t text_len, cpay_sdp_media *
     (void)read_all(all, media, media_len, &found, &line);
     return CPAY_OK;
 }
+
+/* Reads the groups of the lines in front of the first section. Groups beyond `groups_len` are counted. */
+static cpay_sdp_error read_groups(text it, cpay_sdp_group *groups, size_t groups_len, size_t *count, size_t *line) {
+    *count = 0;
+    for (*line = 1; it.len > 0 && !begins(it, "m="); ++*line) {
+        text value = line_of(&it);
+        cpay_sdp_group group;
+        if (!skips(&value, "a=group:")) continue;
+        cpay_sdp_error error = read_group_of_sections(&group, value);
+        if (error) return error;
+        if (*count < groups_len) groups[*count] = group;
+        ++*count;
+    }
+    return CPAY_SDP_NO_ERROR;
+}
+
+cpay_status cpay_sdp_groups(const char *text_at, size_t text_len, cpay_sdp_group *groups, size_t groups_len, size_t *count,
+                            cpay_sdp_fault *fault) {
+    text all = {text_at, text_len};
+    size_t line = 0, found = 0;
+    if ((!text_at && text_len) || (!groups && groups_len)) return CPAY_INVALID;
+    cpay_sdp_error error = read_groups(all, NULL, 0, &found, &line);
+    if (error) {
+        *fault = (cpay_sdp_fault){line, error};
+        return CPAY_INVALID;
+    }
+    *count = found;
+    if (found > groups_len) return CPAY_TOO_SMALL;
+    (void)read_groups(all, groups, groups_len, &found, &line);
+    return CPAY_OK;
+}
+
+cpay_sdp_text cpay_sdp_word(cpay_sdp_text *rest) { return rest->len > 0 ? word(rest) : *rest; }
+
+bool cpay_sdp_text_is(cpay_sdp_text it, const char *other) { return it.len == strlen(other) && (it.len == 0 || equals(it, other)); }
 
 /* ---- Settings ---- */
 

@@ -12,13 +12,15 @@
 #include <stdlib.h>
 #include <string.h>
 
-enum { MOST_TEXT = 1 << 16, MOST_MEDIA = 32, CHANGES = 3000 };
+enum { MOST_TEXT = 1 << 16, MOST_MEDIA = 32, MOST_GROUPS = 1000, CHANGES = 3000 };
 
 static char given[MOST_TEXT], changed[MOST_TEXT];
 static cpay_sdp_media media[MOST_MEDIA];
 
 static const char *const roles[] = {"ignored", "media", "RED", "retransmission", "events", "comfort noise", "FEC"};
 static const char *const kinds[] = {"other", "audio", "video"};
+static const char *const directions[] = {"sendrecv", "sendonly", "recvonly", "inactive"};
+static const char *const setups[] = {"none", "active", "passive", "actpass", "holdconn"};
 
 static void fail(const char *what) {
     fprintf(stderr, "descriptions: %s\n", what);
@@ -27,6 +29,13 @@ static void fail(const char *what) {
 
 /* ---- Printing ---- */
 
+/* ` NAME TEXT`, if there is a text. A 0 in it is printed as `?`. */
+static void print_text(const char *name, cpay_sdp_text it) {
+    if (it.len == 0) return;
+    printf("%s", name);
+    for (size_t i = 0; i < it.len; i++) putchar(it.at[i] ? it.at[i] : '?');
+}
+
 static void print_format(const cpay_sdp_format *it) {
     printf("%u %s/%u/%u: %s", it->payload_type, it->name, it->clock_rate, it->channels, roles[it->role]);
     if (it->role == CPAY_SDP_MEDIA) printf(" %u", it->codec);
@@ -34,6 +43,8 @@ static void print_format(const cpay_sdp_format *it) {
     if (it->profile) printf(" profile %u", it->profile);
     printf("%s%s%s%s%s%s\n", it->octet_align ? " octet-align" : "", it->nack ? " nack" : "", it->pli ? " pli" : "",
            it->fir ? " fir" : "", it->transport_cc ? " transport-cc" : "", it->remb ? " remb" : "");
+    print_text("fmtp ", it->fmtp);
+    if (it->fmtp.len) printf("\n");
 }
 
 static void print_ids(const cpay_sdp_media *it) {
@@ -72,11 +83,62 @@ static void print_receiver(const cpay_sdp_media *it, uint8_t payload_type) {
     printf("\n");
 }
 
+static void print_transport(const cpay_sdp_transport *it) {
+    printf("ICE:");
+    print_text(" user ", it->ice_ufrag);
+    print_text(" password ", it->ice_pwd);
+    print_text(" options ", it->ice_options);
+    printf("%s%s\n", it->ice_lite ? " lite" : "", it->end_of_candidates ? " end" : "");
+    for (size_t i = 0; i < it->candidate_count; i++) print_text(i ? "\ncandidate " : "candidate ", it->candidates[i]);
+    if (it->candidate_count) printf("\n");
+    if (it->more_candidates) printf("%zu more candidates\n", it->more_candidates);
+    if (it->setup) printf("setup %s\n", setups[it->setup]);
+    for (size_t i = 0; i < it->fingerprint_count; i++) {
+        print_text("fingerprint ", it->fingerprints[i].hash);
+        print_text(" ", it->fingerprints[i].value);
+        printf("\n");
+    }
+}
+
+static void print_layers(const cpay_sdp_media *it) {
+    for (size_t i = 0; i < it->rid_count; i++) {
+        print_text("rid ", it->rids[i].id);
+        printf(" %s", it->rids[i].sent ? "send" : "recv");
+        print_text(" ", it->rids[i].restrictions);
+        printf("\n");
+    }
+    if (it->more_rids) printf("%zu more rids\n", it->more_rids);
+    for (size_t i = 0; i < it->layer_count; i++) {
+        const cpay_sdp_layer *layer = &it->layers[i];
+        printf("simulcast %s %u", layer->sent ? "send" : "recv", layer->stream);
+        print_text(" ", layer->rid);
+        printf("%s\n", layer->paused ? " paused" : "");
+    }
+    if (it->more_layers) printf("%zu more layers\n", it->more_layers);
+}
+
+/* What a section says beside formats. */
+static void print_beside_formats(const cpay_sdp_media *it) {
+    print_text("type ", it->type);
+    print_text(" ", it->protocol);
+    print_text(" mid ", it->mid);
+    printf(" %s\n", directions[it->direction]);
+    for (size_t i = 0; i < it->msid_count; i++) {
+        print_text("msid ", it->msids[i].stream);
+        print_text(" ", it->msids[i].track);
+        printf("\n");
+    }
+    if (it->more_msids) printf("%zu more msids\n", it->more_msids);
+    print_layers(it);
+    print_transport(&it->transport);
+}
+
 static void print_media(const cpay_sdp_media *it) {
-    printf("line %zu: %s, port %u%s%s%s", it->line, kinds[it->kind], it->port, it->is_rtp ? "" : ", not RTP",
-           it->encrypted ? ", encrypted" : "", it->rtcp_mux ? ", rtcp-mux" : "");
+    printf("line %zu: %s, port %u%s%s%s%s", it->line, kinds[it->kind], it->port, it->is_rtp ? "" : ", not RTP",
+           it->encrypted ? ", encrypted" : "", it->rtcp_mux ? ", rtcp-mux" : "", it->bundle_only ? ", bundle-only" : "");
     if (it->packet_time) printf(", ptime %u", it->packet_time);
     printf("\n");
+    print_beside_formats(it);
     for (size_t i = 0; i < it->format_count; i++) print_format(&it->formats[i]);
     print_ids(it);
     for (size_t i = 0; i < it->source_count; i++) {
@@ -147,9 +209,25 @@ static void print_session(size_t count) {
     for (size_t i = 0; i < session.pairs_len; i++) printf("pair %u %u\n", session.pairs[i].ssrc, session.pairs[i].rtx_ssrc);
 }
 
+/* The groups, or the fault of one. */
+static void print_groups(const char *text, size_t size) {
+    static cpay_sdp_group groups[MOST_GROUPS];
+    cpay_sdp_fault fault = {0, CPAY_SDP_NO_ERROR};
+    size_t count = 0;
+    cpay_status status = cpay_sdp_groups(text, size, groups, MOST_GROUPS, &count, &fault);
+    if (status == CPAY_INVALID) printf("groups: line %zu: %s\n", fault.line, cpay_sdp_error_text(fault.error));
+    else if (status) fail(cpay_status_text(status));
+    for (size_t i = 0; !status && i < count; i++) {
+        print_text("group ", groups[i].semantics);
+        for (cpay_sdp_text mid = cpay_sdp_word(&groups[i].mids); mid.len > 0; mid = cpay_sdp_word(&groups[i].mids)) print_text(" ", mid);
+        printf("\n");
+    }
+}
+
 static void print_description(const char *text, size_t size) {
     cpay_sdp_fault fault = {0, CPAY_SDP_NO_ERROR};
     size_t count = 0;
+    print_groups(text, size);
     cpay_status status = cpay_sdp_read(text, size, media, MOST_MEDIA, &count, &fault);
     if (status == CPAY_INVALID) printf("line %zu: %s\n", fault.line, cpay_sdp_error_text(fault.error));
     else if (status) fail(cpay_status_text(status));
@@ -233,6 +311,79 @@ static void check_pairs(void) {
     if (session.pairs_len != 7) fail("a failing call changed the settings");
 }
 
+/* Appends a line `count` times. */
+static size_t add(char *text, size_t size, const char *line, unsigned count) {
+    for (unsigned i = 0; i < count; i++) size += (size_t)sprintf(text + size, "%s", line);
+    return size;
+}
+
+/* More of a section than there is room for is counted; more fingerprints are refused. */
+static void check_lists(void) {
+    static char many[1 << 14];
+    cpay_sdp_fault fault = {0, CPAY_SDP_NO_ERROR};
+    const cpay_sdp_media *it = &media[0];
+    size_t count = 0, size = add(many, 0, "m=video 9 RTP/AVP 34\n", 1);
+    size = add(many, size, "a=candidate:1 1 udp 1 192.0.2.1 9 typ host\n", CPAY_SDP_MAX_CANDIDATES + 2);
+    size = add(many, size, "a=rid:1 send\n", CPAY_SDP_MAX_RIDS + 2);
+    size = add(many, size, "a=msid:a b\n", CPAY_SDP_MAX_MSIDS + 2);
+    size = add(many, size, "a=simulcast:send 1", 1);
+    size = add(many, size, ";1", CPAY_SDP_MAX_LAYERS + 1);
+    size = add(many, size, "\na=fingerprint:sha-256 AB\n", CPAY_SDP_MAX_FINGERPRINTS);
+    if (cpay_sdp_read(many, size, media, 1, &count, &fault)) fail("long lists");
+    if (it->transport.candidate_count != CPAY_SDP_MAX_CANDIDATES || it->transport.more_candidates != 2) fail("66 candidates");
+    if (it->rid_count != CPAY_SDP_MAX_RIDS || it->more_rids != 2) fail("18 rids");
+    if (it->msid_count != CPAY_SDP_MAX_MSIDS || it->more_msids != 2) fail("10 msids");
+    if (it->layer_count != CPAY_SDP_MAX_LAYERS || it->more_layers != 2 || it->layers[31].stream != 31) fail("34 layers");
+    if (it->transport.fingerprint_count != CPAY_SDP_MAX_FINGERPRINTS) fail("8 fingerprints");
+    size = add(many, size, "a=fingerprint:sha-256 AB\n", 1);
+    if (cpay_sdp_read(many, size, media, 1, &count, &fault) != CPAY_INVALID || fault.error != CPAY_SDP_TOO_MANY_FINGERPRINTS)
+        fail("9 fingerprints");
+}
+
+/* Groups: their bounds, and words of a text. */
+static void check_groups(void) {
+    static const char text[] = "v=0\r\na=group:BUNDLE a  b\r\na=group:LS\r\nm=audio 9 RTP/AVP 0\r\na=group:FID 1\r\n";
+    cpay_sdp_group groups[3];
+    cpay_sdp_fault fault = {99, CPAY_SDP_NO_ERROR};
+    size_t count = 77;
+    memset(groups, 0, sizeof groups);
+    if (cpay_sdp_groups(text, sizeof text - 1, groups, 1, &count, &fault) != CPAY_TOO_SMALL || count != 2 || groups[0].mids.len > 0)
+        fail("two groups in place of one");
+    if (cpay_sdp_groups(text, sizeof text - 1, groups, 3, &count, &fault) || count != 2 || fault.line != 99) fail("two groups");
+    if (groups[1].mids.len || !cpay_sdp_text_is(groups[1].semantics, "LS") || groups[2].semantics.at) fail("the second group");
+    if (!cpay_sdp_text_is(cpay_sdp_word(&groups[0].mids), "a") || !cpay_sdp_text_is(cpay_sdp_word(&groups[0].mids), "b") ||
+        cpay_sdp_word(&groups[0].mids).len || cpay_sdp_text_is(groups[0].semantics, "bundle"))
+        fail("the first group");
+    if (!cpay_sdp_text_is(groups[2].mids, "") || cpay_sdp_word(&groups[2].mids).len) fail("no text");
+    if (cpay_sdp_groups(NULL, 1, groups, 3, &count, &fault) != CPAY_INVALID || fault.line != 99) fail("a length without a text");
+    if (cpay_sdp_groups(NULL, 0, NULL, 0, &count, &fault) || count) fail("no description");
+    if (cpay_sdp_groups("a=x\na=group:", 12, groups, 3, &count, &fault) != CPAY_INVALID || fault.error != CPAY_SDP_BAD_GROUP ||
+        fault.line != 2)
+        fail("a group without semantics");
+}
+
+/* A megabyte of each of these lines, in time that grows with the lines alone: else this takes minutes. */
+static void check_long(void) {
+    static const char *const lines[] = {"a=mid:0\n", "a=msid:a\n", "a=candidate:1 1 udp 1 a 9 typ host\n", "a=rid:1 send\n",
+                                        "a=simulcast:send 1;2 recv 3,~4\n", "a=rtcp-fb:* nack\n", "a=fmtp:0 x;y\n", "a=group:LS\n"};
+    static const char *const parts[][2] = {
+        {"a=simulcast:send 1", ";1"}, {"a=simulcast:send 1", ",~1"}, {"a=fingerprint:x AB", ":AB"}, {"a=fmtp:0 ", "x;"}, {"a=group:x", " a"}};
+    static char many[(1 << 20) + 100];
+    cpay_sdp_fault fault = {0, CPAY_SDP_NO_ERROR};
+    size_t count = 0;
+    for (size_t i = 0; i < sizeof lines / sizeof *lines; i++) {
+        size_t size = add(many, 0, "m=audio 9 RTP/AVP 0\n", 1);
+        size = add(many, size, lines[i], (unsigned)((1 << 20) / strlen(lines[i])));
+        if (cpay_sdp_read(many, size, media, 1, &count, &fault)) fail("many lines");
+    }
+    for (size_t i = 0; i < sizeof parts / sizeof *parts; i++) {
+        size_t size = add(many, 0, "m=audio 9 RTP/AVP 0\n", 1);
+        size = add(many, size, parts[i][0], 1);
+        size = add(many, size, parts[i][1], (unsigned)((1 << 20) / strlen(parts[i][1])));
+        if (cpay_sdp_read(many, size, media, 1, &count, &fault)) fail("a long line");
+    }
+}
+
 /* Many sections, and little room: what no table shows. */
 static void check_bounds(void) {
     static char many[40 * (CPAY_SDP_MAX_MEDIA + 1)];
@@ -291,6 +442,27 @@ static size_t change(uint32_t seed, size_t size) {
     return size;
 }
 
+/* A piece of the description must lie within it. */
+static void check_text(cpay_sdp_text it, const char *text, size_t size) {
+    if (it.len > 0 && (it.at < text || it.len > size || (size_t)(it.at - text) > size - it.len)) fail("a text is out of bounds");
+}
+
+static void check_beside_formats(const cpay_sdp_media *it, const char *text, size_t size) {
+    const cpay_sdp_transport *transport = &it->transport;
+    const cpay_sdp_text texts[] = {it->type, it->protocol, it->mid, transport->ice_ufrag, transport->ice_pwd, transport->ice_options};
+    if (transport->fingerprint_count > CPAY_SDP_MAX_FINGERPRINTS || transport->candidate_count > CPAY_SDP_MAX_CANDIDATES ||
+        it->msid_count > CPAY_SDP_MAX_MSIDS || it->rid_count > CPAY_SDP_MAX_RIDS || it->layer_count > CPAY_SDP_MAX_LAYERS ||
+        it->direction > CPAY_SDP_INACTIVE || transport->setup > CPAY_SDP_HOLDCONN)
+        fail("a list is out of bounds");
+    for (size_t i = 0; i < sizeof texts / sizeof *texts; i++) check_text(texts[i], text, size);
+    for (size_t i = 0; i < transport->fingerprint_count; i++) check_text(transport->fingerprints[i].value, text, size);
+    for (size_t i = 0; i < transport->candidate_count; i++) check_text(transport->candidates[i], text, size);
+    for (size_t i = 0; i < it->msid_count; i++) check_text(it->msids[i].track, text, size);
+    for (size_t i = 0; i < it->rid_count; i++) check_text(it->rids[i].restrictions, text, size);
+    for (size_t i = 0; i < it->layer_count; i++) check_text(it->layers[i].rid, text, size);
+    for (size_t i = 0; i < it->format_count; i++) check_text(it->formats[i].fmtp, text, size);
+}
+
 static void check_media(const cpay_sdp_media *it) {
     if (it->format_count > CPAY_SDP_MAX_FORMATS || it->source_count > CPAY_SDP_MAX_SOURCES || it->kind > CPAY_SDP_VIDEO)
         fail("a section is out of bounds");
@@ -331,7 +503,10 @@ static void fuzz(size_t size) {
         memcpy(copy, changed, left);
         cpay_status status = cpay_sdp_read(copy, left, media, MOST_MEDIA, &count, &fault);
         if (status == CPAY_INVALID && (fault.line == 0 || fault.error == CPAY_SDP_NO_ERROR)) fail("a fault without line or error");
-        for (size_t k = 0; status == CPAY_OK && k < count; k++) check_media(&media[k]);
+        for (size_t k = 0; status == CPAY_OK && k < count; k++) {
+            check_beside_formats(&media[k], copy, left);
+            check_media(&media[k]);
+        }
         if (status == CPAY_OK) made += makes_session(count);
         read += status == CPAY_OK;
         free(copy);
@@ -342,6 +517,9 @@ static void fuzz(size_t size) {
 int main(int count, char **words) {
     if (count > 1 && strcmp(words[1], "faults") == 0) {
         check_bounds();
+        check_lists();
+        check_groups();
+        check_long();
         compare(compare_fault);
         return EXIT_SUCCESS;
     }

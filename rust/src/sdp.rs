@@ -1,6 +1,9 @@
 //! From a session description (SDP, RFC 8866) to the settings of receivers and of sessions.
 //!
-//! Written by hand and not proved. Any text may be given: [`read`] does not panic, and reads the text twice.
+//! What a section says beside formats is lent from the text: names, direction, layers, ICE and DTLS.
+//!
+//! Written by hand and not proved. Any text may be given: [`read`] does not panic. It reads the text twice; time and memory are in
+//! proportion to its length.
 //!
 //! ```
 //! use codec_payload::sdp::{Role, self};
@@ -9,6 +12,14 @@
 //! let media = sdp::read("v=0\r\nm=audio 9 RTP/AVP 111 0\r\na=rtpmap:111 opus/48000/2\r\na=ptime:60\r\n")?;
 //! assert!(matches!(media[0].formats[0].role, Role::Media(spec) if spec.clock_rate.get() == 48_000));
 //! assert!(media[0].receiver_settings(111)?.is_some());
+//!
+//! let text = "v=0\r\na=setup:actpass\r\nm=video 9 UDP/TLS/RTP/SAVPF 96\r\na=mid:1\r\na=rid:h send\r\na=rid:l send\r\n\
+//!     a=simulcast:send h;~l\r\na=ice-ufrag:5NkD\r\na=fmtp:96 max-fr=30\r\n";
+//! let video = &sdp::read(text)?[0];
+//! assert_eq!((video.mid, video.transport.ice_ufrag), (Some("1"), Some("5NkD")));
+//! assert_eq!(video.transport.setup, Some(sdp::Setup::ActPass));
+//! assert!(video.layers[1].rid == "l" && video.layers[1].is_paused);
+//! assert_eq!(video.formats[0].fmtp, "max-fr=30");
 //!
 //! let fault = sdp::read("v=0\r\nm=audio 9 RTP/AVP 128\r\n").unwrap_err();
 //! assert_eq!(fault.to_string(), "line 2: payload type is not 0 to 127");
@@ -19,8 +30,10 @@
 mod port;
 mod section;
 mod text;
+mod transport;
 
 pub use port::{MAX_PAIRS, SessionError, pairs, session_settings};
+pub use transport::{Direction, Fingerprint, Group, Layer, Msid, Rid, Setup, Transport, groups};
 
 use crate::memory::{AllocError, TryVec};
 use crate::rtp::ExtensionIds;
@@ -33,6 +46,8 @@ use core::fmt;
 pub const MAX_MEDIA: usize = 1_024;
 /// The highest number of SSRCs of a section, and of SSRCs of repair apart from them.
 pub const MAX_SOURCES: usize = 128;
+/// The highest number of fingerprints of a section.
+pub const MAX_FINGERPRINTS: usize = 8;
 
 const DEFAULT_PACKET_TIME: u32 = 20_000;
 const MAX_RED_STEP: u64 = 16_383;
@@ -88,6 +103,8 @@ pub struct Format<'a> {
     /// VP9: `profile-id` (RFC 9628, section 6); AV1: `profile`. 0 by default.
     pub profile: u8,
     pub feedback: Feedback,
+    /// What follows the payload type in its last `a=fmtp` (RFC 8866, section 6.15). Empty if there is none.
+    pub fmtp: &'a str,
 }
 
 /// An SSRC of media, by `a=ssrc` or `a=ssrc-group` (RFC 5576). SSRCs of repair alone are left out.
@@ -130,13 +147,17 @@ pub enum Kind {
     Other,
 }
 
-/// An `m=` section.
+/// An `m=` section. All text is lent from the description. If a line that may occur once occurs again, the last one counts.
 #[derive(Clone, Debug, Default, PartialEq, Eq)]
 pub struct Media<'a> {
     /// The number of its `m=` line, from 1.
     pub line: usize,
     pub kind: Kind,
-    /// The port of RTP. 0: the section is refused, or bundled with another.
+    /// The first word of the `m=` line, such as `audio`, which an answer repeats.
+    pub media_type: &'a str,
+    /// The third word of the `m=` line, such as `UDP/TLS/RTP/SAVPF`.
+    pub protocol: &'a str,
+    /// The port of RTP. 0: the section is refused, or, with `is_bundle_only`, bundled with another.
     pub port: u16,
     /// Whether its protocol is RTP; else it has no formats.
     pub is_rtp: bool,
@@ -144,6 +165,8 @@ pub struct Media<'a> {
     pub is_encrypted: bool,
     /// Whether RTCP comes on the port of RTP (RFC 5761).
     pub has_rtcp_mux: bool,
+    /// `a=bundle-only`: port 0 refuses nothing (RFC 9143, section 6).
+    pub is_bundle_only: bool,
     /// `a=ptime`, in microseconds.
     pub packet_time: Option<u32>,
     /// Ids of header extensions (RFC 8285).
@@ -153,6 +176,17 @@ pub struct Media<'a> {
     pub formats: Vec<Format<'a>>,
     /// In the order of their first lines.
     pub sources: Vec<Source>,
+    /// `a=mid`: the name of the section (RFC 5888, section 4).
+    pub mid: Option<&'a str>,
+    /// That of the session, if the section has none.
+    pub direction: Direction,
+    /// ICE and DTLS.
+    pub transport: Transport<'a>,
+    /// Empty if the section is not RTP, as are `rids` and `layers`.
+    pub msids: Vec<Msid<'a>>,
+    pub rids: Vec<Rid<'a>>,
+    /// Layers of simulcast, in the order of the line.
+    pub layers: Vec<Layer<'a>>,
 }
 
 /// What is wrong with a line.
@@ -177,10 +211,34 @@ pub enum ErrorKind {
     Ptime,
     /// `a=rtcp-fb` without a type.
     RtcpFb,
+    /// `a=mid` is not one word.
+    Mid,
+    /// `a=msid` is not one or two words.
+    Msid,
+    /// `a=rid` without an id of letters, digits, `-`, `_`, or without `send` or `recv`.
+    Rid,
+    /// `a=simulcast` is not `send` or `recv` with ids, each at most once.
+    Simulcast,
+    /// Not 4 to 256 letters, digits, `+`, `/`, or, of older peers, `-`, `_`, `=`, `#`.
+    IceUfrag,
+    /// Not 22 to 256 of the same characters.
+    IcePwd,
+    /// `a=ice-options` without an option.
+    IceOptions,
+    /// Not at least eight words, the seventh `typ`.
+    Candidate,
+    /// Not a hash function, and pairs of hexadecimal digits with `:` between them.
+    Fingerprint,
+    /// None of `active`, `passive`, `actpass` and `holdconn`.
+    Setup,
+    /// `a=group` without semantics.
+    Group,
     /// More than [`MAX_MEDIA`] sections.
     TooManyMedia,
     /// More than [`MAX_SOURCES`] SSRCs in a section.
     TooManySources,
+    /// More than [`MAX_FINGERPRINTS`] of a section.
+    TooManyFingerprints,
     /// Out of memory; only with the feature `fallible`.
     OutOfMemory,
 }
@@ -197,8 +255,22 @@ impl fmt::Display for ErrorKind {
             ErrorKind::Ssrc => "SSRC is not a number of 32 bits",
             ErrorKind::Ptime => "ptime is not a time of at most 100000 milliseconds",
             ErrorKind::RtcpFb => "rtcp-fb without a type",
+            ErrorKind::Mid => "mid is not one word",
+            ErrorKind::Msid => "msid is not one or two words",
+            ErrorKind::Rid => "rid without id, or without send or recv",
+            ErrorKind::Simulcast => "simulcast is not send or recv with ids",
+            ErrorKind::IceUfrag => "ice-ufrag is not 4 to 256 characters of ICE",
+            ErrorKind::IcePwd => "ice-pwd is not 22 to 256 characters of ICE",
+            ErrorKind::IceOptions => "ice-options without an option",
+            ErrorKind::Candidate => "candidate lacks a field",
+            ErrorKind::Fingerprint => {
+                "fingerprint is not a hash function and pairs of hexadecimal digits"
+            }
+            ErrorKind::Setup => "setup is not active, passive, actpass or holdconn",
+            ErrorKind::Group => "group without semantics",
             ErrorKind::TooManyMedia => "more than 1024 media sections",
             ErrorKind::TooManySources => "more than 128 SSRCs in a section",
+            ErrorKind::TooManyFingerprints => "more than 8 fingerprints in a section",
             ErrorKind::OutOfMemory => "out of memory",
         })
     }
@@ -241,7 +313,7 @@ pub fn read(text: &str) -> Result<Vec<Media<'_>>, Error> {
     let mut found = Vec::new();
     if !rest.starts_with("m=") {
         let (lines, count) = text::section(&mut rest);
-        session = section::read(lines, line)?;
+        session = section::read(lines, line, None)?;
         line += count;
     }
     while !rest.is_empty() {
@@ -250,12 +322,13 @@ pub fn read(text: &str) -> Result<Vec<Media<'_>>, Error> {
             return Err(Error { line, kind });
         }
         let (lines, count) = text::section(&mut rest);
-        let mut media = section::read(lines, line)?;
-        section::inherit(&mut media, &mut session);
-        found.try_push(media).map_err(|fault| Error {
-            line,
-            kind: fault.into(),
-        })?;
+        let mut media = section::read(lines, line, Some(&session))?;
+        section::inherit(&mut media, &mut session)
+            .and_then(|()| found.try_push(media))
+            .map_err(|fault| Error {
+                line,
+                kind: fault.into(),
+            })?;
         line += count;
     }
     Ok(found)

@@ -1,5 +1,5 @@
-/* The answer to an offer (RFC 9725, section 4.2): one codec of audio and one of video, ICE-lite, DTLS passive. The library reads
- * codecs, SSRCs, feedback and ids of header extensions; the other lines are read here. */
+/* The answer to an offer (RFC 9725, section 4.2): one codec of audio and one of video, ICE-lite, DTLS passive. The library reads the
+ * offer. */
 #include "server.h"
 
 #include <string.h>
@@ -9,26 +9,14 @@ enum { MOST_SECTIONS = 16, MOST_ANSWER = 16 << 10, OK = 201, BAD = 400, NOT_ACCE
 
 #define TRANSPORT_WIDE "http://www.ietf.org/id/draft-holmer-rmcat-transport-wide-cc-extensions-01"
 
+/* A piece of the offer, for "%.*s". */
+#define PIECE(it) (int)(it).len, (it).at
+
 /* An offer that was read. */
 typedef struct {
-    const char *text;
     const cpay_sdp_media *sections;
     size_t count;
 } description;
-
-/* The rest of the first line that begins with `name` in the section with this number of its `m=` line; 0: in front of all. */
-static bool value_of(const description *of, size_t section, const char *name, char *value, size_t room) {
-    size_t number = 1, here = 0, skip = strlen(name);
-    for (const char *at = of->text; *at; at += strcspn(at, "\n"), at += *at == '\n', number++) {
-        size_t length = strcspn(at, "\r\n");
-        if (!strncmp(at, "m=", 2)) here = number;
-        if (here == section && length >= skip && !strncmp(at, name, skip)) {
-            snprintf(value, room, "%.*s", (int)(length - skip), at + skip);
-            return true;
-        }
-    }
-    return false;
-}
 
 /* ---- writing ---- */
 
@@ -37,14 +25,13 @@ static void write_extension(FILE *to, uint8_t id, const char *name) {
 }
 
 /* `a=rtpmap`, `a=fmtp` and `a=rtcp-fb` of what was chosen. */
-static void write_formats(FILE *to, const description *offer, const peer *it, const agreed *of) {
+static void write_formats(FILE *to, const cpay_sdp_media *media, const peer *it, const agreed *of) {
     bool video = of == &it->media[VIDEO];
     unsigned type = of->payload_type, red = of->red_payload_type, rtx = of->rtx_payload_type;
-    char name[32], parameters[256];
+    cpay_sdp_text parameters = cpay_sdp_format_of(media, of->payload_type)->fmtp;
     if (red) fprintf(to, "a=rtpmap:%u red/48000/2\r\na=fmtp:%u %u/%u\r\n", red, red, type, type);
     fprintf(to, "a=rtpmap:%u %s/%s\r\n", type, of->name, video ? "90000" : "48000/2");
-    snprintf(name, sizeof name, "a=fmtp:%u ", type);
-    if (value_of(offer, of->line, name, parameters, sizeof parameters)) fprintf(to, "%s%s\r\n", name, parameters);
+    if (parameters.len) fprintf(to, "a=fmtp:%u %.*s\r\n", type, PIECE(parameters));
     if (!video) return;
     fprintf(to, "a=rtcp-fb:%u nack\r\na=rtcp-fb:%u nack pli\r\n", type, type);
     if (it->publisher && the.remb) fprintf(to, "a=rtcp-fb:%u goog-remb\r\n", type);
@@ -86,21 +73,18 @@ static const agreed *agreed_for(const peer *it, const cpay_sdp_media *media) {
     return NULL;
 }
 
-static void write_section(FILE *to, const peer *it, const description *offer, const cpay_sdp_media *media) {
-    char mid[64] = "", rest[512] = "", type[16] = "application", protocol[64] = "UDP/TLS/RTP/SAVPF";
+static void write_section(FILE *to, const peer *it, const cpay_sdp_media *media) {
     const agreed *of = agreed_for(it, media);
-    value_of(offer, media->line, "m=", rest, sizeof rest);
-    sscanf(rest, "%15s %*s %63s", type, protocol);
-    value_of(offer, media->line, "a=mid:", mid, sizeof mid);
-    fprintf(to, "m=%s %u %s", type, of ? the.udp : 0u, protocol);
+    fprintf(to, "m=%.*s %u %.*s", PIECE(media->type), of ? the.udp : 0u, PIECE(media->protocol));
     if (of && of->red_payload_type) fprintf(to, " %u", of->red_payload_type);
     fprintf(to, " %u", of ? of->payload_type : 0u);
     if (of && of->rtx_payload_type) fprintf(to, " %u", of->rtx_payload_type);
-    fprintf(to, "\r\nc=IN IP4 %s\r\na=mid:%s\r\n", of ? the.candidates[0] : "0.0.0.0", mid);
+    fprintf(to, "\r\nc=IN IP4 %s\r\n", of ? the.candidates[0] : "0.0.0.0");
+    if (media->mid.len) fprintf(to, "a=mid:%.*s\r\n", PIECE(media->mid));
     if (!of) return;
     write_transport(to, it);
     fprintf(to, "a=%s\r\n", it->publisher ? "recvonly" : "sendonly");
-    write_formats(to, offer, it, of);
+    write_formats(to, media, it, of);
     if (it->publisher && it->transport_id && media->transport_cc_id)
         fprintf(to, "a=extmap:%u " TRANSPORT_WIDE "\r\na=rtcp-fb:%u transport-cc\r\n", media->transport_cc_id, of->payload_type);
     if (!it->publisher) write_sources(to, it, of);
@@ -111,12 +95,11 @@ static void write_answer(FILE *to, const peer *it, const description *offer) {
     fprintf(to, "v=0\r\no=- %llu 1 IN IP4 %s\r\ns=-\r\nt=0 0\r\na=ice-lite\r\na=group:BUNDLE", (unsigned long long)it->number,
             the.candidates[0]);
     for (size_t i = 0; i < offer->count; i++) {
-        char mid[64] = "";
-        if (agreed_for(it, &offer->sections[i]) && value_of(offer, offer->sections[i].line, "a=mid:", mid, sizeof mid))
-            fprintf(to, " %s", mid);
+        const cpay_sdp_media *media = &offer->sections[i];
+        if (agreed_for(it, media) && media->mid.len) fprintf(to, " %.*s", PIECE(media->mid));
     }
     fputs("\r\n", to);
-    for (size_t i = 0; i < offer->count; i++) write_section(to, it, offer, &offer->sections[i]);
+    for (size_t i = 0; i < offer->count; i++) write_section(to, it, &offer->sections[i]);
 }
 
 /* ---- reading ---- */
@@ -142,15 +125,16 @@ static agreed choose(const cpay_sdp_media *media, const agreed *publisher) {
 }
 
 /* The layers of simulcast of VP8, whose picture ids the server continues at a switch. */
-static void read_layers(peer *it, const description *offer, const cpay_sdp_media *media) {
-    char list[128] = "", *rest = NULL;
-    if (!media->rid_id || !value_of(offer, media->line, "a=simulcast:send ", list, sizeof list)) return;
-    for (char *name = strtok_r(list, ";,~ ", &rest); name && it->layers_len < MOST_LAYERS; name = strtok_r(NULL, ";,~ ", &rest))
-        if (is_name(name)) snprintf(it->layers[it->layers_len++], MOST_NAME, "%s", name);
+static void read_layers(peer *it, const cpay_sdp_media *media) {
+    for (size_t i = 0; media->rid_id && i < media->layer_count && it->layers_len < MOST_LAYERS; i++) {
+        char *name = it->layers[it->layers_len];
+        int size = snprintf(name, MOST_NAME, "%.*s", PIECE(media->layers[i].rid));
+        if (media->layers[i].sent && size < MOST_NAME && is_name(name)) it->layers_len++;
+    }
 }
 
 /* Chooses the codecs. Returns NULL, or what is wrong. */
-static const char *read_section(peer *it, const description *offer, const cpay_sdp_media *media, const peer *of) {
+static const char *read_section(peer *it, const cpay_sdp_media *media, const peer *of) {
     int kind = media->kind == CPAY_SDP_VIDEO ? VIDEO : AUDIO;
     if (media->kind == CPAY_SDP_OTHER || it->media[kind].used) return NULL;
     it->media[kind] = choose(media, of ? &of->media[kind] : NULL);
@@ -158,32 +142,36 @@ static const char *read_section(peer *it, const description *offer, const cpay_s
         return "The offer has no VP8, VP9 or AV1. This server has no other codec of video, and no H.264.\n";
     if (kind == VIDEO && of && of->media[VIDEO].used && !it->media[VIDEO].used)
         return "The publisher sends a codec of video that this browser does not offer.\n";
-    if (kind == VIDEO && !of && it->media[VIDEO].codec == CPAY_VP8) read_layers(it, offer, media);
+    if (kind == VIDEO && !of && it->media[VIDEO].codec == CPAY_VP8) read_layers(it, media);
     if (the.transport && media->transport_cc_id) it->transport_id = media->transport_cc_id;
     return NULL;
 }
 
-static bool read_fingerprint(peer *it, const description *offer) {
-    char value[128] = "";
-    for (size_t i = 0; i <= offer->count && !value[0]; i++)
-        value_of(offer, i ? offer->sections[i - 1].line : 0, "a=fingerprint:", value, sizeof value);
-    snprintf(it->fingerprint, sizeof it->fingerprint, "%.95s", value[0] ? value + strlen("sha-256 ") : "");
-    return !strncasecmp(value, "sha-256 ", strlen("sha-256 "));
+/* The first fingerprint of SHA-256 in a section. */
+static bool read_fingerprint(peer *it, const cpay_sdp_transport *transport) {
+    for (size_t i = 0; i < transport->fingerprint_count; i++) {
+        const cpay_sdp_fingerprint *found = &transport->fingerprints[i];
+        if (found->hash.len != strlen("sha-256") || strncasecmp(found->hash.at, "sha-256", found->hash.len)) continue;
+        return snprintf(it->fingerprint, sizeof it->fingerprint, "%.*s", PIECE(found->value)) < (int)sizeof it->fingerprint;
+    }
+    return false;
 }
 
 const char *answer(peer *it, const char *offer, bool publishes, unsigned *status) {
     static cpay_sdp_media media[MOST_SECTIONS];
     static char bytes[MOST_ANSWER + 1]; /* with a 0 at the end */
-    description read = {.text = offer, .sections = media};
+    description read = {.sections = media};
     cpay_sdp_fault wrong = {0, CPAY_SDP_NO_ERROR};
     peer *of = publishes ? NULL : peer_publisher(it->name);
     const char *fault = NULL;
     *status = BAD;
     if (cpay_sdp_read(offer, strlen(offer), media, MOST_SECTIONS, &read.count, &wrong))
         return wrong.error ? cpay_sdp_error_text(wrong.error) : "too many sections";
-    if (!read_fingerprint(it, &read)) return "The offer has no fingerprint of SHA-256.\n";
+    size_t at = 0;
+    while (at < read.count && !read_fingerprint(it, &media[at].transport)) at++;
+    if (at == read.count) return "The offer has no fingerprint of SHA-256.\n";
     *status = NOT_ACCEPTABLE;
-    for (size_t i = 0; i < read.count && !fault; i++) fault = read_section(it, &read, &media[i], of);
+    for (size_t i = 0; i < read.count && !fault; i++) fault = read_section(it, &media[i], of);
     if (fault) return fault;
     if (!it->media[AUDIO].used && !it->media[VIDEO].used) return "The offer has no audio or video that can be forwarded.\n";
     *status = BAD;

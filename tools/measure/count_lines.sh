@@ -25,7 +25,7 @@ printf 'contracts and ghost items in src: %s\n' "$clauses"
     lines 'Rust: sdp' '//' $(git ls-files 'rust/src/sdp*')
     lines 'C: calls.c' '/?[*]' c/src/calls.c
     lines 'C: memory.c' '/?[*]' c/src/memory.c
-    lines 'C: sdp.c' '/?[*]' c/src/sdp.c
+    lines 'C: sdp.c' '/?[*]' $(git ls-files 'c/src/sdp*')
     lines 'C: assembly.py' '#' scripts/assembly.py
     lines 'assembly: x86_64' '#' c/generated/x86_64-linux.S
     lines 'assembly: aarch64' '//' c/generated/aarch64-linux.S

@@ -4,8 +4,9 @@
 //! of the lines does not matter.
 
 use super::text::{byte, number, parts, trimmed, without_end, word};
+use super::transport::{Part, Transport, group, read_flag, read_value};
 use super::{Error, ErrorKind, Feedback, Format, Kind, MAX_SOURCES, Media, Role, Source};
-use crate::memory::TryVec;
+use crate::memory::{AllocError, TryVec};
 use crate::wire::{Codec, CodecSpec, Frequency};
 use alloc::vec::Vec;
 
@@ -91,19 +92,29 @@ fn has_id(media: &mut Media<'_>, id: u8) -> bool {
 /// A section that is read.
 struct Section<'a> {
     media: Media<'a>,
+    is_session: bool,
     /// SSRCs of repair alone.
     repair: Vec<u32>,
 }
 
-/// Reads the lines of a section, or those in front of the first one. `line` is the number of the first.
-pub(super) fn read(lines: &str, line: usize) -> Result<Media<'_>, Error> {
+/// Reads the lines of a section, or, without `session`, those in front of the first one. `line` is the number of the first.
+pub(super) fn read<'a>(
+    lines: &'a str,
+    line: usize,
+    session: Option<&Media<'a>>,
+) -> Result<Media<'a>, Error> {
     let mut section = Section {
         media: Media {
             line,
             ..Media::default()
         },
+        is_session: session.is_none(),
         repair: Vec::new(),
     };
+    if let Some(session) = session {
+        section.media.direction = session.direction;
+        section.media.transport = Transport::of_session(&session.transport);
+    }
     for pass in [Section::read_formats, Section::read_attribute] {
         for (place, text) in lines.split_inclusive('\n').enumerate() {
             pass(&mut section, without_end(text)).map_err(|kind| Error {
@@ -112,16 +123,22 @@ pub(super) fn read(lines: &str, line: usize) -> Result<Media<'_>, Error> {
             })?;
         }
     }
-    let Section { mut media, repair } = section;
+    let Section {
+        mut media, repair, ..
+    } = section;
     media
         .sources
         .retain(|source| !repair.contains(&source.ssrc));
     Ok(media)
 }
 
-/// A section takes the ids of the session for extensions that have no id in the section.
-pub(super) fn inherit(media: &mut Media<'_>, session: &mut Media<'_>) {
+/// A section takes fingerprints of the session if it has none, and ids for extensions that have no id in the section.
+pub(super) fn inherit<'a>(
+    media: &mut Media<'a>,
+    session: &mut Media<'a>,
+) -> Result<(), AllocError> {
     media.is_encrypted |= session.is_encrypted;
+    media.transport.inherit_fingerprints(&session.transport)?;
     for place in 0..URIS.len() {
         if let (None, Some(id)) = (*id_of(media, place), *id_of(session, place))
             && !has_id(media, id)
@@ -129,6 +146,7 @@ pub(super) fn inherit(media: &mut Media<'_>, session: &mut Media<'_>) {
             *id_of(media, place) = Some(id);
         }
     }
+    Ok(())
 }
 
 /// Adds the ids of another section of the same port. An id that differs is the error.
@@ -188,6 +206,7 @@ fn described(payload_type: u8, name: &str, rate: Option<Frequency>, channels: u8
         clock_rate: rate,
         channels,
         profile: 0,
+        fmtp: "",
         feedback: Feedback::default(),
     }
 }
@@ -222,19 +241,24 @@ impl<'a> Section<'a> {
         let Some(attribute) = line.strip_prefix("a=") else {
             return Ok(());
         };
-        match attribute.split_once(':') {
-            None => self.media.has_rtcp_mux |= self.media.is_rtp && attribute == "rtcp-mux",
-            Some(("crypto" | "fingerprint", _)) => self.media.is_encrypted = true,
-            Some(("extmap", value)) => self.read_extmap(value)?,
-            Some(_) if !self.media.is_rtp => {}
-            Some(("fmtp", value)) => self.read_fmtp(value)?,
-            Some(("rtcp-fb", value)) => self.read_feedback(value)?,
-            Some(("ssrc", value)) => self.read_ssrc(value)?,
-            Some(("ssrc-group", value)) => self.read_group(value)?,
-            Some(("ptime", value)) => self.read_packet_time(value)?,
-            Some(_) => {}
+        let Some((name, value)) = attribute.split_once(':') else {
+            self.media.has_rtcp_mux |= self.media.is_rtp && attribute == "rtcp-mux";
+            read_flag(&mut self.media, attribute, self.is_session);
+            return Ok(());
+        };
+        self.media.is_encrypted |= name == "crypto" || name == "fingerprint";
+        match name {
+            "extmap" => self.read_extmap(value),
+            "group" if self.is_session => group(value).map(drop),
+            _ if self.is_session => read_value(&mut self.media, Part::Session, name, value),
+            _ if !self.media.is_rtp => read_value(&mut self.media, Part::Other, name, value),
+            "fmtp" => self.read_fmtp(value),
+            "rtcp-fb" => self.read_feedback(value),
+            "ssrc" => self.read_ssrc(value),
+            "ssrc-group" => self.read_group(value),
+            "ptime" => self.read_packet_time(value),
+            _ => read_value(&mut self.media, Part::Rtp, name, value),
         }
-        Ok(())
     }
 
     /// `audio 49170/2 UDP/TLS/RTP/SAVPF 111 0`
@@ -245,6 +269,8 @@ impl<'a> Section<'a> {
             return Err(ErrorKind::Media);
         }
         self.media.port = port as u16;
+        self.media.media_type = kind;
+        self.media.protocol = protocol;
         self.media.kind = if kind.eq_ignore_ascii_case("audio") {
             Kind::Audio
         } else if kind.eq_ignore_ascii_case("video") {
@@ -310,11 +336,12 @@ impl<'a> Section<'a> {
     }
 
     /// `97 apt=96`, `111 minptime=10;useinbandfec=1`
-    fn read_fmtp(&mut self, mut rest: &str) -> Read {
+    fn read_fmtp(&mut self, mut rest: &'a str) -> Read {
         let payload_type = payload_type(word(&mut rest))?;
         let Some(format) = self.format(payload_type) else {
             return Ok(());
         };
+        format.fmtp = trimmed(rest);
         if let Role::Red { over } = &mut format.role {
             *over = Some(primary_of(word(&mut rest)).ok_or(ErrorKind::Fmtp)?);
             return Ok(());

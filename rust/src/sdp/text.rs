@@ -33,6 +33,12 @@ pub(super) fn word<'a>(rest: &mut &'a str) -> &'a str {
     found
 }
 
+/// The only word of a text. `None` if there is none, or more than one.
+pub(super) fn only_word(mut rest: &str) -> Option<&str> {
+    let found = word(&mut rest);
+    (!found.is_empty() && trimmed(rest).is_empty()).then_some(found)
+}
+
 pub(super) fn trimmed(text: &str) -> &str {
     text.trim_matches(SPACES)
 }

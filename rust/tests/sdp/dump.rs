@@ -1,7 +1,9 @@
 //! A description as text: what `c/tests/descriptions.c` prints of it.
 
 use codec_payload::Codec;
-use codec_payload::sdp::{self, Format, Kind, Media, Role, SessionError};
+use codec_payload::sdp::{
+    self, Direction, Format, Kind, Media, Role, SessionError, Setup, Transport,
+};
 use codec_payload::session::{Format as SessionFormat, SessionSettings};
 use codec_payload::stream::Receiver;
 use codec_payload::{CodecDepacketizer, CodecSpec};
@@ -77,7 +79,115 @@ fn add_format(out: &mut String, format: &Format<'_>) -> std::fmt::Result {
             write!(out, " {name}")?;
         }
     }
-    writeln!(out)
+    writeln!(out)?;
+    if !format.fmtp.is_empty() {
+        writeln!(out, "fmtp {}", printed(format.fmtp))?;
+    }
+    Ok(())
+}
+
+/// A text as C prints it.
+fn printed(text: &str) -> String {
+    text.replace('\0', "?")
+}
+
+/// `NAME TEXT`, if there is a text.
+fn named(name: &str, text: &str) -> String {
+    match text {
+        "" => String::new(),
+        _ => format!("{name}{}", printed(text)),
+    }
+}
+
+/// How many more there are than C has room for.
+fn add_more(out: &mut String, count: usize, room: usize, name: &str) -> std::fmt::Result {
+    match count.checked_sub(room) {
+        None | Some(0) => Ok(()),
+        Some(more) => writeln!(out, "{more} more {name}"),
+    }
+}
+
+fn add_transport(out: &mut String, it: &Transport<'_>) -> std::fmt::Result {
+    let user = named(" user ", it.ice_ufrag.unwrap_or_default());
+    let password = named(" password ", it.ice_pwd.unwrap_or_default());
+    let options = named(" options ", it.ice_options);
+    let lite = if it.is_ice_lite { " lite" } else { "" };
+    let end = if it.has_end_of_candidates { " end" } else { "" };
+    writeln!(out, "ICE:{user}{password}{options}{lite}{end}")?;
+    for candidate in it.candidates.iter().take(64) {
+        writeln!(out, "candidate {}", printed(candidate))?;
+    }
+    add_more(out, it.candidates.len(), 64, "candidates")?;
+    if let Some(setup) = it.setup {
+        let name = match setup {
+            Setup::Active => "active",
+            Setup::Passive => "passive",
+            Setup::ActPass => "actpass",
+            Setup::HoldConn => "holdconn",
+        };
+        writeln!(out, "setup {name}")?;
+    }
+    for fingerprint in &it.fingerprints {
+        let (hash, value) = (printed(fingerprint.hash), printed(fingerprint.value));
+        writeln!(out, "fingerprint {hash} {value}")?;
+    }
+    Ok(())
+}
+
+fn send(is_sent: bool) -> &'static str {
+    if is_sent { "send" } else { "recv" }
+}
+
+fn add_layers(out: &mut String, media: &Media<'_>) -> std::fmt::Result {
+    for rid in media.rids.iter().take(16) {
+        let restrictions = named(" ", rid.restrictions);
+        writeln!(out, "rid {} {}{restrictions}", rid.id, send(rid.is_sent))?;
+    }
+    add_more(out, media.rids.len(), 16, "rids")?;
+    for layer in media.layers.iter().take(32) {
+        let paused = if layer.is_paused { " paused" } else { "" };
+        let (direction, stream, rid) = (send(layer.is_sent), layer.stream, layer.rid);
+        writeln!(out, "simulcast {direction} {stream} {rid}{paused}")?;
+    }
+    add_more(out, media.layers.len(), 32, "layers")
+}
+
+/// What a section says beside formats.
+fn add_beside_formats(out: &mut String, media: &Media<'_>) -> std::fmt::Result {
+    let direction = match media.direction {
+        Direction::SendRecv => "sendrecv",
+        Direction::SendOnly => "sendonly",
+        Direction::RecvOnly => "recvonly",
+        Direction::Inactive => "inactive",
+    };
+    let media_type = named("type ", media.media_type);
+    let protocol = named(" ", media.protocol);
+    let mid = named(" mid ", media.mid.unwrap_or_default());
+    writeln!(out, "{media_type}{protocol}{mid} {direction}")?;
+    for msid in media.msids.iter().take(8) {
+        let (stream, track) = (printed(msid.stream), named(" ", msid.track));
+        writeln!(out, "msid {stream}{track}")?;
+    }
+    add_more(out, media.msids.len(), 8, "msids")?;
+    add_layers(out, media)?;
+    add_transport(out, &media.transport)
+}
+
+/// The groups, or the fault of one.
+fn add_groups(out: &mut String, text: &str) -> std::fmt::Result {
+    match sdp::groups(text) {
+        Ok(groups) => {
+            for group in groups {
+                write!(out, "group {}", printed(group.semantics))?;
+                for mid in group.mids() {
+                    write!(out, " {}", printed(mid))?;
+                }
+                writeln!(out)?;
+            }
+            Ok(())
+        }
+        Err(fault) => writeln!(out, "groups: {fault}"),
+    }
 }
 
 fn add_ids(out: &mut String, media: &Media<'_>) -> std::fmt::Result {
@@ -153,6 +263,7 @@ fn add_media(out: &mut String, media: &Media<'_>) -> std::fmt::Result {
         (!media.is_rtp, "not RTP"),
         (media.is_encrypted, "encrypted"),
         (media.has_rtcp_mux, "rtcp-mux"),
+        (media.is_bundle_only, "bundle-only"),
     ] {
         if is_set {
             write!(out, ", {name}")?;
@@ -162,6 +273,7 @@ fn add_media(out: &mut String, media: &Media<'_>) -> std::fmt::Result {
         write!(out, ", ptime {time}")?;
     }
     writeln!(out)?;
+    add_beside_formats(out, media)?;
     for format in &media.formats {
         add_format(out, format)?;
     }
@@ -280,6 +392,7 @@ pub fn reason(fault: SessionError) -> String {
 /// What was read of a description, and the settings of a session, or the fault.
 pub fn dump(text: &str) -> String {
     let mut out = String::new();
+    add_groups(&mut out, text).unwrap();
     match sdp::read(text) {
         Ok(found) => {
             for media in &found {
