@@ -246,12 +246,7 @@ fn lend_nothing(
 /// stream.
 #[cold]
 #[inline(never)]
-fn lend_packet(
-    port: &mut PortSession,
-    told: &mut Event,
-    of: (u32, u32, u8),
-    packet: Vec<u8>,
-) -> u32
+fn lend_packet(port: &mut PortSession, told: &mut Event, of: (u32, u32, u8), packet: Vec<u8>) -> u32
     ensures done { result ≡ 0 }
     ensures told { told.new ≡ packet_event of.0 of.1 of.2 (vec_ptr port.new.lent) (length packet.items) }
     ensures lent { port.new ≡ record port.old { lent = packet } }
@@ -315,7 +310,13 @@ fn hand_over(port: &mut PortSession, next: SessionEvent<()>, told: &mut Event) -
             ssrc,
             payload_type,
             ..
-        } => lend_nothing(port, told, (2, ssrc, payload_type), status::UNIT_TOO_LARGE, 0),
+        } => lend_nothing(
+            port,
+            told,
+            (2, ssrc, payload_type),
+            status::UNIT_TOO_LARGE,
+            0,
+        ),
         SessionEvent::Refused {
             ssrc,
             payload_type,
@@ -328,7 +329,13 @@ fn hand_over(port: &mut PortSession, next: SessionEvent<()>, told: &mut Event) -
             ssrc,
             payload_type,
             why,
-        } => lend_nothing(port, told, (3, ssrc, payload_type), status::OK, number_of(why)),
+        } => lend_nothing(
+            port,
+            told,
+            (3, ssrc, payload_type),
+            status::OK,
+            number_of(why),
+        ),
         SessionEvent::Telephone {
             ssrc,
             payload_type,
