@@ -1488,6 +1488,8 @@ typedef struct {
     uint64_t taken;       /**< datagrams that the stream received, modulo 2^64 */
     uint64_t ends_at;     /**< of CPAY_STREAM_LEAVING: the time, in ticks of your clock; in other stages 0 */
     uint64_t round_trip;  /**< with has_round_trip: measured round-trip time, in ticks of your clock; else 0 */
+    uint64_t numbers_requested;   /**< missing packets that the session requested, each request counted, modulo 2^64 */
+    uint64_t keyframes_requested; /**< keyframes that the session requested, modulo 2^64 */
     uint32_t ssrc;
     cpay_stage stage;     /**< CPAY_STREAM_PROBATION and so on */
     cpay_ending why;      /**< of CPAY_STREAM_LEAVING and CPAY_STREAM_DRAINING: CPAY_ENDED_BY_BYE and so on; in other stages 0 */
@@ -1498,6 +1500,11 @@ typedef struct {
 
 /** Describes the stream at a place, from 0, in the order in which the streams began. CPAY_NONE: there is no such stream. */
 CPAY_CHECKED cpay_status cpay_session_stream_at(cpay_session *session, size_t place, cpay_session_stream *stream);
+
+/** Describes the stream that the session removed last, as it was then: at CPAY_EVENT_ENDED the stream of the event, with its last
+ * counts. A stream in probation that a new stream replaced is described too, without an event. CPAY_NONE: none was removed. Does not
+ * allocate. */
+CPAY_CHECKED cpay_status cpay_session_last_stream(cpay_session *session, cpay_session_stream *stream);
 
 /** Reports the missing sequence numbers of the stream with this SSRC and payload type: see cpay_receiver_missing. CPAY_NONE: there
  * is no such stream. Does not allocate. */

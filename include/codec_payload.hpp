@@ -343,6 +343,7 @@ public:
     [[nodiscard]] cpay_status stream_at(std::size_t place, cpay_session_stream &stream) noexcept {
         return cpay_session_stream_at(get(), place, &stream);
     }
+    [[nodiscard]] cpay_status last_stream(cpay_session_stream &stream) noexcept { return cpay_session_last_stream(get(), &stream); }
     [[nodiscard]] cpay_status missing(std::uint32_t ssrc, std::uint8_t payload_type, view<std::uint64_t> numbers,
                                       std::size_t &count) noexcept {
         return cpay_session_missing(get(), ssrc, payload_type, numbers.data(), numbers.size(), &count);

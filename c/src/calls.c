@@ -616,6 +616,11 @@ cpay_status cpay_session_stream_at(cpay_session *session, size_t place, cpay_ses
     return proved_cpay_session_stream_at(&session->handle, place, stream);
 }
 
+cpay_status proved_cpay_session_last_stream(cpay_handle *session, cpay_session_stream *stream);
+cpay_status cpay_session_last_stream(cpay_session *session, cpay_session_stream *stream) {
+    return proved_cpay_session_last_stream(&session->handle, stream);
+}
+
 cpay_status proved_cpay_session_missing(cpay_handle *session, uint32_t ssrc, uint8_t payload_type, uint64_t *numbers,
                                         size_t numbers_len, size_t *count);
 cpay_status cpay_session_missing(cpay_session *session, uint32_t ssrc, uint8_t payload_type, uint64_t *numbers,

@@ -153,6 +153,8 @@ static void two_senders(void) {
     opus(&session, 40, 1, 3); /* it comes after the BYE */
     CHECK(happens(&session, 40, "U1:3 .") && deadline(&session) == 230);
     CHECK(happens(&session, 229, ".") && happens(&session, 230, "E1:0 ."));
+    CHECK(cpay_session_last_stream(&session, &stream) == CPAY_OK && stream.ssrc == 1 && stream.why == CPAY_ENDED_BY_BYE);
+    CHECK(stream.taken == 3 && stream.counts.units == 3 && stream.counts.released == 3);
     CHECK(counts_of(&session).ended == 3 && counts_of(&session).streams == 1 && counts_of(&session).rtcp == 1);
     CHECK(cpay_session_finish(&session, 300) == CPAY_OK && happens(&session, 300, "E2:2 ."));
     cpay_arrival late = sent(&session, 310, AUDIO, 3, 1, "x", 1);
@@ -337,6 +339,23 @@ static void requests(void) {
     while (cpay_session_poll(&session, 510, &event) == CPAY_OK)
         if (event.kind == CPAY_EVENT_FEEDBACK && event.payload_type == VIDEO) break;
     CHECK(event.payload_type == VIDEO && event.bytes == 12 && same(event.data, (const char *)pli, 12));
+    /* Three NACKs of two numbers, and one PLI, are in the last counts too. */
+    cpay_session_stream stream = {.ssrc = 99};
+    CHECK(cpay_session_last_stream(&session, &stream) == CPAY_NONE && stream.ssrc == 99);
+    CHECK(cpay_session_stream_at(&session, 0, &stream) == CPAY_OK && stream.payload_type == AUDIO);
+    CHECK(stream.numbers_requested == 6 && stream.keyframes_requested == 0);
+    CHECK(cpay_session_stream_at(&session, 1, &stream) == CPAY_OK && stream.payload_type == VIDEO);
+    CHECK(stream.numbers_requested == 0 && stream.keyframes_requested == 1);
+    CHECK(cpay_session_finish(&session, 510) == CPAY_OK);
+    for (int ended = 0; ended < 2; ended++) {
+        while (cpay_session_poll(&session, 510, &event) == CPAY_OK && event.kind != CPAY_EVENT_ENDED) {}
+        CHECK(event.kind == CPAY_EVENT_ENDED && cpay_session_last_stream(&session, &stream) == CPAY_OK);
+        CHECK(stream.payload_type == event.payload_type && stream.ssrc == 1 && stream.stage == CPAY_STREAM_DRAINING);
+        CHECK(stream.numbers_requested == (ended == 0 ? 6u : 0u) && stream.keyframes_requested == (ended == 0 ? 0u : 1u));
+        CHECK(stream.taken == (ended == 0 ? 3u : 2u) && stream.counts.received == stream.taken && stream.counts.held == 0);
+        CHECK(stream.counts.has_ssrc && stream.counts.ssrc == 1 && !stream.counts.waiting);
+        CHECK(stream.counts.units == (ended == 0 ? 3u : 2u) && stream.why == CPAY_ENDED_BY_CALL);
+    }
     cpay_session_free(&session);
 }
 
@@ -984,6 +1003,7 @@ static void handles(void) {
         CHECK(cpay_session_finish(&it.session, 0) == status);
         CHECK(cpay_session_counts(&it.session, &counts) == status);
         CHECK(cpay_session_stream_at(&it.session, 0, &stream) == status);
+        CHECK(cpay_session_last_stream(&it.session, &stream) == status);
         CHECK(cpay_session_missing(&it.session, 1, AUDIO, numbers, 1, &count) == status);
         CHECK(cpay_session_wants_keyframe(&it.session, 1, AUDIO, &wants) == status);
         CHECK(cpay_session_set_wait_limits(&it.session, 1, AUDIO, &limits) == status);

@@ -8,7 +8,7 @@ pub mod requests;
 pub mod transport;
 
 #[doc(inline)]
-pub use requests::{FeedbackSource, StreamRequests};
+pub use requests::{FeedbackSource, RequestCounts, StreamRequests};
 
 #[doc(inline)]
 pub use transport::{TransportReporter, TransportSettings, quarters_at};

@@ -1,19 +1,22 @@
 -- The streams of a session: counters, what to request, and how long to wait.
-use Rattle.std.specs.Prelude.{◌≡◌, ℕ, ◌+◌, ◌%◌, ◌^◌, ◌++◌, Bool, Option, Some, None, List, is_some, length, drop}
+use Rattle.std.specs.Prelude.{◌≡◌, ℕ, ◌+◌, ◌%◌, ◌^◌, ◌++◌, Bool, false, Option, Some, None, List, is_some, length, drop}
 use Rattle.std.specs.List.{position}
 use Rattle.std.specs.Option.{unwrap_or}
 use Rattle.codec_payload_handle.specs.declared.object.PortSession.{PortSession}
 use Rattle.codec_payload_jitter.specs.Missing.{missing_numbers}
 use Rattle.codec_payload_jitter.specs.declared.waiting.WaitLimits.{WaitLimits}
 use Rattle.codec_payload_session.specs.Ports.{receiver_among, taken_in, waits_of}
-use Rattle.codec_payload_session.specs.Requests.{round_trip_of}
+use Rattle.codec_payload_session.specs.Requests.{request_counts_of, round_trip_of}
 use Rattle.codec_payload_session.specs.Streams.{is_of}
 use Rattle.codec_payload_session.specs.declared.stream.Stage.{Stage}
 use Rattle.codec_payload_session.specs.declared.stream.Stage.TheVariants as stages
+use Rattle.codec_payload_session.specs.declared.stream.StreamInfo.{StreamInfo}
 use Rattle.codec_payload_session.specs.declared.stream.StreamState.{StreamState}
 use Rattle.codec_payload_receiver.specs.Sessions.{Session as Receiver}
 use Rattle.codec_payload_c.specs.Sessions.{ending_number}
+use Rattle.codec_payload_c.specs.Inspect.{given_if}
 use Rattle.codec_payload_c.specs.StreamReceivers.{TellsCounts, without_units}
+use Rattle.codec_payload_c.specs.declared.receiver.ReceiverCountsInfo.{ReceiverCountsInfo}
 use Rattle.codec_payload_c.specs.declared.session_streams.SessionCountsInfo.{SessionCountsInfo}
 use Rattle.codec_payload_c.specs.declared.session_streams.SessionStream.{SessionStream}
 
@@ -64,7 +67,55 @@ pub record TellsStream (s : StreamState) (i : SessionStream) : Type 0 where
   pub payload_type : i.payload_type ≡ s.format.payload_type
   pub has_round_trip : i.has_round_trip ≡ is_some (round_trip_of s.feedback)
   pub round_trip : i.round_trip ≡ unwrap_or (round_trip_of s.feedback) 0
+  pub numbers_requested : i.numbers_requested ≡ (request_counts_of s.feedback).numbers
+  pub keyframes_requested : i.keyframes_requested ≡ (request_counts_of s.feedback).keyframes
   pub counts : TellsCounts (without_units s.receiver) i.counts
+
+-- the same from what a session says of a stream
+pub record DescribesStream (info : StreamInfo) (counts : ReceiverCountsInfo) (i : SessionStream) : Type 0 where
+  pub taken : i.taken ≡ info.taken
+  pub ends_at : i.ends_at ≡ end_time info.stage
+  pub ssrc_is : i.ssrc ≡ info.ssrc
+  pub stage : i.stage ≡ stage_number info.stage
+  pub why : i.why ≡ end_reason info.stage
+  pub payload_type : i.payload_type ≡ info.payload_type
+  pub has_round_trip : i.has_round_trip ≡ is_some info.round_trip
+  pub round_trip : i.round_trip ≡ unwrap_or info.round_trip 0
+  pub numbers_requested : i.numbers_requested ≡ info.requests.numbers
+  pub keyframes_requested : i.keyframes_requested ≡ info.requests.keyframes
+  pub counts_are : i.counts ≡ counts
+
+-- the counters of the receiver of a stream that was removed
+pub record HasLastCounts (info : StreamInfo) (c : ReceiverCountsInfo) : Type 0 where
+  pub received : c.received ≡ info.counters.received
+  pub rtcp : c.rtcp ≡ info.counters.rtcp
+  pub malformed : c.malformed ≡ info.counters.malformed
+  pub other_streams : c.other_streams ≡ info.counters.other_streams
+  pub undecided : c.undecided ≡ info.counters.undecided
+  pub no_media : c.no_media ≡ info.counters.packets.no_media
+  pub duplicates : c.duplicates ≡ info.counters.packets.duplicates
+  pub late : c.late ≡ info.counters.packets.late
+  pub suspect : c.suspect ≡ info.counters.packets.suspect
+  pub evicted : c.evicted ≡ info.counters.packets.evicted
+  pub released : c.released ≡ info.counters.packets.released
+  pub left : c.left ≡ info.counters.packets.left
+  pub incomplete : c.incomplete ≡ info.counters.packets.incomplete
+  pub skipped : c.skipped ≡ info.counters.packets.skipped
+  pub refused : c.refused ≡ info.counters.packets.refused
+  pub restarts : c.restarts ≡ info.counters.packets.restarts
+  pub retransmitted : c.retransmitted ≡ info.counters.packets.retransmitted
+  pub recovered : c.recovered ≡ info.counters.packets.recovered
+  pub units : c.units ≡ info.counters.packets.units
+  pub undecodable : c.undecodable ≡ info.counters.undecodable
+  pub too_large : c.too_large ≡ info.counters.too_large
+  pub held : c.held ≡ info.held
+  pub ssrc : given_if c.has_ssrc c.ssrc ≡ Some info.ssrc
+  pub waiting : c.waiting ≡ false
+
+-- the stream that was removed last, if one was; otherwise status 32
+abbrev pub TellsLast : Option StreamInfo → ℕ → (before after : SessionStream) → Type 0
+TellsLast None status before after = (status ≡ 32) × (after ≡ before)
+TellsLast (Some info) status before after = (status ≡ 0) × DescribesStream info after.counts after × HasLastCounts info after.counts
 
 -- a stream, if there is one; otherwise status 32
 abbrev pub TellsStreamAt : Option StreamState → ℕ → (before after : SessionStream) → Type 0

@@ -1,7 +1,7 @@
 //! The streams of a session: counters, what to request, and how long to wait.
 
 ghost use Rattle.std.specs.Prelude.{◌≡◌, ◌≢◌, slice_get};
-ghost use Rattle.codec_payload_c.specs.SessionStreams.{SetsWaitLimits, TellsMissingOf, TellsSessionCounts, TellsStreamAt, TellsWants, end_time, end_reason, receiver_in, stage_number};
+ghost use Rattle.codec_payload_c.specs.SessionStreams.{DescribesStream, HasLastCounts, SetsWaitLimits, TellsLast, TellsMissingOf, TellsSessionCounts, TellsStreamAt, TellsWants, end_time, end_reason, receiver_in, stage_number};
 ghost use Rattle.codec_payload_handle.specs.Kinds.{OnPortSession, Refuses, is_port_session};
 ghost use Rattle.codec_payload_c.specs.StreamReceivers.{wait_limits_given};
 
@@ -10,7 +10,7 @@ use crate::session::number_of;
 use codec_payload_handle::handle::Handle;
 use codec_payload_handle::object::{Object, PortSession};
 use codec_payload_handle::status;
-use codec_payload_session::stream::Stage;
+use codec_payload_session::stream::{Stage, StreamInfo};
 use std::alloc::Global;
 
 /// Counts of datagrams by result, each modulo 2^64.
@@ -41,6 +41,10 @@ pub struct SessionStream {
     pub ends_at: u64,
     /// The measured round-trip time in ticks, once a request of the session was answered; else 0.
     pub round_trip: u64,
+    /// How many numbers of missing packets the session requested, modulo 2^64.
+    pub numbers_requested: u64,
+    /// How many keyframes, modulo 2^64.
+    pub keyframes_requested: u64,
     pub ssrc: u32,
     /// 0: in probation; 1: playing; 2: leaving; 3: draining.
     pub stage: u32,
@@ -103,6 +107,74 @@ fn counts_of(port: &PortSession) -> SessionCountsInfo
     }
 }
 
+/// Returns a stream with these counters of its receiver.
+fn described(info: &StreamInfo, counts: ReceiverCountsInfo) -> SessionStream
+    ensures { DescribesStream info.now counts result }
+{
+    SessionStream {
+        taken: info.taken,
+        ends_at: end_of(info.stage),
+        round_trip: info.round_trip.unwrap_or(0),
+        numbers_requested: info.requests.numbers,
+        keyframes_requested: info.requests.keyframes,
+        ssrc: info.ssrc,
+        stage: number_of_stage(info.stage),
+        why: reason_of(info.stage),
+        payload_type: info.payload_type,
+        has_round_trip: info.round_trip.is_some(),
+        counts,
+    }
+}
+
+/// Returns the counters of the receiver of a stream that was removed.
+fn last_counts(info: &StreamInfo) -> ReceiverCountsInfo
+    ensures { HasLastCounts info.now result }
+{
+    let counters = info.counters;
+    let packets = counters.packets;
+    ReceiverCountsInfo {
+        received: counters.received,
+        rtcp: counters.rtcp,
+        malformed: counters.malformed,
+        other_streams: counters.other_streams,
+        undecided: counters.undecided,
+        no_media: packets.no_media,
+        duplicates: packets.duplicates,
+        late: packets.late,
+        suspect: packets.suspect,
+        evicted: packets.evicted,
+        released: packets.released,
+        left: packets.left,
+        incomplete: packets.incomplete,
+        skipped: packets.skipped,
+        refused: packets.refused,
+        restarts: packets.restarts,
+        retransmitted: packets.retransmitted,
+        recovered: packets.recovered,
+        units: packets.units,
+        undecodable: counters.undecodable,
+        too_large: counters.too_large,
+        held: info.held,
+        ssrc: info.ssrc,
+        has_ssrc: true,
+        waiting: false,
+    }
+}
+
+/// Describes the stream that was removed last.
+fn last_stream(port: &PortSession, stream: &mut SessionStream) -> u32
+    ensures tells { TellsLast port.now.session.port.last result stream.old stream.new }
+    ensures unchanged { result ≢ 0 → stream.new ≡ stream.old }
+{
+    match port.session.last_stream() {
+        Some(info) => {
+            *stream = described(&info, last_counts(&info));
+            status::OK
+        }
+        None => status::NONE,
+    }
+}
+
 /// Describes the stream at a place.
 fn stream_at(port: &PortSession, place: usize, stream: &mut SessionStream) -> u32
     ensures tells { TellsStreamAt (slice_get port.now.session.port.streams place) result stream.old stream.new }
@@ -114,17 +186,7 @@ fn stream_at(port: &PortSession, place: usize, stream: &mut SessionStream) -> u3
     ) else {
         return status::NONE;
     };
-    *stream = SessionStream {
-        taken: info.taken,
-        ends_at: end_of(info.stage),
-        round_trip: info.round_trip.unwrap_or(0),
-        ssrc: info.ssrc,
-        stage: number_of_stage(info.stage),
-        why: reason_of(info.stage),
-        payload_type: info.payload_type,
-        has_round_trip: info.round_trip.is_some(),
-        counts: counts_by(receiver),
-    };
+    *stream = described(&info, counts_by(receiver));
     status::OK
 }
 
@@ -210,6 +272,28 @@ pub extern "C" fn cpay_session_stream_at(
     };
     let answer = match &mut *object {
         Object::PortSession(port) => stream_at(port, place, stream),
+        _ => status::OTHER_KIND,
+    };
+    handle.put(object);
+    answer
+}
+
+/// Describes the stream that the session removed last, as it was then.
+#[unsafe(no_mangle)]
+pub extern "C" fn cpay_session_last_stream(
+    alloc: Global,
+    handle: &mut Handle,
+    stream: &mut SessionStream,
+) -> u32
+    ensures tells { OnPortSession handle.old.place.value (λ r s. (s ≡ r) × TellsLast r.session.port.last result stream.old stream.new) handle.new.place.value }
+    ensures refused { Refuses is_port_session handle.old.place.value result handle.new.place.value }
+    ensures unchanged { result ≢ 0 → stream.new ≡ stream.old }
+{
+    let Some(mut object) = handle.take(alloc) else {
+        return status::EMPTY;
+    };
+    let answer = match &mut *object {
+        Object::PortSession(port) => last_stream(port, stream),
         _ => status::OTHER_KIND,
     };
     handle.put(object);

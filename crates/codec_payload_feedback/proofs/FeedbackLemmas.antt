@@ -12,7 +12,8 @@ use Rattle.codec_payload_feedback_requests.specs.Requests.{has_come}
 use Rattle.codec_payload_feedback_requests.specs.declared.keyframe.KeyframeRequests.{KeyframeRequests}
 use Rattle.codec_payload_feedback_requests.proofs.MomentLemmas.{come_earlier}
 use Rattle.codec_payload_feedback_requests.proofs.NackLemmas.{none_due, nothing_due}
-use Rattle.codec_payload_feedback.specs.Feedback.{AppendsAll, AppendsNack, Bounded, IsFeedback, Source, cname_by, cname_if, description_part, has_any, keyframe_part, nack_by, report_part, Requests, after_feedback, deadline_of, keyframe_is_due, numbers_due}
+use Rattle.codec_payload_feedback.specs.Feedback.{AppendsAll, AppendsNack, Bounded, IsFeedback, Source, cname_by, cname_if, description_part, has_any, keyframe_part, nack_by, report_part, Requests, after_feedback, counted, deadline_of, keyframe_is_due, numbers_due}
+use Rattle.codec_payload_feedback.specs.declared.requests.RequestCounts.{RequestCounts}
 
 -- ---- packets
 
@@ -128,14 +129,18 @@ pub record Rests (now : ℕ) (r : Requests) : Type 0 where
   pub keyframe : keyframe_is_due now r ≡ false
   pub after : r ≡ after_feedback now r
 
+counted_none : (numbers : List ℕ) (keyframe : Bool) (c : RequestCounts) → numbers ≡ [] → keyframe ≡ false → counted numbers keyframe c ≡ c
+counted_none numbers keyframe c no_numbers no_keyframe = rw (no_numbers, no_keyframe) refl
+
 pub rests : (now : ℕ) (r : Requests) → has_come (deadline_of r) now ≡ false → Rests now r
 rests now r none =
     let both = both_false (has_come (earliest_of r.nack.pending) now) (has_come (keyframe_deadline r.keyframes) now) (sym (come_earlier (earliest_of r.nack.pending) (keyframe_deadline r.keyframes) now) ∙ none) in
     let keyframe = keyframe_not_due now r.keyframes both.1 in
+    let numbers : numbers_due now r ≡ [] = rw (none_due now r.nack.pending both.0) refl in
     record {
-      numbers = rw (none_due now r.nack.pending both.0) refl;
+      numbers = numbers;
       keyframe = keyframe;
-      after = rw (sym (nothing_due now r.nack both.0), keyframe_stays now r.keyframes keyframe) refl;
+      after = rw (sym (nothing_due now r.nack both.0), keyframe_stays now r.keyframes keyframe, counted_none (numbers_due now r) (keyframe_is_due now r) r.counts numbers keyframe) refl;
     }
 
 pub no_packet : (s : Source) (now : ℕ) (r : Requests) → has_come (deadline_of r) now ≡ false → IsFeedback s r.ssrc (numbers_due now r) (keyframe_is_due now r) None

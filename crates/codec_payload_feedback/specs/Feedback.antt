@@ -1,10 +1,11 @@
 -- The requests of a stream, and the compound packets that carry them.
-use Rattle.std.specs.Prelude.{◌≡◌, ◌≤◌, ℕ, ◌==◌, ◌&&◌, not, min, nat_le, if◌then◌else◌, Bool, true, false, List, [], ◌∷◌, ◌++◌, length, map, Option, Some, None}
+use Rattle.std.specs.Prelude.{◌≡◌, ◌≤◌, ℕ, ◌+◌, ◌%◌, ◌^◌, ◌==◌, ◌&&◌, not, min, nat_le, if◌then◌else◌, Bool, true, false, List, [], ◌∷◌, ◌++◌, length, map, Option, Some, None}
 use Rattle.codec_payload_feedback_requests.specs.KeyframeRequests.{after_request, deadline_of as keyframe_deadline, is_due, new_requests as no_keyframes}
 use Rattle.codec_payload_feedback_requests.specs.NackSchedule.{Schedule, after_answer, after_due, due_numbers, earliest_of, low_bits, new_schedule, refreshed}
 use Rattle.codec_payload_feedback_requests.specs.Requests.{earlier}
 use Rattle.codec_payload_feedback_requests.specs.declared.keyframe.KeyframeRequests.{KeyframeRequests}
 use Rattle.codec_payload_feedback_requests.specs.declared.nack.NackSettings.{NackSettings}
+use Rattle.codec_payload_feedback.specs.declared.requests.RequestCounts.{RequestCounts}
 use Rattle.codec_payload_rtcp.specs.NackNumbers.{numbers_in}
 use Rattle.codec_payload_rtcp.specs.RtcpPackets.{Packet, nack, picture_loss, receiver_report, source_description}
 use Rattle.codec_payload_rtcp.specs.RtcpWriting.{AreUnpadded, cname_chunk}
@@ -15,11 +16,12 @@ pub record Source : Type 0 where
   pub cname : List ℕ
   pub has_report : Bool
 
--- the requests of the stream with that SSRC
+-- the requests of the stream with that SSRC, and how many were sent
 pub record Requests : Type 0 where
   pub ssrc : ℕ
   pub nack : Schedule
   pub keyframes : KeyframeRequests
+  pub counts : RequestCounts
 
 -- no more numbers than one NACK can name
 pub record Bounded (s : Schedule) : Type 0 where
@@ -94,7 +96,7 @@ abbrev pub limited : NackSettings → NackSettings
 limited settings = record settings { capacity = min settings.capacity 65533 }
 
 abbrev pub new_requests : ℕ → NackSettings → ℕ → Requests
-new_requests ssrc settings interval = record { ssrc = ssrc; nack = new_schedule (limited settings); keyframes = no_keyframes interval }
+new_requests ssrc settings interval = record { ssrc = ssrc; nack = new_schedule (limited settings); keyframes = no_keyframes interval; counts = record { numbers = 0; keyframes = 0 } }
 
 abbrev pub updated : ℕ → List ℕ → Bool → Requests → Requests
 updated now missing wanted r = record r { nack = refreshed now missing r.nack; keyframes = record r.keyframes { wanted = wanted } }
@@ -110,9 +112,16 @@ numbers_due now r = map low_bits (due_numbers now r.nack)
 abbrev pub keyframe_is_due : ℕ → Requests → Bool
 keyframe_is_due now r = is_due now r.keyframes
 
+-- these requests are counted, modulo 2^64
+abbrev pub counted : List ℕ → Bool → RequestCounts → RequestCounts
+counted numbers keyframe c = record {
+  numbers = if length numbers == 0 then c.numbers else (c.numbers + length numbers) % 2 ^ 64;
+  keyframes = if keyframe then (c.keyframes + 1) % 2 ^ 64 else c.keyframes;
+}
+
 -- what is due was sent
 abbrev pub after_feedback : ℕ → Requests → Requests
-after_feedback now r = record r { nack = after_due now r.nack; keyframes = after_request now r.keyframes }
+after_feedback now r = record r { nack = after_due now r.nack; keyframes = after_request now r.keyframes; counts = counted (numbers_due now r) (keyframe_is_due now r) r.counts }
 
 abbrev pub after_answered : ℕ → ℕ → Requests → Requests
 after_answered now number r = record r { nack = after_answer now number r.nack }

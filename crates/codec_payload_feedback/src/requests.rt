@@ -6,7 +6,7 @@ ghost use Rattle.codec_payload_feedback_congestion.specs.Packet.{transport_feedb
 ghost use Rattle.std.specs.Option.{option_map};
 ghost use Rattle.codec_payload_feedback_requests.specs.NackSchedule.{requested_by};
 ghost use Rattle.codec_payload_feedback_requests.specs.Requests.{earlier, has_come};
-ghost use Rattle.codec_payload_feedback.specs.Feedback.{AppendsAll, AppendsNack, IsFeedback, after_answered, after_feedback, deadline_of, description_part, has_any, is_idle, keyframe_is_due, keyframe_part, new_requests, numbers_due, report_part, source_by, updated, wanting};
+ghost use Rattle.codec_payload_feedback.specs.Feedback.{AppendsAll, AppendsNack, IsFeedback, after_answered, after_feedback, counted, deadline_of, description_part, has_any, is_idle, keyframe_is_due, keyframe_part, new_requests, numbers_due, report_part, source_by, updated, wanting};
 
 use codec_payload_base::wire::Ticks;
 use codec_payload_feedback_congestion::packet::write_transport_packet;
@@ -30,6 +30,15 @@ pub struct FeedbackSource {
     has_report: bool,
 }
 
+/// How many requests the packets of [`StreamRequests::take_due`] had so far, each modulo 2^64.
+#[derive(Clone, Copy, Debug, Default, PartialEq, Eq)]
+pub struct RequestCounts {
+    /// Numbers of missing packets. A number that is requested again counts again.
+    pub numbers: u64,
+    /// Keyframes (PLI).
+    pub keyframes: u64,
+}
+
 /// The requests of one stream: which missing packets and which keyframes are requested when.
 ///
 /// Hand it what the stream's receiver misses by [`StreamRequests::update`], and send what [`StreamRequests::take_due`] returns. Call both
@@ -40,6 +49,7 @@ pub struct StreamRequests {
     ssrc: u32,
     nack: NackSchedule,
     keyframes: KeyframeRequests,
+    counts: RequestCounts,
 }
 
 impl Model for FeedbackSource {
@@ -58,7 +68,7 @@ impl Model for StreamRequests {
 
     ghost Value = { Requests };
 
-    ghost view = { λ s. record { ssrc = s.ssrc; nack = s.nack; keyframes = s.keyframes } };
+    ghost view = { λ s. record { ssrc = s.ssrc; nack = s.nack; keyframes = s.keyframes; counts = s.counts } };
 
     ghost invariant = { λ s. Bounded s.nack };
 }
@@ -208,6 +218,10 @@ impl StreamRequests {
             ssrc,
             nack: NackSchedule::new(alloc, settings),
             keyframes: KeyframeRequests::new(keyframe_interval),
+            counts: RequestCounts {
+                numbers: 0,
+                keyframes: 0,
+            },
         }
     }
 
@@ -257,7 +271,15 @@ impl StreamRequests {
         let packet = source.packet(self.ssrc, &numbers, keyframe)?;
         self.nack.count_due(now);
         self.keyframes = keyframes;
+        count(&mut self.counts, &numbers, keyframe);
         Ok(packet)
+    }
+
+    /// Returns how many requests were sent so far.
+    pub fn counts(&self) -> RequestCounts
+        ensures { result ≡ self.now.counts }
+    {
+        self.counts
     }
 
     /// Records that a keyframe is needed, until the next `update` says otherwise. So [`StreamRequests::next_deadline`] is the moment from
@@ -320,6 +342,18 @@ impl StreamRequests {
         ensures { option_map (λ at. at.0) result ≡ deadline_of self.now }
     {
         earlier(self.nack.next_deadline(), self.keyframes.next_deadline())
+    }
+}
+
+/// Counts these requests.
+fn count(counts: &mut RequestCounts, numbers: &[u16], keyframe: bool)
+    ensures { counts.new ≡ counted numbers.now keyframe counts.old }
+{
+    if !numbers.is_empty() {
+        counts.numbers = counts.numbers.wrapping_add(numbers.len() as u64);
+    }
+    if keyframe {
+        counts.keyframes = counts.keyframes.wrapping_add(1);
     }
 }
 

@@ -2,9 +2,9 @@
 use Rattle.std.proofs.Common.{◌≡◌, ◌<◌, ℕ, zero, suc, ◌+◌, List, [], ◌∷◌, ◌++◌, length, take, drop, set, get_or, Option, Some, None, ap, refl, arith, add-one, subst, sym, ◌∙◌, map, true, false, slice_get}
 use Rattle.std.specs.List.{remove}
 use Rattle.codec_payload_base.specs.declared.wire.Ticks.{Ticks}
-use Rattle.codec_payload_session.specs.Streams.{Steps, earlier}
+use Rattle.codec_payload_session.specs.Streams.{Steps, earlier, info_of}
 use Rattle.codec_payload_session.specs.Arrivals.{Port, removed, sum_wrapped}
-use Rattle.codec_payload_session.specs.Turns.{AreQuiet, FirstSteps, TakesTurn, after_step, ended_after, event_of, is_nothing, kept_after, told_by}
+use Rattle.codec_payload_session.specs.Turns.{AreQuiet, FirstSteps, TakesTurn, after_step, ended_after, event_of, is_nothing, kept_after, last_after, told_by}
 use Rattle.codec_payload_session.specs.Units.{Event, Step, Turn}
 use Rattle.codec_payload_session.specs.declared.stream.Step.{Step as StepWith}
 use Rattle.codec_payload_session.specs.declared.stream.Step.TheVariants as steps
@@ -105,7 +105,7 @@ within_at [] s ys = omega arith
 within_at (x ∷ xs) s ys = omega (arith, within_at xs s ys)
 
 removed_at : (p : Port) (quiet rest : List StreamState) (s : StreamState) (place : ℕ) → place ≡ length quiet
-    → removed place (record p { streams = quiet ++ s ∷ rest }) ≡ record p { streams = quiet ++ rest; ended = sum_wrapped p.ended s.taken }
+    → removed place (record p { streams = quiet ++ s ∷ rest }) ≡ record p { streams = quiet ++ rest; ended = sum_wrapped p.ended s.taken; last = Some (info_of s) }
 removed_at p quiet rest s place is = rw (is, slice_at quiet s rest, remove_at quiet s rest) refl
 
 pub quiet_length : (now : Ticks) (idle : ℕ) (ss ts : List StreamState) → AreQuiet now idle ss ts → length ts ≡ length ss
@@ -128,7 +128,7 @@ first_length now idle ss ts turn it =
 -- the event of a step, and the stream after it
 tells_by : (now : Ticks) (idle : ℕ) (p : Port) (front quiet rest : List StreamState) (s t : StreamState) (step : Step) → p.streams ≡ front ++ s ∷ rest → AreQuiet now idle front quiet
     → Steps now idle s step t → is_nothing step ≡ false
-    → TakesTurn now idle p (event_of t step) (record p { streams = quiet ++ kept_after step t rest; ended = ended_after step t p.ended })
+    → TakesTurn now idle p (event_of t step) (record p { streams = quiet ++ kept_after step t rest; ended = ended_after step t p.ended; last = last_after step t p.last })
 tells_by now idle p front quiet rest s t steps.Begun there are went tells = record {
   front = front;
   quiet = quiet;
@@ -211,7 +211,7 @@ tells_by now idle p front quiet rest s t steps.Nothing there are went tells = ab
 
 -- the same by the place
 left_by : (p : Port) (quiet rest : List StreamState) (t : StreamState) (step : Step) (place : ℕ) → place ≡ length quiet
-    → after_step step place (record p { streams = quiet ++ t ∷ rest }) ≡ record p { streams = quiet ++ kept_after step t rest; ended = ended_after step t p.ended }
+    → after_step step place (record p { streams = quiet ++ t ∷ rest }) ≡ record p { streams = quiet ++ kept_after step t rest; ended = ended_after step t p.ended; last = last_after step t p.last }
 left_by p quiet rest t steps.Begun place is = refl
 left_by p quiet rest t (steps.Unit unit) place is = refl
 left_by p quiet rest t (steps.TooLarge unit) place is = refl
@@ -225,7 +225,7 @@ pub turn_tells : (now : Ticks) (idle : ℕ) (p q : Port) (turn : Turn) (ts : Lis
 turn_tells now idle p q turn ts event it told after =
     let there : slice_get ts turn.place ≡ Some it.stepped = ap (λ (l : List StreamState). slice_get l turn.place) it.after ∙ ap (λ (n : ℕ). slice_get (it.quiet ++ it.stepped ∷ it.rest) n) it.place ∙ slice_at it.quiet it.stepped it.rest in
     let told_is : event ≡ event_of it.stepped turn.step = told ∙ ap (λ (o : Option StreamState). told_by o turn.step) there in
-    let after_is : q ≡ record p { streams = it.quiet ++ kept_after turn.step it.stepped it.rest; ended = ended_after turn.step it.stepped p.ended } =
+    let after_is : q ≡ record p { streams = it.quiet ++ kept_after turn.step it.stepped it.rest; ended = ended_after turn.step it.stepped p.ended; last = last_after turn.step it.stepped p.last } =
     after ∙ ap (λ (l : List StreamState). after_step turn.step turn.place (record p { streams = l })) it.after ∙ left_by p it.quiet it.rest it.stepped turn.step turn.place it.place in
     subst (λ (e : Option Event). TakesTurn now idle p e q) (sym told_is)
     (subst (λ (x : Port). TakesTurn now idle p (event_of it.stepped turn.step) x) (sym after_is)

@@ -2,7 +2,7 @@
 use Rattle.std.specs.Prelude.{◌≡◌, ◌⊎◌, ℕ, min, ◌+◌, ◌-◌, ◌%◌, ◌^◌, ◌==◌, ◌&&◌, ◌||◌, not, IsErr, is_ok, nat_lt, if◌then◌else◌, Bool, true, false, List, [], ◌∷◌, ◌++◌, map, Option, Some, None, Result, Ok, Err, length, slice_get, slice_set}
 use Rattle.std.specs.Int.{w32, from_be_bytes}
 use Rattle.std.specs.List.{position, remove}
-use Rattle.std.specs.Option.{is_some}
+use Rattle.std.specs.Option.{is_some, option_map}
 use Rattle.std.specs.declared.alloc.AllocError.{AllocError}
 use Rattle.codec_payload_base.specs.declared.wire.Ticks.{Ticks}
 use Rattle.codec_payload_jitter.specs.declared.outcome.Outcome.{Outcome}
@@ -12,7 +12,7 @@ use Rattle.codec_payload_rtcp.specs.declared.packet.RtcpError.{RtcpError}
 use Rattle.codec_payload_receiver.specs.declared.receiver.ReceiveError.{ReceiveError}
 use Rattle.codec_payload_session.specs.Reports.{noted_at}
 use Rattle.codec_payload_session.specs.Changes.{continued, continues}
-use Rattle.codec_payload_session.specs.Streams.{Begins, Takes, is_no_memory, is_of, is_probation, left_when}
+use Rattle.codec_payload_session.specs.Streams.{Begins, Takes, info_of, is_no_memory, is_of, is_probation, left_when}
 use Rattle.codec_payload_session.specs.declared.formats.Format.{Format}
 use Rattle.codec_payload_session.specs.declared.formats.SessionSettings.{SessionSettings}
 use Rattle.codec_payload_session.specs.declared.session.Arrival.{Arrival}
@@ -22,18 +22,20 @@ use Rattle.codec_payload_session.specs.Sorting as sorted
 use Rattle.codec_payload_session.specs.declared.stream.Ending.{Ending}
 use Rattle.codec_payload_session.specs.declared.stream.Ending.TheVariants as endings
 use Rattle.codec_payload_session.specs.declared.stream.StreamState.{StreamState}
+use Rattle.codec_payload_session.specs.declared.stream.StreamInfo.{StreamInfo}
 use Rattle.codec_payload_session.specs.declared.streams.Who.{Who}
 use Rattle.codec_payload_session.specs.declared.streams.Who.TheVariants as whos
 
 abbrev pub sum_wrapped : ℕ → ℕ → ℕ
 sum_wrapped m n = (m + n) % 2 ^ 64
 
--- the streams in the order in which they began, whether new streams are refused, and how many datagrams the removed streams
--- took
+-- the streams in the order in which they began, whether new streams are refused, how many datagrams the removed streams took, and
+-- what was known of the stream that was removed last
 pub record Port : Type 0 where
   pub streams : List StreamState
   pub finished : Bool
   pub ended : ℕ
+  pub last : Option StreamInfo
 
 -- ---- streams that end
 
@@ -130,7 +132,7 @@ taken_of (Some s) = s.taken
 
 -- the stream at a place is removed
 abbrev pub removed : ℕ → Port → Port
-removed place p = record p { streams = remove p.streams place; ended = sum_wrapped p.ended (taken_of (slice_get p.streams place)) }
+removed place p = record p { streams = remove p.streams place; ended = sum_wrapped p.ended (taken_of (slice_get p.streams place)); last = option_map info_of (slice_get p.streams place) }
 
 abbrev pub without : Option ℕ → Port → Port
 without None p = p

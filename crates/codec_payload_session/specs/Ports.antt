@@ -37,7 +37,7 @@ pub record Session : Type 0 where
   pub transport : Option Reporter
 
 abbrev pub no_port : Port
-no_port = record { streams = []; finished = false; ended = 0 }
+no_port = record { streams = []; finished = false; ended = 0; last = None }
 
 abbrev pub no_counts : ArrivalCounts
 no_counts = record { received = 0; rtcp = 0; malformed = 0; unknown = 0; refused = 0; unassociated = 0 }

@@ -4,6 +4,7 @@ use Rattle.std.specs.Global.{Vec}
 use Rattle.std.specs.Option.{option_map}
 use Rattle.std.specs.declared.alloc.AllocError.{AllocError}
 use Rattle.codec_payload_feedback.specs.Feedback.{IsFeedback, Requests, Source, after_answered, after_feedback, deadline_of, keyframe_is_due, new_requests, numbers_due, updated, wanting}
+use Rattle.codec_payload_feedback.specs.declared.requests.RequestCounts.{RequestCounts}
 use Rattle.codec_payload_jitter.specs.Missing.{missing_numbers}
 use Rattle.codec_payload_feedback_requests.specs.NackSchedule.{requested_by}
 use Rattle.codec_payload_feedback_requests.specs.declared.nack.NackSettings.{NackSettings}
@@ -157,6 +158,11 @@ requests_due (Some a) = deadline_of a.requests
 abbrev pub has_requested : ℕ → Option Asking → Bool
 has_requested number None = false
 has_requested number (Some a) = requested_by number a.requests.nack
+
+-- how many requests were sent; a stream that requests nothing sent none
+abbrev pub request_counts_of : Option Asking → RequestCounts
+request_counts_of None = record { numbers = 0; keyframes = 0 }
+request_counts_of (Some a) = a.requests.counts
 
 -- the measured round trip, of which eight times is kept
 abbrev pub round_trip_of : Option Asking → Option ℕ

@@ -23,7 +23,7 @@ use Rattle.codec_payload_receiver.specs.declared.receiver.Settings.{Settings}
 use Rattle.codec_payload_session.specs.Formats.{HasSettings, is_video, limits_for}
 use Rattle.codec_payload_session.specs.Late.{late_after, late_for, limit_by, number_at as late_number}
 use Rattle.codec_payload_session.specs.Names.{are_of_one, names_after, no_names}
-use Rattle.codec_payload_session.specs.Requests.{Asking, Asks, answer_by, answered_if, asked_by, feedback_by, heard_by, is_heard, number_at, requests_due, round_trip_of, wait_by}
+use Rattle.codec_payload_session.specs.Requests.{Asking, Asks, answer_by, answered_if, asked_by, feedback_by, heard_by, is_heard, number_at, request_counts_of, requests_due, round_trip_of, wait_by}
 use Rattle.codec_payload_session.specs.declared.formats.Format.{Format}
 use Rattle.codec_payload_session.specs.declared.formats.SessionSettings.{SessionSettings}
 use Rattle.codec_payload_session.specs.declared.keyframe.KeyframeAnswer.{KeyframeAnswer}
@@ -366,4 +366,31 @@ pub record IsInfo (s : StreamState) (i : StreamInfo) : Type 0 where
   pub held : i.held ≡ length s.receiver.packets.buffer.held
   pub counters : HasCounters s.receiver i.counters
   pub round_trip : i.round_trip ≡ round_trip_of s.feedback
+  pub requests : i.requests ≡ request_counts_of s.feedback
   pub sender_clock : i.sender_clock ≡ s.sender_clock
+
+-- the same as values
+abbrev pub counters_of : Receiver → Counters
+counters_of r = record {
+  received = (r.arrived.received + length r.choice.candidates) % 2 ^ 64;
+  rtcp = r.arrived.rtcp;
+  malformed = r.arrived.malformed;
+  other_streams = r.arrived.other_streams;
+  undecided = length r.choice.candidates;
+  packets = counters_with r.bound r.packets.counters;
+  too_large = r.bound.units;
+  undecodable = r.gates.undecodable;
+}
+
+abbrev pub info_of : StreamState → StreamInfo
+info_of s = record {
+  ssrc = s.ssrc;
+  payload_type = s.format.payload_type;
+  stage = s.stage;
+  taken = s.taken;
+  held = length s.receiver.packets.buffer.held;
+  counters = counters_of s.receiver;
+  round_trip = round_trip_of s.feedback;
+  requests = request_counts_of s.feedback;
+  sender_clock = s.sender_clock;
+}

@@ -2,12 +2,13 @@
 use Rattle.std.specs.Prelude.{◌≡◌, ℕ, Bool, true, false, List, [], ◌∷◌, ◌++◌, Option, Some, None, length}
 use Rattle.codec_payload_base.specs.declared.wire.Ticks.{Ticks}
 use Rattle.codec_payload_session.specs.Arrivals.{Port, removed, sum_wrapped}
-use Rattle.codec_payload_session.specs.Streams.{Steps}
+use Rattle.codec_payload_session.specs.Streams.{Steps, info_of}
 use Rattle.codec_payload_session.specs.Units.{Event, Step, Turn}
 use Rattle.codec_payload_session.specs.declared.session.Event.{Event as EventWith}
 use Rattle.codec_payload_session.specs.declared.stream.Step.{Step as StepWith}
 use Rattle.codec_payload_session.specs.declared.session.Event.TheVariants as events
 use Rattle.codec_payload_session.specs.declared.stream.Step.TheVariants as steps
+use Rattle.codec_payload_session.specs.declared.stream.StreamInfo.{StreamInfo}
 use Rattle.codec_payload_session.specs.declared.stream.StreamState.{StreamState}
 
 -- each of the streams was asked, and had no event
@@ -75,6 +76,15 @@ ended_after (steps.Feedback packet) s ended = ended
 ended_after (steps.Ended why) s ended = sum_wrapped ended s.taken
 ended_after steps.Nothing s ended = ended
 
+abbrev pub last_after : Step → StreamState → Option StreamInfo → Option StreamInfo
+last_after steps.Begun s last = last
+last_after (steps.Unit unit) s last = last
+last_after (steps.TooLarge unit) s last = last
+last_after (steps.Refused fault) s last = last
+last_after (steps.Feedback packet) s last = last
+last_after (steps.Ended why) s last = Some (info_of s)
+last_after steps.Nothing s last = last
+
 -- the event of the stream at a place, and the streams after it
 abbrev pub told_by : {U : Type 0} → Option StreamState → StepWith U → Option (EventWith U)
 told_by None step = None
@@ -101,7 +111,7 @@ pub record Tells (now : Ticks) (idle : ℕ) (before : Port) (event : Event) (aft
   pub are_quiet : AreQuiet now idle front quiet
   pub steps : Steps now idle stream step stepped
   pub tells : Some event ≡ event_of stepped step
-  pub left : after ≡ record before { streams = quiet ++ kept_after step stepped rest; ended = ended_after step stepped before.ended }
+  pub left : after ≡ record before { streams = quiet ++ kept_after step stepped rest; ended = ended_after step stepped before.ended; last = last_after step stepped before.last }
 
 -- without an event all streams were quiet
 abbrev pub TakesTurn : Ticks → ℕ → Port → Option Event → Port → Type 0

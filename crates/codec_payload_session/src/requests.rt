@@ -2,13 +2,13 @@
 
 ghost use Rattle.std.specs.Prelude.{◌≡◌, ◌<◌, ℕ, IfOk, Option};
 ghost use Rattle.codec_payload_session.specs.Quiet.{MayRest, is_calm};
-ghost use Rattle.codec_payload_session.specs.Requests.{Asks, Refreshes, after_number, answer_by, answered_if, asked_by, feedback_by, follows_round_trip, has_requested, heard_by, is_heard, is_patient, number_at, original_number, requests_due, range_for, range_if, round_trip_of, source_for, spaced, wait_by, wait_for, wait_of, wait_within, wants_keyframe};
+ghost use Rattle.codec_payload_session.specs.Requests.{Asks, Refreshes, after_number, answer_by, answered_if, asked_by, feedback_by, follows_round_trip, has_requested, heard_by, is_heard, is_patient, number_at, original_number, request_counts_of, requests_due, range_for, range_if, round_trip_of, source_for, spaced, wait_by, wait_for, wait_of, wait_within, wants_keyframe};
 
 use crate::formats::{FeedbackSettings, Format, Waiting, is_video};
 use crate::keyframe::KeyframeAnswer;
 use crate::named::NamedReceiver;
 use codec_payload_base::wire::Ticks;
-use codec_payload_feedback::requests::{FeedbackSource, StreamRequests};
+use codec_payload_feedback::requests::{FeedbackSource, RequestCounts, StreamRequests};
 use codec_payload_feedback_requests::nack::NackSettings;
 use codec_payload_receiver::parsed::ParsedDatagram;
 use codec_payload_receiver::receiver::Receiver;
@@ -262,6 +262,19 @@ pub(crate) fn has_requested(feedback: &Option<Feedback>, number: u16) -> bool
     match feedback {
         Some(feedback) => feedback.requests.has_requested(number),
         None => false,
+    }
+}
+
+/// Returns how many requests were sent.
+pub(crate) fn request_counts(feedback: &Option<Feedback>) -> RequestCounts
+    ensures { result ≡ request_counts_of feedback.now }
+{
+    match feedback {
+        Some(feedback) => feedback.requests.counts(),
+        None => RequestCounts {
+            numbers: 0,
+            keyframes: 0,
+        },
     }
 }
 

@@ -28,11 +28,11 @@ use crate::reports::SenderClock;
 use crate::stream::{Ending, StreamInfo, earlier};
 use crate::streams::{Streams, Who};
 use crate::telephone::TelephoneQueue;
-use crate::transport::{note, reporter_for, restart, transport_deadline};
+use crate::transport::{note, reporter_for, restart, time_of, transport_deadline};
 use codec_payload_base::error::PacketError;
 use codec_payload_base::wire::Ticks;
 use codec_payload_buffer::buffer::PoppedUnit;
-use codec_payload_feedback::transport::{TransportReporter, quarters_at};
+use codec_payload_feedback::transport::TransportReporter;
 use codec_payload_feedback_congestion::arrivals::quarters;
 use codec_payload_jitter::jitter::WaitLimits;
 use codec_payload_jitter::outcome::Outcome;
@@ -168,7 +168,7 @@ pub enum Event<U = PoppedUnit> {
     TransportFeedback {
         packet: Result<Vec<u8>, AllocError>,
     },
-    /// A stream was removed. This is the last event of the stream.
+    /// A stream was removed. This is the last event of the stream. [`Session::last_stream`] then has its last counts.
     Ended {
         ssrc: u32,
         payload_type: u8,
@@ -289,7 +289,7 @@ impl Session {
     pub fn receive(&mut self, now: Ticks, datagram: &[u8]) -> Result<Arrival, AllocError>
         ensures { Accepts (time_for Option.None now self.old) now datagram.now self.old result self.new }
     {
-        let time = quarters_at(now, self.settings.tick_rate);
+        let time = time_of(&self.transport, now, self.settings.tick_rate);
         self.receive_timed(now, time, datagram)
     }
 
@@ -664,6 +664,14 @@ impl Session {
             Some(stream) => Some(stream.info()),
             None => None,
         }
+    }
+
+    /// Describes the stream that the session removed last, as it was then. At [`Event::Ended`] that is the stream of the event: its last
+    /// counts. A stream in probation that a new stream replaced is described too, without an event.
+    pub fn last_stream(&self) -> Option<StreamInfo>
+        ensures { result ≡ self.now.port.last }
+    {
+        self.streams.last
     }
 
     /// Lends the receiver of the stream at a place, in the order in which the streams began. It reports what to request

@@ -22,12 +22,14 @@ use crate::named::NamedReceiver;
 use crate::names::{StreamNameIds, StreamNames};
 use crate::reports::SenderClock;
 use crate::requests::{
-    Feedback, answer_if, ask_keyframe, hear, requests_due, rest_time, round_trip, wait_by,
+    Feedback, answer_if, ask_keyframe, hear, request_counts, requests_due, rest_time, round_trip,
+    wait_by,
 };
 use codec_payload_base::error::PacketError;
 use codec_payload_base::wire::Ticks;
 use codec_payload_buffer::buffer::PoppedUnit;
 use codec_payload_codec::codec::CodecDepacketizer;
+use codec_payload_feedback::requests::RequestCounts;
 use codec_payload_feedback_wait::adaptive_wait::AdaptiveWait;
 use codec_payload_jitter::jitter::WaitLimits;
 use codec_payload_jitter::outcome::Outcome;
@@ -84,6 +86,8 @@ pub struct StreamInfo {
     pub counters: Counters,
     /// The measured round-trip time in ticks, once a request of the session was answered.
     pub round_trip: Option<u64>,
+    /// How many missing packets and keyframes the session requested.
+    pub requests: RequestCounts,
     /// What the latest sender report of its SSRC says, once one arrived after the stream began.
     pub sender_clock: Option<SenderClock>,
 }
@@ -631,6 +635,7 @@ impl StreamState {
             held: self.receiver.inner().held(),
             counters: self.receiver.inner().counters(),
             round_trip: round_trip(&self.feedback),
+            requests: request_counts(&self.feedback),
             sender_clock: self.sender_clock,
         }
     }

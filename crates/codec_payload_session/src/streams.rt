@@ -28,7 +28,7 @@ use crate::pairs::{pair, with_pair};
 use crate::renegotiation::leave_formats;
 use crate::session::{Arrival, Event};
 use crate::sort::{SortedPacket, sort};
-use crate::stream::{Ending, Step, StreamState, is_no_memory, is_nothing};
+use crate::stream::{Ending, Step, StreamInfo, StreamState, is_no_memory, is_nothing};
 use crate::waking::{Waking, step_excepted};
 use codec_payload_base::wire::{Frequency, Ticks};
 use codec_payload_buffer::buffer::PoppedUnit;
@@ -54,6 +54,8 @@ pub(crate) struct Streams {
     pub(crate) finished: bool,
     /// How many datagrams the removed streams took.
     pub(crate) ended: u64,
+    /// What was known of the stream that was removed last.
+    pub(crate) last: Option<StreamInfo>,
     /// Until when the streams have no event.
     pub(crate) waking: Waking,
     /// When each of them may have an event.
@@ -82,7 +84,7 @@ impl Model for Streams {
 
     ghost use Rattle.codec_payload_session.specs.Waking.{IsIndexed};
 
-    ghost view = { λ s. record { streams = s.list.items; finished = s.finished; ended = s.ended } };
+    ghost view = { λ s. record { streams = s.list.items; finished = s.finished; ended = s.ended; last = s.last } };
 
     ghost invariant = { λ s. IsIndexed s.waking s.ssrcs s.dues s.list.items };
 }
@@ -98,6 +100,7 @@ impl Streams {
             ssrcs: Ssrcs::new(alloc),
             finished: false,
             ended: 0,
+            last: None,
             waking: Waking::unknown(),
             dues: Dues::unknown(alloc),
         }
@@ -344,6 +347,7 @@ impl Streams {
         self.ssrcs.remove(place);
         let gone = self.list.remove(place);
         self.ended = self.ended.wrapping_add(gone.taken);
+        self.last = Some(gone.info());
     }
 
     /// Returns the next event, and writes its unit to `unit`.

@@ -1,8 +1,8 @@
 //! The feedback for congestion control that a session sends by itself: when each packet of its transport arrived.
 
-ghost use Rattle.std.specs.Prelude.{◌≡◌, IfOk, OnErr, OnOk, true};
+ghost use Rattle.std.specs.Prelude.{◌≡◌, IfOk, List, OnErr, OnOk, ℕ, true};
 ghost use Rattle.std.specs.Option.{is_some, option_map};
-ghost use Rattle.codec_payload_feedback.specs.Transport.{IsTransportFeedback, restarted};
+ghost use Rattle.codec_payload_feedback.specs.Transport.{IsTransportFeedback, quarters_at, restarted};
 ghost use Rattle.codec_payload_feedback_requests.specs.Requests.{has_come};
 ghost use Rattle.codec_payload_session.specs.Requests.{source_for};
 ghost use Rattle.codec_payload_session.specs.Transports.{Sends, SendsBy, is_transport_due, noted_at, noted_by, reporter_for, restarted_if, transport_deadline};
@@ -10,8 +10,8 @@ ghost use Rattle.codec_payload_session.specs.Transports.{Sends, SendsBy, is_tran
 use crate::formats::{FeedbackSettings, SessionSettings};
 use crate::requests::source_for;
 use crate::streams::Streams;
-use codec_payload_base::wire::Ticks;
-use codec_payload_feedback::transport::TransportReporter;
+use codec_payload_base::wire::{Frequency, Ticks};
+use codec_payload_feedback::transport::{TransportReporter, quarters_at};
 use codec_payload_receiver::parsed::ParsedDatagram;
 use std::alloc::{AllocError, Global};
 
@@ -22,6 +22,22 @@ pub(crate) fn reporter_for(alloc: Global, settings: &SessionSettings) -> Option<
     match (&settings.feedback, settings.transport) {
         (Some(_), Some(transport)) => TransportReporter::new(alloc, transport).ok(),
         _ => None,
+    }
+}
+
+/// Returns the time of an arrival at `now`, in quarters of a millisecond modulo 2^32. If nothing is recorded, any time does.
+#[inline(always)]
+pub(crate) fn time_of(
+    transport: &Option<TransportReporter>,
+    now: Ticks,
+    tick_rate: Frequency,
+) -> u32
+    ensures { (bytes : List ℕ) → noted_at result bytes transport.now ≡ noted_at (quarters_at now.0 tick_rate) bytes transport.now }
+{
+    if transport.is_some() {
+        quarters_at(now, tick_rate)
+    } else {
+        0
     }
 }
 

@@ -23,6 +23,15 @@ pub struct FeedbackSource {
     has_report: bool,
 }
 
+/// How many requests the packets of [`StreamRequests::take_due`] had so far, each modulo 2^64.
+#[derive(Clone, Copy, Debug, Default, PartialEq, Eq)]
+pub struct RequestCounts {
+    /// Numbers of missing packets. A number that is requested again counts again.
+    pub numbers: u64,
+    /// Keyframes (PLI).
+    pub keyframes: u64,
+}
+
 /// The requests of one stream: which missing packets and which keyframes are requested when.
 ///
 /// Hand it what the stream's receiver misses by [`StreamRequests::update`], and send what [`StreamRequests::take_due`] returns. Call both
@@ -32,6 +41,7 @@ pub struct StreamRequests {
     ssrc: u32,
     nack: NackSchedule,
     keyframes: KeyframeRequests,
+    counts: RequestCounts,
 }
 
 impl FeedbackSource {
@@ -152,6 +162,10 @@ impl StreamRequests {
             ssrc,
             nack: NackSchedule::new(settings),
             keyframes: KeyframeRequests::new(keyframe_interval),
+            counts: RequestCounts {
+                numbers: 0,
+                keyframes: 0,
+            },
         }
     }
 
@@ -194,7 +208,13 @@ impl StreamRequests {
         let packet = source.packet(self.ssrc, &numbers, keyframe)?;
         self.nack.count_due(now);
         self.keyframes = keyframes;
+        count(&mut self.counts, &numbers, keyframe);
         Ok(packet)
+    }
+
+    /// Returns how many requests were sent so far.
+    pub fn counts(&self) -> RequestCounts {
+        self.counts
     }
 
     /// Records that a keyframe is needed, until the next `update` says otherwise. So [`StreamRequests::next_deadline`] is the moment from
@@ -241,6 +261,16 @@ impl StreamRequests {
     /// Returns when the next request is due. `None`: none is without an `update`.
     pub fn next_deadline(&self) -> Option<Ticks> {
         earlier(self.nack.next_deadline(), self.keyframes.next_deadline())
+    }
+}
+
+/// Counts these requests.
+fn count(counts: &mut RequestCounts, numbers: &[u16], keyframe: bool) {
+    if !numbers.is_empty() {
+        counts.numbers = counts.numbers.wrapping_add(numbers.len() as u64);
+    }
+    if keyframe {
+        counts.keyframes = counts.keyframes.wrapping_add(1);
     }
 }
 

@@ -2,7 +2,7 @@
 
 //! What a stream of a session requests: missing packets and keyframes.
 
-use crate::feedback::requests::{FeedbackSource, StreamRequests};
+use crate::feedback::requests::{FeedbackSource, RequestCounts, StreamRequests};
 use crate::memory::{AllocError, One, TryVec};
 use crate::requests::nack::NackSettings;
 use crate::session::formats::{FeedbackSettings, Format, Waiting, is_video};
@@ -219,6 +219,17 @@ pub(crate) fn has_requested(feedback: &Option<Feedback>, number: u16) -> bool {
     match feedback {
         Some(feedback) => feedback.requests.has_requested(number),
         None => false,
+    }
+}
+
+/// Returns how many requests were sent.
+pub(crate) fn request_counts(feedback: &Option<Feedback>) -> RequestCounts {
+    match feedback {
+        Some(feedback) => feedback.requests.counts(),
+        None => RequestCounts {
+            numbers: 0,
+            keyframes: 0,
+        },
     }
 }
 

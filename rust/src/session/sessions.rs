@@ -5,7 +5,7 @@
 use crate::buffer::PoppedUnit;
 use crate::congestion::arrivals::quarters;
 use crate::error::PacketError;
-use crate::feedback::transport::{TransportReporter, quarters_at};
+use crate::feedback::transport::TransportReporter;
 use crate::jitter::jitter_buffer::WaitLimits;
 use crate::jitter::outcome::Outcome;
 use crate::memory::AllocError;
@@ -22,7 +22,7 @@ use crate::session::reports::SenderClock;
 use crate::session::stream::{Ending, StreamInfo, earlier};
 use crate::session::streams::{Streams, Who};
 use crate::session::telephone::TelephoneQueue;
-use crate::session::transport::{note, reporter_for, restart, transport_deadline};
+use crate::session::transport::{note, reporter_for, restart, time_of, transport_deadline};
 use crate::stream::parsed::ParsedDatagram;
 use crate::stream::receiver::{ReceiveError, Receiver};
 use crate::wire::Ticks;
@@ -149,7 +149,7 @@ pub enum Event<U = PoppedUnit> {
     /// [`TransportSettings::interval`]: crate::feedback::transport::TransportSettings::interval
     /// [`TransportSettings::size`]: crate::feedback::transport::TransportSettings::size
     TransportFeedback { packet: Result<Vec<u8>, AllocError> },
-    /// A stream was removed. This is the last event of the stream.
+    /// A stream was removed. This is the last event of the stream. [`Session::last_stream`] then has its last counts.
     Ended {
         ssrc: u32,
         payload_type: u8,
@@ -256,7 +256,7 @@ impl Session {
     /// [`StreamInfo::sender_clock`]: crate::session::stream::StreamInfo::sender_clock
     /// [`Ending::Changed`]: crate::session::stream::Ending::Changed
     pub fn receive(&mut self, now: Ticks, datagram: &[u8]) -> Result<Arrival, AllocError> {
-        let time = quarters_at(now, self.settings.tick_rate);
+        let time = time_of(&self.transport, now, self.settings.tick_rate);
         self.receive_timed(now, time, datagram)
     }
 
@@ -568,6 +568,12 @@ impl Session {
             Some(stream) => Some(stream.info()),
             None => None,
         }
+    }
+
+    /// Describes the stream that the session removed last, as it was then. At [`Event::Ended`] that is the stream of the event: its last
+    /// counts. A stream in probation that a new stream replaced is described too, without an event.
+    pub fn last_stream(&self) -> Option<StreamInfo> {
+        self.streams.last
     }
 
     /// Lends the receiver of the stream at a place, in the order in which the streams began. It reports what to request

@@ -5,6 +5,7 @@
 use crate::buffer::PoppedUnit;
 use crate::codec::CodecDepacketizer;
 use crate::error::PacketError;
+use crate::feedback::requests::RequestCounts;
 use crate::jitter::jitter_buffer::WaitLimits;
 use crate::jitter::outcome::Outcome;
 use crate::memory::{AllocError, One};
@@ -16,7 +17,8 @@ use crate::session::named::NamedReceiver;
 use crate::session::names::{StreamNameIds, StreamNames};
 use crate::session::reports::SenderClock;
 use crate::session::requests::{
-    Feedback, answer_if, ask_keyframe, hear, requests_due, rest_time, round_trip, wait_by,
+    Feedback, answer_if, ask_keyframe, hear, request_counts, requests_due, rest_time, round_trip,
+    wait_by,
 };
 use crate::stream::parsed::ParsedDatagram;
 use crate::stream::pops::Popped;
@@ -74,6 +76,8 @@ pub struct StreamInfo {
     pub counters: Counters,
     /// The measured round-trip time in ticks, once a request of the session was answered.
     pub round_trip: Option<u64>,
+    /// How many missing packets and keyframes the session requested.
+    pub requests: RequestCounts,
     /// What the latest sender report of its SSRC says, once one arrived after the stream began.
     pub sender_clock: Option<SenderClock>,
 }
@@ -524,6 +528,7 @@ impl StreamState {
             held: self.receiver.inner().held(),
             counters: self.receiver.inner().counters(),
             round_trip: round_trip(&self.feedback),
+            requests: request_counts(&self.feedback),
             sender_clock: self.sender_clock,
         }
     }

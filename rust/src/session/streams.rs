@@ -18,7 +18,7 @@ use crate::session::pairs::{pair, with_pair};
 use crate::session::renegotiation::leave_formats;
 use crate::session::sessions::{Arrival, Event};
 use crate::session::sort::{SortedPacket, sort};
-use crate::session::stream::{Ending, Step, StreamState, is_no_memory, is_nothing};
+use crate::session::stream::{Ending, Step, StreamInfo, StreamState, is_no_memory, is_nothing};
 use crate::session::waking::{Waking, step_excepted};
 use crate::stream::parsed::ParsedDatagram;
 use crate::stream::receiver::ReceiveError;
@@ -35,6 +35,8 @@ pub(crate) struct Streams {
     pub(crate) finished: bool,
     /// How many datagrams the removed streams took.
     pub(crate) ended: u64,
+    /// What was known of the stream that was removed last.
+    pub(crate) last: Option<StreamInfo>,
     /// Until when the streams have no event.
     pub(crate) waking: Waking,
     /// When each of them may have an event.
@@ -64,6 +66,7 @@ impl Streams {
             ssrcs: Ssrcs::new(),
             finished: false,
             ended: 0,
+            last: None,
             waking: Waking::unknown(),
             dues: Dues::unknown(),
         }
@@ -270,6 +273,7 @@ impl Streams {
         self.ssrcs.remove(place);
         let gone = self.list.remove(place);
         self.ended = self.ended.wrapping_add(gone.taken);
+        self.last = Some(gone.info());
     }
 
     /// Returns the next event, and writes its unit to `unit`.

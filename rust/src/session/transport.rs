@@ -2,13 +2,13 @@
 
 //! The feedback for congestion control that a session sends by itself: when each packet of its transport arrived.
 
-use crate::feedback::transport::TransportReporter;
+use crate::feedback::transport::{TransportReporter, quarters_at};
 use crate::memory::AllocError;
 use crate::session::formats::{FeedbackSettings, SessionSettings};
 use crate::session::requests::source_for;
 use crate::session::streams::Streams;
 use crate::stream::parsed::ParsedDatagram;
-use crate::wire::Ticks;
+use crate::wire::{Frequency, Ticks};
 use alloc::vec::Vec;
 
 /// Returns the reporter of a new session. Does not allocate.
@@ -16,6 +16,20 @@ pub(crate) fn reporter_for(settings: &SessionSettings) -> Option<TransportReport
     match (&settings.feedback, settings.transport) {
         (Some(_), Some(transport)) => TransportReporter::new(transport).ok(),
         _ => None,
+    }
+}
+
+/// Returns the time of an arrival at `now`, in quarters of a millisecond modulo 2^32. If nothing is recorded, any time does.
+#[inline(always)]
+pub(crate) fn time_of(
+    transport: &Option<TransportReporter>,
+    now: Ticks,
+    tick_rate: Frequency,
+) -> u32 {
+    if transport.is_some() {
+        quarters_at(now, tick_rate)
+    } else {
+        0
     }
 }
 

@@ -2,6 +2,7 @@
 
 use crate::Fail;
 use crate::datagrams::*;
+use codec_payload::feedback::RequestCounts;
 use codec_payload::rtcp::{CompoundRule, RtcpPacket, read_compound};
 use codec_payload::session::*;
 use codec_payload::*;
@@ -451,5 +452,43 @@ fn audio_waits_as_the_session_says_until_the_first_answer() -> Result<(), Fail> 
     }
     let limits = session.receiver_of(7, OPUS).unwrap().wait_limits();
     assert_eq!(limits.max_wait, Some(100));
+    Ok(())
+}
+
+/// Each number and each keyframe in a packet of feedback is counted, also what is requested again. The event that ends the stream
+/// leaves its last counts.
+#[test]
+fn requests_are_counted_up_to_the_end() -> Result<(), Fail> {
+    let mut session = session(always_20_ms);
+    for number in [1, 2, 4, 5, 8] {
+        session.receive(Ticks(0), &vp8(5, number, number == 1))?;
+        session.receive(Ticks(0), &opus(7, number))?;
+    }
+    assert!(session.last_stream().is_none());
+    let mut sent = [(5, RequestCounts::default()), (7, RequestCounts::default())];
+    for now in 0..1_500 {
+        for (ssrc, numbers, keyframes) in requested(&mut session, now) {
+            let (_, counts) = sent.iter_mut().find(|it| it.0 == ssrc).unwrap();
+            counts.numbers += numbers.len() as u64;
+            counts.keyframes += keyframes as u64;
+        }
+        let told = [0, 1].map(|at| session.stream_at(at).unwrap());
+        assert_eq!(told.map(|it| (it.ssrc, it.requests)), sent, "{now}");
+    }
+    assert!(sent[0].1.keyframes > 1 && sent[1].1.numbers > 3, "{sent:?}");
+    assert_eq!(sent[1].1.keyframes, 0);
+    session.end(Ticks(1_500), 7);
+    let mut ended = false;
+    while let Some(event) = session.poll(Ticks(1_500)) {
+        if let Event::Ended { ssrc, .. } = event {
+            let last = session.last_stream().ok_or("no stream ended")?;
+            assert_eq!((ssrc, last.ssrc, last.requests), (7, 7, sent[1].1));
+            assert_eq!((last.taken, last.held), (5, 0));
+            let packets = last.counters.packets;
+            assert_eq!((packets.released, packets.units), (5, 5));
+            ended = true;
+        }
+    }
+    assert!(ended && session.stream_count() == 1);
     Ok(())
 }
