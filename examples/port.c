@@ -107,7 +107,7 @@ static void end(recorder *it, track *track, cpay_ending why) {
 
 /* Handles all events that are due. The session lends the bytes of an event until the next poll. */
 static void drain(recorder *it) {
-    cpay_event event = {0};
+    cpay_event event;
     cpay_status status;
     while ((status = cpay_session_poll(&it->session, now(), &event)) == CPAY_OK) {
         track *track = track_of(it, &event);

@@ -135,7 +135,7 @@ static void answer(sfu *it, uint64_t now, const uint8_t *rtcp, size_t rtcp_size)
 
 /* What is due by the clock. Units of the session are for those who record or mix. */
 static void poll(sfu *it, uint64_t now) {
-    cpay_event event = {0};
+    static cpay_event event;
     uint32_t source = 0, wanted = 0;
     bool gets = cpay_forwarder_source(&it->viewer, &source) == CPAY_OK;
     bool wants = cpay_forwarder_wanted(&it->viewer, &wanted) == CPAY_OK;
@@ -214,7 +214,7 @@ static void show(picture *it, uint64_t now, const uint8_t *end) {
 }
 
 static void watch(cpay_session *viewer, picture *it, uint64_t now) {
-    cpay_event event = {0};
+    static cpay_event event;
     while (cpay_session_poll(viewer, now, &event) == CPAY_OK) {
         if (event.kind == CPAY_EVENT_FEEDBACK || event.kind == CPAY_EVENT_REPORT)
             send(&from_viewer, now, event.data, event.bytes);

@@ -23,7 +23,7 @@ static void check(cpay_status status, const char *what) {
 
 /* Polls until there is no event. Returns the number of units. */
 static unsigned poll(cpay_session *session, uint64_t now) {
-    cpay_event event = {0};
+    cpay_event event;
     unsigned units = 0;
     while (cpay_session_poll(session, now, &event) == CPAY_OK) units += event.kind == CPAY_EVENT_UNIT;
     return units;

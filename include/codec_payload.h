@@ -1617,11 +1617,6 @@ CPAY_CHECKED cpay_status cpay_depacketizer_new(cpay_depacketizer *depacketizer, 
 /** Reads a payload, and appends its media bytes. docs/use/FORMATS.md says for each codec what an error leaves. [m] */
 CPAY_CHECKED cpay_status cpay_depacketize(cpay_depacketizer *depacketizer, const uint8_t *payload, size_t payload_len);
 
-/** Returns the bytes and the codec-specific data of the payloads since the unit began, and begins the next unit: call it once a
- * frame is complete. */
-CPAY_CHECKED cpay_status cpay_depacketized(cpay_depacketizer *depacketizer, size_t *size, cpay_extra *extra, uint8_t *bytes,
-                                           size_t bytes_len);
-
 /** A unit in the memory of a depacketizer. */
 typedef struct {
     const uint8_t *at; /**< its bytes; read none if `bytes` is 0 */
@@ -1629,13 +1624,18 @@ typedef struct {
     cpay_extra extra;
 } cpay_lent_unit;
 
-/** Lends the bytes that cpay_depacketized would copy, and changes nothing. Read them until the next call with this handle, which may
- * move or free them; never write them. Then call cpay_depacketizer_clear. */
+/** Lends the bytes and the codec-specific data of the payloads since the unit began, and changes nothing: call it once a frame is
+ * complete. Read the bytes until the next call with this handle, which may move or free them; never write them. Then call
+ * cpay_depacketizer_clear. Nothing is copied. */
 CPAY_CHECKED cpay_status cpay_depacketizer_unit(cpay_depacketizer *depacketizer, cpay_lent_unit *unit);
 
 /** Begins the next unit: forgets the bytes and the codec-specific data so far, and keeps their memory. What continues in a stream stays:
  * ids of VP8 and VP9, the beginning of an OBU of AV1. */
 CPAY_CHECKED cpay_status cpay_depacketizer_clear(cpay_depacketizer *depacketizer);
+
+/** Copies the unit to a buffer of yours, and begins the next unit: both calls above in one, for a caller who keeps the bytes. */
+CPAY_CHECKED cpay_status cpay_depacketized(cpay_depacketizer *depacketizer, size_t *size, cpay_extra *extra, uint8_t *bytes,
+                                           size_t bytes_len);
 
 /* ---- RED (RFC 2198) ---- */
 

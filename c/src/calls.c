@@ -703,14 +703,6 @@ cpay_status cpay_depacketize(cpay_depacketizer *depacketizer, const uint8_t *pay
     return proved_cpay_depacketize(&depacketizer->handle, payload ? payload : (const uint8_t *)nothing, payload_len);
 }
 
-cpay_status proved_cpay_depacketized(cpay_handle *depacketizer, size_t *size, cpay_extra *extra, uint8_t *bytes,
-                                     size_t bytes_len);
-cpay_status cpay_depacketized(cpay_depacketizer *depacketizer, size_t *size, cpay_extra *extra, uint8_t *bytes,
-                              size_t bytes_len) {
-    if (!bytes && bytes_len) return CPAY_INVALID;
-    return proved_cpay_depacketized(&depacketizer->handle, size, extra, bytes ? bytes : (uint8_t *)nothing, bytes_len);
-}
-
 cpay_status proved_cpay_depacketizer_unit(cpay_handle *depacketizer, cpay_lent_unit *unit);
 cpay_status cpay_depacketizer_unit(cpay_depacketizer *depacketizer, cpay_lent_unit *unit) {
     return proved_cpay_depacketizer_unit(&depacketizer->handle, unit);
@@ -719,6 +711,14 @@ cpay_status cpay_depacketizer_unit(cpay_depacketizer *depacketizer, cpay_lent_un
 cpay_status proved_cpay_depacketizer_clear(cpay_handle *depacketizer);
 cpay_status cpay_depacketizer_clear(cpay_depacketizer *depacketizer) {
     return proved_cpay_depacketizer_clear(&depacketizer->handle);
+}
+
+cpay_status proved_cpay_depacketized(cpay_handle *depacketizer, size_t *size, cpay_extra *extra, uint8_t *bytes,
+                                     size_t bytes_len);
+cpay_status cpay_depacketized(cpay_depacketizer *depacketizer, size_t *size, cpay_extra *extra, uint8_t *bytes,
+                              size_t bytes_len) {
+    if (!bytes && bytes_len) return CPAY_INVALID;
+    return proved_cpay_depacketized(&depacketizer->handle, size, extra, bytes ? bytes : (uint8_t *)nothing, bytes_len);
 }
 
 cpay_status proved_cpay_red_sender_new(cpay_handle *sender, uint8_t red_pt, uint8_t primary_pt, const uint32_t *distances,

@@ -82,14 +82,14 @@ TellsJudgedBy time decodable keyframe u unit =
     TellsUnit u (record unit { rtp_time = u.time.numer; decodable = true; keyframe = false })
     × (unit.rtp_time ≡ time_or u.time.numer time) × (unit.decodable ≡ decodable) × (unit.keyframe ≡ keyframe)
 
--- an event of a stream without an error or a reason to end; its bytes are at `data`
-abbrev pub event_with : (kind ssrc payload_type : ℕ) → (data : Ptr) → CUnit → CEvent
-event_with kind ssrc payload_type data unit =
-    record { kind = kind; ssrc = ssrc; status = 0; why = 0; data = data; bytes = unit.bytes; payload_type = payload_type; unit = unit }
+-- an event of a stream without an error or a reason to end, with its bytes at this place
+abbrev pub event_with : (kind ssrc payload_type : ℕ) → (at : Ptr) → CUnit → CEvent
+event_with kind ssrc payload_type at unit =
+    record { kind = kind; ssrc = ssrc; status = 0; why = 0; «data» = at; bytes = unit.bytes; payload_type = payload_type; unit = unit }
 
 -- the event of a unit
-abbrev pub TellsUnitOf : (ssrc payload_type : ℕ) → (data : Ptr) → (CUnit → Type 0) → CEvent → Type 0
-TellsUnitOf ssrc payload_type data Told e = (e ≡ event_with 1 ssrc payload_type data e.unit) × Told e.unit
+abbrev pub TellsUnitOf : (ssrc payload_type : ℕ) → (at : Ptr) → (CUnit → Type 0) → CEvent → Type 0
+TellsUnitOf ssrc payload_type at Told e = (e ≡ event_with 1 ssrc payload_type at e.unit) × Told e.unit
 
 -- the bytes of an RTCP packet; none if memory ran out for it
 abbrev pub bytes_sent : Result (Vec ℕ) AllocError → List ℕ
@@ -101,22 +101,22 @@ abbrev pub telephone_unit : ℕ → Bool → ℕ → CUnit
 telephone_unit rtp_time marker bytes = record no_unit { rtp_time = rtp_time; bytes = bytes; starts_talk_spurt = marker }
 
 -- the event of an RTCP packet of this many bytes
-abbrev pub packet_event : (kind ssrc payload_type : ℕ) → (data : Ptr) → ℕ → CEvent
-packet_event kind ssrc payload_type data bytes = record (event_with kind ssrc payload_type data no_unit) { bytes = bytes }
+abbrev pub packet_event : (kind ssrc payload_type : ℕ) → (at : Ptr) → ℕ → CEvent
+packet_event kind ssrc payload_type at bytes = record (event_with kind ssrc payload_type at no_unit) { bytes = bytes }
 
--- the description of an event whose bytes are at `data`
-abbrev pub TellsEvent : (data : Ptr) → Event → CEvent → Type 0
-TellsEvent data (events.Begun ssrc payload_type) e = e ≡ event_with 0 ssrc payload_type data no_unit
-TellsEvent data (events.Unit ssrc payload_type time decodable keyframe (Ok u)) e = TellsUnitOf ssrc payload_type data (TellsJudgedBy time decodable keyframe u) e
-TellsEvent data (events.Unit ssrc payload_type time decodable keyframe (Err fault)) e = e ≡ event_with 1 ssrc payload_type data no_unit
-TellsEvent data (events.TooLarge ssrc payload_type unit) e = e ≡ record (event_with 2 ssrc payload_type data no_unit) { status = 76 }
-TellsEvent data (events.Refused ssrc payload_type fault) e = e ≡ record (event_with 2 ssrc payload_type data no_unit) { status = fault_number fault }
-TellsEvent data (events.Feedback ssrc payload_type packet) e = e ≡ packet_event 4 ssrc payload_type data (length (bytes_sent packet))
-TellsEvent data (events.Telephone ssrc payload_type time marker payload) e =
-    e ≡ event_with 6 ssrc payload_type data (telephone_unit time marker (length payload.items))
-TellsEvent data (events.Report packet) e = e ≡ packet_event 5 0 0 data (length (bytes_sent packet))
-TellsEvent data (events.TransportFeedback packet) e = e ≡ packet_event 7 0 0 data (length (bytes_sent packet))
-TellsEvent data (events.Ended ssrc payload_type why) e = e ≡ record (event_with 3 ssrc payload_type data no_unit) { why = ending_number why }
+-- the description of an event with its bytes at this place
+abbrev pub TellsEvent : (at : Ptr) → Event → CEvent → Type 0
+TellsEvent at (events.Begun ssrc payload_type) e = e ≡ event_with 0 ssrc payload_type at no_unit
+TellsEvent at (events.Unit ssrc payload_type time decodable keyframe (Ok u)) e = TellsUnitOf ssrc payload_type at (TellsJudgedBy time decodable keyframe u) e
+TellsEvent at (events.Unit ssrc payload_type time decodable keyframe (Err fault)) e = e ≡ event_with 1 ssrc payload_type at no_unit
+TellsEvent at (events.TooLarge ssrc payload_type unit) e = e ≡ record (event_with 2 ssrc payload_type at no_unit) { status = 76 }
+TellsEvent at (events.Refused ssrc payload_type fault) e = e ≡ record (event_with 2 ssrc payload_type at no_unit) { status = fault_number fault }
+TellsEvent at (events.Feedback ssrc payload_type packet) e = e ≡ packet_event 4 ssrc payload_type at (length (bytes_sent packet))
+TellsEvent at (events.Telephone ssrc payload_type time marker payload) e =
+    e ≡ event_with 6 ssrc payload_type at (telephone_unit time marker (length payload.items))
+TellsEvent at (events.Report packet) e = e ≡ packet_event 5 0 0 at (length (bytes_sent packet))
+TellsEvent at (events.TransportFeedback packet) e = e ≡ packet_event 7 0 0 at (length (bytes_sent packet))
+TellsEvent at (events.Ended ssrc payload_type why) e = e ≡ record (event_with 3 ssrc payload_type at no_unit) { why = ending_number why }
 
 -- memory ran out for the unit or the RTCP packet of the event
 abbrev pub is_no_memory : Event → Bool

@@ -1,6 +1,6 @@
 //! Sessions: the datagrams of a port in, the events of its streams out.
 
-ghost use Rattle.std.specs.Prelude.{◌≡◌, ◌≢◌, ◌<◌, length, Option};
+ghost use Rattle.std.specs.Prelude.{◌≡◌, ◌≢◌, ◌<◌, [], length, Option};
 ghost use Rattle.std_alloc.specs.Vec.{vec_ptr};
 ghost use Rattle.codec_payload_core.specs.Faults.{fault_number};
 ghost use Rattle.codec_payload_session.specs.Idle.{next_of};
@@ -177,28 +177,28 @@ fn tell_unit(told: &mut Unit, unit: &PoppedUnit, time: Option<u64>, decodable: b
 
 /// Describes the event of a unit, in place of what `told` has.
 #[inline(always)]
-fn tell_event_of(told: &mut Event, ssrc: u32, payload_type: u8, data: *const u8)
-    ensures { told.new ≡ event_with 1 ssrc payload_type data told.old.unit }
+fn tell_event_of(told: &mut Event, ssrc: u32, payload_type: u8, at: *const u8)
+    ensures { told.new ≡ event_with 1 ssrc payload_type at told.old.unit }
 {
     told.kind = 1;
     told.ssrc = ssrc;
     told.status = status::OK;
     told.why = 0;
-    told.data = data;
+    told.data = at;
     told.bytes = told.unit.bytes;
     told.payload_type = payload_type;
 }
 
 /// Returns an event of a stream without an error or a reason to end.
-fn event_with(kind: u32, ssrc: u32, payload_type: u8, data: *const u8, unit: Unit) -> Event
-    ensures { result ≡ event_with kind ssrc payload_type data unit }
+fn event_with(kind: u32, ssrc: u32, payload_type: u8, at: *const u8, unit: Unit) -> Event
+    ensures { result ≡ event_with kind ssrc payload_type at unit }
 {
     Event {
         kind,
         ssrc,
         status: status::OK,
         why: 0,
-        data,
+        data: at,
         bytes: unit.bytes,
         payload_type,
         unit,
@@ -246,12 +246,7 @@ fn lend_nothing(
 /// stream.
 #[cold]
 #[inline(never)]
-fn lend_packet(
-    port: &mut PortSession,
-    told: &mut Event,
-    of: (u32, u32, u8),
-    packet: Vec<u8>,
-) -> u32
+fn lend_packet(port: &mut PortSession, told: &mut Event, of: (u32, u32, u8), packet: Vec<u8>) -> u32
     ensures done { result ≡ 0 }
     ensures told { told.new ≡ packet_event of.0 of.1 of.2 (vec_ptr port.new.lent) (length packet.items) }
     ensures lent { port.new ≡ record port.old { lent = packet } }
@@ -315,7 +310,13 @@ fn hand_over(port: &mut PortSession, next: SessionEvent<()>, told: &mut Event) -
             ssrc,
             payload_type,
             ..
-        } => lend_nothing(port, told, (2, ssrc, payload_type), status::UNIT_TOO_LARGE, 0),
+        } => lend_nothing(
+            port,
+            told,
+            (2, ssrc, payload_type),
+            status::UNIT_TOO_LARGE,
+            0,
+        ),
         SessionEvent::Refused {
             ssrc,
             payload_type,
@@ -328,7 +329,13 @@ fn hand_over(port: &mut PortSession, next: SessionEvent<()>, told: &mut Event) -
             ssrc,
             payload_type,
             why,
-        } => lend_nothing(port, told, (3, ssrc, payload_type), status::OK, number_of(why)),
+        } => lend_nothing(
+            port,
+            told,
+            (3, ssrc, payload_type),
+            status::OK,
+            number_of(why),
+        ),
         SessionEvent::Telephone {
             ssrc,
             payload_type,

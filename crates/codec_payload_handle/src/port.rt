@@ -52,7 +52,7 @@ impl PortSession {
         ensures taken { self.new.taken ≡ Some self.old.unit.metas }
         ensures session { self.new.session ≡ self.old.session }
     {
-        mem::swap(&mut self.lent, &mut self.unit.bytes);
+        swap_bytes(&mut self.lent, &mut self.unit);
         self.taken.take_from(&mut self.unit);
     }
 
@@ -70,4 +70,13 @@ impl PortSession {
     {
         self.lent.clear();
     }
+}
+
+/// Swaps the bytes of a unit with these.
+#[inline(always)]
+fn swap_bytes(bytes: &mut Vec<u8>, unit: &mut PoppedUnit)
+    ensures bytes { bytes.new.items ≡ unit.old.bytes }
+    ensures rest { unit.new ≡ record unit.old { bytes = bytes.old.items } }
+{
+    mem::swap(bytes, &mut unit.bytes);
 }
