@@ -3,7 +3,8 @@ use Rattle.std.proofs.Common.{◌≡◌, ◌∙◌, refl, ap, sym, subst, ℕ, �
 use Rattle.std.specs.Prelude.{nat_le}
 use Rattle.std.proofs.lemmas.Bool.{eqb-true}
 use Rattle.std.proofs.lemmas.Bool.Decides.{nat_tests}
-use Rattle.codec_payload_feedback.specs.Feedback.{Requests, after_feedback, deadline_of, has_any, keyframe_is_due, numbers_due, updated}
+use Rattle.codec_payload_feedback.specs.declared.requests.RequestCounts.{RequestCounts}
+use Rattle.codec_payload_feedback.specs.Feedback.{Requests, after_feedback, counted, deadline_of, has_any, keyframe_is_due, numbers_due, updated}
 use Rattle.codec_payload_feedback_requests.specs.KeyframeRequests.{after_request, deadline_of as keyframe_deadline, is_due as is_keyframe_due}
 use Rattle.codec_payload_feedback_requests.specs.NackSchedule.{earliest_of, followed, is_due, kept_or_new, low_bits, new_request, numbers_of, refreshed_with, request_of, retry_time, tried, tried_if_due, tried_in}
 use Rattle.codec_payload_feedback_requests.specs.Requests.{earlier, has_come, later}
@@ -130,11 +131,16 @@ nothing_due now q before =
     let both = earlier_both (earliest_of q.nack.pending) (keyframe_deadline q.keyframes) now before in
     ap (λ (rs : List PendingRequest). has_any (map low_bits (numbers_of rs)) (keyframe_is_due now q)) (none_due now q.nack.pending both.0) ∙ no_keyframe_due now q.keyframes both.1
 
+counted_none : (numbers : List ℕ) (keyframe : Bool) (c : RequestCounts) → numbers ≡ [] → keyframe ≡ false → counted numbers keyframe c ≡ c
+counted_none numbers keyframe c no_numbers no_keyframe = rw (no_numbers, no_keyframe) refl
+
 pub nothing_sent : (now : ℕ) (q : Requests) → IsBefore (deadline_of q) now → after_feedback now q ≡ q
 nothing_sent now q before =
     let both = earlier_both (earliest_of q.nack.pending) (keyframe_deadline q.keyframes) now before in
     let kept : after_request now q.keyframes ≡ q.keyframes =
     ap (λ (b : Bool). cond b (record q.keyframes { next = later now q.keyframes.interval }) q.keyframes) (no_keyframe_due now q.keyframes both.1) in
-    ap (λ (rs : List PendingRequest). record q { nack = record q.nack { pending = rs }; keyframes = after_request now q.keyframes })
+    let numbers : numbers_due now q ≡ [] = ap (λ (rs : List PendingRequest). map low_bits (numbers_of rs)) (none_due now q.nack.pending both.0) in
+    let counts : counted (numbers_due now q) (keyframe_is_due now q) q.counts ≡ q.counts = counted_none (numbers_due now q) (keyframe_is_due now q) q.counts numbers (no_keyframe_due now q.keyframes both.1) in
+    ap (λ (rs : List PendingRequest). record q { nack = record q.nack { pending = rs }; keyframes = after_request now q.keyframes; counts = counted (numbers_due now q) (keyframe_is_due now q) q.counts })
     (none_tried q.nack.settings.tries (retry_time q.nack.settings q.nack.round_trip) now q.nack.pending both.0)
-    ∙ ap (λ (k : KeyframeRequests). record q { keyframes = k }) kept
+    ∙ (ap (λ (k : KeyframeRequests). record q { keyframes = k; counts = counted (numbers_due now q) (keyframe_is_due now q) q.counts }) kept ∙ ap (λ (c : RequestCounts). record q { counts = c }) counts)

@@ -7,7 +7,6 @@ mod DeadlineLemmas
 mod DueLemmas
 mod GoodbyeLemmas
 mod IdleLemmas
-mod InfoLemmas
 mod KeyframeLemmas
 mod NameLemmas
 mod NamedLemmas
