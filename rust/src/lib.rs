@@ -67,6 +67,7 @@
 // The sources are written so that a prover follows them. What clippy would write more briefly says the same.
 #![allow(
     clippy::assign_op_pattern,
+    clippy::collapsible_if,
     clippy::manual_map,
     clippy::manual_ok_err,
     clippy::manual_is_multiple_of,
