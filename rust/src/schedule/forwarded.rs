@@ -14,7 +14,9 @@ pub mod store_run;
 pub use leave_run::{LeaveStep, run_forwarded_leaving_out};
 
 #[doc(inline)]
-pub use run::{ForwardLink, ForwardStep, ForwardedRun, run_forwarded};
+pub use run::{
+    ForwardLink, ForwardStep, ForwardedRun, do_forward_step, forward, no_results, run_forwarded,
+};
 
 #[doc(inline)]
 pub use store_run::{StoreLink, StoreRun, StoreStep, run_forwarded_with_store};

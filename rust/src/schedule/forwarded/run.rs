@@ -73,8 +73,8 @@ pub fn run_forwarded<P: Packetizer, D: Depacketizer>(
     Ok(run)
 }
 
-/// The results before any step.
-pub(crate) fn no_results() -> ForwardedRun {
+/// Returns the results before any step. Does not allocate.
+pub fn no_results() -> ForwardedRun {
     ForwardedRun {
         run: DatagramRun {
             datagrams: Vec::new(),
@@ -87,8 +87,13 @@ pub(crate) fn no_results() -> ForwardedRun {
     }
 }
 
-/// Executes one step, and records its result.
-pub(crate) fn do_forward_step<P: Packetizer, D: Depacketizer>(
+/// Executes one step of [`run_forwarded`], and appends its results to those of the earlier steps. A `Send`, `Forward` or `Deliver` step
+/// that names nothing changes nothing.
+///
+/// # Errors
+///
+/// `OutOfMemory`: sender, forwarder and receiver are as the failed call left them. Discard the results, which may lack some of this step.
+pub fn do_forward_step<P: Packetizer, D: Depacketizer>(
     link: &mut ForwardLink<P, D>,
     samples: &[ToPayload],
     step: ForwardStep,
@@ -148,8 +153,12 @@ fn append<T>(list: &mut Vec<T>, more: Vec<T>) -> Result<(), AllocError> {
     Ok(())
 }
 
-/// Passes a packet to the forwarder, and appends what it wrote.
-fn forward(
+/// Passes a packet to the forwarder, and appends the datagram that the forwarder wrote, if it wrote one.
+///
+/// # Errors
+///
+/// `OutOfMemory`: the forwarder is unchanged.
+pub fn forward(
     forwarder: &mut Forwarder,
     now: u64,
     packet: &RtpPacket<'_>,

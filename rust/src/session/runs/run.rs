@@ -148,8 +148,8 @@ pub fn run_new_session(
     }
 }
 
-/// Makes one call, and returns its answer.
-fn do_step(session: &mut Session, step: &SessionStep) -> StepAnswer {
+/// Makes one call, and returns its answer. If the call runs out of memory, its answer says so.
+pub fn do_step(session: &mut Session, step: &SessionStep) -> StepAnswer {
     match step {
         SessionStep::Receive {
             now,
@@ -196,8 +196,12 @@ fn do_step(session: &mut Session, step: &SessionStep) -> StepAnswer {
     }
 }
 
-/// Receives a datagram that arrived at `micros`, or without it at `now`.
-fn receive(
+/// Receives a datagram that arrived at `micros` ([`Session::receive_at`]), or without it at `now` ([`Session::receive`]).
+///
+/// # Errors
+///
+/// Those of [`Session::receive`].
+pub fn receive(
     session: &mut Session,
     now: Ticks,
     micros: Option<u64>,
