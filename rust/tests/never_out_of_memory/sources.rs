@@ -109,7 +109,9 @@ pub fn that_can_run_out() -> BTreeSet<String> {
     for (path, text) in &all {
         for (name, returned) in functions(text) {
             let first = name.split("::").next().expect("a name");
-            let is_known = documented.contains(first) || path.contains("src/sdp");
+            // A run is no call of a user, and one of its steps has the name of a module.
+            let is_known = (documented.contains(first) && !path.contains("src/schedule"))
+                || path.contains("src/sdp");
             if is_known && words(&returned).any(|it| carriers.contains(it)) {
                 found.insert(name);
             }

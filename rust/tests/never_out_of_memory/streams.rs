@@ -58,7 +58,7 @@ pub const CALLS: [Call; 13] = [
     Call(&["Session::receive_at", "Session::poll_into"], many_streams),
     Call(&["Session::add_pair"], pairs),
     Call(&["Session::receive", "Receiver::receive"], many_types),
-    Call(&["read", "session_settings"], descriptions),
+    Call(&["read", "session_settings", "groups"], descriptions),
     Call(&["Media::receiver_settings"], receiver_settings),
 ];
 
@@ -530,6 +530,8 @@ fn descriptions(size: usize) {
         &"m=audio 9 RTP/AVP 0\r\n".repeat(size.min(5_000)),
     ));
     let _ = told(sdp::read(&"a".repeat(size)));
+    let mids = " 0".repeat(size.min(5_000));
+    let _ = told(sdp::groups(&format!("a=group:BUNDLE{mids}\r\n").repeat(8)));
 }
 
 fn receiver_settings(size: usize) {
