@@ -3,7 +3,7 @@
  * `vp8` (1,200 bytes, 17 packets a frame) or `ring` (packets of Opus through a ring that keeps no promises). tools/measure/receiving.py
  * runs it under callgrind, which counts only inside the function of CALL: `receive`, `pop`, `push`, `pop_buffer`, `put` or
  * `take`. With CALL `time` it prints the nanoseconds of processor time of a packet, as the least of several runs, with `time-buffer` those of a buffer,
- * and with `time-cold` those of 10,000 receivers in turn. A unit leaves after each packet that ends a frame. */
+ * and with `time-cold` those of HELD receivers in turn, 10,000 if HELD is 0. A unit leaves after each packet that ends a frame. */
 #define _POSIX_C_SOURCE 199309L
 #include "codec_payload.h"
 
@@ -135,19 +135,20 @@ static double time_now(void) {
 /* A packet arrives and a unit leaves, in each of many receivers in turn, so that each is cold. */
 static void print_cold(uint32_t codec, uint32_t rate) {
     static cpay_receiver receivers[STREAMS];
+    const size_t streams = held > 0 && held < STREAMS ? (size_t)held : STREAMS;
     cpay_receiver_settings live;
     cpay_receiver_settings_init(&live, CPAY_OPUS, 48000, 0, CPAY_FOR_LIVE); /* the windows of audio for each codec */
-    for (size_t i = 0; i < STREAMS; i++) new_receiver(&receivers[i], live, codec, rate);
+    for (size_t i = 0; i < streams; i++) new_receiver(&receivers[i], live, codec, rate);
     double least = 0;
     for (uint64_t run = 0; run < RUNS; run++) {
         double start = time_now();
         make_packet(run);
-        for (size_t i = 0; i < STREAMS; i++) {
+        for (size_t i = 0; i < streams; i++) {
             receive_by(&receivers[i], run);
             cpay_status status = pop_of(&receivers[i], run);
             if (run > 0) check(status); /* the first unit waits for a second packet */
         }
-        double took = (time_now() - start) / STREAMS;
+        double took = (time_now() - start) / (double)streams;
         if (run == 1 || (run > 1 && took < least)) least = took;
     }
     printf("%.1f\n", least);

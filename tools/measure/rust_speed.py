@@ -20,7 +20,6 @@ import re
 import shutil
 import subprocess
 import sys
-import tempfile
 from concurrent.futures import ThreadPoolExecutor
 
 ROOT = os.path.dirname(os.path.dirname(os.path.dirname(os.path.realpath(__file__))))
@@ -60,13 +59,16 @@ CHOSEN = {
 HOSTILE = {"goodbyes": "300 BYEs of nobody, 1,200 bytes", "strays": "a packet of a new SSRC, all places taken"}
 
 
-def collected(*words, within=None):
-    """The instructions of a run of a program, or of one of its functions with all that it calls."""
+def counted(*words, within=None):
+    """The instructions of a run of a program, or of one of its functions with all that it calls, and what it printed."""
     only = [f"--toggle-collect={within}"] if within else []
-    with tempfile.TemporaryDirectory() as folder:
-        ran = subprocess.run(["valgrind", "--tool=callgrind", f"--callgrind-out-file={folder}/out", *only, *map(str, words)],
-                             capture_output=True, text=True, check=True)
-    return int(re.search(r"Collected : (\d+)", ran.stderr)[1])
+    ran = subprocess.run(["valgrind", "--tool=callgrind", "--callgrind-out-file=/dev/null", *only, *map(str, words)],
+                         capture_output=True, text=True, check=True)
+    return int(re.search(r"Collected : (\d+)", ran.stderr)[1]), ran.stdout
+
+
+def collected(*words, within=None):
+    return counted(*words, within=within)[0]
 
 
 def instructions(program, codec, size, call):
@@ -75,11 +77,10 @@ def instructions(program, codec, size, call):
     return (many - few) / (20 * ROUNDS)
 
 
-def of_datagram(way, kind, streams, counts=(30, 60)):
-    """What a datagram takes in a session of so many streams."""
-    program = f"{SPEED}/target/release/session"
-    few, many = (collected(program, way, kind, streams, count) for count in counts)
-    return (many - few) / ((counts[1] - counts[0]) * streams)
+def of_datagram(way, kind, streams, count=60):
+    """What a datagram takes in a session of so many streams, each of which gets `count` of them."""
+    taken, said = counted(f"{SPEED}/target/release/session", way, kind, streams, count, within="session::Load::counted")
+    return taken / int(said.split()[0])
 
 
 def print_sessions():
@@ -93,7 +94,7 @@ def print_sessions():
     print("\n| `receive` of | 1 stream | 8 streams | 64 streams |")
     print("|---" * 4 + "|")
     for kind, name in HOSTILE.items():
-        cells = (of_datagram("receive", kind, streams, (4, 8)) for streams in (1, 8, 64))
+        cells = (of_datagram("receive", kind, streams, 4) for streams in (1, 8, 64))
         print(f"| {name} | " + " | ".join(f"{cell:,.0f}" for cell in cells) + " |", flush=True)
 
 

@@ -4,15 +4,17 @@
 //!
 //! - WAY: `bare` is one receiver for each stream, of which the one that got the datagram is popped until it has no unit. `unit`
 //!   is the same by `pop_unit`. `once` is one `pop_unit` after each datagram. `poll` is a session that is polled until it has no
-//!   event, and `into` is the same by `poll_into`. `deadline` also asks for the next deadline then. `receive` is a session that
-//!   is not polled.
+//!   event, and `into` is the same by `poll_into`. `batch` is polled so after each 32 datagrams. `deadline` also asks for the next
+//!   deadline then. `receive` is a session that is not polled.
 //! - KIND: `audio` is Opus, 120 bytes a packet. `video` is VP8, three packets of 1,000 bytes a frame. `requests` is the same
-//!   video, and the session requests what it misses; nothing is lost. After two packets of audio of each stream, `goodbyes` are
-//!   datagrams of 300 BYEs that name nobody, and `strays` are packets of ever new SSRCs, each of which takes the place of the
+//!   video, and the session requests what it misses; nothing is lost. After two packets of audio of each stream, `reports` are
+//!   sender reports of the streams (RFC 3550), `goodbyes` datagrams of 300 BYEs that name nobody, and `strays` are packets of ever new SSRCs, each of which takes the place of the
 //!   one before.
-//! - COUNT: how many datagrams each stream gets.
+//! - COUNT: how many datagrams each stream gets in `Load::counted`, after four others. Only inside it instructions are counted
+//!   (`--toggle-collect=session::Load::counted`), so what writes the datagrams does not count.
 //!
-//! The difference of two runs under callgrind, divided by the difference of their datagrams, is what a datagram takes.
+//! It prints how many datagrams were counted, and the nanoseconds of processor time of a datagram with its writing, in the least of
+//! COUNT rounds through all streams.
 
 use codec_payload::session::{Event, FeedbackSettings, Format, Session, SessionSettings};
 use codec_payload::stream::{Popped, Receiver, ReceiverSettings};
@@ -20,6 +22,57 @@ use codec_payload::{Codec, CodecDepacketizer, CodecSpec, Frequency, PoppedUnit, 
 
 const VP8: u8 = 96;
 const OPUS: u8 = 111;
+/// The datagrams of each stream before those that are counted, and those of a batch.
+const WARM: u32 = 4;
+const BATCH: u32 = 32;
+
+#[repr(C)]
+struct Time {
+    seconds: i64,
+    nanos: i64,
+}
+
+unsafe extern "C" {
+    fn clock_gettime(clock: i32, time: *mut Time) -> i32;
+}
+
+/// The processor time of this process in nanoseconds: CLOCK_PROCESS_CPUTIME_ID of Linux.
+fn time_now() -> i64 {
+    let mut time = Time {
+        seconds: 0,
+        nanos: 0,
+    };
+    // SAFETY: the call writes to `time`, which has the form of `struct timespec` on 64 bits.
+    unsafe { clock_gettime(2, &mut time) };
+    time.seconds * 1_000_000_000 + time.nanos
+}
+
+/// How datagrams are passed on.
+#[derive(Clone, Copy, PartialEq)]
+enum Way {
+    Bare,
+    Unit,
+    Once,
+    Poll,
+    Into,
+    Batch,
+    Deadline,
+    Receive,
+}
+
+fn way(word: &str) -> Way {
+    match word {
+        "bare" => Way::Bare,
+        "unit" => Way::Unit,
+        "once" => Way::Once,
+        "poll" => Way::Poll,
+        "into" => Way::Into,
+        "batch" => Way::Batch,
+        "deadline" => Way::Deadline,
+        "receive" => Way::Receive,
+        other => panic!("{other}: none of the ways"),
+    }
+}
 
 fn is_video(kind: &str) -> bool {
     kind == "video" || kind == "requests"
@@ -76,6 +129,11 @@ fn write(out: &mut Vec<u8>, kind: &str, ssrc: u32, place: u32) {
     out.clear();
     match kind {
         "goodbyes" if place >= 2 => (0..300).for_each(|_| out.extend([0x80, 203, 0, 0])),
+        "reports" if place >= 2 => {
+            out.extend([0x80, 200, 0, 6]);
+            out.extend(ssrc.to_be_bytes());
+            out.extend([7; 20]);
+        }
         "strays" if place >= 2 => write_packet(out, false, 1_000 * place + ssrc, place),
         kind => write_packet(out, is_video(kind), ssrc, place),
     }
@@ -104,47 +162,67 @@ fn write_packet(out: &mut Vec<u8>, is_video: bool, ssrc: u32, place: u32) {
 
 /// What the datagrams go to, and how many units came of them.
 struct Load {
+    way: Way,
     session: Session,
     receivers: Vec<Receiver>,
     unit: PoppedUnit,
     units: u64,
+    /// The datagrams that were not polled for yet.
+    waiting: u32,
 }
 
 impl Load {
-    fn receive(&mut self, way: &str, now: Ticks, place: usize, datagram: &[u8]) {
-        if way == "bare" {
-            let receiver = &mut self.receivers[place];
-            receiver.receive(now, datagram).unwrap();
+    #[inline(never)]
+    fn counted(&mut self, now: Ticks, place: usize, datagram: &[u8]) {
+        self.receive(now, place, datagram);
+    }
+
+    #[inline(always)]
+    fn receive(&mut self, now: Ticks, place: usize, datagram: &[u8]) {
+        match self.way {
+            Way::Bare | Way::Unit | Way::Once => self.receive_alone(now, place, datagram),
+            _ => self.receive_in_session(now, datagram),
+        }
+    }
+
+    #[inline(always)]
+    fn receive_alone(&mut self, now: Ticks, place: usize, datagram: &[u8]) {
+        let receiver = &mut self.receivers[place];
+        receiver.receive(now, datagram).unwrap();
+        if self.way == Way::Bare {
             while let Some(popped) = receiver.pop(now) {
                 self.units += u64::from(matches!(popped, Ok(Popped::Unit(_))));
             }
             return;
         }
-        if way == "unit" || way == "once" {
-            let receiver = &mut self.receivers[place];
-            receiver.receive(now, datagram).unwrap();
-            while let Some(popped) = receiver.pop_unit(now, &mut self.unit) {
-                self.units += u64::from(matches!(popped, Ok(Popped::Unit(()))));
-                if way == "once" {
-                    break;
+        while let Some(popped) = receiver.pop_unit(now, &mut self.unit) {
+            self.units += u64::from(matches!(popped, Ok(Popped::Unit(()))));
+            if self.way == Way::Once {
+                break;
+            }
+        }
+    }
+
+    #[inline(always)]
+    fn receive_in_session(&mut self, now: Ticks, datagram: &[u8]) {
+        self.session.receive(now, datagram).unwrap();
+        self.waiting += 1;
+        match self.way {
+            Way::Receive => return,
+            Way::Batch if self.waiting < BATCH => return,
+            Way::Into | Way::Batch => {
+                while let Some(event) = self.session.poll_into(now, &mut self.unit) {
+                    self.units += u64::from(matches!(event, Event::Unit { unit: Ok(()), .. }));
                 }
             }
-            return;
-        }
-        self.session.receive(now, datagram).unwrap();
-        if way == "receive" {
-            return;
-        }
-        if way == "into" {
-            while let Some(event) = self.session.poll_into(now, &mut self.unit) {
-                self.units += u64::from(matches!(event, Event::Unit { unit: Ok(()), .. }));
+            _ => {
+                while let Some(event) = self.session.poll(now) {
+                    self.units += u64::from(matches!(event, Event::Unit { unit: Ok(_), .. }));
+                }
             }
-            return;
         }
-        while let Some(event) = self.session.poll(now) {
-            self.units += u64::from(matches!(event, Event::Unit { unit: Ok(_), .. }));
-        }
-        if way == "deadline" {
+        self.waiting = 0;
+        if self.way == Way::Deadline {
             let deadline = self.session.next_deadline();
             assert!(deadline.is_none_or(|at| now < at));
         }
@@ -153,25 +231,36 @@ impl Load {
 
 fn main() {
     let words: Vec<String> = std::env::args().collect();
-    let [_, way, kind, streams, count] = &words[..] else {
+    let [_, word, kind, streams, count] = &words[..] else {
         panic!("session WAY KIND STREAMS COUNT");
     };
     let (streams, count): (u32, u32) = (streams.parse().unwrap(), count.parse().unwrap());
     let mut load = Load {
+        way: way(word),
         session: session(kind, streams),
         receivers: (0..streams)
             .map(|ssrc| receiver(is_video(kind), ssrc))
             .collect(),
         unit: PoppedUnit::new(),
         units: 0,
+        waiting: 0,
     };
-    let mut datagram = Vec::new();
-    for place in 0..count {
+    let (mut datagram, mut least) = (Vec::new(), i64::MAX);
+    for place in 0..WARM + count {
+        let began = time_now();
         for ssrc in 0..streams {
             write(&mut datagram, kind, ssrc, place);
             let now = Ticks(u64::from(20 * place));
-            load.receive(way, now, ssrc as usize, &datagram);
+            if place < WARM {
+                load.receive(now, ssrc as usize, &datagram);
+            } else {
+                load.counted(now, ssrc as usize, &datagram);
+            }
+        }
+        if place >= WARM {
+            least = least.min((time_now() - began) / i64::from(streams));
         }
     }
-    println!("{} units", load.units);
+    assert!(load.units > 0 || load.way == Way::Receive);
+    println!("{} {least}", u64::from(streams) * u64::from(count));
 }
