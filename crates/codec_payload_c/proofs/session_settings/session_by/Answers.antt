@@ -1,4 +1,4 @@
-use Rattle.std.proofs.Common.{inl, refl}
+use Rattle.std.proofs.Common.{inl, refl, ◌∙◌}
 use Rattle.std.specs.List.{list_all}
 use Rattle.codec_payload_session.specs.Checks.{fault_of}
 use Rattle.codec_payload_c.specs.SessionFormats.{fault_given, format_in_range, session_in_range}
@@ -11,7 +11,7 @@ returns-in-Err-clause-err c =
 
 pub returns-in-Ok-new-clause-ok : goal.returns-in-Ok-new-clause-ok
 returns-in-Ok-new-clause-ok c = (
-  record { settings = c.in-Ok.settings; are = c.in-Ok.ensures.ok; made = made_new (fault_of c.in-Ok.settings) c.in-Ok.settings c.in-Ok-new.session c.in-Ok-new.ensures; lent = c.new.ensures.lent; taken = c.new.ensures.taken },
+  record { settings = c.in-Ok.settings; are = c.in-Ok.ensures.ok; made = c.new-in-Ok-new.ensures.session ∙ made_new (fault_of c.in-Ok.settings) c.in-Ok.settings c.in-Ok-new.session c.in-Ok-new.ensures; lent = c.new-in-Ok-new.ensures.lent; taken = c.new-in-Ok-new.ensures.taken },
   range_of_made (session_in_range c.args.given.now) (list_all format_in_range c.args.formats.now) c.args.given.now c.args.formats.now c.args.no_media.now c.args.pairs.now c.in-Ok.settings
       c.in-Ok-new.session c.in-Ok.ensures.ok c.in-Ok.ensures.in_range c.in-Ok-new.ensures,
 )
