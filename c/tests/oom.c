@@ -656,7 +656,7 @@ static int too_large(void) {
     TAKES(1900, "adaptive wait", cpay_adaptive_wait_new(&it.adaptive_wait, &waits));
     TAKES(250, "transport reporter", cpay_transport_reporter_new(&it.transport_reporter, &reports, NULL, 0));
     TAKES(100, "list of sent packets", cpay_sent_packets_new(&it.sent_packets, 2048));
-    TAKES(1400, "session", cpay_session_new(&it.session, &port, &format, 1, NULL, 0, NULL, 0));
+    TAKES(1610, "session", cpay_session_new(&it.session, &port, &format, 1, NULL, 0, NULL, 0));
     return bad;
 }
 
