@@ -1,0 +1,2 @@
+pub mod SenderPackets
+pub mod ServeLemmas

@@ -1,0 +1,2 @@
+pub mod ServeReleases
+pub mod ServeRuns
