@@ -1,2 +1,3 @@
 pub mod SenderPackets
 pub mod ServeLemmas
+pub mod ServeRunExamples

@@ -58,8 +58,8 @@ sent_own : (sample : Sample) (fault : Option PacketError) (s t : Sending) → Se
 sent_own sample None s t sends = (
   ap (λ (x : Sending). original_stream x.stream) sends.left,
   of_each (original_stream s.stream) t.datagrams (λ i l.
-  let at = sends.sent.1 i (omega (arith, sends.sent.0, l)) in
-  record { packet = _; reads = at.reads; ssrc = refl; payload_type = refl; number = omega arith; padding = refl }),
+      let at = sends.sent.1 i (omega (arith, sends.sent.0, l)) in
+      record { packet = _; reads = at.reads; ssrc = refl; payload_type = refl; number = omega arith; padding = refl }),
 )
 sent_own sample (Some fault) s t refuses =
     let nothing : t.datagrams ≡ [] = ap (λ (x : Sending). x.datagrams) refuses.1.left in

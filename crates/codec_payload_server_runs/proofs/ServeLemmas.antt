@@ -219,7 +219,7 @@ module _ (stream : OriginalStream) (samples : List Sample) where
           hops,
           does,
           subst (λ (n : ℕ). ForwardRuns samples (forwarded_steps stream samples n later (sends_after o f.later) r.gained) hops t.hops) (sym after)
-          (subst (λ (es : List SentSample). ForwardRuns samples (forwarded_steps stream samples (length hops.wire.datagrams) later es r.gained) hops t.hops) (sym f.left) (r.forwards (λ has. same ∙ own has))),
+              (subst (λ (es : List SentSample). ForwardRuns samples (forwarded_steps stream samples (length hops.wire.datagrams) later es r.gained) hops t.hops) (sym f.left) (r.forwards (λ has. same ∙ own has))),
         );
         made = r.made;
         are =
@@ -392,7 +392,7 @@ module _ (stream : OriginalStream) (samples : List Sample) where
 
   -- A whole run
   module _ (all_steps : List ServeStep) (sender : Sending) (forwarder : Forward) (receiver : Receiver) (server : Session) (t : Served)
-    (run : ServeRuns stream samples all_steps (begins_serving sender forwarder receiver server) t) where
+      (run : ServeRuns stream samples all_steps (begins_serving sender forwarder receiver server) t) where
     abbrev start : Served
     start = begins_serving sender forwarder receiver server
 
@@ -405,20 +405,11 @@ module _ (stream : OriginalStream) (samples : List Sample) where
         (subst (λ (rs : List StepAnswer). ForwardRuns samples (forwarded_steps stream samples 0 all_steps parts.later rs) (begins_forwarding sender forwarder receiver) t.hops) (sym parts.told)
         (parts.forwards own))
 
-    pub packets_served : ServesPackets stream samples all_steps start t
-    packets_served own = packets_forwarded samples (forwarded_steps_of stream samples all_steps t) sender forwarder receiver t.hops (forwarded_run own)
-
-    pub release_served : ReleasesServed stream samples all_steps start t
-    release_served own = release_forwarded samples (forwarded_steps_of stream samples all_steps t) sender forwarder receiver t.hops (forwarded_run own)
-
-    pub promises_served : KeepsPromisesServed stream samples all_steps start t
-    promises_served own = promises_forwarded samples (forwarded_steps_of stream samples all_steps t) sender forwarder receiver t.hops (forwarded_run own)
-
     from_new : (settings : SessionSettings) → server ≡ new_session settings → Runs parts.made (new_session settings) t.server
     from_new settings is = subst (λ (x : Session). Runs parts.made x t.server) is parts.runs
 
-    pub served_session : ServesAsSession stream samples all_steps start t
-    served_session = record {
+    as_session : ServesAsSession stream samples all_steps start t
+    as_session = record {
       made = parts.made;
       are = subst (λ (es : List SentSample). AreCalls stream samples t.hops.wire.datagrams 0 all_steps es parts.made) (sym parts.sends) parts.are;
       answered = parts.answered ∙ sym parts.told;
@@ -427,3 +418,24 @@ module _ (stream : OriginalStream) (samples : List Sample) where
       ended = λ settings is. each_ended settings parts.made t.server (from_new settings is);
       order = λ settings is. (reached settings parts.made t.server (from_new settings is)).order;
     }
+
+-- What a run states
+
+pub packets_served : (stream : OriginalStream) (samples : List Sample) (all_steps : List ServeStep) (sender : Sending) (forwarder : Forward) (receiver : Receiver) (server : Session) (t : Served)
+    → ServeRuns stream samples all_steps (begins_serving sender forwarder receiver server) t → ServesPackets stream samples all_steps (begins_serving sender forwarder receiver server) t
+packets_served stream samples all_steps sender forwarder receiver server t run own =
+    packets_forwarded samples (forwarded_steps_of stream samples all_steps t) sender forwarder receiver t.hops (forwarded_run stream samples all_steps sender forwarder receiver server t run own)
+
+pub release_served : (stream : OriginalStream) (samples : List Sample) (all_steps : List ServeStep) (sender : Sending) (forwarder : Forward) (receiver : Receiver) (server : Session) (t : Served)
+    → ServeRuns stream samples all_steps (begins_serving sender forwarder receiver server) t → ReleasesServed stream samples all_steps (begins_serving sender forwarder receiver server) t
+release_served stream samples all_steps sender forwarder receiver server t run own =
+    release_forwarded samples (forwarded_steps_of stream samples all_steps t) sender forwarder receiver t.hops (forwarded_run stream samples all_steps sender forwarder receiver server t run own)
+
+pub promises_served : (stream : OriginalStream) (samples : List Sample) (all_steps : List ServeStep) (sender : Sending) (forwarder : Forward) (receiver : Receiver) (server : Session) (t : Served)
+    → ServeRuns stream samples all_steps (begins_serving sender forwarder receiver server) t → KeepsPromisesServed stream samples all_steps (begins_serving sender forwarder receiver server) t
+promises_served stream samples all_steps sender forwarder receiver server t run own =
+    promises_forwarded samples (forwarded_steps_of stream samples all_steps t) sender forwarder receiver t.hops (forwarded_run stream samples all_steps sender forwarder receiver server t run own)
+
+pub served_session : (stream : OriginalStream) (samples : List Sample) (all_steps : List ServeStep) (sender : Sending) (forwarder : Forward) (receiver : Receiver) (server : Session) (t : Served)
+    → ServeRuns stream samples all_steps (begins_serving sender forwarder receiver server) t → ServesAsSession stream samples all_steps (begins_serving sender forwarder receiver server) t
+served_session stream samples all_steps sender forwarder receiver server t run = as_session stream samples all_steps sender forwarder receiver server t run

@@ -3,3 +3,4 @@
 #![tactic(auto)]
 
 pub mod run;
+pub mod theorems;

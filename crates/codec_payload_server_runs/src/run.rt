@@ -1,6 +1,6 @@
 //! Whole runs of a media server: a session between the first hop and the forwarder.
 
-ghost use Rattle.std.specs.Prelude.{◌≡◌, ◌×◌, ◌++◌, ◌∷◌, [], Option, Result, IfOk, IfErr, OnOk, OnErr, map, MatchOption};
+ghost use Rattle.std.specs.Prelude.{◌≡◌, ◌++◌, ◌∷◌, [], Option, Result, IfOk, IfErr, OnOk, OnErr, map, MatchOption};
 ghost use Rattle.std.specs.declared.alloc.AllocError.{AllocError as NoMemory};
 ghost use Rattle.codec_payload_base.specs.declared.error.PacketError.TheVariants.{OutOfMemory};
 ghost use Rattle.codec_payload_payloader.specs.Sending.{sample_of};
@@ -12,7 +12,7 @@ ghost use Rattle.codec_payload_session.specs.declared.session.Arrival.{Arrival a
 ghost use Rattle.codec_payload_session_runs.specs.declared.run.StepAnswer.TheVariants.{Received};
 ghost use Rattle.codec_payload_forward_runs.specs.ForwardRuns.{hops_of, packet_in};
 ghost use Rattle.codec_payload_server_runs.specs.ServeReleases.{KeepsPromisesServed, ReleasesServed, ServesAsSession, ServesPackets};
-ghost use Rattle.codec_payload_server_runs.specs.ServeRuns.{Arrives, Comes, ComesUnwrapped, DoesServeStep, IsAgain, ServeRuns, ServeStops, ServeStopsAt, StopsArriving, begins_serving, is_taken_as, repeated_in, served_of};
+ghost use Rattle.codec_payload_server_runs.specs.ServeRuns.{Arrives, Comes, ComesUnwrapped, DoesHop, DoesServeStep, IsAgain, ServeRuns, ServeStops, ServeStopsAt, StopsArriving, StopsHop, begins_serving, is_taken_as, repeated_in, served_of};
 ghost use Rattle.codec_payload_server_runs.specs.declared.run.ServeStep.TheVariants.{Arrive};
 
 use codec_payload_base::error::PacketError;
@@ -148,9 +148,9 @@ fn do_serve_step<P: Packetizer, D: Depacketizer>(
     ensures err { OnErr result (ServeStopsAt link.old.stream (map sample_of samples.now) step.now (served_of link.old.link.sender link.old.link.forwarder link.old.link.receiver link.old.session run.old) link.new.link.sender link.new.link.forwarder link.new.link.receiver link.new.session) }
     ensures fault { IfErr result (λ fault. fault ≡ OutOfMemory) }
 {
-    let hop = match step {
-        ServeStep::Send(sample) => ForwardStep::Send(*sample),
-        ServeStep::Arrive { datagram, at } => return arrive(alloc, link, *datagram, *at, run),
+    match step {
+        ServeStep::Send(sample) => hop(alloc, link, samples, ForwardStep::Send(*sample), run),
+        ServeStep::Arrive { datagram, at } => arrive(alloc, link, *datagram, *at, run),
         ServeStep::Repeat {
             datagram,
             again,
@@ -162,24 +162,40 @@ fn do_serve_step<P: Packetizer, D: Depacketizer>(
             let Some(retransmission) = retransmission_of(alloc, link.stream, *again, bytes)? else {
                 return Ok(());
             };
-            return repeat(alloc, link, &retransmission, *at, run);
+            repeat(alloc, link, &retransmission, *at, run)
         }
         ServeStep::Call(step) => {
             run.answers.reserve(1)?;
             let answer = do_step(&mut link.session, step);
             run.answers.push(answer).unwrap();
-            return Ok(());
+            Ok(())
         }
         ServeStep::Deliver { written, now } => {
-            ForwardStep::Deliver {
+            let step = ForwardStep::Deliver {
                 written: *written,
                 now: *now,
-            }
+            };
+            hop(alloc, link, samples, step, run)
         }
-        ServeStep::Pop { now } => ForwardStep::Pop { now: *now },
-        ServeStep::Finish => ForwardStep::Finish,
-    };
-    do_forward_step(alloc, &mut link.link, samples, hop, &mut run.run)
+        ServeStep::Pop { now } => hop(alloc, link, samples, ForwardStep::Pop { now: *now }, run),
+        ServeStep::Finish => hop(alloc, link, samples, ForwardStep::Finish, run),
+    }
+}
+
+/// Executes a step that the session does not see.
+fn hop<P: Packetizer, D: Depacketizer>(
+    alloc: Global,
+    link: &mut ServeLink<P, D>,
+    samples: &[ToPayload],
+    step: ForwardStep,
+    run: &mut ServedRun,
+) -> Result<(), PacketError>
+    ensures ok { OnOk result (DoesHop (map sample_of samples.now) step (served_of link.old.link.sender link.old.link.forwarder link.old.link.receiver link.old.session run.old) (served_of link.new.link.sender link.new.link.forwarder link.new.link.receiver link.new.session run.new)) }
+    ensures stream { link.new.stream ≡ link.old.stream }
+    ensures err { OnErr result (StopsHop (map sample_of samples.now) step (served_of link.old.link.sender link.old.link.forwarder link.old.link.receiver link.old.session run.old) link.new.link.sender link.new.link.forwarder link.new.link.receiver link.new.session) }
+    ensures fault { IfErr result (λ fault. fault ≡ OutOfMemory) }
+{
+    do_forward_step(alloc, &mut link.link, samples, step, &mut run.run)
 }
 
 /// The datagram with this index comes to the session, and may come to the forwarder.
