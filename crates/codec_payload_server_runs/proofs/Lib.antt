@@ -1,3 +1,4 @@
 pub mod SenderPackets
+pub mod ServedReleases
 pub mod ServeLemmas
 pub mod ServeRunExamples

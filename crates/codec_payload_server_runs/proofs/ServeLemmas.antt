@@ -1,6 +1,6 @@
 -- A run of a media server is a run of its session, and a run with the forwarder.
 use Rattle.std.specs.Global.{Vec}
-use Rattle.std.proofs.Common.{◌≡◌, ◌∙◌, refl, sym, ap, subst, ℕ, List, [], ◌∷◌, ◌++◌, Bool, true, false, cond, ltb, Option, Some, None, MatchOption, Ok, length, map, take, append_assoc, append-nil}
+use Rattle.std.proofs.Common.{◌≡◌, ◌≤◌, ◌∙◌, refl, sym, ap, subst, ℕ, zero, suc, List, [], ◌∷◌, ◌++◌, Bool, true, false, cond, ltb, Option, Some, None, MatchOption, Ok, length, map, take, append_assoc, append-nil, length-append, arith}
 use Rattle.std.specs.Prelude.{slice_get, ◌&&◌}
 use Rattle.std.proofs.Math.Seq.{take-append_seam}
 use Rattle.std.proofs.lemmas.Bool.{le-ltb, lt-ltb}
@@ -14,28 +14,22 @@ use Rattle.codec_payload_sending_forward.specs.Forwarding.{Forward, Forwards}
 use Rattle.codec_payload_sending_forward.specs.declared.forwarder.Forwarded.{Forwarded}
 use Rattle.codec_payload_sending_history.specs.declared.original.OriginalStream.{OriginalStream}
 use Rattle.codec_payload_sending_history.specs.declared.retransmission.RetransmissionStream.{RetransmissionStream}
-use Rattle.codec_payload_session.specs.Ports.{Session, new_session}
-use Rattle.codec_payload_session.specs.declared.formats.SessionSettings.{SessionSettings}
-use Rattle.codec_payload_datagram_runs.proofs.RepeatLemmas.{Follows, Grows, follows, grows}
-use Rattle.codec_payload_datagram_runs.proofs.StepLemmas.{past_end}
+use Rattle.codec_payload_session.specs.Ports.{Session}
 use Rattle.codec_payload_datagram_runs.specs.Releases.{sends_after, sent_after}
-use Rattle.codec_payload_datagram_runs.specs.WireRuns.{Delivers, DoesStep, Receipt, Wire}
+use Rattle.codec_payload_datagram_runs.specs.WireRuns.{Delivers, DoesStep, Receipt, SendsIt, Wire}
 use Rattle.codec_payload_datagram_runs.specs.declared.run.DatagramStep.TheVariants as wires
 use Rattle.codec_payload_datagram_runs.specs.declared.run.SentSample.{SentSample}
-use Rattle.codec_payload_forward_runs.proofs.ForwardLemmas.{packets_forwarded, promises_forwarded, release_forwarded}
-use Rattle.codec_payload_forward_runs.proofs.ViewerRuns.{IsMore}
 use Rattle.codec_payload_forward_runs.specs.FirstHop.{original_stream}
 use Rattle.codec_payload_forward_runs.specs.ForwardRuns.{DoesForwardStep, ForwardRuns, Hops, begins_forwarding, packet_in, packet_read, written_by}
 use Rattle.codec_payload_forward_runs.specs.declared.run.ForwardStep.{ForwardStep}
 use Rattle.codec_payload_forward_runs.specs.declared.run.ForwardStep.TheVariants as plain
-use Rattle.codec_payload_session_runs.proofs.ReachedLemmas.{each_ended, reached}
 use Rattle.codec_payload_session_runs.specs.SessionRuns.{Call, Runs}
 use Rattle.codec_payload_session_runs.specs.declared.run.SessionStep.{SessionStep}
 use Rattle.codec_payload_session_runs.specs.declared.run.SessionStep.TheVariants as calls
 use Rattle.codec_payload_session_runs.specs.declared.run.StepAnswer.{StepAnswer}
 use Rattle.codec_payload_session_runs.specs.declared.run.StepAnswer.TheVariants as answers
 use Rattle.codec_payload_server_runs.proofs.SenderPackets.{AllOf, IsOf, SendsItsOwn, of_at, reads_again, sends_own, stream_of}
-use Rattle.codec_payload_server_runs.specs.ServeReleases.{AreCalls, KeepsPromisesServed, ReleasesServed, ServesAsSession, ServesPackets, UnwrapsSender, forwarded_steps, forwarded_steps_of, has_repeats, passed_by, says_taken}
+use Rattle.codec_payload_server_runs.specs.ServeReleases.{AreCalls, UnwrapsSender, forwarded_steps, forwarded_steps_of, has_repeats, passed_by, says_taken}
 use Rattle.codec_payload_server_runs.specs.ServeRuns.{Arrives, Comes, ComesUnwrapped, DoesIf, DoesServeStep, IsAgain, ServeRuns, Served, begins_serving, fits_in, is_taken_as, repeated_in}
 use Rattle.codec_payload_server_runs.specs.declared.run.Moment.{Moment}
 use Rattle.codec_payload_server_runs.specs.declared.run.ServeStep.{ServeStep}
@@ -74,6 +68,10 @@ keeps_wire : (s t : Hops) (wire : Wire) → t ≡ record s { wire = wire } → w
 keeps_wire s t wire is sends datagrams sending =
     record { sends = ap (λ (x : Hops). x.wire.sends) is ∙ sends; datagrams = ap (λ (x : Hops). x.wire.datagrams) is ∙ datagrams; sending = ap (λ (x : Hops). x.wire.sending) is ∙ sending }
 
+-- the datagrams after some steps have those before them in front
+abbrev pub IsMore : List (List ℕ) → List (List ℕ) → Type 0
+IsMore before after = (new : List (List ℕ)) × (after ≡ before ++ new)
+
 more_none : (datagrams : List (List ℕ)) → IsMore datagrams datagrams
 more_none datagrams = ([], sym (append-nil datagrams))
 
@@ -85,6 +83,38 @@ taken_of : (before all : List (List ℕ)) (sent : ℕ) → length before ≡ sen
 taken_of before all sent count more =
     subst (λ (n : ℕ). take n all ≡ before) count (ap (take (length before)) more.1 ∙ take-append_seam before more.0)
 
+past_end : (xs : List (List ℕ)) (k : ℕ) → slice_get xs k ≡ None → length xs ≤ k
+past_end [] k e = omega arith
+past_end (x ∷ xs) zero e = absurd (cc)
+past_end (x ∷ xs) (suc k) e = omega (arith, past_end xs k e)
+
+-- a step of the sender: the entries from it on, and how many datagrams were sent after it
+record Sent (o : Option Sample) (s t : Wire) (rest : List SentSample) : Type 0 where
+  entries : List SentSample
+  sends : t.sends ++ rest ≡ s.sends ++ entries
+  left : sends_after o entries ≡ rest
+  count : sent_after (length s.datagrams) o entries ≡ length t.datagrams
+  more : IsMore s.datagrams t.datagrams
+
+sent_step : (o : Option Sample) (s t : Wire) (rest : List SentSample)
+    → MatchOption o (t ≡ s) (λ sample. (entry : SentSample) × SendsIt sample s.sending s.datagrams entry t.sending t.datagrams
+    × (t ≡ record s { sending = t.sending; datagrams = t.datagrams; sends = s.sends ++ entry ∷ [] }))
+    → Sent o s t rest
+sent_step None s t rest same = record {
+  entries = rest;
+  sends = ap (λ (x : Wire). x.sends ++ rest) same;
+  left = refl;
+  count = sym (ap (λ (x : Wire). length x.datagrams) same);
+  more = subst (IsMore s.datagrams) (sym (ap (λ (x : Wire). x.datagrams) same)) (more_none s.datagrams);
+}
+sent_step (Some sample) s t rest done = record {
+  entries = done.0 ∷ rest;
+  sends = ap (λ (x : Wire). x.sends ++ rest) done.2 ∙ append_assoc s.sends (done.0 ∷ []) rest;
+  left = refl;
+  count = omega (arith, ap (λ (ds : List (List ℕ)). length ds) done.1.gained, length-append s.datagrams t.sending.datagrams, done.1.count);
+  more = (t.sending.datagrams, done.1.gained);
+}
+
 -- a step that sends nothing leaves the sender its own datagrams
 own_kept : (s t : Hops) → Keeps s t → SendsItsOwn s.wire → SendsItsOwn t.wire
 own_kept s t keeps own =
@@ -93,6 +123,10 @@ own_kept s t keeps own =
 and_false : (b : Bool) → (b && false) ≡ false
 and_false true = refl
 and_false false = refl
+
+pub fits_both : (stream : OriginalStream) (again : RetransmissionStream) → stream.payload_type ≤ 127 → again.payload_type ≤ 127 → fits_in stream again ≡ true
+fits_both stream again one two =
+    ap (λ (b : Bool). b && ltb again.payload_type 128) (lt-ltb stream.payload_type 128 (omega (arith, one))) ∙ lt-ltb again.payload_type 128 (omega (arith, two))
 
 module _ (stream : OriginalStream) (samples : List Sample) where
   -- a run of the session, and a run with the forwarder. Before it `sent` datagrams were sent
@@ -205,25 +239,24 @@ module _ (stream : OriginalStream) (samples : List Sample) where
       → DoesStep samples (wires.Send i) s.hops.wire hops.wire → stream_of hops.wire ≡ stream_of s.hops.wire → Splits (length hops.wire.datagrams) later (record s { hops = hops }) t
       → Splits sent (steps.Send i ∷ later) s t
   sent_one sent i later s t hops count does stepped same r =
-      let f : Follows samples (wires.Send i) s.hops.wire hops.wire r.later = follows samples (wires.Send i) s.hops.wire hops.wire r.later stepped in
-      let g : Grows s.hops.wire hops.wire = grows samples (wires.Send i) s.hops.wire hops.wire stepped in
       let o : Option Sample = slice_get samples i in
-      let after : sent_after sent o f.later ≡ length hops.wire.datagrams = subst (λ (n : ℕ). sent_after n o f.later ≡ length hops.wire.datagrams) count f.sent in
+      let f : Sent o s.hops.wire hops.wire r.later = sent_step o s.hops.wire hops.wire r.later stepped in
+      let after : sent_after sent o f.entries ≡ length hops.wire.datagrams = subst (λ (n : ℕ). sent_after n o f.entries ≡ length hops.wire.datagrams) count f.count in
       record {
-        later = f.later;
+        later = f.entries;
         sends = r.sends ∙ f.sends;
         gained = r.gained;
         told = r.told;
-        more = more_on s.hops.wire.datagrams hops.wire.datagrams t.hops.wire.datagrams (g.new, g.whole) r.more;
+        more = more_on s.hops.wire.datagrams hops.wire.datagrams t.hops.wire.datagrams f.more r.more;
         forwards = λ own. (
           hops,
           does,
-          subst (λ (n : ℕ). ForwardRuns samples (forwarded_steps stream samples n later (sends_after o f.later) r.gained) hops t.hops) (sym after)
+          subst (λ (n : ℕ). ForwardRuns samples (forwarded_steps stream samples n later (sends_after o f.entries) r.gained) hops t.hops) (sym after)
               (subst (λ (es : List SentSample). ForwardRuns samples (forwarded_steps stream samples (length hops.wire.datagrams) later es r.gained) hops t.hops) (sym f.left) (r.forwards (λ has. same ∙ own has))),
         );
         made = r.made;
         are =
-            subst (λ (n : ℕ). AreCalls stream samples t.hops.wire.datagrams n later (sends_after o f.later) r.made) (sym after)
+            subst (λ (n : ℕ). AreCalls stream samples t.hops.wire.datagrams n later (sends_after o f.entries) r.made) (sym after)
             (subst (λ (es : List SentSample). AreCalls stream samples t.hops.wire.datagrams (length hops.wire.datagrams) later es r.made) (sym f.left) r.are);
         answered = r.answered;
         runs = r.runs;
@@ -393,49 +426,14 @@ module _ (stream : OriginalStream) (samples : List Sample) where
   -- A whole run
   module _ (all_steps : List ServeStep) (sender : Sending) (forwarder : Forward) (receiver : Receiver) (server : Session) (t : Served)
       (run : ServeRuns stream samples all_steps (begins_serving sender forwarder receiver server) t) where
-    abbrev start : Served
+    abbrev pub start : Served
     start = begins_serving sender forwarder receiver server
 
-    parts : Splits 0 all_steps start t
+    pub parts : Splits 0 all_steps start t
     parts = splits all_steps 0 start t refl tt run
 
-    forwarded_run : UnwrapsSender stream all_steps start → ForwardRuns samples (forwarded_steps_of stream samples all_steps t) (begins_forwarding sender forwarder receiver) t.hops
+    pub forwarded_run : UnwrapsSender stream all_steps start → ForwardRuns samples (forwarded_steps_of stream samples all_steps t) (begins_forwarding sender forwarder receiver) t.hops
     forwarded_run own =
         subst (λ (es : List SentSample). ForwardRuns samples (forwarded_steps stream samples 0 all_steps es t.answers) (begins_forwarding sender forwarder receiver) t.hops) (sym parts.sends)
         (subst (λ (rs : List StepAnswer). ForwardRuns samples (forwarded_steps stream samples 0 all_steps parts.later rs) (begins_forwarding sender forwarder receiver) t.hops) (sym parts.told)
         (parts.forwards own))
-
-    from_new : (settings : SessionSettings) → server ≡ new_session settings → Runs parts.made (new_session settings) t.server
-    from_new settings is = subst (λ (x : Session). Runs parts.made x t.server) is parts.runs
-
-    as_session : ServesAsSession stream samples all_steps start t
-    as_session = record {
-      made = parts.made;
-      are = subst (λ (es : List SentSample). AreCalls stream samples t.hops.wire.datagrams 0 all_steps es parts.made) (sym parts.sends) parts.are;
-      answered = parts.answered ∙ sym parts.told;
-      runs = parts.runs;
-      alone = λ settings is. (reached settings parts.made t.server (from_new settings is)).alone;
-      ended = λ settings is. each_ended settings parts.made t.server (from_new settings is);
-      order = λ settings is. (reached settings parts.made t.server (from_new settings is)).order;
-    }
-
--- What a run states
-
-pub packets_served : (stream : OriginalStream) (samples : List Sample) (all_steps : List ServeStep) (sender : Sending) (forwarder : Forward) (receiver : Receiver) (server : Session) (t : Served)
-    → ServeRuns stream samples all_steps (begins_serving sender forwarder receiver server) t → ServesPackets stream samples all_steps (begins_serving sender forwarder receiver server) t
-packets_served stream samples all_steps sender forwarder receiver server t run own =
-    packets_forwarded samples (forwarded_steps_of stream samples all_steps t) sender forwarder receiver t.hops (forwarded_run stream samples all_steps sender forwarder receiver server t run own)
-
-pub release_served : (stream : OriginalStream) (samples : List Sample) (all_steps : List ServeStep) (sender : Sending) (forwarder : Forward) (receiver : Receiver) (server : Session) (t : Served)
-    → ServeRuns stream samples all_steps (begins_serving sender forwarder receiver server) t → ReleasesServed stream samples all_steps (begins_serving sender forwarder receiver server) t
-release_served stream samples all_steps sender forwarder receiver server t run own =
-    release_forwarded samples (forwarded_steps_of stream samples all_steps t) sender forwarder receiver t.hops (forwarded_run stream samples all_steps sender forwarder receiver server t run own)
-
-pub promises_served : (stream : OriginalStream) (samples : List Sample) (all_steps : List ServeStep) (sender : Sending) (forwarder : Forward) (receiver : Receiver) (server : Session) (t : Served)
-    → ServeRuns stream samples all_steps (begins_serving sender forwarder receiver server) t → KeepsPromisesServed stream samples all_steps (begins_serving sender forwarder receiver server) t
-promises_served stream samples all_steps sender forwarder receiver server t run own =
-    promises_forwarded samples (forwarded_steps_of stream samples all_steps t) sender forwarder receiver t.hops (forwarded_run stream samples all_steps sender forwarder receiver server t run own)
-
-pub served_session : (stream : OriginalStream) (samples : List Sample) (all_steps : List ServeStep) (sender : Sending) (forwarder : Forward) (receiver : Receiver) (server : Session) (t : Served)
-    → ServeRuns stream samples all_steps (begins_serving sender forwarder receiver server) t → ServesAsSession stream samples all_steps (begins_serving sender forwarder receiver server) t
-served_session stream samples all_steps sender forwarder receiver server t run = as_session stream samples all_steps sender forwarder receiver server t run

@@ -3,7 +3,7 @@ use Rattle.std.proofs.lemmas.List.{drop_all, drop_more}
 use Rattle.codec_payload_codec.proofs.AnswerLemmas.{on_err}
 use Rattle.codec_payload_payloader.specs.Sending.{sample_of}
 use Rattle.codec_payload_sending_history.specs.declared.original.OriginalStream.{OriginalStream}
-use Rattle.codec_payload_server_runs.proofs.ServeLemmas.{packets_served, promises_served, release_served, served_session}
+use Rattle.codec_payload_server_runs.proofs.ServedReleases.{packets_served, promises_served, release_served, served_session}
 use Rattle.codec_payload_server_runs.specs.ServeRuns.{DoesServeStep, ServeRuns, ServeStops, ServeStopsAt, Served, served_of}
 use Rattle.codec_payload_server_runs.specs.declared.run.ServeStep.{ServeStep}
 use Rattle.codec_payload_server_runs.proofs.run.run_served.Goals as goal
