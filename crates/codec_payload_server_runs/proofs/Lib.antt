@@ -1,3 +1,4 @@
+pub mod ArrivalLemmas
 pub mod SenderPackets
 pub mod ServedReleases
 pub mod ServeLemmas

@@ -1,10 +1,9 @@
-use Rattle.std.proofs.Common.{◌∙◌, inl, inr, refl, sym, subst, map, List}
+use Rattle.std.proofs.Common.{◌∙◌, ◌∷◌, ◌+◌, ap, drop, inr, refl, sym, subst, map, List}
 use Rattle.std.proofs.lemmas.List.{drop_all, drop_more}
-use Rattle.codec_payload_codec.proofs.AnswerLemmas.{on_err}
 use Rattle.codec_payload_payloader.specs.Sending.{sample_of}
 use Rattle.codec_payload_sending_history.specs.declared.original.OriginalStream.{OriginalStream}
 use Rattle.codec_payload_server_runs.proofs.ServedReleases.{packets_served, promises_served, release_served, served_session}
-use Rattle.codec_payload_server_runs.specs.ServeRuns.{DoesServeStep, ServeRuns, ServeStops, ServeStopsAt, Served, served_of}
+use Rattle.codec_payload_server_runs.specs.ServeRuns.{DoesServeStep, ServeRuns, ServeStops, Served, served_of}
 use Rattle.codec_payload_server_runs.specs.declared.run.ServeStep.{ServeStep}
 use Rattle.codec_payload_server_runs.proofs.run.run_served.Goals as goal
 
@@ -16,30 +15,18 @@ loop-step-preserved g c =
     let left = c.do_serve_step.new.link in
     let now : Served = served_of was.link.sender was.link.forwarder was.link.receiver was.session c.loop-step.run in
     let next : Served = served_of left.link.sender left.link.forwarder left.link.receiver left.session c.do_serve_step.new.run in
-    let does = subst (λ (x : OriginalStream). DoesServeStep x samples _ now next) c.loop-step.invariant.stream c.in_ok-do_serve_step.ensures.ok in
+    let does = subst (λ (x : OriginalStream). DoesServeStep x samples c.step-item.result now next) c.loop-step.invariant.stream c.in_ok-do_serve_step.ensures.ok in
+    let head = drop_more c.args.steps.now c.loop-step.step-index c.step-item.result c.loop-step-test.true ∙ ap (λ (x : ServeStep). x ∷ drop (c.loop-step.step-index + 1) c.args.steps.now) (sym c.step-item.is) in
     record {
       stream = c.do_serve_step.ensures.stream ∙ c.loop-step.invariant.stream;
       runs = λ t later.
           c.loop-step.invariant.runs t
-          (subst (λ (xs : List ServeStep). ServeRuns stream samples xs now t) (sym (drop_more c.args.steps.now c.loop-step.step-index _ c.loop-step-test.true)) (next, does, later));
+          (subst (λ (xs : List ServeStep). ServeRuns stream samples xs now t) (sym head) (next, does, later));
       stops = λ sending forwarder receiver server later.
           c.loop-step.invariant.stops sending forwarder receiver server
-          (subst (λ (xs : List ServeStep). ServeStops stream samples xs now sending forwarder receiver server) (sym (drop_more c.args.steps.now c.loop-step.step-index _ c.loop-step-test.true))
+          (subst (λ (xs : List ServeStep). ServeStops stream samples xs now sending forwarder receiver server) (sym head)
           (inr (next, does, later)));
     }
-
-pub returns-in_err-do_serve_step-clause-stops : goal.returns-in_err-do_serve_step-clause-stops
-returns-in_err-do_serve_step-clause-stops g c =
-    let stream : OriginalStream = c.args.link.now.stream in
-    let samples = map sample_of c.args.samples.now in
-    let was = c.loop-step.link in
-    let left = c.do_serve_step.new.link in
-    let now : Served = served_of was.link.sender was.link.forwarder was.link.receiver was.session c.loop-step.run in
-    let stops = subst (λ (x : OriginalStream). ServeStopsAt x samples _ now left.link.sender left.link.forwarder left.link.receiver left.session) c.loop-step.invariant.stream c.in_err-do_serve_step.ensures.err in
-    on_err c.from_residual.result
-    (c.loop-step.invariant.stops left.link.sender left.link.forwarder left.link.receiver left.session
-    (subst (λ (xs : List ServeStep). ServeStops stream samples xs now left.link.sender left.link.forwarder left.link.receiver left.session)
-    (sym (drop_more c.args.steps.now c.loop-step.step-index _ c.loop-step-test.true)) (inl stops)))
 
 -- at the end no step is left
 pub returns-clause-session : goal.returns-clause-session
