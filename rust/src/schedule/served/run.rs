@@ -108,9 +108,9 @@ fn do_serve_step<P: Packetizer, D: Depacketizer>(
     step: &ServeStep,
     run: &mut ServedRun,
 ) -> Result<(), PacketError> {
-    let hop = match step {
-        ServeStep::Send(sample) => ForwardStep::Send(*sample),
-        ServeStep::Arrive { datagram, at } => return arrive(link, *datagram, *at, run),
+    match step {
+        ServeStep::Send(sample) => hop(link, samples, ForwardStep::Send(*sample), run),
+        ServeStep::Arrive { datagram, at } => arrive(link, *datagram, *at, run),
         ServeStep::Repeat {
             datagram,
             again,
@@ -122,22 +122,34 @@ fn do_serve_step<P: Packetizer, D: Depacketizer>(
             let Some(retransmission) = retransmission_of(link.stream, *again, bytes)? else {
                 return Ok(());
             };
-            return repeat(link, &retransmission, *at, run);
+            repeat(link, &retransmission, *at, run)
         }
         ServeStep::Call(step) => {
             run.answers.try_room(1)?;
             let answer = do_step(&mut link.session, step);
             run.answers.push(answer);
-            return Ok(());
+            Ok(())
         }
-        ServeStep::Deliver { written, now } => ForwardStep::Deliver {
-            written: *written,
-            now: *now,
-        },
-        ServeStep::Pop { now } => ForwardStep::Pop { now: *now },
-        ServeStep::Finish => ForwardStep::Finish,
-    };
-    do_forward_step(&mut link.link, samples, hop, &mut run.run)
+        ServeStep::Deliver { written, now } => {
+            let step = ForwardStep::Deliver {
+                written: *written,
+                now: *now,
+            };
+            hop(link, samples, step, run)
+        }
+        ServeStep::Pop { now } => hop(link, samples, ForwardStep::Pop { now: *now }, run),
+        ServeStep::Finish => hop(link, samples, ForwardStep::Finish, run),
+    }
+}
+
+/// Executes a step that the session does not see.
+fn hop<P: Packetizer, D: Depacketizer>(
+    link: &mut ServeLink<P, D>,
+    samples: &[ToPayload],
+    step: ForwardStep,
+    run: &mut ServedRun,
+) -> Result<(), PacketError> {
+    do_forward_step(&mut link.link, samples, step, &mut run.run)
 }
 
 /// The datagram with this index comes to the session, and may come to the forwarder.
