@@ -10,6 +10,7 @@ pub mod plain;
 pub mod red;
 #[doc(hidden)]
 pub mod run;
+pub mod served;
 
 pub use crate::schedule::red::run_in_red;
 pub use crate::schedule::run::{RedRun, Run, Sent, Step, Stream, run_schedule, run_stream};

@@ -53,11 +53,12 @@ pub fn link_with(codec: Codec, sender: Sender<NoBox>) -> Result<ForwardLink<NoBo
 }
 
 /// The frame with that index. Each eighth is a keyframe: bit 0 of its first byte is clear (RFC 6386, section 9.1).
-fn frame_of(index: usize) -> [u8; 3] {
+pub fn frame_of(index: usize) -> [u8; 3] {
     [u8::from(!index.is_multiple_of(8)), 0xa5, index as u8]
 }
 
-fn samples() -> Vec<ToPayload> {
+/// All frames, at 30 frames per second.
+pub fn samples() -> Vec<ToPayload> {
     let frames = 0..BLOCKS * 8;
     frames
         .map(|index| sample_of(index as u64 * 3_000, &frame_of(index)))

@@ -12,6 +12,7 @@ mod red_resent;
 mod resent;
 mod restarted;
 mod rows;
+mod served;
 mod sides;
 
 /// Why a test fails.

@@ -1,0 +1,5 @@
+pub mod ArrivalLemmas
+pub mod SenderPackets
+pub mod ServedReleases
+pub mod ServeLemmas
+pub mod ServeRunExamples

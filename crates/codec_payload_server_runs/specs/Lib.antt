@@ -1,0 +1,3 @@
+pub mod ServeReleases
+pub mod ServeRunExample
+pub mod ServeRuns
